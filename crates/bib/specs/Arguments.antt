@@ -31,6 +31,8 @@ IsMemoryLacking texts = IfErr texts (λ error_answer. error_answer ≡ OutOfMemo
 
 -- the output and the exit status for these arguments: for out of memory while reading them, or as in `IsAnswer`; `given`,
 -- `failed` and `read` are those of `IsAnswer`
-pub data IsStartAnswer (texts : Result (List (List ℕ)) ErrorKind) (given : List ℕ → Type 0) (failed read : Type 0) : List ℕ → ℕ → Type 0 where
+pub data IsStartAnswer (texts : Result (List (List ℕ)) ErrorKind) (given : List ℕ → Type 0) (failed read : Type 0) :
+    List ℕ → ℕ → Type 0 where
   no_memory : IsMemoryLacking texts → IsStartAnswer texts given failed read (error_line (codes "out of memory")) 3
-  answered : {text : List ℕ} {status : ℕ} → AreArgumentsKnown texts → IsAnswer (program_words texts) given failed read text status → IsStartAnswer texts given failed read text status
+  answered : {text : List ℕ} {status : ℕ} → AreArgumentsKnown texts
+      → IsAnswer (program_words texts) given failed read text status → IsStartAnswer texts given failed read text status

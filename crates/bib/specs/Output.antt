@@ -44,7 +44,9 @@ pub record IsQuotingLine (said : List ℕ × List ℕ) (span : Range ℕ) (text 
 -- `text` is the line of an error: the line that quotes its name, if its kind has one, and otherwise the text of the error if
 -- that is specified
 abbrev pub ShowsError : ParseError → List ℕ → Type 0
-ShowsError e text = MatchOption (quoting e.kind) (IfSome (error_text e) (λ listed. text ≡ error_line listed)) (λ said. IsQuotingLine said e.span text)
+ShowsError e text =
+    MatchOption (quoting e.kind) (IfSome (error_text e) (λ listed. text ≡ error_line listed))
+    (λ said. IsQuotingLine said e.span text)
 
 -- the key of each entry on a line of its own, in the order of the file
 abbrev pub key_lines : FileReading → List ℕ
@@ -53,7 +55,8 @@ key_lines says = flat_map (λ e. line e.key.text) says.entries
 -- the output and the exit status of the command `keys` for these bytes
 pub data IsKeysAnswer (bytes : List ℕ) : List ℕ → ℕ → Type 0 where
   no_text : (IsUtf8 bytes → ⊥) → IsKeysAnswer bytes not_utf8 1
-  no_file : {e : ParseError} {text : List ℕ} → IsUtf8 bytes → IsReported bytes e → (IsFile bytes → ⊥) → ShowsError e text → IsKeysAnswer bytes text 1
+  no_file : {e : ParseError} {text : List ℕ} → IsUtf8 bytes → IsReported bytes e → (IsFile bytes → ⊥)
+      → ShowsError e text → IsKeysAnswer bytes text 1
   keys : {says : FileReading} → IsUtf8 bytes → IsRawReading bytes says → IsKeysAnswer bytes (key_lines says) 0
 
 -- `text` is the line of an error of these bytes, which are not accepted
@@ -67,7 +70,8 @@ pub record ShowsNoBibliography (bytes text : List ℕ) : Type 0 where
 pub data IsBibliographyAnswer (shows : Bibliography → List ℕ → ℕ → Type 0) (bytes : List ℕ) : List ℕ → ℕ → Type 0 where
   no_text : (IsUtf8 bytes → ⊥) → IsBibliographyAnswer shows bytes not_utf8 1
   no_bibliography : {text : List ℕ} → IsUtf8 bytes → ShowsNoBibliography bytes text → IsBibliographyAnswer shows bytes text 1
-  shown : {bibliography : Bibliography} {text : List ℕ} {status : ℕ} → IsUtf8 bytes → IsBibliographyOf bytes bibliography → shows bibliography text status
+  shown : {bibliography : Bibliography} {text : List ℕ} {status : ℕ} → IsUtf8 bytes
+      → IsBibliographyOf bytes bibliography → shows bibliography text status
       → IsBibliographyAnswer shows bytes text status
 
 -- the output is the bibliography in BibLaTeX's types and fields, and the status is 0
@@ -150,18 +154,21 @@ pub data IsAnswer (words : List (List ℕ)) (given : List ℕ → Type 0) (faile
   usage_reported : (IsCommand words → ⊥) → IsAnswer words given failed read usage 2
   no_memory : IsCommand words → read → IsAnswer words given failed read (error_line (codes "out of memory")) 3
   no_input : IsCommand words → failed → IsAnswer words given failed read (error_line (codes "input failed")) 1
-  answered : (command : Command) {bytes text : List ℕ} {status : ℕ} → Name words command → read → given bytes → IsCommandAnswer command bytes text status
+  answered : (command : Command) {bytes text : List ℕ} {status : ℕ} → Name words command → read → given bytes
+      → IsCommandAnswer command bytes text status
       → IsAnswer words given failed read text status
 
 -- one text is passed to the sink, whole and in one call; the status is 1 if the sink refused it. The sink's `hands_over`
 -- relates its state before a call, the text, the result and the state after the call
-pub record IsHandedOver {K : Type 0} (hands_over : K → List ℕ → Bool → K → Type 0) (text : List ℕ) (status : ℕ) (old new : K) (result : ℕ) : Type 0 where
+pub record IsHandedOver {K : Type 0} (hands_over : K → List ℕ → Bool → K → Type 0) (text : List ℕ) (status : ℕ)
+    (old new : K) (result : ℕ) : Type 0 where
   pub is_taken : Bool
   pub handed : hands_over old text is_taken new
   pub status_is : result ≡ (if is_taken then status else 1)
 
 -- a text and a status are possible for the program, and the text is passed to the sink
-pub record IsAnswered {K : Type 0} (hands_over : K → List ℕ → Bool → K → Type 0) (may_be : List ℕ → ℕ → Type 0) (old new : K) (result : ℕ) : Type 0 where
+pub record IsAnswered {K : Type 0} (hands_over : K → List ℕ → Bool → K → Type 0) (may_be : List ℕ → ℕ → Type 0)
+    (old new : K) (result : ℕ) : Type 0 where
   pub text : List ℕ
   pub status : ℕ
   pub answer : may_be text status

@@ -21,7 +21,8 @@ use Rattle.bib_abbreviations.specs.Abbreviations.{Definitions, month, HoldsName,
 use Rattle.bib_abbreviations.specs.Abbreviations.{Reaches as reaches, Evaluates as evaluates, IsFirstError as first_error}
 
 -- the number of steps of an evaluation
-abbrev pub steps : {definitions : Definitions} {is_verbatim : Bool} {pieces : List Piece} {atoms : List Atom} → Evaluates definitions is_verbatim pieces atoms → ℕ
+abbrev pub steps : {definitions : Definitions} {is_verbatim : Bool} {pieces : List Piece} {atoms : List Atom}
+    → Evaluates definitions is_verbatim pieces atoms → ℕ
 steps evaluates.none = 0
 steps (evaluates.text x rest) = suc (steps rest)
 steps (evaluates.defined d x rest) = suc (steps x + steps rest)
@@ -46,12 +47,14 @@ abbrev pub StandsWithin : Definitions → Bool → List ℕ → ℕ → Type 0
 StandsWithin definitions is_verbatim name limit = SaysWithin definitions is_verbatim name limit ⊎ IsMonth definitions name
 
 module _ {definitions : Definitions} {is_verbatim : Bool} where
-  more_steps : {name : List ℕ} {few many : ℕ} → few ≤ many → StandsWithin definitions is_verbatim name few → StandsWithin definitions is_verbatim name many
+  more_steps : {name : List ℕ} {few many : ℕ} → few ≤ many → StandsWithin definitions is_verbatim name few
+      → StandsWithin definitions is_verbatim name many
   more_steps below (inl x) = inl (record { definition = x.definition; atoms = x.atoms; is = x.is; says = x.says; within = omega arith })
   more_steps below (inr x) = inr x
 
   -- each name among pieces with a styled text has a value, by fewer steps
-  pub name_stands : {pieces : List Piece} {atoms : List Atom} {name : List ℕ} (x : Evaluates definitions is_verbatim pieces atoms) → HoldsName pieces name
+  pub name_stands : {pieces : List Piece} {atoms : List Atom} {name : List ℕ}
+      (x : Evaluates definitions is_verbatim pieces atoms) → HoldsName pieces name
       → StandsWithin definitions is_verbatim name (steps x)
   name_stands evaluates.none held = absurd held
   name_stands (evaluates.text x rest) held = more_steps (omega arith) (name_stands rest held)
@@ -70,7 +73,8 @@ module _ {definitions : Definitions} {is_verbatim : Bool} where
   text_read (evaluates.defined d x rest) text held = text_read rest text held
   text_read (evaluates.month_name d m rest) text held = text_read rest text held
 
-  stands_after : {name next : List ℕ} {definition : List Piece} {limit : ℕ} → StandsWithin definitions is_verbatim name limit → definitions name ≡ Some definition
+  stands_after : {name next : List ℕ} {definition : List Piece} {limit : ℕ}
+      → StandsWithin definitions is_verbatim name limit → definitions name ≡ Some definition
       → HoldsName definition next → StandsWithin definitions is_verbatim next limit
   stands_after {next = next} {definition = definition} (inl x) d held =
       let same : definition ≡ x.definition = cc (d, x.is) in
@@ -78,14 +82,16 @@ module _ {definitions : Definitions} {is_verbatim : Bool} where
   stands_after (inr x) d held = absurd (cc (d, x.absent))
 
   -- each name that pieces with a styled text reach has a value, by fewer steps
-  pub reached_stands : {pieces : List Piece} {atoms : List Atom} {name : List ℕ} (x : Evaluates definitions is_verbatim pieces atoms) → Reaches definitions pieces name
+  pub reached_stands : {pieces : List Piece} {atoms : List Atom} {name : List ℕ}
+      (x : Evaluates definitions is_verbatim pieces atoms) → Reaches definitions pieces name
       → StandsWithin definitions is_verbatim name (steps x)
   reached_stands x (reaches.held held) = name_stands x held
   reached_stands x (reaches.through reached d held) = stands_after (reached_stands x reached) d held
 
   cycle_step : {name : List ℕ} {definition : List Piece} {bound : ℕ} (limit : ℕ) → definitions name ≡ Some definition → bound ≤ limit
       → Reaches definitions definition name
-      → ((other : List Piece) (atoms : List Atom) (y : Evaluates definitions is_verbatim other atoms) → definitions name ≡ Some other → steps y < limit
+      → ((other : List Piece) (atoms : List Atom) (y : Evaluates definitions is_verbatim other atoms)
+      → definitions name ≡ Some other → steps y < limit
       → Reaches definitions other name → ⊥)
       → StandsWithin definitions is_verbatim name bound → ⊥
   cycle_step {name} {definition} limit d below reached next (inl y) =
@@ -94,7 +100,8 @@ module _ {definitions : Definitions} {is_verbatim : Bool} where
   cycle_step limit d below reached next (inr y) = absurd (cc (d, y.absent))
 
   -- a name whose definition has a styled text isn't reached from its definition
-  pub no_cycle_at : {name : List ℕ} (limit : ℕ) (definition : List Piece) (atoms : List Atom) (x : Evaluates definitions is_verbatim definition atoms)
+  pub no_cycle_at : {name : List ℕ} (limit : ℕ) (definition : List Piece) (atoms : List Atom)
+      (x : Evaluates definitions is_verbatim definition atoms)
       → definitions name ≡ Some definition → steps x < limit → Reaches definitions definition name → ⊥
   no_cycle_at zero definition atoms x d below reached = absurd (omega arith)
   no_cycle_at (suc limit) definition atoms x d below reached =
@@ -104,11 +111,13 @@ module _ {definitions : Definitions} {is_verbatim : Bool} where
   known_by (inl x) = inl (x.definition, x.is)
   known_by (inr x) = inr (x.english, x.is)
 
-  cycle_by : {name : List ℕ} {definition : List Piece} {limit : ℕ} → definitions name ≡ Some definition → Reaches definitions definition name
+  cycle_by : {name : List ℕ} {definition : List Piece} {limit : ℕ} → definitions name ≡ Some definition
+      → Reaches definitions definition name
       → StandsWithin definitions is_verbatim name limit → ⊥
   cycle_by {limit = limit} d reached x = cycle_step limit d (omega arith) reached (λ other more y. no_cycle_at limit other more y) x
 
-  texts_by : {name : List ℕ} {definition : List Piece} {limit : ℕ} → definitions name ≡ Some definition → StandsWithin definitions is_verbatim name limit
+  texts_by : {name : List ℕ} {definition : List Piece} {limit : ℕ} → definitions name ≡ Some definition
+      → StandsWithin definitions is_verbatim name limit
       → AreRead is_verbatim definition
   texts_by {definition = definition} d (inl x) =
       let same : x.definition ≡ definition = cc (d, x.is) in
@@ -116,7 +125,8 @@ module _ {definitions : Definitions} {is_verbatim : Bool} where
   texts_by d (inr x) = absurd (cc (d, x.absent))
 
   -- pieces with a styled text can be parsed
-  pub readable : {field : List Piece} {atoms : List Atom} → Evaluates definitions is_verbatim field atoms → IsReadable definitions is_verbatim field
+  pub readable : {field : List Piece} {atoms : List Atom} → Evaluates definitions is_verbatim field atoms
+      → IsReadable definitions is_verbatim field
   readable x = record {
     known = λ name reached. known_by (reached_stands x reached);
     no_cycle = λ name definition reached d again. cycle_by d again (reached_stands x reached);
@@ -132,13 +142,15 @@ pub record Leads (definitions : Definitions) (field : List Piece) (name : List �
   pub leads : (next : List ℕ) → HoldsName pieces next → Reaches definitions definition next
 
 -- these pieces occur in the expansion of a field that can be parsed, while the names of `path` are being expanded
-pub record IsMet (definitions : Definitions) (is_verbatim : Bool) (field : List Piece) (path : List (List ℕ)) (pieces : List Piece) : Type 0 where
+pub record IsMet (definitions : Definitions) (is_verbatim : Bool) (field : List Piece) (path : List (List ℕ))
+    (pieces : List Piece) : Type 0 where
   pub names : (name : List ℕ) → HoldsName pieces name → Reaches definitions field name
   pub texts : AreRead is_verbatim pieces
   pub on_path : (name : List ℕ) → IsOnPath path name → Leads definitions field name pieces
 
 -- the definition of a name leads to the names among its pieces
-leads_inside : {definitions : Definitions} {field rest definition : List Piece} (name met : List ℕ) (path : List (List ℕ)) → definitions met ≡ Some definition
+leads_inside : {definitions : Definitions} {field rest definition : List Piece} (name met : List ℕ)
+    (path : List (List ℕ)) → definitions met ≡ Some definition
     → Reaches definitions field met → ((other : List ℕ) → IsOnPath path other → Leads definitions field other rest) → HoldsName rest met
     → IsOnPath (met ∷ path) name → Leads definitions field name definition
 leads_inside {definitions} {field} {definition = definition} name met path d reached before held (inl same) = record {
@@ -173,34 +185,50 @@ module _ {definitions : Definitions} {is_verbatim : Bool} {field : List Piece} w
   met_after {piece = literal p} met = record {
     names = λ name held. met.names name held;
     texts = λ text held. met.texts text (inr held);
-    on_path = λ name on. let l = met.on_path name on in record { definition = l.definition; is = l.is; reached = l.reached; leads = λ next held. l.leads next held };
+    on_path = λ name on.
+        let l = met.on_path name on in
+        record { definition = l.definition; is = l.is; reached = l.reached; leads = λ next held. l.leads next held };
   }
   met_after {piece = abbreviation p} met = record {
     names = λ name held. met.names name (inr held);
     texts = λ text held. met.texts text held;
-    on_path = λ name on. let l = met.on_path name on in record { definition = l.definition; is = l.is; reached = l.reached; leads = λ next held. l.leads next (inr held) };
+    on_path = λ name on.
+        let l = met.on_path name on in
+        record {
+          definition = l.definition;
+          is = l.is;
+          reached = l.reached;
+          leads = λ next held. l.leads next (inr held);
+        };
   }
 
   no_error_met : {path : List (List ℕ)} {pieces : List Piece} {e : ParseError} → IsReadable definitions is_verbatim field
       → IsMet definitions is_verbatim field path pieces → IsFirstError definitions is_verbatim path pieces e → ⊥
   no_error_met can met (first_error.unread {p = p} fails lies) = let x = met.texts p.text (inl refl) in fails_stuck fails x.0 x.1
-  no_error_met can met (first_error.unknown {p = p} d m is) = unknown_clash definitions p.text (can.known p.text (met.names p.text (inl refl))) d m
-  no_error_met can met (first_error.cycle {p = p} on is) = let l = met.on_path p.text on in can.no_cycle p.text l.definition l.reached l.is (l.leads p.text (inl refl))
+  no_error_met can met (first_error.unknown {p = p} d m is) =
+      unknown_clash definitions p.text (can.known p.text (met.names p.text (inl refl))) d m
+  no_error_met can met (first_error.cycle {p = p} on is) =
+      let l = met.on_path p.text on in can.no_cycle p.text l.definition l.reached l.is (l.leads p.text (inl refl))
   no_error_met can met (first_error.inside off d error) = no_error_met can (met_inside can met d) error
   no_error_met can met (first_error.following x error) = no_error_met can (met_after met) error
 
   -- a field with a first error can't be parsed
   pub not_readable : {e : ParseError} → IsFirstError definitions is_verbatim [] field e → IsReadable definitions is_verbatim field → ⊥
-  not_readable error can = no_error_met can (record { names = λ name held. reaches.held held; texts = can.texts; on_path = λ name on. absurd on }) error
+  not_readable error can =
+      no_error_met can
+      (record { names = λ name held. reaches.held held; texts = can.texts; on_path = λ name on. absurd on }) error
 
 -- a field whose parsing returned a value can be parsed
-pub read_is_readable : {T E : Type 0} (definitions : Definitions) (is_verbatim same_rule : Bool) (field : List Piece) (said : T → List Atom) (r : Result T E) → is_verbatim ≡ same_rule
+pub read_is_readable : {T E : Type 0} (definitions : Definitions) (is_verbatim same_rule : Bool) (field : List Piece)
+    (said : T → List Atom) (r : Result T E) → is_verbatim ≡ same_rule
     → IfOk r (λ x. Evaluates definitions is_verbatim field (said x)) → OnOk r (IsReadable definitions same_rule field)
-read_is_readable definitions is_verbatim same_rule field said (Ok x) same read = subst (λ v. IsReadable definitions v field) same (readable read)
+read_is_readable definitions is_verbatim same_rule field said (Ok x) same read =
+    subst (λ v. IsReadable definitions v field) same (readable read)
 read_is_readable definitions is_verbatim same_rule field said (Err e) same read = tt
 
 -- a field whose parsing returned another error than out of memory can't be parsed
-pub refused_not_readable : {T : Type 0} (definitions : Definitions) (is_verbatim same_rule : Bool) (field : List Piece) (r : Result T ParseError) → is_verbatim ≡ same_rule
+pub refused_not_readable : {T : Type 0} (definitions : Definitions) (is_verbatim same_rule : Bool) (field : List Piece)
+    (r : Result T ParseError) → is_verbatim ≡ same_rule
     → IfErr r (λ e. (e ≡ out_of_memory) ⊎ IsFirstError definitions is_verbatim [] field e)
     → IfErr r (λ e. (e ≡ out_of_memory) ⊎ (IsFirstError definitions same_rule [] field e × (IsReadable definitions same_rule field → ⊥)))
 refused_not_readable definitions is_verbatim same_rule field (Ok x) same refused = tt
@@ -217,7 +245,8 @@ given_among : (es : List (Bor (List ℕ) × Bor (Vec (Spanned RawChunk)))) (name
     → definition_among es name ≡ given_by (map (λ e. (e.0.now, map piece_of e.1.now.items)) es) name
 given_among [] name = refl
 given_among (e ∷ es) name =
-    elim (bytes_eq name e.0.now) as (λ b. option_map (λ (f : Bor (Vec (Spanned RawChunk))). map piece_of f.now.items) (if b then Some e.1 else lookup (λ key. bytes_eq name key.now) es)
+    elim (bytes_eq name e.0.now) as (λ b. option_map (λ (f : Bor (Vec (Spanned RawChunk))). map piece_of f.now.items)
+    (if b then Some e.1 else lookup (λ key. bytes_eq name key.now) es)
     ≡ (if b then Some (map piece_of e.1.now.items) else given_by (map (λ e. (e.0.now, map piece_of e.1.now.items)) es) name)) [
       | true ↦ refl
       | false ↦ given_among es name
@@ -228,14 +257,17 @@ pub sorted_given : (m : BTreeMap (Bor (List ℕ)) (Bor (Vec (Spanned RawChunk)))
 sorted_given m = definitions_same (given_among m.entries)
 
 -- a result with equal definitions and an equal flag is the same
-pub read_same_rule : {T E : Type 0} (definitions same_definitions : Definitions) (is_verbatim same_rule : Bool) (field : List Piece) (said : T → List Atom) (r : Result T E)
+pub read_same_rule : {T E : Type 0} (definitions same_definitions : Definitions) (is_verbatim same_rule : Bool)
+    (field : List Piece) (said : T → List Atom) (r : Result T E)
     → definitions ≡ same_definitions → is_verbatim ≡ same_rule
     → IfOk r (λ x. Evaluates definitions is_verbatim field (said x)) → IfOk r (λ x. Evaluates same_definitions same_rule field (said x))
 read_same_rule definitions same_definitions is_verbatim same_rule field said r same rule read =
-    subst (λ v. IfOk r (λ x. Evaluates same_definitions v field (said x))) rule (subst (λ d. IfOk r (λ x. Evaluates d is_verbatim field (said x))) same read)
+    subst (λ v. IfOk r (λ x. Evaluates same_definitions v field (said x))) rule
+    (subst (λ d. IfOk r (λ x. Evaluates d is_verbatim field (said x))) same read)
 
 -- an error with equal definitions is the same
-pub refused_same_rule : {T : Type 0} (definitions same_definitions : Definitions) (is_verbatim : Bool) (field : List Piece) (r : Result T ParseError) → definitions ≡ same_definitions
+pub refused_same_rule : {T : Type 0} (definitions same_definitions : Definitions) (is_verbatim : Bool)
+    (field : List Piece) (r : Result T ParseError) → definitions ≡ same_definitions
     → IfErr r (λ e. (e ≡ out_of_memory) ⊎ IsFirstError definitions is_verbatim [] field e)
     → IfErr r (λ e. (e ≡ out_of_memory) ⊎ IsFirstError same_definitions is_verbatim [] field e)
 refused_same_rule definitions same_definitions is_verbatim field r same refused =

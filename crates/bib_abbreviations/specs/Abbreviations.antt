@@ -63,7 +63,9 @@ pub data Reaches (definitions : Definitions) (field : List Piece) : List ℕ →
 
 -- a name is defined, or the first three letters of a month
 abbrev pub IsKnown : Definitions → List ℕ → Type 0
-IsKnown definitions name = ((definition : List Piece) × (definitions name ≡ Some definition)) ⊎ ((english : List ℕ) × (month name ≡ Some english))
+IsKnown definitions name =
+    ((definition : List Piece) × (definitions name ≡ Some definition))
+    ⊎ ((english : List ℕ) × (month name ≡ Some english))
 
 -- whether a name is defined, or the first three letters of a month
 abbrev pub is_known : Definitions → List ℕ → Bool
@@ -92,7 +94,8 @@ pub data Evaluates (definitions : Definitions) (is_verbatim : Bool) : List Piece
   defined : {p : Part} {rest definition : List Piece} {first more : List Atom} → definitions p.text ≡ Some definition
       → Evaluates definitions is_verbatim definition first → Evaluates definitions is_verbatim rest more
       → Evaluates definitions is_verbatim (abbreviation p ∷ rest) (first ++ more)
-  month_name : {p : Part} {rest : List Piece} {english : List ℕ} {more : List Atom} → definitions p.text ≡ None → month p.text ≡ Some english
+  month_name : {p : Part} {rest : List Piece} {english : List ℕ} {more : List Atom} → definitions p.text ≡ None
+      → month p.text ≡ Some english
       → Evaluates definitions is_verbatim rest more
       → Evaluates definitions is_verbatim (abbreviation p ∷ rest) (map Atom.normal (chars english) ++ more)
 

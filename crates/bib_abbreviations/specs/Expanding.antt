@@ -49,10 +49,13 @@ chunks_between start end chunks = take (end - start) (drop start chunks)
 
 -- the chunks of each expanded name are in the memo
 abbrev pub AreWithin : Memo → Type 0
-AreWithin memo = (name : List ℕ) (start end : ℕ) → progress memo name ≡ Some (Done start end) → (start ≤ end) × (end ≤ length memo.values.items)
+AreWithin memo =
+    (name : List ℕ) (start end : ℕ) → progress memo name ≡ Some (Done start end)
+    → (start ≤ end) × (end ≤ length memo.values.items)
 
 -- the chunks from `start` to `end` have the styled text of a name's definition
-pub record IsValue (definitions : Definitions) (is_verbatim : Bool) (chunks : List (Spanned Chunk)) (name : List ℕ) (start end : ℕ) : Type 0 where
+pub record IsValue (definitions : Definitions) (is_verbatim : Bool) (chunks : List (Spanned Chunk)) (name : List ℕ)
+    (start end : ℕ) : Type 0 where
   pub definition : List Piece
   pub is : definitions name ≡ Some definition
   pub ordered : start ≤ end
@@ -112,4 +115,6 @@ FailsWith expansion path pieces e = (e ≡ out_of_memory) ⊎ IsFirstError (know
 
 -- out of memory, or the error of a piece, whatever pieces come after it
 abbrev pub StopsAt : Expansion → List (List ℕ) → Piece → ParseError → Type 0
-StopsAt expansion path piece e = (e ≡ out_of_memory) ⊎ ((rest : List Piece) → IsFirstError (known_to expansion) expansion.is_verbatim path (piece ∷ rest) e)
+StopsAt expansion path piece e =
+    (e ≡ out_of_memory)
+    ⊎ ((rest : List Piece) → IsFirstError (known_to expansion) expansion.is_verbatim path (piece ∷ rest) e)

@@ -20,7 +20,8 @@ word_here space (a ∷ n ∷ d ∷ rest) = space && is_and a n d && begins_with_
 word_here space rest = false
 
 -- if the word is here, the characters are its letters and then white space
-pub word_letters : (space : Bool) (cs : List ℕ) → word_here space cs ≡ true → (rest : List ℕ) × (cs ≡ 97 ∷ 110 ∷ 100 ∷ rest) × (begins_with_space rest ≡ true)
+pub word_letters : (space : Bool) (cs : List ℕ) → word_here space cs ≡ true
+    → (rest : List ℕ) × (cs ≡ 97 ∷ 110 ∷ 100 ∷ rest) × (begins_with_space rest ≡ true)
 word_letters space [] here = absurd (false≢true here)
 word_letters space (a ∷ []) here = absurd (false≢true here)
 word_letters space (a ∷ n ∷ []) here = absurd (false≢true here)
@@ -30,7 +31,9 @@ word_letters space (a ∷ n ∷ d ∷ rest) here =
     let last = and_parts (a == 97 && n == 110) (d == 100) word in
     let leading_run = and_parts (a == 97) (n == 110) last.0 in (
       rest,
-      ap (λ x. x ∷ n ∷ d ∷ rest) (eqb-true a 97 leading_run.0) ∙ ap (λ x. 97 ∷ x ∷ d ∷ rest) (eqb-true n 110 leading_run.1) ∙ ap (λ x. 97 ∷ 110 ∷ x ∷ rest) (eqb-true d 100 last.1),
+      ap (λ x. x ∷ n ∷ d ∷ rest) (eqb-true a 97 leading_run.0)
+          ∙ ap (λ x. 97 ∷ x ∷ d ∷ rest) (eqb-true n 110 leading_run.1)
+          ∙ ap (λ x. 97 ∷ 110 ∷ x ∷ rest) (eqb-true d 100 last.1),
       outer.1,
     )
 
@@ -43,7 +46,8 @@ unfolding encode
 and_bytes_all cs = refl
 
 -- the characters of a text that begins with the word
-and_chars : (text following : List ℕ) → IsUtf8 text → text ≡ codes "and" ++ following → (chars text ≡ 97 ∷ 110 ∷ 100 ∷ chars following) × IsUtf8 following
+and_chars : (text following : List ℕ) → IsUtf8 text → text ≡ codes "and" ++ following
+    → (chars text ≡ 97 ∷ 110 ∷ 100 ∷ chars following) × IsUtf8 following
 and_chars text following utf8 word = chars_past (97 ∷ 110 ∷ 100 ∷ []) text following utf8 (word ∙ and_bytes following)
 
 never : (cs : List ℕ) → word_here false cs ≡ false
@@ -60,12 +64,15 @@ not_spaced space cs none = rw none (never cs)
 pub no_word : (space : Bool) (bs : List ℕ) → IsUtf8 bs → NoAnd bs → word_here space (chars bs) ≡ false
 no_word space bs utf8 no_and = false_from_ne_true (word_here space (chars bs)) (λ here.
     let (rest, letters, spaced) = word_letters space (chars bs) here in
-    let word : bs ≡ codes "and" ++ encode_utf8_all rest = sym (encodes-chars bs utf8) ∙ ap encode_utf8_all letters ∙ sym (and_bytes_all rest) in
-    let same : chars (encode_utf8_all rest) ≡ rest = append_cancel_left (97 ∷ 110 ∷ 100 ∷ []) _ _ (sym (and_chars bs (encode_utf8_all rest) utf8 word).0 ∙ letters) in
+    let word : bs ≡ codes "and" ++ encode_utf8_all rest =
+    sym (encodes-chars bs utf8) ∙ ap encode_utf8_all letters ∙ sym (and_bytes_all rest) in
+    let same : chars (encode_utf8_all rest) ≡ rest =
+    append_cancel_left (97 ∷ 110 ∷ 100 ∷ []) _ _ (sym (and_chars bs (encode_utf8_all rest) utf8 word).0 ∙ letters) in
     no_and (encode_utf8_all rest) (record { word = word; space = ap begins_with_space same ∙ spaced }))
 
 -- if the word isn't there, the character belongs to the first text
-pub between_other : (space : Bool) (c : ℕ) (cs : List ℕ) → word_here space (c ∷ cs) ≡ false → between_ands space (c ∷ cs) ≡ prepend (c ∷ []) (between_ands (is_whitespace c) cs)
+pub between_other : (space : Bool) (c : ℕ) (cs : List ℕ) → word_here space (c ∷ cs) ≡ false
+    → between_ands space (c ∷ cs) ≡ prepend (c ∷ []) (between_ands (is_whitespace c) cs)
 between_other space c [] here = refl
 between_other space c (n ∷ []) here = refl
 between_other space c (n ∷ d ∷ rest) here = cond-false (space && is_and c n d && begins_with_space rest) _ _ here
@@ -77,7 +84,8 @@ prepend_prepend : (xs ys : List ℕ) (texts : List (List ℕ)) → prepend xs (p
 prepend_prepend xs ys [] = refl
 prepend_prepend xs ys (text ∷ texts) = ap (λ t. t ∷ texts) (sym (append_assoc xs ys text))
 
-cond_some : (here : Bool) (cut : List (List ℕ)) (a : ℕ) (texts : List (List ℕ)) → (text : List ℕ) × (more : List (List ℕ)) × (texts ≡ text ∷ more)
+cond_some : (here : Bool) (cut : List (List ℕ)) (a : ℕ) (texts : List (List ℕ))
+    → (text : List ℕ) × (more : List (List ℕ)) × (texts ≡ text ∷ more)
     → (text : List ℕ) × (more : List (List ℕ)) × (cond here ([] ∷ cut) (prepend (a ∷ []) texts) ≡ text ∷ more)
 cond_some true cut a texts some = ([], cut, refl)
 cond_some false cut a texts some = ((a ∷ []) ++ some.0, some.1, ap (prepend (a ∷ [])) some.2)
@@ -89,7 +97,8 @@ ands_some space (a ∷ []) = (_, _, refl)
 ands_some space (a ∷ n ∷ []) = (_, _, refl)
 ands_some space (a ∷ n ∷ d ∷ rest) =
     let more = ands_some (is_whitespace a) (n ∷ d ∷ rest) in
-    cond_some (space && is_and a n d && begins_with_space rest) (between_ands false rest) a (between_ands (is_whitespace a) (n ∷ d ∷ rest)) more
+    cond_some (space && is_and a n d && begins_with_space rest) (between_ands false rest) a
+    (between_ands (is_whitespace a) (n ∷ d ∷ rest)) more
 
 prepend_none : (space : Bool) (cs : List ℕ) → prepend [] (between_ands space cs) ≡ between_ands space cs
 prepend_none space cs = let some = ands_some space cs in rw some.2 refl
@@ -110,14 +119,19 @@ searched_none text utf8 = record {
 }
 
 -- the search goes on after a character at which no such word begins
-pub searched_char : (text : List ℕ) (at next c : ℕ) (space : Bool) → Searched text at space → CharAt (place text at) c (place text next) → word_here space (chars (drop at text)) ≡ false → Searched text next (is_whitespace c)
+pub searched_char : (text : List ℕ) (at next c : ℕ) (space : Bool) → Searched text at space
+    → CharAt (place text at) c (place text next) → word_here space (chars (drop at text)) ≡ false
+    → Searched text next (is_whitespace c)
 searched_char text at next c space so_far char none =
     let one : Passed (place text at) (c ∷ []) (place text next) = passed_char char so_far.passed.utf8 in
     let here : word_here space (c ∷ chars (drop next text)) ≡ false = rw one.spelt at none in
     record {
       cs = so_far.cs ++ c ∷ [];
       passed = passed_append so_far.passed one;
-      texts = so_far.texts ∙ ap (λ xs. prepend so_far.cs (between_ands space xs)) one.spelt ∙ ap (prepend so_far.cs) (between_other space c (chars (drop next text)) here) ∙ prepend_prepend so_far.cs (c ∷ []) _;
+      texts =
+          so_far.texts ∙ ap (λ xs. prepend so_far.cs (between_ands space xs)) one.spelt
+          ∙ ap (prepend so_far.cs) (between_other space c (chars (drop next text)) here)
+          ∙ prepend_prepend so_far.cs (c ∷ []) _;
     }
 
 -- the text before a position is that of the passed characters
@@ -127,7 +141,8 @@ before_place text at cs passed =
     ap (take at) passed.here ∙ take_at (encode_utf8_all cs) (drop at text) at (omega arith)
 
 -- the word at a position is the first one
-pub searched_word : (text : List ℕ) (at : ℕ) (before following : List ℕ) → Searched text at true → before ≡ take at text → IsUtf8 before → IsAnd (drop at text) following → IsFirstAnd text before following
+pub searched_word : (text : List ℕ) (at : ℕ) (before following : List ℕ) → Searched text at true → before ≡ take at text
+    → IsUtf8 before → IsAnd (drop at text) following → IsFirstAnd text before following
 searched_word text at before following so_far leading_run prefix_utf8 word =
     let letters = and_chars (drop at text) following so_far.passed.utf8 word.word in
     let spells : before ≡ encode_utf8_all so_far.cs = leading_run ∙ before_place text at so_far.cs so_far.passed in
@@ -135,17 +150,20 @@ searched_word text at before following so_far leading_run prefix_utf8 word =
     record {
       word = sym (take-append-drop at text) ∙ ap (λ xs. xs ++ drop at text) (sym leading_run) ∙ ap (λ xs. before ++ xs) word.word;
       cut =
-          so_far.texts ∙ ap (λ xs. prepend so_far.cs (between_ands true xs)) letters.0 ∙ ap (prepend so_far.cs) (between_word (chars following) word.space)
+          so_far.texts ∙ ap (λ xs. prepend so_far.cs (between_ands true xs)) letters.0
+          ∙ ap (prepend so_far.cs) (between_word (chars following) word.space)
           ∙ ap (λ xs. xs ∷ between_ands false (chars following)) (append-nil so_far.cs ∙ sym chars_before);
       spells = sym (encodes-chars before prefix_utf8);
       utf8 = letters.1;
     }
 
 -- at the end of the text the search has found no such word
-pub searched_all : (text : List ℕ) (at : ℕ) (space : Bool) → Searched text at space → drop at text ≡ [] → between_ands false (chars text) ≡ chars text ∷ []
+pub searched_all : (text : List ℕ) (at : ℕ) (space : Bool) → Searched text at space → drop at text ≡ []
+    → between_ands false (chars text) ≡ chars text ∷ []
 searched_all text at space so_far nothing =
     let left : chars (drop at text) ≡ [] = ap chars nothing ∙ chars-nil in
-    so_far.texts ∙ ap (λ xs. prepend so_far.cs (between_ands space xs)) left ∙ ap (λ xs. (so_far.cs ++ xs) ∷ []) (sym left) ∙ ap (λ xs. xs ∷ []) (sym so_far.passed.spelt)
+    so_far.texts ∙ ap (λ xs. prepend so_far.cs (between_ands space xs)) left
+    ∙ ap (λ xs. (so_far.cs ++ xs) ∷ []) (sym left) ∙ ap (λ xs. xs ∷ []) (sym so_far.passed.spelt)
 
 trimmed_cons : (first last : Bool) (x : Spanned Chunk) (rest : List (Spanned Chunk)) → last ≡ nat_eq (length rest) 0
     → trimmed_from first (x ∷ rest) ≡ trimmed first last x.v x.span ∷ trimmed_from false rest
@@ -160,9 +178,12 @@ same_test m n more = ⊎_elim
     (cases_eq n 0)
 
 -- a step of the loop: a trimmed chunk is added, the last one exactly if no chunk follows
-pub trimmed_step : (first last : Bool) (x : Spanned Chunk) (chunks : List (Spanned Chunk)) (i : ℕ) → i < length chunks → x ≡ get_or chunks i x → last ≡ nat_eq (length chunks - i) 1
+pub trimmed_step : (first last : Bool) (x : Spanned Chunk) (chunks : List (Spanned Chunk)) (i : ℕ) → i < length chunks
+    → x ≡ get_or chunks i x → last ≡ nat_eq (length chunks - i) 1
     → trimmed_from first (drop i chunks) ≡ trimmed first last x.v x.span ∷ trimmed_from false (drop (i + 1) chunks)
 trimmed_step first last x chunks i within is is_last =
     let split : drop i chunks ≡ x ∷ drop (i + 1) chunks = drop_more chunks i x within ∙ ap (λ y. y ∷ drop (i + 1) chunks) (sym is) in
     let left : length (drop (i + 1) chunks) ≡ length chunks - (i + 1) = length-drop (i + 1) chunks in
-    ap (trimmed_from first) split ∙ trimmed_cons first last x (drop (i + 1) chunks) (is_last ∙ same_test (length chunks - i) (length (drop (i + 1) chunks)) (omega arith))
+    ap (trimmed_from first) split
+    ∙ trimmed_cons first last x (drop (i + 1) chunks)
+    (is_last ∙ same_test (length chunks - i) (length (drop (i + 1) chunks)) (omega arith))

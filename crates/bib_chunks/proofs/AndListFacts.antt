@@ -25,7 +25,8 @@ abbrev after_ands : List (List ℕ) → Value
 after_ands texts = flat_map (after_separator (codes " and ")) (map (λ t. alone (Verbatim t)) texts)
 
 -- such a list is unchanged by trimming
-untrimmed : (first : Bool) (t : List ℕ) (rest : List (List ℕ)) → trimmed_from first (alone (Verbatim t) ++ after_ands rest) ≡ alone (Verbatim t) ++ after_ands rest
+untrimmed : (first : Bool) (t : List ℕ) (rest : List (List ℕ))
+    → trimmed_from first (alone (Verbatim t) ++ after_ands rest) ≡ alone (Verbatim t) ++ after_ands rest
 untrimmed first t [] = refl
 untrimmed first t (u ∷ rest) = ap (λ xs. nowhere (Verbatim t) ∷ nowhere (Normal (codes " and ")) ∷ xs) (untrimmed false u rest)
 
@@ -35,7 +36,8 @@ verbatim_whole [] = tt
 verbatim_whole (t ∷ rest) = (record { one = refl; says = refl }, verbatim_whole rest)
 
 -- the parts of such a list format to its texts
-pub parts_format : (t : List ℕ) (rest : List (List ℕ)) → map formatted (and_list (parts_written (map (λ x. alone (Verbatim x)) (t ∷ rest)))) ≡ map chars (t ∷ rest)
+pub parts_format : (t : List ℕ) (rest : List (List ℕ))
+    → map formatted (and_list (parts_written (map (λ x. alone (Verbatim x)) (t ∷ rest)))) ≡ map chars (t ∷ rest)
 parts_format t rest =
     ap (λ chunks. map formatted (list_parts 3 (between_ands false) chunks)) (untrimmed true t rest)
     ∙ separated_formats 3 (between_ands false) (λ u. Verbatim u) (codes " and ") and_separates t rest (verbatim_whole (t ∷ rest))

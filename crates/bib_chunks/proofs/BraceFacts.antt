@@ -39,7 +39,8 @@ parts_open : {u v x : Place} → CharAt u 123 v → Parts u x → (u ≡ x) ⊎ 
 parts_open char none = inl refl
 parts_open char (plain other also rest) = absurd (both_ways _ refl (rw (sym (same_char char other).0) at also))
 parts_open char (hidden other next rest) = absurd (omega (arith, (same_char char other).0))
-parts_open char (nested {w = w} {x = y} other inner close rest) = inr (w, y, subst (λ p. Parts p w) (same_char other char).1 inner, close, rest)
+parts_open char (nested {w = w} {x = y} other inner close rest) =
+    inr (w, y, subst (λ p. Parts p w) (same_char other char).1 inner, close, rest)
 
 parts_close : {u v x : Place} → CharAt u 125 v → Parts u x → u ≡ x
 parts_close char none = refl
@@ -58,21 +59,27 @@ not_last : {u v e : Place} {c : ℕ} → AtEnd e → CharAt u c v → u ≡ e �
 not_last {v = v} {c = c} end char last = no_char_at_end end (subst (λ p. CharAt p c v) last char)
 
 -- if parts from `u` are parts from `v`, the same braces close from both
-closes_after : (n : ℕ) (e : Place) {u v y : Place} {c : ℕ} → AtEnd e → CharAt u c y → (c ≡ 125 → ⊥) → ((x : Place) → Parts u x → (u ≡ x) ⊎ Parts v x) → ((x : Place) → Parts v x → Parts u x)
+closes_after : (n : ℕ) (e : Place) {u v y : Place} {c : ℕ} → AtEnd e → CharAt u c y → (c ≡ 125 → ⊥)
+    → ((x : Place) → Parts u x → (u ≡ x) ⊎ Parts v x) → ((x : Place) → Parts v x → Parts u x)
     → Closes n u e ↔ Closes n v e
 closes_after zero e end char other first back = (λ p. ⊎_elim (λ last. absurd (not_last end char last)) (λ q. q) (first e p), back e)
 closes_after (suc n) e {u} {v} {y} {c} end char other first back = (
-  λ (w, x, parts, close, rest). ⊎_elim (λ last. absurd (other (same_char char (subst (λ p. CharAt p 125 x) (sym last) close)).0)) (λ q. (w, x, q, close, rest)) (first w parts),
+  λ (w, x, parts, close, rest).
+      ⊎_elim (λ last. absurd (other (same_char char (subst (λ p. CharAt p 125 x) (sym last) close)).0))
+      (λ q. (w, x, q, close, rest)) (first w parts),
   λ (w, x, parts, close, rest). (w, x, back w parts, close, rest),
 )
 
 -- a plain character does not change how many braces close up to the end
-pub closes_plain : (n : ℕ) (e : Place) {u v : Place} {c : ℕ} → AtEnd e → CharAt u c v → is_plain c ≡ true → (c ≡ 125 → ⊥) → Closes n u e ↔ Closes n v e
+pub closes_plain : (n : ℕ) (e : Place) {u v : Place} {c : ℕ} → AtEnd e → CharAt u c v → is_plain c ≡ true
+    → (c ≡ 125 → ⊥) → Closes n u e ↔ Closes n v e
 closes_plain n e end char passes other = closes_after n e end char other (λ x. parts_plain char passes) (λ x rest. plain char passes rest)
 
 -- nor do a backslash and the character after it
 pub closes_hidden : (n : ℕ) (e : Place) {u v w : Place} {c : ℕ} → AtEnd e → CharAt u 92 v → CharAt v c w → Closes n u e ↔ Closes n w e
-closes_hidden n e end slash char = closes_after n e end slash (λ same. omega (arith, same)) (λ x. parts_hidden slash char) (λ x rest. hidden slash char rest)
+closes_hidden n e end slash char =
+    closes_after n e end slash (λ same. omega (arith, same)) (λ x. parts_hidden slash char)
+    (λ x rest. hidden slash char rest)
 
 -- a text that ends with a backslash does not consist of parts
 pub closes_slash_end : (n : ℕ) (e : Place) {u v : Place} → AtEnd e → CharAt u 92 v → AtEnd v → Closes n u e → ⊥
@@ -99,7 +106,9 @@ closes_open n e end char = rw add-one (closes_open_suc n e end char)
 
 closes_close_suc : (n : ℕ) (e : Place) {u v : Place} → CharAt u 125 v → Closes (suc n) u e ↔ Closes n v e
 closes_close_suc n e {u} {v} char = (
-  λ (w, x, parts, close, rest). subst (λ p. Closes n p e) (sym (same_char char (subst (λ p. CharAt p 125 x) (sym (parts_close char parts)) close)).1) rest,
+  λ (w, x, parts, close, rest).
+      subst (λ p. Closes n p e)
+      (sym (same_char char (subst (λ p. CharAt p 125 x) (sym (parts_close char parts)) close)).1) rest,
   λ rest. (u, v, none, char, rest),
 )
 
@@ -116,7 +125,9 @@ closes_close_none e end char parts = not_last end char (parts_close char parts)
 pub closes_end : (n : ℕ) (e : Place) {u : Place} → AtEnd u → u ≡ e → MatchBool (nat_eq n 0) (Closes n u e) (Closes n u e → ⊥)
 closes_end zero e {u} last same = subst (λ p. Parts u p) same none
 closes_end (suc n) e last same =
-    rw (ne_eqb (suc n) 0 (λ none. omega (arith, none))) (λ (w, x, parts, close, rest). no_char_at_end last (subst (λ p. CharAt p 125 x) (sym (parts_end last parts)) close))
+    rw (ne_eqb (suc n) 0 (λ none. omega (arith, none)))
+    (λ (w, x, parts, close, rest).
+    no_char_at_end last (subst (λ p. CharAt p 125 x) (sym (parts_end last parts)) close))
 
 -- a place at the end of a text is its end
 pub end_is : (text : List ℕ) {u : Place} → u.text ≡ text → AtEnd u → u ≡ place text (length text)

@@ -27,30 +27,39 @@ onto_onto xs ys [] = refl
 onto_onto xs ys (part ∷ parts) = ap (λ p. p ∷ parts) (sym (append_assoc xs ys part))
 
 -- prepending nothing to the first part changes nothing
-onto_nothing : (pieces : List (Spanned Chunk)) (parts : List (List (Spanned Chunk))) → onto [] parts ≡ parts → onto [] (joined_parts pieces parts) ≡ joined_parts pieces parts
+onto_nothing : (pieces : List (Spanned Chunk)) (parts : List (List (Spanned Chunk))) → onto [] parts ≡ parts
+    → onto [] (joined_parts pieces parts) ≡ joined_parts pieces parts
 onto_nothing [] parts some = some
 onto_nothing (p ∷ []) parts some = onto_onto [] (p ∷ []) parts
 onto_nothing (p ∷ q ∷ more) parts some = refl
 
 -- prepending nothing to the parts of a list changes nothing
-pub onto_parts : (w : ℕ) (cut : List ℕ → List (List ℕ)) (chunks : List (Spanned Chunk)) → onto [] (list_parts w cut chunks) ≡ list_parts w cut chunks
+pub onto_parts : (w : ℕ) (cut : List ℕ → List (List ℕ)) (chunks : List (Spanned Chunk))
+    → onto [] (list_parts w cut chunks) ≡ list_parts w cut chunks
 onto_parts w cut [] = refl
 onto_parts w cut (c ∷ rest) = onto_nothing (pieces w cut c.v c.span) (list_parts w cut rest) (onto_parts w cut rest)
 
-onto_some : (next : Spanned Chunk) (more : List (Spanned Chunk)) (parts : List (List (Spanned Chunk))) → onto [] (joined_parts (next ∷ more) parts) ≡ joined_parts (next ∷ more) parts
+onto_some : (next : Spanned Chunk) (more : List (Spanned Chunk)) (parts : List (List (Spanned Chunk)))
+    → onto [] (joined_parts (next ∷ more) parts) ≡ joined_parts (next ∷ more) parts
 onto_some next [] parts = onto_onto [] (next ∷ []) parts
 onto_some next (q ∷ more) parts = refl
 
 -- a chunk was added to the current part
-pub read_one : (old new : Parts) (piece : Spanned Chunk) → new ≡ record { done = old.done; last = old.last ++ piece ∷ [] } → ReadsPieces old new (piece ∷ [])
-read_one old new piece is following = ap (λ p. all_parts p following) is ∙ ap (λ ps. old.done ++ ps) (sym (onto_onto old.last (piece ∷ []) following))
+pub read_one : (old new : Parts) (piece : Spanned Chunk)
+    → new ≡ record { done = old.done; last = old.last ++ piece ∷ [] } → ReadsPieces old new (piece ∷ [])
+read_one old new piece is following =
+    ap (λ p. all_parts p following) is ∙ ap (λ ps. old.done ++ ps) (sym (onto_onto old.last (piece ∷ []) following))
 
 ended : Parts → Parts
 ended parts = record { done = parts.done ++ parts.last ∷ []; last = [] }
 
 -- a piece was added, and its part was finished
-read_end : (old middle new : Parts) (piece next : Spanned Chunk) (more : List (Spanned Chunk)) → middle ≡ record { done = old.done; last = old.last ++ piece ∷ [] } → new ≡ record { done = middle.done ++ middle.last ∷ []; last = [] }
-    → (following : List (List (Spanned Chunk))) → all_parts new (joined_parts (next ∷ more) following) ≡ all_parts old (joined_parts (piece ∷ next ∷ more) following)
+read_end : (old middle new : Parts) (piece next : Spanned Chunk) (more : List (Spanned Chunk))
+    → middle ≡ record { done = old.done; last = old.last ++ piece ∷ [] }
+    → new ≡ record { done = middle.done ++ middle.last ∷ []; last = [] }
+    → (following : List (List (Spanned Chunk)))
+    → all_parts new (joined_parts (next ∷ more) following)
+    ≡ all_parts old (joined_parts (piece ∷ next ∷ more) following)
 unfolding ended
 read_end old middle new piece next more added closed following =
     let is : new ≡ record { done = old.done ++ (old.last ++ piece ∷ []) ∷ []; last = [] } = closed ∙ ap ended added in
@@ -63,9 +72,13 @@ further_twice : (at n m : ℕ) → further at (further n m) ≡ further at (n + 
 further_twice at n m = omega arith
 
 -- the span of a part is the same if its position is saturated first
-pub part_further : (whole text : List ℕ) (span : Range ℕ) (at skipped : ℕ) → chunk_part whole span (further at skipped) text ≡ chunk_part whole span (at + skipped) text
+pub part_further : (whole text : List ℕ) (span : Range ℕ) (at skipped : ℕ)
+    → chunk_part whole span (further at skipped) text ≡ chunk_part whole span (at + skipped) text
 part_further whole text span at skipped =
-    ap (λ n. if length text == length whole then placed (Normal text) span.start span.end else placed (Normal text) n (further n (length text)))
+    ap
+    (λ n.
+    if length text == length whole then placed (Normal text) span.start span.end
+    else placed (Normal text) n (further n (length text)))
     (further_twice span.start at skipped)
 
 -- `before` and `after` are the texts before and after the first `c` of a text, both UTF-8
@@ -77,7 +90,8 @@ pub record IsCharCut (c : ℕ) (text before after : List ℕ) : Type 0 where
   pub size : length text ≡ length before + (len_utf8 c + length after)
 
 -- the texts that `split_once` returns are these
-pub char_cut : (c : ℕ) (text : List ℕ) (before after : Bor (List ℕ)) → IsUtf8 text → IsSplitOnceResult c text (Some (before, after)) → IsCharCut c text before.now after.now
+pub char_cut : (c : ℕ) (text : List ℕ) (before after : Bor (List ℕ)) → IsUtf8 text
+    → IsSplitOnceResult c text (Some (before, after)) → IsCharCut c text before.now after.now
 char_cut c text before after utf8 (i, j, found, leading_run, back, ordered, size, rest_size) =
     let spelt : encode_utf8_all found.0.0 ≡ take i text = found.0.1 in
     let past = chars_past found.0.0 text (drop i text) utf8 (sym (take-append-drop i text) ∙ ap (λ bs. bs ++ drop i text) (sym spelt)) in
@@ -103,9 +117,11 @@ pub split_none : (test : ℕ → Bool) (cs : List ℕ) → NonePass test cs → 
 split_none test [] free = refl
 split_none test (c ∷ cs) free = slice_split-cons_no test c cs free.0 ∙ ap (onto_first c) (split_none test cs free.1)
 
-split_here : (test : ℕ → Bool) (cs : List ℕ) (c : ℕ) (rest : List ℕ) → NonePass test cs → test c ≡ true → slice_split test (cs ++ c ∷ rest) ≡ cs ∷ slice_split test rest
+split_here : (test : ℕ → Bool) (cs : List ℕ) (c : ℕ) (rest : List ℕ) → NonePass test cs → test c ≡ true
+    → slice_split test (cs ++ c ∷ rest) ≡ cs ∷ slice_split test rest
 split_here test [] c rest free here = slice_split-cons_yes test c rest here
-split_here test (d ∷ cs) c rest free here = slice_split-cons_no test d (cs ++ c ∷ rest) free.0 ∙ ap (onto_first d) (split_here test cs c rest free.1 here)
+split_here test (d ∷ cs) c rest free here =
+    slice_split-cons_no test d (cs ++ c ∷ rest) free.0 ∙ ap (onto_first d) (split_here test cs c rest free.1 here)
 
 -- a result of `split_once` at a comma is the first cut of a comma list
 pub first_comma : (text : List ℕ) (r : Option (Bor (List ℕ) × Bor (List ℕ))) → IsUtf8 text → IsSplitOnceResult 44 text r
@@ -129,7 +145,9 @@ first_word text (Some both) first = record {
   cut = first.cut;
   spells = first.spells;
   utf8 = first.utf8;
-  size = ap length first.word ∙ length-append both.0.now (codes "and" ++ both.1.now) ∙ ap (λ n. length both.0.now + n) (length-append (codes "and") both.1.now);
+  size =
+      ap length first.word ∙ length-append both.0.now (codes "and" ++ both.1.now)
+      ∙ ap (λ n. length both.0.now + n) (length-append (codes "and") both.1.now);
 }
 
 -- there is at least one text between commas
@@ -152,8 +170,10 @@ pieces_some w whole span at following text [] = (_, _, refl)
 pieces_some w whole span at following text (next ∷ more) = (_, _, refl)
 
 -- a piece up to a separator was read
-pub read_piece : (separator : Separator) (old middle new : Parts) (whole : List ℕ) (span : Range ℕ) (at onward : ℕ) (following : Bool) (rest before after : List ℕ) (here : Spanned Chunk)
-    → IsFirstCut separator rest before after → onward ≡ at + (length before + width separator) → here ≡ piece whole span at following true before
+pub read_piece : (separator : Separator) (old middle new : Parts) (whole : List ℕ) (span : Range ℕ) (at onward : ℕ)
+    (following : Bool) (rest before after : List ℕ) (here : Spanned Chunk)
+    → IsFirstCut separator rest before after → onward ≡ at + (length before + width separator)
+    → here ≡ piece whole span at following true before
     → middle ≡ record { done = old.done; last = old.last ++ here ∷ [] } → new ≡ record { done = middle.done ++ middle.last ∷ []; last = [] }
     → (parts : List (List (Spanned Chunk)))
     → all_parts new (joined_parts (pieces_between (width separator) whole span onward true (between_cuts separator (chars after))) parts)
@@ -162,29 +182,37 @@ read_piece separator old middle new whole span at onward following rest before a
     let w = width separator in
     let (text, more, split) = between_some separator (chars after) in
     let (x, xs, some) = pieces_some w whole span onward true text more in
-    let rest_pieces : pieces_between w whole span onward true (between_cuts separator (chars after)) ≡ x ∷ xs = ap (pieces_between w whole span onward true) split ∙ some in
+    let rest_pieces : pieces_between w whole span onward true (between_cuts separator (chars after)) ≡ x ∷ xs =
+    ap (pieces_between w whole span onward true) split ∙ some in
     let bytes : encode_utf8_all (chars before) ≡ before = sym first.spells in
     let all_here : pieces_between w whole span at following (chars before ∷ text ∷ more) ≡ here ∷ (x ∷ xs) =
     ap (λ bs. piece whole span at following true bs ∷ pieces_between w whole span (at + (length bs + w)) true (text ∷ more)) bytes
     ∙ ap (λ n. piece whole span at following true before ∷ pieces_between w whole span n true (text ∷ more)) (sym onward_is)
     ∙ ap (λ ys. piece whole span at following true before ∷ ys) some
     ∙ ap (λ p. p ∷ (x ∷ xs)) (sym here_is) in
-    let all_pieces : pieces_between w whole span at following (between_cuts separator (chars rest)) ≡ here ∷ (x ∷ xs) = ap (pieces_between w whole span at following) (first.cut ∙ ap (λ ts. chars before ∷ ts) split) ∙ all_here in
-    ap (λ ps. all_parts new (joined_parts ps parts)) rest_pieces ∙ read_end old middle new here x xs added closed parts ∙ ap (λ ps. all_parts old (joined_parts ps parts)) (sym all_pieces)
+    let all_pieces : pieces_between w whole span at following (between_cuts separator (chars rest)) ≡ here ∷ (x ∷ xs) =
+    ap (pieces_between w whole span at following) (first.cut ∙ ap (λ ts. chars before ∷ ts) split) ∙ all_here in
+    ap (λ ps. all_parts new (joined_parts ps parts)) rest_pieces ∙ read_end old middle new here x xs added closed parts
+    ∙ ap (λ ps. all_parts old (joined_parts ps parts)) (sym all_pieces)
 
 -- the last piece was read
-pub read_rest : (separator : Separator) (old new : Parts) (whole : List ℕ) (span : Range ℕ) (at : ℕ) (following : Bool) (rest : List ℕ) (here : Spanned Chunk)
+pub read_rest : (separator : Separator) (old new : Parts) (whole : List ℕ) (span : Range ℕ) (at : ℕ) (following : Bool)
+    (rest : List ℕ) (here : Spanned Chunk)
     → IsUtf8 rest → between_cuts separator (chars rest) ≡ chars rest ∷ [] → here ≡ piece whole span at following false rest
     → new ≡ record { done = old.done; last = old.last ++ here ∷ [] }
     → ReadsPieces old new (pieces_between (width separator) whole span at following (between_cuts separator (chars rest)))
 read_rest separator old new whole span at following rest here utf8 last here_is added parts =
     let pieces : pieces_between (width separator) whole span at following (between_cuts separator (chars rest)) ≡ here ∷ [] =
-    ap (pieces_between (width separator) whole span at following) last ∙ ap (λ bs. piece whole span at following false bs ∷ []) (encodes-chars rest utf8) ∙ ap (λ p. p ∷ []) (sym here_is) in
+    ap (pieces_between (width separator) whole span at following) last
+    ∙ ap (λ bs. piece whole span at following false bs ∷ []) (encodes-chars rest utf8)
+    ∙ ap (λ p. p ∷ []) (sym here_is) in
     read_one old new here added parts ∙ ap (λ ps. all_parts old (joined_parts ps parts)) (sym pieces)
 
 -- one chunk of a list was read
-pub read_chunk : (w : ℕ) (cut : List ℕ → List (List ℕ)) (old new : Parts) (total : List (List (Spanned Chunk))) (chunks : List (Spanned Chunk)) (i : ℕ) (x : Spanned Chunk) → i < length chunks → x ≡ get_or chunks i x
-    → ReadsPieces old new (pieces w cut x.v x.span) → all_parts old (list_parts w cut (drop i chunks)) ≡ total → all_parts new (list_parts w cut (drop (i + 1) chunks)) ≡ total
+pub read_chunk : (w : ℕ) (cut : List ℕ → List (List ℕ)) (old new : Parts) (total : List (List (Spanned Chunk)))
+    (chunks : List (Spanned Chunk)) (i : ℕ) (x : Spanned Chunk) → i < length chunks → x ≡ get_or chunks i x
+    → ReadsPieces old new (pieces w cut x.v x.span) → all_parts old (list_parts w cut (drop i chunks)) ≡ total
+    → all_parts new (list_parts w cut (drop (i + 1) chunks)) ≡ total
 read_chunk w cut old new total chunks i x within is reads so_far =
     let split : drop i chunks ≡ x ∷ drop (i + 1) chunks = drop_more chunks i x within ∙ ap (λ y. y ∷ drop (i + 1) chunks) (sym is) in
     reads (list_parts w cut (drop (i + 1) chunks)) ∙ ap (λ cs. all_parts old (list_parts w cut cs)) (sym split) ∙ so_far
@@ -200,16 +228,22 @@ cut_here c (d ∷ cs) rest free = cond-false (d == c) _ _ free.0 ∙ ap (option_
 
 -- a chunk without the character has no halves
 pub no_halves : (c : ℕ) (text : List ℕ) (span : Range ℕ) → IsUtf8 text → IsSplitOnceResult c text None → None ≡ halves (Normal text) span c
-no_halves c text span utf8 none = sym (ap (option_map (both_pieces (len_utf8 c) text span)) (cut_free c (chars text) (char_free c text utf8 none)))
+no_halves c text span utf8 none =
+    sym (ap (option_map (both_pieces (len_utf8 c) text span)) (cut_free c (chars text) (char_free c text utf8 none)))
 
 -- the two pieces at the character are the halves
 pub two_halves : (c : ℕ) (text : List ℕ) (span : Range ℕ) (before after : Bor (List ℕ)) (first second : Spanned Chunk) (at : ℕ)
     → IsUtf8 text → IsSplitOnceResult c text (Some (before, after)) → at ≡ length text - length after.now
-    → first ≡ piece text span 0 false true before.now → second ≡ piece text span at true false after.now → Some (first, second) ≡ halves (Normal text) span c
+    → first ≡ piece text span 0 false true before.now → second ≡ piece text span at true false after.now
+    → Some (first, second) ≡ halves (Normal text) span c
 two_halves c text span before after first second at utf8 found at_is first_is second_is =
     let is = char_cut c text before after utf8 found in
     let here : at ≡ length before.now + len_utf8 c = omega (arith, is.size) in
     ap (λ p. Some (p, second)) (first_is ∙ ap (piece text span 0 false true) is.spells)
     ∙ ap (λ p. Some (piece text span 0 false true (encode_utf8_all (chars before.now)), p))
-    (second_is ∙ ap (λ n. piece text span n true false after.now) (here ∙ ap (λ bs. length bs + len_utf8 c) is.spells) ∙ ap (piece text span (length (encode_utf8_all (chars before.now)) + len_utf8 c) true false) (sym (encodes-chars after.now is.utf8)))
-    ∙ sym (ap (option_map (both_pieces (len_utf8 c) text span)) (ap (cut_characters c) is.cut ∙ cut_here c (chars before.now) (chars after.now) is.free))
+    (second_is ∙ ap (λ n. piece text span n true false after.now) (here ∙ ap (λ bs. length bs + len_utf8 c) is.spells)
+    ∙ ap (piece text span (length (encode_utf8_all (chars before.now)) + len_utf8 c) true false)
+    (sym (encodes-chars after.now is.utf8)))
+    ∙ sym
+    (ap (option_map (both_pieces (len_utf8 c) text span))
+    (ap (cut_characters c) is.cut ∙ cut_here c (chars before.now) (chars after.now) is.free))

@@ -29,11 +29,18 @@ ends-append empty [] ys = refl
 ends-append empty (x ∷ xs) ys = ends-append (is_whitespace x) xs ys
 
 -- the last character decides whether a text ends in white space
-pub ends_at_char : (empty answer : Bool) (bs leading_run : List ℕ) (c : ℕ) → IsUtf8 bs → IsUtf8 leading_run → bs ≡ leading_run ++ encode_utf8 c → answer ≡ is_whitespace c → answer ≡ ends_in_space empty (chars bs)
+pub ends_at_char : (empty answer : Bool) (bs leading_run : List ℕ) (c : ℕ) → IsUtf8 bs → IsUtf8 leading_run
+    → bs ≡ leading_run ++ encode_utf8 c → answer ≡ is_whitespace c → answer ≡ ends_in_space empty (chars bs)
 ends_at_char empty answer bs leading_run c utf8 prefix_utf8 ends decides =
-    let past = chars_past (chars leading_run) bs (encode_utf8 c) utf8 (ends ∙ ap (λ xs. xs ++ encode_utf8 c) (sym (encodes-chars leading_run prefix_utf8))) in
-    let one : chars (encode_utf8 c) ≡ c ∷ [] = chars_past_char (encode_utf8 c) [] c past.1 (sym (append-nil _)) ∙ ap (λ xs. c ∷ xs) chars-nil in
-    decides ∙ sym (ap (ends_in_space empty) (past.0 ∙ ap (λ xs. chars leading_run ++ xs) one) ∙ ends-append empty (chars leading_run) (c ∷ []))
+    let past =
+    chars_past (chars leading_run) bs (encode_utf8 c) utf8
+    (ends ∙ ap (λ xs. xs ++ encode_utf8 c) (sym (encodes-chars leading_run prefix_utf8))) in
+    let one : chars (encode_utf8 c) ≡ c ∷ [] =
+    chars_past_char (encode_utf8 c) [] c past.1 (sym (append-nil _)) ∙ ap (λ xs. c ∷ xs) chars-nil in
+    decides
+    ∙ sym
+    (ap (ends_in_space empty) (past.0 ∙ ap (λ xs. chars leading_run ++ xs) one)
+    ∙ ends-append empty (chars leading_run) (c ∷ []))
 
 -- whether a text without bytes ends in white space is the default
 pub ends_of_none : (empty : Bool) (bs : List ℕ) → length bs ≡ 0 → empty ≡ ends_in_space empty (chars bs)
@@ -41,7 +48,8 @@ ends_of_none empty [] none = sym (ap (ends_in_space empty) chars-nil)
 ends_of_none empty (b ∷ bs) none = absurd (omega arith)
 
 -- a run without line breaks is unchanged
-pub flowing_run : (space : Bool) (cs rest : List ℕ) → list_all goes_on cs ≡ true → flowing space (cs ++ rest) ≡ cs ++ flowing (ends_in_space space cs) rest
+pub flowing_run : (space : Bool) (cs rest : List ℕ) → list_all goes_on cs ≡ true
+    → flowing space (cs ++ rest) ≡ cs ++ flowing (ends_in_space space cs) rest
 flowing_run space [] rest all = refl
 flowing_run space (c ∷ cs) rest all =
     let parts = and_parts (goes_on c) (list_all goes_on cs) all in
@@ -59,62 +67,81 @@ flowing_break space c rest breaks =
     ap (λ xs. xs ++ flowing (ends_in_space space xs) rest) becomes ∙ ap (λ b. gap space ++ flowing b rest) (gap_ends space)
 
 -- a run was written
-run_written : (out one total run : List ℕ) {u w : Place} (space after ends : Bool) → Run goes_on u w → IsUtf8 (ahead u) → IsUtf8 run → run ≡ between u w
+run_written : (out one total run : List ℕ) {u w : Place} (space after ends : Bool) → Run goes_on u w → IsUtf8 (ahead u)
+    → IsUtf8 run → run ≡ between u w
     → one ≡ out ++ run → after ≡ ends_in_space space (chars run)
     → out ++ encode_utf8_all (flowing space (chars (ahead u))) ≡ total → ends_in_space space (flowing space (chars (ahead u))) ≡ ends
-    → (w.text ≡ u.text) × IsUtf8 (ahead w) × (one ++ encode_utf8_all (flowing after (chars (ahead w))) ≡ total) × (ends_in_space after (flowing after (chars (ahead w))) ≡ ends)
+    → (w.text ≡ u.text) × IsUtf8 (ahead w) × (one ++ encode_utf8_all (flowing after (chars (ahead w))) ≡ total)
+    × (ends_in_space after (flowing after (chars (ahead w))) ≡ ends)
 run_written out one total run {u} {w} space after ends runs utf8 run_utf8 is_run first decides before before_ends =
     let (cs, passed, all) = passed_run runs utf8 in
     let spells : run ≡ encode_utf8_all cs = is_run ∙ passed_between passed in
     let state : after ≡ ends_in_space space cs = decides ∙ ap (ends_in_space space) (chars_whole cs run run_utf8 spells) in
     let cut : flowing space (chars (ahead u)) ≡ cs ++ flowing after (chars (ahead w)) =
-    ap (flowing space) passed.spelt ∙ flowing_run space cs (chars (ahead w)) all ∙ ap (λ b. cs ++ flowing b (chars (ahead w))) (sym state) in (
+    ap (flowing space) passed.spelt ∙ flowing_run space cs (chars (ahead w)) all
+    ∙ ap (λ b. cs ++ flowing b (chars (ahead w))) (sym state) in (
       passed.same,
       passed.utf8,
       written_more out one total cs _ _ (first ∙ ap (λ bs. out ++ bs) spells) cut before,
-      ap (λ b. ends_in_space b (flowing after (chars (ahead w)))) state ∙ sym (ends-append space cs (flowing after (chars (ahead w)))) ∙ ap (ends_in_space space) (sym cut) ∙ before_ends,
+      ap (λ b. ends_in_space b (flowing after (chars (ahead w)))) state
+          ∙ sym (ends-append space cs (flowing after (chars (ahead w)))) ∙ ap (ends_in_space space) (sym cut)
+          ∙ before_ends,
     )
 
 -- a run was written, and then the replacement of a line break
-pub flowing_step : (out one two total run : List ℕ) {u w x : Place} {c : ℕ} (space after ends : Bool) → Longest goes_on u w → IsUtf8 (ahead u) → IsUtf8 run → run ≡ between u w → CharAt w c x
+pub flowing_step : (out one two total run : List ℕ) {u w x : Place} {c : ℕ} (space after ends : Bool)
+    → Longest goes_on u w → IsUtf8 (ahead u) → IsUtf8 run → run ≡ between u w → CharAt w c x
     → one ≡ out ++ run → after ≡ ends_in_space space (chars run) → two ≡ one ++ encode_utf8_all (gap after)
     → out ++ encode_utf8_all (flowing space (chars (ahead u))) ≡ total → ends_in_space space (flowing space (chars (ahead u))) ≡ ends
-    → (x.text ≡ u.text) × IsUtf8 (ahead x) × (two ++ encode_utf8_all (flowing true (chars (ahead x))) ≡ total) × (ends_in_space true (flowing true (chars (ahead x))) ≡ ends)
-flowing_step out one two total run {u} {w} {x} {c} space after ends longest utf8 run_utf8 is_run char first decides second before before_ends =
-    let (same, w_utf8, middle, middle_ends) = run_written out one total run space after ends longest.run utf8 run_utf8 is_run first decides before before_ends in
+    → (x.text ≡ u.text) × IsUtf8 (ahead x) × (two ++ encode_utf8_all (flowing true (chars (ahead x))) ≡ total)
+    × (ends_in_space true (flowing true (chars (ahead x))) ≡ ends)
+flowing_step out one two total run {u} {w} {x} {c} space after ends longest utf8 run_utf8 is_run char first decides
+    second before before_ends =
+    let (same, w_utf8, middle, middle_ends) =
+    run_written out one total run space after ends longest.run utf8 run_utf8 is_run first decides before before_ends in
     let passed : Passed w (c ∷ []) x = passed_char char w_utf8 in
     let breaks : is_break c ≡ true = not-false (is_break c) (longest.stops c x char) in
-    let cut : flowing after (chars (ahead w)) ≡ gap after ++ flowing true (chars (ahead x)) = ap (flowing after) passed.spelt ∙ flowing_break after c (chars (ahead x)) breaks in (
+    let cut : flowing after (chars (ahead w)) ≡ gap after ++ flowing true (chars (ahead x)) =
+    ap (flowing after) passed.spelt ∙ flowing_break after c (chars (ahead x)) breaks in (
       passed.same ∙ same,
       passed.utf8,
       written_more one two total (gap after) _ _ second cut middle,
-      ap (λ b. ends_in_space b (flowing true (chars (ahead x)))) (sym (gap_ends after)) ∙ sym (ends-append after (gap after) (flowing true (chars (ahead x)))) ∙ ap (ends_in_space after) (sym cut) ∙ middle_ends,
+      ap (λ b. ends_in_space b (flowing true (chars (ahead x)))) (sym (gap_ends after))
+          ∙ sym (ends-append after (gap after) (flowing true (chars (ahead x)))) ∙ ap (ends_in_space after) (sym cut)
+          ∙ middle_ends,
     )
 
 -- a run was written, and the text ends
-pub flowing_end : (out one total run : List ℕ) {u w : Place} (space after ends : Bool) → Longest goes_on u w → IsUtf8 (ahead u) → IsUtf8 run → run ≡ between u w → AtEnd w
+pub flowing_end : (out one total run : List ℕ) {u w : Place} (space after ends : Bool) → Longest goes_on u w
+    → IsUtf8 (ahead u) → IsUtf8 run → run ≡ between u w → AtEnd w
     → one ≡ out ++ run → after ≡ ends_in_space space (chars run)
     → out ++ encode_utf8_all (flowing space (chars (ahead u))) ≡ total → ends_in_space space (flowing space (chars (ahead u))) ≡ ends
     → (one ≡ total) × (after ≡ ends)
 flowing_end out one total run {u} {w} space after ends longest utf8 run_utf8 is_run end first decides before before_ends =
-    let (same, w_utf8, middle, middle_ends) = run_written out one total run space after ends longest.run utf8 run_utf8 is_run first decides before before_ends in
+    let (same, w_utf8, middle, middle_ends) =
+    run_written out one total run space after ends longest.run utf8 run_utf8 is_run first decides before before_ends in
     let nothing : flowing after (chars (ahead w)) ≡ [] = ap (flowing after) (chars_at_end w end) in
     (written_all one total (flowing after (chars (ahead w))) nothing middle, sym (ap (ends_in_space after) nothing) ∙ middle_ends)
 
 -- a verbatim chunk was written
-pub formatted_verbatim : (recased : List ℕ → List ℕ) (space : Bool) (chunk : Chunk) (text bytes : List ℕ) → chunk ≡ Verbatim text → bytes ≡ text → bytes ≡ encode_utf8_all (chars bytes)
+pub formatted_verbatim : (recased : List ℕ → List ℕ) (space : Bool) (chunk : Chunk) (text bytes : List ℕ)
+    → chunk ≡ Verbatim text → bytes ≡ text → bytes ≡ encode_utf8_all (chars bytes)
     → bytes ≡ encode_utf8_all (formatted_chunk recased space chunk)
-formatted_verbatim recased space chunk text bytes is same spells = spells ∙ ap (λ t. encode_utf8_all (chars t)) same ∙ ap (λ x. encode_utf8_all (formatted_chunk recased space x)) (sym is)
+formatted_verbatim recased space chunk text bytes is same spells =
+    spells ∙ ap (λ t. encode_utf8_all (chars t)) same
+    ∙ ap (λ x. encode_utf8_all (formatted_chunk recased space x)) (sym is)
 
 -- one chunk was written
-pub formatted_part : (space following : Bool) (chunks : List (Spanned Chunk)) (i : ℕ) (x : Spanned Chunk) (out more total : List ℕ) → i < length chunks → x ≡ get_or chunks i x
+pub formatted_part : (space following : Bool) (chunks : List (Spanned Chunk)) (i : ℕ) (x : Spanned Chunk)
+    (out more total : List ℕ) → i < length chunks → x ≡ get_or chunks i x
     → more ≡ out ++ encode_utf8_all (formatted_chunk (λ cs. cs) space x.v) → following ≡ space_after space x.v
     → out ++ encode_utf8_all (formatted_after space (drop i chunks)) ≡ total
     → more ++ encode_utf8_all (formatted_after following (drop (i + 1) chunks)) ≡ total
 formatted_part space following chunks i x out more total within is written decides before =
     let split : drop i chunks ≡ x ∷ drop (i + 1) chunks = drop_more chunks i x within ∙ ap (λ y. y ∷ drop (i + 1) chunks) (sym is) in
     let part = formatted_chunk (λ cs. cs) space x.v in
-    let cut : formatted_after space (drop i chunks) ≡ part ++ formatted_after following (drop (i + 1) chunks) = ap (formatted_after space) split ∙ ap (λ b. part ++ formatted_after b (drop (i + 1) chunks)) (sym decides) in
+    let cut : formatted_after space (drop i chunks) ≡ part ++ formatted_after following (drop (i + 1) chunks) =
+    ap (formatted_after space) split ∙ ap (λ b. part ++ formatted_after b (drop (i + 1) chunks)) (sym decides) in
     written_more out more total part _ _ written cut before
 
 -- after its first character a text in sentence case goes on in lower case
@@ -123,9 +150,13 @@ goes_lower [] = refl
 goes_lower (c ∷ cs) = refl
 
 -- a character was consumed that is replaced by nothing
-pub sentence_skip : (out total : List ℕ) {u x : Place} {c : ℕ} (first space ends : Bool) (r : Option ℕ) → CharAt u c x → IsUtf8 (ahead u) → r ≡ None → option_to_list r ≡ unbroken space c
-    → out ++ encode_utf8_all (sentence_case first (flowing space (chars (ahead u)))) ≡ total → ends_in_space space (flowing space (chars (ahead u))) ≡ ends
-    → (x.text ≡ u.text) × IsUtf8 (ahead x) × (out ++ encode_utf8_all (sentence_case first (flowing space (chars (ahead x)))) ≡ total) × (ends_in_space space (flowing space (chars (ahead x))) ≡ ends)
+pub sentence_skip : (out total : List ℕ) {u x : Place} {c : ℕ} (first space ends : Bool) (r : Option ℕ) → CharAt u c x
+    → IsUtf8 (ahead u) → r ≡ None → option_to_list r ≡ unbroken space c
+    → out ++ encode_utf8_all (sentence_case first (flowing space (chars (ahead u)))) ≡ total
+    → ends_in_space space (flowing space (chars (ahead u))) ≡ ends
+    → (x.text ≡ u.text) × IsUtf8 (ahead x)
+    × (out ++ encode_utf8_all (sentence_case first (flowing space (chars (ahead x)))) ≡ total)
+    × (ends_in_space space (flowing space (chars (ahead x))) ≡ ends)
 sentence_skip out total {u} {x} {c} first space ends r char utf8 none becomes before before_ends =
     let passed : Passed u (c ∷ []) x = passed_char char utf8 in
     let nothing : unbroken space c ≡ [] = sym becomes ∙ ap option_to_list none in
@@ -138,16 +169,22 @@ sentence_skip out total {u} {x} {c} first space ends r char utf8 none becomes be
     )
 
 -- a character was consumed, and its replacement was written
-pub sentence_step : (out more total : List ℕ) {u x : Place} {c : ℕ} (d : ℕ) (first space after ends : Bool) (r : Option ℕ) → CharAt u c x → IsUtf8 (ahead u) → r ≡ Some d → option_to_list r ≡ unbroken space c
+pub sentence_step : (out more total : List ℕ) {u x : Place} {c : ℕ} (d : ℕ) (first space after ends : Bool)
+    (r : Option ℕ) → CharAt u c x → IsUtf8 (ahead u) → r ≡ Some d → option_to_list r ≡ unbroken space c
     → more ≡ out ++ encode_utf8_all (cased first d) → after ≡ is_whitespace d
-    → out ++ encode_utf8_all (sentence_case first (flowing space (chars (ahead u)))) ≡ total → ends_in_space space (flowing space (chars (ahead u))) ≡ ends
-    → (x.text ≡ u.text) × IsUtf8 (ahead x) × (more ++ encode_utf8_all (sentence_case false (flowing after (chars (ahead x)))) ≡ total) × (ends_in_space after (flowing after (chars (ahead x))) ≡ ends)
+    → out ++ encode_utf8_all (sentence_case first (flowing space (chars (ahead u)))) ≡ total
+    → ends_in_space space (flowing space (chars (ahead u))) ≡ ends
+    → (x.text ≡ u.text) × IsUtf8 (ahead x)
+    × (more ++ encode_utf8_all (sentence_case false (flowing after (chars (ahead x)))) ≡ total)
+    × (ends_in_space after (flowing after (chars (ahead x))) ≡ ends)
 sentence_step out more total {u} {x} {c} d first space after ends r char utf8 some becomes written decides before before_ends =
     let passed : Passed u (c ∷ []) x = passed_char char utf8 in
     let one : unbroken space c ≡ d ∷ [] = sym becomes ∙ ap option_to_list some in
     let cut : flowing space (chars (ahead u)) ≡ d ∷ flowing after (chars (ahead x)) =
-    ap (flowing space) passed.spelt ∙ ap (λ ys. ys ++ flowing (ends_in_space space ys) (chars (ahead x))) one ∙ ap (λ b. d ∷ flowing b (chars (ahead x))) (sym decides) in
-    let cased_cut : sentence_case first (flowing space (chars (ahead u))) ≡ cased first d ++ sentence_case false (flowing after (chars (ahead x))) =
+    ap (flowing space) passed.spelt ∙ ap (λ ys. ys ++ flowing (ends_in_space space ys) (chars (ahead x))) one
+    ∙ ap (λ b. d ∷ flowing b (chars (ahead x))) (sym decides) in
+    let cased_cut : sentence_case first (flowing space (chars (ahead u)))
+    ≡ cased first d ++ sentence_case false (flowing after (chars (ahead x))) =
     ap (sentence_case first) cut ∙ ap (λ ys. cased first d ++ ys) (goes_lower (flowing after (chars (ahead x)))) in (
       passed.same,
       passed.utf8,
@@ -157,21 +194,26 @@ sentence_step out more total {u} {x} {c} d first space after ends r char utf8 so
 
 -- the text ends
 pub sentence_end : (out total : List ℕ) (u : Place) (first space ends : Bool) → AtEnd u
-    → out ++ encode_utf8_all (sentence_case first (flowing space (chars (ahead u)))) ≡ total → ends_in_space space (flowing space (chars (ahead u))) ≡ ends
+    → out ++ encode_utf8_all (sentence_case first (flowing space (chars (ahead u)))) ≡ total
+    → ends_in_space space (flowing space (chars (ahead u))) ≡ ends
     → (out ≡ total) × (space ≡ ends)
 sentence_end out total u first space ends end before before_ends =
     let nothing : chars (ahead u) ≡ [] = chars_at_end u end in (
-      written_all out total (sentence_case first (flowing space (chars (ahead u)))) (ap (λ cs. sentence_case first (flowing space cs)) nothing) before,
+      written_all out total (sentence_case first (flowing space (chars (ahead u))))
+          (ap (λ cs. sentence_case first (flowing space cs)) nothing) before,
       sym (ap (λ cs. ends_in_space space (flowing space cs)) nothing) ∙ before_ends,
     )
 
 -- one chunk of a sentence was written
-pub sentence_part : (begins space following : Bool) (chunks : List (Spanned Chunk)) (i : ℕ) (x : Spanned Chunk) (out more total : List ℕ) → i < length chunks → x ≡ get_or chunks i x
+pub sentence_part : (begins space following : Bool) (chunks : List (Spanned Chunk)) (i : ℕ) (x : Spanned Chunk)
+    (out more total : List ℕ) → i < length chunks → x ≡ get_or chunks i x
     → more ≡ out ++ encode_utf8_all (formatted_chunk (sentence_case begins) space x.v) → following ≡ space_after space x.v
     → out ++ encode_utf8_all (sentence_after begins space (drop i chunks)) ≡ total
     → more ++ encode_utf8_all (sentence_after false following (drop (i + 1) chunks)) ≡ total
 sentence_part begins space following chunks i x out more total within is written decides before =
     let split : drop i chunks ≡ x ∷ drop (i + 1) chunks = drop_more chunks i x within ∙ ap (λ y. y ∷ drop (i + 1) chunks) (sym is) in
     let part = formatted_chunk (sentence_case begins) space x.v in
-    let cut : sentence_after begins space (drop i chunks) ≡ part ++ sentence_after false following (drop (i + 1) chunks) = ap (sentence_after begins space) split ∙ ap (λ b. part ++ sentence_after false b (drop (i + 1) chunks)) (sym decides) in
+    let cut : sentence_after begins space (drop i chunks) ≡ part ++ sentence_after false following (drop (i + 1) chunks) =
+    ap (sentence_after begins space) split
+    ∙ ap (λ b. part ++ sentence_after false b (drop (i + 1) chunks)) (sym decides) in
     written_more out more total part _ _ written cut before

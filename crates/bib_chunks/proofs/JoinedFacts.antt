@@ -29,7 +29,8 @@ styled_whole rest first second whole is =
     ∙ ap (λ a. a ++ atoms_of second.v) (sym (styled-push rest first))
 
 -- chunks stay joined if the last one is merged with another one
-pub joined_whole : (rest : List (Spanned Chunk)) (first second whole : Spanned Chunk) → IsWhole first second whole → AreJoined (rest ++ first ∷ [])
+pub joined_whole : (rest : List (Spanned Chunk)) (first second whole : Spanned Chunk) → IsWhole first second whole
+    → AreJoined (rest ++ first ∷ [])
     → AreJoined (rest ++ whole ∷ [])
 joined_whole [] first second whole is joined = tt
 joined_whole (c ∷ []) first second whole is joined = (is.kind c.v ∙ joined.0, tt)
@@ -51,14 +52,16 @@ placed_whole (c ∷ rest) first second whole low high is placed before ordered =
 )
 
 -- chunks stay joined if a chunk of another kind than the last one is appended
-pub joined_push : (rest : List (Spanned Chunk)) (first second : Spanned Chunk) → is_same_kind first.v second.v ≡ false → AreJoined (rest ++ first ∷ [])
+pub joined_push : (rest : List (Spanned Chunk)) (first second : Spanned Chunk) → is_same_kind first.v second.v ≡ false
+    → AreJoined (rest ++ first ∷ [])
     → AreJoined ((rest ++ first ∷ []) ++ second ∷ [])
 joined_push [] first second apart joined = (apart, tt)
 joined_push (c ∷ []) first second apart joined = (joined.0, (apart, tt))
 joined_push (c ∷ d ∷ rest) first second apart joined = (joined.0, joined_push (d ∷ rest) first second apart joined.1)
 
 -- chunks stay placed if a later one is appended
-pub placed_push : (chunks : List (Spanned Chunk)) (chunk : Spanned Chunk) (low high : ℕ) → ArePlaced low high chunks → high ≤ chunk.span.start
+pub placed_push : (chunks : List (Spanned Chunk)) (chunk : Spanned Chunk) (low high : ℕ) → ArePlaced low high chunks
+    → high ≤ chunk.span.start
     → chunk.span.start ≤ chunk.span.end → ArePlaced low chunk.span.end (chunks ++ chunk ∷ [])
 placed_push [] chunk low high placed before ordered = (omega (arith, placed), ordered, omega arith)
 placed_push (c ∷ rest) chunk low high placed before ordered = (
@@ -68,6 +71,7 @@ placed_push (c ∷ rest) chunk low high placed before ordered = (
 )
 
 -- chunks that are placed up to a position are placed up to a later one
-pub placed_up : (chunks : List (Spanned Chunk)) (low high higher : ℕ) → high ≤ higher → ArePlaced low high chunks → ArePlaced low higher chunks
+pub placed_up : (chunks : List (Spanned Chunk)) (low high higher : ℕ) → high ≤ higher → ArePlaced low high chunks
+    → ArePlaced low higher chunks
 placed_up [] low high higher up placed = omega (arith, up, placed)
 placed_up (c ∷ rest) low high higher up placed = (placed.0, placed.1, placed_up rest c.span.end high higher up placed.2)

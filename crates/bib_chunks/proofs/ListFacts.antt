@@ -46,7 +46,8 @@ same_joined (Verbatim a) (Verbatim b) (Math e) = refl
 same_joined (Verbatim a) (Math b) e = refl
 same_joined (Math a) d e = refl
 
-lengthened_twice : (c d e : Chunk) → is_same_kind c d ≡ true → is_same_kind d e ≡ true → lengthened c (lengthened d e) ≡ lengthened (lengthened c d) e
+lengthened_twice : (c d e : Chunk) → is_same_kind c d ≡ true → is_same_kind d e ≡ true
+    → lengthened c (lengthened d e) ≡ lengthened (lengthened c d) e
 lengthened_twice (Normal a) (Normal b) (Normal e) h k = ap Normal (sym (append_assoc a b e))
 lengthened_twice (Verbatim a) (Verbatim b) (Verbatim e) h k = ap Verbatim (sym (append_assoc a b e))
 lengthened_twice (Normal a) (Normal b) (Verbatim e) h k = absurd (false≢true k)
@@ -77,7 +78,9 @@ module _ (c d : Spanned Chunk) where
   unfolding both
   before_twice h [] = before_joined h []
   before_twice h (e ∷ es) =
-      elim (is_same_kind d.v e.v) as (λ b. is_same_kind d.v e.v ≡ b → before c (if b then both d e ∷ es else d ∷ e ∷ es) ≡ before (both c d) (e ∷ es)) [
+      elim (is_same_kind d.v e.v) as
+      (λ b.
+      is_same_kind d.v e.v ≡ b → before c (if b then both d e ∷ es else d ∷ e ∷ es) ≡ before (both c d) (e ∷ es)) [
         | true ↦ λ k.
             ap (λ b. if b then both c (both d e) ∷ es else c ∷ both d e ∷ es) (same_joined c.v d.v e.v ∙ h)
             ∙ ap (λ v. placed v c.span.start c.span.end ∷ es) (lengthened_twice c.v d.v e.v h k)
@@ -91,27 +94,37 @@ module _ (c d : Spanned Chunk) where
   unfolding both
   before_other h [] = before_apart h []
   before_other h (e ∷ es) =
-      elim (is_same_kind d.v e.v) as (λ b. before c (if b then both d e ∷ es else d ∷ e ∷ es) ≡ c ∷ (if b then both d e ∷ es else d ∷ e ∷ es)) [
+      elim (is_same_kind d.v e.v) as
+      (λ b. before c (if b then both d e ∷ es else d ∷ e ∷ es) ≡ c ∷ (if b then both d e ∷ es else d ∷ e ∷ es)) [
         | true ↦ ap (λ b. if b then both c (both d e) ∷ es else c ∷ both d e ∷ es) (same_joined c.v d.v e.v ∙ h)
         | false ↦ before_apart h (e ∷ es)
       ]
 
 -- prepending a chunk and appending one can be exchanged
-before-with_chunk : (c : Spanned Chunk) (chunks : List (Spanned Chunk)) (n : Spanned Chunk) → before c (with_chunk chunks n) ≡ with_chunk (before c chunks) n
+before-with_chunk : (c : Spanned Chunk) (chunks : List (Spanned Chunk)) (n : Spanned Chunk)
+    → before c (with_chunk chunks n) ≡ with_chunk (before c chunks) n
 unfolding both
 before-with_chunk c [] n = refl
 before-with_chunk c (d ∷ []) n =
-    elim (is_same_kind c.v d.v) as (λ b. is_same_kind c.v d.v ≡ b → before c (before d (n ∷ [])) ≡ with_chunk (if b then both c d ∷ [] else c ∷ d ∷ []) n) [
+    elim (is_same_kind c.v d.v) as
+    (λ b.
+    is_same_kind c.v d.v ≡ b
+    → before c (before d (n ∷ [])) ≡ with_chunk (if b then both c d ∷ [] else c ∷ d ∷ []) n) [
       | true ↦ λ h. before_twice c d h (n ∷ [])
       | false ↦ λ h. before_other c d h (n ∷ [])
     ] refl
 before-with_chunk c (d ∷ e ∷ rest) n =
-    elim (is_same_kind c.v d.v) as (λ b. (if b then both c d ∷ with_chunk (e ∷ rest) n else c ∷ d ∷ with_chunk (e ∷ rest) n) ≡ with_chunk (if b then both c d ∷ e ∷ rest else c ∷ d ∷ e ∷ rest) n) [ true ↦ refl | false ↦ refl ]
+    elim (is_same_kind c.v d.v) as
+    (λ b.
+    (if b then both c d ∷ with_chunk (e ∷ rest) n else c ∷ d ∷ with_chunk (e ∷ rest) n)
+    ≡ with_chunk (if b then both c d ∷ e ∷ rest else c ∷ d ∷ e ∷ rest) n) [ true ↦ refl | false ↦ refl ]
 
 -- the chunks of a styled text with more atoms after it that are one chunk
-chunks_of-append : (atoms more : List Atom) (n : Spanned Chunk) → chunks_of more ≡ n ∷ [] → chunks_of (atoms ++ more) ≡ with_chunk (chunks_of atoms) n
+chunks_of-append : (atoms more : List Atom) (n : Spanned Chunk) → chunks_of more ≡ n ∷ []
+    → chunks_of (atoms ++ more) ≡ with_chunk (chunks_of atoms) n
 chunks_of-append [] more n is = is
-chunks_of-append (a ∷ atoms) more n is = ap (before (at_start (chunk_of a))) (chunks_of-append atoms more n is) ∙ before-with_chunk _ (chunks_of atoms) n
+chunks_of-append (a ∷ atoms) more n is =
+    ap (before (at_start (chunk_of a))) (chunks_of-append atoms more n is) ∙ before-with_chunk _ (chunks_of atoms) n
 
 normal_run : (c : ℕ) (cs : List ℕ) → chunks_of (map Atom.normal (c ∷ cs)) ≡ at_start (Normal (encode_utf8_all (c ∷ cs))) ∷ []
 normal_run c [] = ap (λ t. at_start (Normal t) ∷ []) (sym (append-nil (encode_utf8 c)))
@@ -122,7 +135,8 @@ verbatim_run c [] = ap (λ t. at_start (Verbatim t) ∷ []) (sym (append-nil (en
 verbatim_run c (d ∷ cs) = ap (before (at_start (Verbatim (encode_utf8 c)))) (verbatim_run d cs)
 
 -- appending a chunk changes only the last of the chunks
-with_chunk-last : (leading_run : List (Spanned Chunk)) (last n : Spanned Chunk) → with_chunk (leading_run ++ last ∷ []) n ≡ leading_run ++ before last (n ∷ [])
+with_chunk-last : (leading_run : List (Spanned Chunk)) (last n : Spanned Chunk)
+    → with_chunk (leading_run ++ last ∷ []) n ≡ leading_run ++ before last (n ∷ [])
 with_chunk-last [] last n = refl
 with_chunk-last (x ∷ []) last n = refl
 with_chunk-last (x ∷ y ∷ leading_run) last n = ap (λ l. x ∷ l) (with_chunk-last (y ∷ leading_run) last n)
@@ -136,22 +150,36 @@ not_lengthened (Verbatim a) (Normal b) h = refl
 not_lengthened (Verbatim a) (Math b) h = refl
 not_lengthened (Math a) d h = refl
 
-module _ (old leading_run now : List (Spanned Chunk)) (last : Spanned Chunk) (v chunk : Chunk) (was : old ≡ leading_run ++ last ∷ []) (text : v ≡ lengthened last.v chunk) where
+module _ (old leading_run now : List (Spanned Chunk)) (last : Spanned Chunk) (v chunk : Chunk)
+    (was : old ≡ leading_run ++ last ∷ []) (text : v ≡ lengthened last.v chunk) where
   -- the last chunk was lengthened if the new one is of its kind
-  pub added_joined : is_same_kind last.v chunk ≡ true → now ≡ leading_run ++ placed v last.span.start last.span.end ∷ [] → now ≡ with_chunk old (at_start chunk)
+  pub added_joined : is_same_kind last.v chunk ≡ true → now ≡ leading_run ++ placed v last.span.start last.span.end ∷ []
+      → now ≡ with_chunk old (at_start chunk)
   unfolding both
   added_joined h is =
       is ∙ ap (λ t. leading_run ++ placed t last.span.start last.span.end ∷ []) text
-      ∙ sym (ap (λ l. with_chunk l (at_start chunk)) was ∙ with_chunk-last leading_run last (at_start chunk) ∙ ap (λ l. leading_run ++ l) (before_joined last (at_start chunk) h []))
+      ∙ sym
+      (ap (λ l. with_chunk l (at_start chunk)) was ∙ with_chunk-last leading_run last (at_start chunk)
+      ∙ ap (λ l. leading_run ++ l) (before_joined last (at_start chunk) h []))
 
   -- otherwise the last chunk is unchanged, and the new one comes after it
-  pub added_apart : is_same_kind last.v chunk ≡ false → (middle : List (Spanned Chunk)) → middle ≡ leading_run ++ placed v last.span.start last.span.end ∷ [] → now ≡ middle ++ at_start chunk ∷ [] → now ≡ with_chunk old (at_start chunk)
+  pub added_apart : is_same_kind last.v chunk ≡ false → (middle : List (Spanned Chunk))
+      → middle ≡ leading_run ++ placed v last.span.start last.span.end ∷ [] → now ≡ middle ++ at_start chunk ∷ []
+      → now ≡ with_chunk old (at_start chunk)
   added_apart h middle back is =
-      is ∙ ap (λ l. l ++ at_start chunk ∷ []) (back ∙ ap (λ t. leading_run ++ placed t last.span.start last.span.end ∷ []) (text ∙ not_lengthened last.v chunk h))
+      is
+      ∙ ap (λ l. l ++ at_start chunk ∷ [])
+      (back
+      ∙ ap (λ t. leading_run ++ placed t last.span.start last.span.end ∷ [])
+      (text ∙ not_lengthened last.v chunk h))
       ∙ append_assoc leading_run (last ∷ []) (at_start chunk ∷ [])
-      ∙ sym (ap (λ l. with_chunk l (at_start chunk)) was ∙ with_chunk-last leading_run last (at_start chunk) ∙ ap (λ l. leading_run ++ l) (before_apart last (at_start chunk) h []))
+      ∙ sym
+      (ap (λ l. with_chunk l (at_start chunk)) was ∙ with_chunk-last leading_run last (at_start chunk)
+      ∙ ap (λ l. leading_run ++ l) (before_apart last (at_start chunk) h []))
 
-one_run : (kind : ℕ → Atom) (to : List ℕ → Chunk) (run : (c : ℕ) (cs : List ℕ) → chunks_of (map kind (c ∷ cs)) ≡ at_start (to (encode_utf8_all (c ∷ cs))) ∷ []) (text : List ℕ) → IsUtf8 text → not (length text == 0) ≡ true
+one_run : (kind : ℕ → Atom) (to : List ℕ → Chunk)
+    (run : (c : ℕ) (cs : List ℕ) → chunks_of (map kind (c ∷ cs)) ≡ at_start (to (encode_utf8_all (c ∷ cs))) ∷ [])
+    (text : List ℕ) → IsUtf8 text → not (length text == 0) ≡ true
     → chunks_of (map kind (chars text)) ≡ at_start (to text) ∷ []
 one_run kind to run text utf8 some =
     elim (chars text) as (λ cs. chars text ≡ cs → chunks_of (map kind cs) ≡ at_start (to text) ∷ []) [
@@ -166,13 +194,19 @@ shown (Verbatim text) utf8 some = one_run Atom.verbatim Verbatim verbatim_run te
 shown (Math text) utf8 some = ap (λ t. at_start (Math t) ∷ []) (encodes-chars text utf8)
 
 -- a step of the loop: one more chunk is read
-pub joined_more : (chunks : List (Spanned Chunk)) (i : ℕ) (d : Spanned Chunk) → i < length chunks → styled (take (i + 1) chunks) ≡ styled (take i chunks) ++ atoms_of (get_or chunks i d).v
+pub joined_more : (chunks : List (Spanned Chunk)) (i : ℕ) (d : Spanned Chunk) → i < length chunks
+    → styled (take (i + 1) chunks) ≡ styled (take i chunks) ++ atoms_of (get_or chunks i d).v
 joined_more chunks i d lt =
-    ap styled (take_more chunks i d lt) ∙ flat_map-append (λ c. atoms_of c.v) (take i chunks) (get_or chunks i d ∷ []) ∙ ap (λ l. styled (take i chunks) ++ l) (append-nil _)
+    ap styled (take_more chunks i d lt) ∙ flat_map-append (λ c. atoms_of c.v) (take i chunks) (get_or chunks i d ∷ [])
+    ∙ ap (λ l. styled (take i chunks) ++ l) (append-nil _)
 
 -- appending a chunk with atoms gives the chunks of the longer styled text
-pub joined_shown : (atoms : List Atom) (chunk : Chunk) (all more : List (Spanned Chunk)) → IsUtf8 (text_of chunk) → is_shown chunk ≡ true → all ≡ chunks_of atoms → more ≡ with_chunk all (at_start chunk) → more ≡ chunks_of (atoms ++ atoms_of chunk)
-joined_shown atoms chunk all more utf8 some was is = is ∙ ap (λ l. with_chunk l (at_start chunk)) was ∙ sym (chunks_of-append atoms (atoms_of chunk) (at_start chunk) (shown chunk utf8 some))
+pub joined_shown : (atoms : List Atom) (chunk : Chunk) (all more : List (Spanned Chunk)) → IsUtf8 (text_of chunk)
+    → is_shown chunk ≡ true → all ≡ chunks_of atoms → more ≡ with_chunk all (at_start chunk)
+    → more ≡ chunks_of (atoms ++ atoms_of chunk)
+joined_shown atoms chunk all more utf8 some was is =
+    is ∙ ap (λ l. with_chunk l (at_start chunk)) was
+    ∙ sym (chunks_of-append atoms (atoms_of chunk) (at_start chunk) (shown chunk utf8 some))
 
 -- a chunk without atoms does not change the chunks of a styled text
 pub joined_hidden : (atoms : List Atom) (chunk : Chunk) → is_shown chunk ≡ false → chunks_of atoms ≡ chunks_of (atoms ++ atoms_of chunk)

@@ -23,7 +23,8 @@ blank span = placed (Normal []) span.start span.end ∷ []
 pub record IsSeparator (width : ℕ) (between : List ℕ → List (List ℕ)) (separator : List ℕ) : Type 0 where
   pub before : Range ℕ
   pub after : Range ℕ
-  pub cut : pieces width between (Normal separator) no_place ≡ placed (Normal []) before.start before.end ∷ placed (Normal []) after.start after.end ∷ []
+  pub cut : pieces width between (Normal separator) no_place
+      ≡ placed (Normal []) before.start before.end ∷ placed (Normal []) after.start after.end ∷ []
 
 -- a chunk is one piece, and is formatted to these characters
 pub record IsWhole (width : ℕ) (between : List ℕ → List (List ℕ)) (chunk : Chunk) (characters : List ℕ) : Type 0 where
@@ -36,9 +37,11 @@ module _ (width : ℕ) (between : List ℕ → List (List ℕ)) (chunk : List �
   AreWhole = AllByRecursion (λ t. IsWhole width between (chunk t) (chars t))
 
   -- a text's chunk, followed by chunks that format to nothing, formats to the text
-  whole_formats : (t : List ℕ) (following : Value) → IsWhole width between (chunk t) (chars t) → ((space : Bool) → formatted_after space following ≡ []) → formatted (nowhere (chunk t) ∷ following) ≡ chars t
+  whole_formats : (t : List ℕ) (following : Value) → IsWhole width between (chunk t) (chars t)
+      → ((space : Bool) → formatted_after space following ≡ []) → formatted (nowhere (chunk t) ∷ following) ≡ chars t
   whole_formats t following whole none =
-      ap (λ xs. formatted_chunk (λ cs. cs) false (chunk t) ++ xs) (none (space_after false (chunk t))) ∙ append-nil (formatted_chunk (λ cs. cs) false (chunk t)) ∙ whole.says
+      ap (λ xs. formatted_chunk (λ cs. cs) false (chunk t) ++ xs) (none (space_after false (chunk t)))
+      ∙ append-nil (formatted_chunk (λ cs. cs) false (chunk t)) ∙ whole.says
 
   -- an empty chunk at the start changes nothing
   blank_prefix : (span : Range ℕ) (xs : Value) → formatted (blank span ++ xs) ≡ formatted xs
@@ -65,12 +68,20 @@ module _ (width : ℕ) (between : List ℕ → List (List ℕ)) (chunk : List �
           first = blank is.before;
           others = (blank is.after ++ (alone (chunk t) ++ more.first)) ∷ more.others;
           parts =
-              ap (λ ps. joined_parts ps (joined_parts (pieces width between (chunk t) no_place) (list_parts width between (after_separators rest)))) is.cut
-              ∙ ap (λ ps. joined_parts (blank is.before ++ blank is.after) (joined_parts ps (list_parts width between (after_separators rest)))) whole.0.one
+              ap
+              (λ ps.
+              joined_parts ps
+              (joined_parts (pieces width between (chunk t) no_place)
+              (list_parts width between (after_separators rest)))) is.cut
+              ∙ ap
+              (λ ps.
+              joined_parts (blank is.before ++ blank is.after)
+              (joined_parts ps (list_parts width between (after_separators rest)))) whole.0.one
               ∙ ap (λ ps. joined_parts (blank is.before ++ blank is.after) (joined_parts (alone (chunk t)) ps)) more.parts;
           none = λ space. ap (λ cs. flowing space cs ++ []) chars-nil;
           formats =
-              ap (λ x. x ∷ map formatted more.others) (blank_prefix is.after (alone (chunk t) ++ more.first) ∙ whole_formats t more.first whole.0 more.none)
+              ap (λ x. x ∷ map formatted more.others)
+              (blank_prefix is.after (alone (chunk t) ++ more.first) ∙ whole_formats t more.first whole.0 more.none)
               ∙ ap (λ xs. chars t ∷ xs) more.formats;
         }
 

@@ -26,7 +26,8 @@ settled_somewhere v true c settled = settled
 settled_somewhere v false c settled = settled
 
 -- a step of the loop: a character was consumed that may occur there
-pub settled_step : (b : Bool) (before last : Before) (c : ℕ) (all cs : List ℕ) → MayFollow last (character_atom b c) → Continues before (text_atoms b all) last (text_atoms b (c ∷ cs))
+pub settled_step : (b : Bool) (before last : Before) (c : ℕ) (all cs : List ℕ) → MayFollow last (character_atom b c)
+    → Continues before (text_atoms b all) last (text_atoms b (c ∷ cs))
     → Continues before (text_atoms b all) (neighbour (character_atom b c)) (text_atoms b cs)
 settled_step b before last c all cs may so_far v rest = (
   λ settled. ((so_far v rest).0 settled).2,
@@ -34,21 +35,24 @@ settled_step b before last c all cs may so_far v rest = (
 )
 
 -- a character that may not occur there makes every text after it unsettled
-pub settled_stuck : (b : Bool) (before last : Before) (c : ℕ) (all cs : List ℕ) → (MayFollow last (character_atom b c) → ⊥) → Continues before (text_atoms b all) last (text_atoms b (c ∷ cs))
+pub settled_stuck : (b : Bool) (before last : Before) (c : ℕ) (all cs : List ℕ)
+    → (MayFollow last (character_atom b c) → ⊥) → Continues before (text_atoms b all) last (text_atoms b (c ∷ cs))
     → IsUnsettledAfter before (text_atoms b all)
 settled_stuck b before last c all cs may_not so_far v rest settled =
     let here = (so_far v rest).0 settled in
     may_not (settled_somewhere v b c here.0, here.1)
 
 -- a run without dollar signs before a text doesn't change whether there is one
-no_dollar : (cs rest : List ℕ) → list_all (λ c. not (c == 36)) cs ≡ true → list_any (λ c. c == 36) (cs ++ rest) ≡ list_any (λ c. c == 36) rest
+no_dollar : (cs rest : List ℕ) → list_all (λ c. not (c == 36)) cs ≡ true
+    → list_any (λ c. c == 36) (cs ++ rest) ≡ list_any (λ c. c == 36) rest
 no_dollar [] rest all = refl
 no_dollar (c ∷ cs) rest all =
     let parts = and_parts (not (c == 36)) (list_all (λ d. not (d == 36)) cs) all in
     rw (not-true (c == 36) parts.0) (no_dollar cs rest parts.1)
 
 -- the text contains a dollar sign exactly if the longest run without one isn't the whole text
-pub dollar_found : {u w : Place} (x : Place) (r : Option ℕ) (found : Bool) → Longest (λ c. not (c == 36)) u w → IsUtf8 (ahead u) → MatchOption r (AtEnd w × (x ≡ w)) (λ c. CharAt w c x) → found ≡ is_some r
+pub dollar_found : {u w : Place} (x : Place) (r : Option ℕ) (found : Bool) → Longest (λ c. not (c == 36)) u w
+    → IsUtf8 (ahead u) → MatchOption r (AtEnd w × (x ≡ w)) (λ c. CharAt w c x) → found ≡ is_some r
     → found ≡ list_any (λ c. c == 36) (chars (ahead u))
 dollar_found {u} {w} x None found longest utf8 end decides =
     let (cs, passed, all) = passed_run longest.run utf8 in
@@ -58,7 +62,10 @@ dollar_found {u} {w} x (Some c) found longest utf8 char decides =
     let one : Passed w (c ∷ []) x = passed_char char passed.utf8 in
     let stops : (c == 36) ≡ true = not-false (c == 36) (longest.stops c x char) in
     let here : list_any (λ d. d == 36) (c ∷ chars (ahead x)) ≡ true = or_left (c == 36) _ stops in
-    decides ∙ sym (ap (list_any (λ d. d == 36)) passed.spelt ∙ no_dollar cs (chars (ahead w)) all ∙ ap (list_any (λ d. d == 36)) one.spelt ∙ here)
+    decides
+    ∙ sym
+    (ap (list_any (λ d. d == 36)) passed.spelt ∙ no_dollar cs (chars (ahead w)) all
+    ∙ ap (list_any (λ d. d == 36)) one.spelt ∙ here)
 
 same_runs : (a b : Atom) → runs_into (neighbour a) b ≡ runs_together a b
 same_runs (Atom.normal c) (Atom.normal d) = refl
@@ -72,9 +79,11 @@ same_runs (Atom.math c) (Atom.verbatim d) = refl
 same_runs (Atom.math c) (Atom.math d) = refl
 
 -- a text that is settled as a whole is settled from its start on
-after_from : (v : Bool) (before : Before) (a : Atom) (rest : List Atom) → AllByRecursion (IsSettledAtom v) (a ∷ rest) → AreApart (a ∷ rest) → runs_into before a ≡ false → AreSettledAfter v before (a ∷ rest)
+after_from : (v : Bool) (before : Before) (a : Atom) (rest : List Atom) → AllByRecursion (IsSettledAtom v) (a ∷ rest)
+    → AreApart (a ∷ rest) → runs_into before a ≡ false → AreSettledAfter v before (a ∷ rest)
 after_from v before a [] each apart free = (each.0, free, tt)
-after_from v before a (b ∷ rest) each apart free = (each.0, free, after_from v (neighbour a) b rest each.1 apart.1 (same_runs a b ∙ apart.0))
+after_from v before a (b ∷ rest) each apart free =
+    (each.0, free, after_from v (neighbour a) b rest each.1 apart.1 (same_runs a b ∙ apart.0))
 
 each_from : (v : Bool) (before : Before) (atoms : List Atom) → AreSettledAfter v before atoms → AllByRecursion (IsSettledAtom v) atoms
 each_from v before [] settled = tt
@@ -94,24 +103,35 @@ settled_whole v (a ∷ rest) = (
 )
 
 -- the text ends
-pub settled_end : (b : Bool) (before last : Before) (all cs : List ℕ) → cs ≡ [] → Continues before (text_atoms b all) last (text_atoms b cs) → Continues before (text_atoms b all) last []
+pub settled_end : (b : Bool) (before last : Before) (all cs : List ℕ) → cs ≡ []
+    → Continues before (text_atoms b all) last (text_atoms b cs) → Continues before (text_atoms b all) last []
 settled_end b before last all cs nothing so_far = rw nothing at so_far
 
 -- the result for the text of a chunk is the result for its atoms
-chunk_of_text : (b v : Bool) (before : Before) (r : Option Before) (atoms : List Atom) (cs : List ℕ) → atoms ≡ text_atoms b cs → MatchOption r (IsUnsettledAfter before (text_atoms b cs)) (λ after. Continues before (text_atoms b cs) after [])
+chunk_of_text : (b v : Bool) (before : Before) (r : Option Before) (atoms : List Atom) (cs : List ℕ)
+    → atoms ≡ text_atoms b cs
+    → MatchOption r (IsUnsettledAfter before (text_atoms b cs)) (λ after. Continues before (text_atoms b cs) after [])
     → MatchOption r (IsStuckIn v before atoms) (λ after. ContinuesIn v before atoms after [])
 chunk_of_text b v before None atoms cs is stuck = rw is (stuck v)
 chunk_of_text b v before (Some after) atoms cs is on = rw is (on v)
 
-pub chunk_of_normal : (v : Bool) (before : Before) (r : Option Before) (chunk : Chunk) (text bytes : List ℕ) → chunk ≡ NormalChunk text → bytes ≡ text
-    → MatchOption r (IsUnsettledAfter before (text_atoms false (chars bytes))) (λ after. Continues before (text_atoms false (chars bytes)) after [])
+pub chunk_of_normal : (v : Bool) (before : Before) (r : Option Before) (chunk : Chunk) (text bytes : List ℕ)
+    → chunk ≡ NormalChunk text → bytes ≡ text
+    → MatchOption r (IsUnsettledAfter before (text_atoms false (chars bytes)))
+    (λ after. Continues before (text_atoms false (chars bytes)) after [])
     → MatchOption r (IsStuckIn v before (atoms_of chunk)) (λ after. ContinuesIn v before (atoms_of chunk) after [])
-chunk_of_normal v before r chunk text bytes is same = chunk_of_text false v before r (atoms_of chunk) (chars bytes) (ap atoms_of is ∙ ap (λ t. text_atoms false (chars t)) (sym same))
+chunk_of_normal v before r chunk text bytes is same =
+    chunk_of_text false v before r (atoms_of chunk) (chars bytes)
+    (ap atoms_of is ∙ ap (λ t. text_atoms false (chars t)) (sym same))
 
-pub chunk_of_verbatim : (v : Bool) (before : Before) (r : Option Before) (chunk : Chunk) (text bytes : List ℕ) → chunk ≡ VerbatimChunk text → bytes ≡ text
-    → MatchOption r (IsUnsettledAfter before (text_atoms true (chars bytes))) (λ after. Continues before (text_atoms true (chars bytes)) after [])
+pub chunk_of_verbatim : (v : Bool) (before : Before) (r : Option Before) (chunk : Chunk) (text bytes : List ℕ)
+    → chunk ≡ VerbatimChunk text → bytes ≡ text
+    → MatchOption r (IsUnsettledAfter before (text_atoms true (chars bytes)))
+    (λ after. Continues before (text_atoms true (chars bytes)) after [])
     → MatchOption r (IsStuckIn v before (atoms_of chunk)) (λ after. ContinuesIn v before (atoms_of chunk) after [])
-chunk_of_verbatim v before r chunk text bytes is same = chunk_of_text true v before r (atoms_of chunk) (chars bytes) (ap atoms_of is ∙ ap (λ t. text_atoms true (chars t)) (sym same))
+chunk_of_verbatim v before r chunk text bytes is same =
+    chunk_of_text true v before r (atoms_of chunk) (chars bytes)
+    (ap atoms_of is ∙ ap (λ t. text_atoms true (chars t)) (sym same))
 
 runs_into_math : (before : Before) (text : List ℕ) → runs_into before (Atom.math text) ≡ false
 runs_into_math Nothing text = refl
@@ -122,12 +142,21 @@ math_atoms : (chunk : Chunk) (text bytes : List ℕ) → chunk ≡ MathChunk tex
 math_atoms chunk text bytes is same = ap atoms_of is ∙ ap (λ t. Atom.math (chars t) ∷ []) (sym same)
 
 -- after math that is not settled no text is settled
-pub math_stuck : (v : Bool) (before : Before) (chunk : Chunk) (text bytes : List ℕ) → chunk ≡ MathChunk text → bytes ≡ text → IsUtf8 bytes → (IsSettledMath bytes → ⊥) → IsStuckIn v before (atoms_of chunk)
+pub math_stuck : (v : Bool) (before : Before) (chunk : Chunk) (text bytes : List ℕ) → chunk ≡ MathChunk text
+    → bytes ≡ text → IsUtf8 bytes → (IsSettledMath bytes → ⊥) → IsStuckIn v before (atoms_of chunk)
 math_stuck v before chunk text bytes is same utf8 unsettled =
     rw (math_atoms chunk text bytes is same) (λ rest s. unsettled (s.0.1, subst IsParts (encodes-chars bytes utf8) s.0.2))
 
 -- after settled math, outside verbatim fields, the rest decides
-pub math_on : (v : Bool) (before : Before) (chunk : Chunk) (text bytes : List ℕ) → chunk ≡ MathChunk text → bytes ≡ text → IsUtf8 bytes → v ≡ false → IsSettledMath bytes → ContinuesIn v before (atoms_of chunk) Nothing []
+pub math_on : (v : Bool) (before : Before) (chunk : Chunk) (text bytes : List ℕ) → chunk ≡ MathChunk text → bytes ≡ text
+    → IsUtf8 bytes → v ≡ false → IsSettledMath bytes → ContinuesIn v before (atoms_of chunk) Nothing []
 math_on v before chunk text bytes is same utf8 normal settled =
     rw (math_atoms chunk text bytes is same)
-    (λ rest. (λ s. s.2, λ s. ((normal, settled.0, subst IsParts (sym (encodes-chars bytes utf8)) settled.1), runs_into_math before (chars bytes), s)))
+    (λ rest. (
+      λ s. s.2,
+      λ s. (
+        (normal, settled.0, subst IsParts (sym (encodes-chars bytes utf8)) settled.1),
+        runs_into_math before (chars bytes),
+        s,
+      ),
+    ))

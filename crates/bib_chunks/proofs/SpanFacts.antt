@@ -9,7 +9,8 @@ use Rattle.bib_chunks.specs.Styled.{last_end, whole_span}
 same_some : (x y : Spanned Chunk) → Some x ≡ Some y → x ≡ y
 same_some x y same = cc
 
-last_end_is : (c : Spanned Chunk) (rest : List (Spanned Chunk)) (last : Spanned Chunk) → slice_get (c ∷ rest) (length rest) ≡ Some last → last.span.end ≡ last_end c.span.end rest
+last_end_is : (c : Spanned Chunk) (rest : List (Spanned Chunk)) (last : Spanned Chunk)
+    → slice_get (c ∷ rest) (length rest) ≡ Some last → last.span.end ≡ last_end c.span.end rest
 last_end_is c [] last is = ap (λ x. x.span.end) (sym (same_some c last is))
 last_end_is c (d ∷ rest) last is = last_end_is d rest last is
 
@@ -17,7 +18,8 @@ range : ℕ → ℕ → Range ℕ
 range start end = record { start = start; end = end }
 
 -- the span from the start of the first chunk to the end of the last one
-pub whole_span_is : (chunks : List (Spanned Chunk)) (first last : Spanned Chunk) → Some first ≡ slice_get chunks 0 → Some last ≡ slice_get chunks (length chunks - 1)
+pub whole_span_is : (chunks : List (Spanned Chunk)) (first last : Spanned Chunk) → Some first ≡ slice_get chunks 0
+    → Some last ≡ slice_get chunks (length chunks - 1)
     → ◌≡◌ {A = Range ℕ} (record { start = first.span.start; end = last.span.end }) (whole_span chunks)
 unfolding range
 whole_span_is [] first last is_first is_last = cc

@@ -30,7 +30,9 @@ stands_twice c d here outer inner = record {
   following = inner.following ++ outer.following;
   is =
       outer.is ∙ ap (λ l. outer.before ++ (l ++ outer.following)) inner.is
-      ∙ ap (λ l. outer.before ++ l) (append_assoc inner.before (text_of here.v ++ inner.following) outer.following ∙ ap (λ l. inner.before ++ l) (append_assoc (text_of here.v) inner.following outer.following))
+      ∙ ap (λ l. outer.before ++ l)
+      (append_assoc inner.before (text_of here.v ++ inner.following) outer.following
+      ∙ ap (λ l. inner.before ++ l) (append_assoc (text_of here.v) inner.following outer.following))
       ∙ sym (append_assoc outer.before inner.before _);
   start = omega (arith, outer.start, inner.start, length-append outer.before inner.before);
   end = inner.end;
@@ -40,35 +42,64 @@ stands_twice c d here outer inner = record {
 stands_long : (c here : Spanned Chunk) → IsAsLong c → StandsInChunk c here → IsAsLong here
 stands_long c here long stands =
     let size : length (text_of c.v) ≡ length stands.before + (length (text_of here.v) + length stands.following) =
-    ap length stands.is ∙ length-append stands.before (text_of here.v ++ stands.following) ∙ ap (λ n. length stands.before + n) (length-append (text_of here.v) stands.following) in
+    ap length stands.is ∙ length-append stands.before (text_of here.v ++ stands.following)
+    ∙ ap (λ n. length stands.before + n) (length-append (text_of here.v) stands.following) in
     (stands.end, omega (arith, size, stands.start, stands.end, long.0, long.1))
 
 module _ (whole : List ℕ) (span : Range ℕ) (long : IsAsLong (record { v = Normal whole; span = span })) where
-  part_stands : (before part after : List ℕ) (at : ℕ) → whole ≡ before ++ (part ++ after) → at ≡ length before → StandsInChunk (record { v = Normal whole; span = span }) (chunk_part whole span at part)
+  part_stands : (before part after : List ℕ) (at : ℕ) → whole ≡ before ++ (part ++ after) → at ≡ length before
+      → StandsInChunk (record { v = Normal whole; span = span }) (chunk_part whole span at part)
   part_stands before part after at is at_is =
-      let size : length whole ≡ length before + (length part + length after) = ap length is ∙ length-append before (part ++ after) ∙ ap (λ n. length before + n) (length-append part after) in
+      let size : length whole ≡ length before + (length part + length after) =
+      ap length is ∙ length-append before (part ++ after) ∙ ap (λ n. length before + n) (length-append part after) in
       elim (length part == length whole)
-      as (λ b. (length part == length whole) ≡ b → StandsInChunk (record { v = Normal whole; span = span }) (if b then placed (Normal part) span.start span.end else placed (Normal part) (further span.start at) (further (further span.start at) (length part)))) [
+      as
+      (λ b.
+      (length part == length whole) ≡ b
+      → StandsInChunk (record { v = Normal whole; span = span })
+      (if b then placed (Normal part) span.start span.end
+      else placed (Normal part) (further span.start at)
+      (further (further span.start at) (length part)))) [
         | true ↦ λ same.
             let equal : length part ≡ length whole = eqb-true (length part) (length whole) same in
             record { before = before; following = after; is = is; start = omega (arith, equal, size); end = omega (arith, equal, long.0) }
-        | false ↦ λ other. record { before = before; following = after; is = is; start = omega (arith, size, at_is, long.0, long.1); end = omega (arith, size, at_is, long.0, long.1) }
+        | false ↦
+            λ other.
+            record {
+              before = before;
+              following = after;
+              is = is;
+              start = omega (arith, size, at_is, long.0, long.1);
+              end = omega (arith, size, at_is, long.0, long.1);
+            }
       ] refl
 
-  piece_stands : (before after text : List ℕ) (at : ℕ) (first last : Bool) → scalars text ≡ true → whole ≡ before ++ (encode_utf8_all text ++ after) → at ≡ length before
+  piece_stands : (before after text : List ℕ) (at : ℕ) (first last : Bool) → scalars text ≡ true
+      → whole ≡ before ++ (encode_utf8_all text ++ after) → at ≡ length before
       → StandsInChunk (record { v = Normal whole; span = span }) (piece whole span at first last (encode_utf8_all text))
   piece_stands before after text at first last valid is at_is =
-      let one : IsPiece whole span at first last text (piece whole span at first last (encode_utf8_all text)) = piece_is whole span at first last text valid in
+      let one : IsPiece whole span at first last text (piece whole span at first last (encode_utf8_all text)) =
+      piece_is whole span at first last text valid in
       let lead = encode_utf8_all one.trimmed.lead in
       let left = encode_utf8_all one.left in
       let trail = encode_utf8_all one.trimmed.trail in
-      let bytes : encode_utf8_all text ≡ lead ++ (left ++ trail) = ap encode_utf8_all one.trimmed.is ∙ encodes-append one.trimmed.lead (one.left ++ one.trimmed.trail) ∙ ap (λ l. lead ++ l) (encodes-append one.left one.trimmed.trail) in
+      let bytes : encode_utf8_all text ≡ lead ++ (left ++ trail) =
+      ap encode_utf8_all one.trimmed.is ∙ encodes-append one.trimmed.lead (one.left ++ one.trimmed.trail)
+      ∙ ap (λ l. lead ++ l) (encodes-append one.left one.trimmed.trail) in
       let parted : whole ≡ (before ++ lead) ++ (left ++ (trail ++ after)) =
-      is ∙ ap (λ l. before ++ (l ++ after)) bytes ∙ ap (λ l. before ++ l) (append_assoc lead (left ++ trail) after ∙ ap (λ l. lead ++ l) (append_assoc left trail after)) ∙ sym (append_assoc before lead _) in
-      subst (StandsInChunk (record { v = Normal whole; span = span })) (sym one.is) (part_stands (before ++ lead) left (trail ++ after) _ parted (omega (arith, at_is, length-append before lead)))
+      is ∙ ap (λ l. before ++ (l ++ after)) bytes
+      ∙ ap (λ l. before ++ l)
+      (append_assoc lead (left ++ trail) after ∙ ap (λ l. lead ++ l) (append_assoc left trail after))
+      ∙ sym (append_assoc before lead _) in
+      subst (StandsInChunk (record { v = Normal whole; span = span })) (sym one.is)
+      (part_stands (before ++ lead) left (trail ++ after) _ parted (omega (arith, at_is, length-append before lead)))
 
-  between_stand : (separator : List ℕ) (w : ℕ) → w ≡ length (encode_utf8_all separator) → (before : List ℕ) (at : ℕ) (following : Bool) (texts : List (List ℕ)) → scalars (rejoined separator texts) ≡ true
-      → whole ≡ before ++ encode_utf8_all (rejoined separator texts) → at ≡ length before → AllByRecursion (StandsInChunk (record { v = Normal whole; span = span })) (pieces_between w whole span at following texts)
+  between_stand : (separator : List ℕ) (w : ℕ) → w ≡ length (encode_utf8_all separator)
+      → (before : List ℕ) (at : ℕ) (following : Bool) (texts : List (List ℕ))
+      → scalars (rejoined separator texts) ≡ true
+      → whole ≡ before ++ encode_utf8_all (rejoined separator texts) → at ≡ length before
+      → AllByRecursion (StandsInChunk (record { v = Normal whole; span = span }))
+      (pieces_between w whole span at following texts)
   between_stand separator w width before at following [] valid is at_is = tt
   between_stand separator w width before at following (text ∷ []) valid is at_is =
       (piece_stands before [] text at following false valid (is ∙ ap (λ l. before ++ l) (sym (append-nil _))) at_is, tt)
@@ -78,10 +109,14 @@ module _ (whole : List ℕ) (span : Range ℕ) (long : IsAsLong (record { v = No
       let valid_rest = scalars_parts separator rest valid_parts.1 in
       let here = encode_utf8_all text in
       let word = encode_utf8_all separator in
-      let parted : whole ≡ before ++ (here ++ (word ++ encode_utf8_all rest)) = is ∙ ap (λ l. before ++ l) (encodes-append text (separator ++ rest) ∙ ap (λ l. here ++ l) (encodes-append separator rest)) in (
+      let parted : whole ≡ before ++ (here ++ (word ++ encode_utf8_all rest)) =
+      is
+      ∙ ap (λ l. before ++ l)
+      (encodes-append text (separator ++ rest) ∙ ap (λ l. here ++ l) (encodes-append separator rest)) in (
         piece_stands before (word ++ encode_utf8_all rest) text at following true valid_parts.0 parted at_is,
         between_stand separator w width (before ++ (here ++ word)) (at + (length here + w)) true (after ∷ more) valid_rest.1
-            (parted ∙ ap (λ l. before ++ l) (sym (append_assoc here word (encode_utf8_all rest))) ∙ sym (append_assoc before (here ++ word) (encode_utf8_all rest)))
+            (parted ∙ ap (λ l. before ++ l) (sym (append_assoc here word (encode_utf8_all rest)))
+            ∙ sym (append_assoc before (here ++ word) (encode_utf8_all rest)))
             (omega (arith, at_is, width, length-append before (here ++ word), length-append here word)),
       )
 
@@ -89,23 +124,32 @@ all_map : {A : Type 0} (P Q : A → Type 0) → ((x : A) → P x → Q x) → (x
 all_map P Q onward [] all = tt
 all_map P Q onward (x ∷ xs) all = (onward x all.0, all_map P Q onward xs all.1)
 
-module _ (separator : List ℕ) (w : ℕ) (width : w ≡ length (encode_utf8_all separator)) (cut : List ℕ → List (List ℕ)) (whole_again : (cs : List ℕ) → rejoined separator (cut cs) ≡ cs) where
-  pieces_stand : (v : Chunk) (span : Range ℕ) → IsUtf8 (text_of v) → IsAsLong (record { v = v; span = span }) → AllByRecursion (StandsInChunk (record { v = v; span = span })) (pieces w cut v span)
+module _ (separator : List ℕ) (w : ℕ) (width : w ≡ length (encode_utf8_all separator)) (cut : List ℕ → List (List ℕ))
+    (whole_again : (cs : List ℕ) → rejoined separator (cut cs) ≡ cs) where
+  pieces_stand : (v : Chunk) (span : Range ℕ) → IsUtf8 (text_of v) → IsAsLong (record { v = v; span = span })
+      → AllByRecursion (StandsInChunk (record { v = v; span = span })) (pieces w cut v span)
   pieces_stand (Normal text) span utf8 long =
-      between_stand text span long separator w width [] 0 false (cut (chars text)) (ap scalars (whole_again (chars text)) ∙ scalars-chars text utf8)
+      between_stand text span long separator w width [] 0 false (cut (chars text))
+      (ap scalars (whole_again (chars text)) ∙ scalars-chars text utf8)
       (sym (ap encode_utf8_all (whole_again (chars text)) ∙ encodes-chars text utf8)) refl
   pieces_stand (Verbatim text) span utf8 long = (stands_whole (record { v = Verbatim text; span = span }) long, tt)
   pieces_stand (Math text) span utf8 long = (stands_whole (record { v = Math text; span = span }) long, tt)
 
   -- the pieces of chunks that are in others are in these
-  pieces_in : (all chunks : List (Spanned Chunk)) → AreTexts chunks → AllByRecursion IsAsLong chunks → AllByRecursion (StandsInOne all) chunks → AllByRecursion (λ c. AllByRecursion (StandsInOne all) (pieces w cut c.v c.span)) chunks
+  pieces_in : (all chunks : List (Spanned Chunk)) → AreTexts chunks → AllByRecursion IsAsLong chunks
+      → AllByRecursion (StandsInOne all) chunks
+      → AllByRecursion (λ c. AllByRecursion (StandsInOne all) (pieces w cut c.v c.span)) chunks
   pieces_in all [] texts long stand = tt
   pieces_in all (c ∷ rest) texts long stand = (
-    all_map (StandsInChunk c) (StandsInOne all) (λ here inner. (stand.0.0, stand.0.1, stands_twice stand.0.0 c here stand.0.2 inner)) (pieces w cut c.v c.span) (pieces_stand c.v c.span texts.0 long.0),
+    all_map (StandsInChunk c) (StandsInOne all)
+        (λ here inner. (stand.0.0, stand.0.1, stands_twice stand.0.0 c here stand.0.2 inner)) (pieces w cut c.v c.span)
+        (pieces_stand c.v c.span texts.0 long.0),
     pieces_in all rest texts.1 long.1 stand.1,
   )
 
-  pub list_stands : (all chunks : List (Spanned Chunk)) → AreTexts chunks → AllByRecursion IsAsLong chunks → AllByRecursion (StandsInOne all) chunks → AllByRecursion (AllByRecursion (StandsInOne all)) (list_parts w cut chunks)
+  pub list_stands : (all chunks : List (Spanned Chunk)) → AreTexts chunks → AllByRecursion IsAsLong chunks
+      → AllByRecursion (StandsInOne all) chunks
+      → AllByRecursion (AllByRecursion (StandsInOne all)) (list_parts w cut chunks)
   list_stands all chunks texts long stand = list_hold (StandsInOne all) w cut chunks (pieces_in all chunks texts long stand)
 
 -- a chunk of the rest of a list is in the list
@@ -116,7 +160,8 @@ contains_all : (chunks : List (Spanned Chunk)) → AllByRecursion (Contains chun
 contains_all [] = tt
 contains_all (c ∷ rest) = ((0, omega arith, refl), all_map (Contains rest) (Contains (c ∷ rest)) (later c rest) rest (contains_all rest))
 
-stand_all : (all chunks : List (Spanned Chunk)) → AllByRecursion IsAsLong chunks → AllByRecursion (Contains all) chunks → AllByRecursion (StandsInOne all) chunks
+stand_all : (all chunks : List (Spanned Chunk)) → AllByRecursion IsAsLong chunks → AllByRecursion (Contains all) chunks
+    → AllByRecursion (StandsInOne all) chunks
 stand_all all [] long inside = tt
 stand_all all (c ∷ rest) long inside = ((c, inside.0, stands_whole c long.0), stand_all all rest long.1 inside.1)
 
@@ -129,31 +174,42 @@ and_width : 3 ≡ length (encode_utf8_all letters)
 unfolding encode
 and_width = refl
 
-pub comma_list_stands : (chunks : List (Spanned Chunk)) → AreTexts chunks → AllByRecursion IsAsLong chunks → AllByRecursion (AllByRecursion (StandsInOne chunks)) (comma_list chunks)
-comma_list_stands chunks texts long = list_stands (44 ∷ []) 1 comma_width between_commas commas_whole chunks chunks texts long (stand_all chunks chunks long (contains_all chunks))
+pub comma_list_stands : (chunks : List (Spanned Chunk)) → AreTexts chunks → AllByRecursion IsAsLong chunks
+    → AllByRecursion (AllByRecursion (StandsInOne chunks)) (comma_list chunks)
+comma_list_stands chunks texts long =
+    list_stands (44 ∷ []) 1 comma_width between_commas commas_whole chunks chunks texts long
+    (stand_all chunks chunks long (contains_all chunks))
 
 -- a trimmed chunk is in its chunk
-trimmed_stands : (first last : Bool) (v : Chunk) (span : Range ℕ) → IsUtf8 (text_of v) → IsAsLong (record { v = v; span = span }) → StandsInChunk (record { v = v; span = span }) (trimmed first last v span)
+trimmed_stands : (first last : Bool) (v : Chunk) (span : Range ℕ) → IsUtf8 (text_of v)
+    → IsAsLong (record { v = v; span = span })
+    → StandsInChunk (record { v = v; span = span }) (trimmed first last v span)
 trimmed_stands first last (Normal text) span utf8 long =
     subst (λ bs. StandsInChunk (record { v = Normal text; span = span }) (piece text span 0 first last bs)) (encodes-chars text utf8)
-    (piece_stands text span long [] [] (chars text) 0 first last (scalars-chars text utf8) (sym (append-nil _ ∙ encodes-chars text utf8)) refl)
+    (piece_stands text span long [] [] (chars text) 0 first last (scalars-chars text utf8)
+    (sym (append-nil _ ∙ encodes-chars text utf8)) refl)
 trimmed_stands first last (Verbatim text) span utf8 long = stands_whole (record { v = Verbatim text; span = span }) long
 trimmed_stands first last (Math text) span utf8 long = stands_whole (record { v = Math text; span = span }) long
 
 abbrev StandsLong : List (Spanned Chunk) → Spanned Chunk → Type 0
 StandsLong all c = StandsInOne all c × IsAsLong c
 
-one_trimmed : (all : List (Spanned Chunk)) (first last : Bool) (c : Spanned Chunk) → IsUtf8 (text_of c.v) → IsAsLong c → Contains all c → StandsLong all (trimmed first last c.v c.span)
+one_trimmed : (all : List (Spanned Chunk)) (first last : Bool) (c : Spanned Chunk) → IsUtf8 (text_of c.v) → IsAsLong c
+    → Contains all c → StandsLong all (trimmed first last c.v c.span)
 one_trimmed all first last c utf8 long inside =
     let stands = trimmed_stands first last c.v c.span utf8 long in
     ((c, inside, stands), stands_long c (trimmed first last c.v c.span) long stands)
 
-all_trimmed : (all : List (Spanned Chunk)) (first : Bool) (chunks : List (Spanned Chunk)) → AreTexts chunks → AllByRecursion IsAsLong chunks → AllByRecursion (Contains all) chunks → AllByRecursion (StandsLong all) (trimmed_from first chunks)
+all_trimmed : (all : List (Spanned Chunk)) (first : Bool) (chunks : List (Spanned Chunk)) → AreTexts chunks
+    → AllByRecursion IsAsLong chunks → AllByRecursion (Contains all) chunks
+    → AllByRecursion (StandsLong all) (trimmed_from first chunks)
 all_trimmed all first [] texts long inside = tt
 all_trimmed all first (c ∷ []) texts long inside = (one_trimmed all first true c texts.0 long.0 inside.0, tt)
-all_trimmed all first (c ∷ after ∷ more) texts long inside = (one_trimmed all first false c texts.0 long.0 inside.0, all_trimmed all false (after ∷ more) texts.1 long.1 inside.1)
+all_trimmed all first (c ∷ after ∷ more) texts long inside =
+    (one_trimmed all first false c texts.0 long.0 inside.0, all_trimmed all false (after ∷ more) texts.1 long.1 inside.1)
 
-pub and_list_stands : (chunks : List (Spanned Chunk)) → AreTexts chunks → AllByRecursion IsAsLong chunks → AllByRecursion (AllByRecursion (StandsInOne chunks)) (and_list chunks)
+pub and_list_stands : (chunks : List (Spanned Chunk)) → AreTexts chunks → AllByRecursion IsAsLong chunks
+    → AllByRecursion (AllByRecursion (StandsInOne chunks)) (and_list chunks)
 and_list_stands chunks texts long =
     let all = all_trimmed chunks true chunks texts long (contains_all chunks) in
     list_stands letters 3 and_width (between_ands false) (ands_whole false) chunks (trimmed_ends chunks) (trimmed_texts true chunks texts)

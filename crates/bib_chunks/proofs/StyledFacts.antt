@@ -15,15 +15,19 @@ use Rattle.bib_chunks.specs.Styled.{Atom, atoms_of, styled, text_of, is_shown}
 use Rattle.bib_chunks.proofs.FormattedFacts.{ends-append}
 
 -- normal characters, formatted
-normal_text : (space : Bool) (cs : List ℕ) (more : List Atom) → formatted_atoms space (map Atom.normal cs ++ more) ≡ flowing space cs ++ formatted_atoms (ends_in_space space (flowing space cs)) more
+normal_text : (space : Bool) (cs : List ℕ) (more : List Atom)
+    → formatted_atoms space (map Atom.normal cs ++ more)
+    ≡ flowing space cs ++ formatted_atoms (ends_in_space space (flowing space cs)) more
 normal_text space [] more = refl
 normal_text space (c ∷ cs) more =
     let one = unbroken space c in
     ap (λ xs. one ++ xs) (normal_text (ends_in_space space one) cs more)
     ∙ sym (append_assoc one (flowing (ends_in_space space one) cs) _)
-    ∙ ap (λ b. (one ++ flowing (ends_in_space space one) cs) ++ formatted_atoms b more) (sym (ends-append space one (flowing (ends_in_space space one) cs)))
+    ∙ ap (λ b. (one ++ flowing (ends_in_space space one) cs) ++ formatted_atoms b more)
+    (sym (ends-append space one (flowing (ends_in_space space one) cs)))
 
-verbatim_text : (space : Bool) (cs : List ℕ) (more : List Atom) → formatted_atoms space (map Atom.verbatim cs ++ more) ≡ cs ++ formatted_atoms (ends_in_space space cs) more
+verbatim_text : (space : Bool) (cs : List ℕ) (more : List Atom)
+    → formatted_atoms space (map Atom.verbatim cs ++ more) ≡ cs ++ formatted_atoms (ends_in_space space cs) more
 verbatim_text space [] more = refl
 verbatim_text space (c ∷ cs) more = ap (λ xs. c ∷ xs) (verbatim_text (is_whitespace c) cs more)
 
@@ -36,7 +40,8 @@ no_text [] none = chars-nil
 no_text (b ∷ text) none = absurd (false≢true (sym none ∙ ap not (ne_eqb _ _ (λ e. omega arith))))
 
 -- whether a non-empty text ends in white space doesn't depend on the text before it
-same_end : (space : Bool) (text : List ℕ) → IsUtf8 text → not (length text == 0) ≡ true → ends_in_space space (chars text) ≡ ends_in_space false (chars text)
+same_end : (space : Bool) (text : List ℕ) → IsUtf8 text → not (length text == 0) ≡ true
+    → ends_in_space space (chars text) ≡ ends_in_space false (chars text)
 same_end space text utf8 some =
     elim (chars text) as (λ cs. chars text ≡ cs → ends_in_space space cs ≡ ends_in_space false cs) [
       | [] ↦ λ none. absurd (false≢true (subst (λ t. not (length t == 0) ≡ true) (no_characters text utf8 none) some))
@@ -44,9 +49,13 @@ same_end space text utf8 some =
     ] refl
 
 -- a chunk that has atoms is formatted as they are
-chunk_text : (space : Bool) (v : Chunk) (more : List Atom) → IsUtf8 (text_of v) → is_shown v ≡ true → formatted_atoms space (atoms_of v ++ more) ≡ formatted_chunk (λ cs. cs) space v ++ formatted_atoms (space_after space v) more
+chunk_text : (space : Bool) (v : Chunk) (more : List Atom) → IsUtf8 (text_of v) → is_shown v ≡ true
+    → formatted_atoms space (atoms_of v ++ more)
+    ≡ formatted_chunk (λ cs. cs) space v ++ formatted_atoms (space_after space v) more
 chunk_text space (Normal text) more utf8 shown = normal_text space (chars text) more
-chunk_text space (Verbatim text) more utf8 shown = verbatim_text space (chars text) more ∙ ap (λ b. chars text ++ formatted_atoms b more) (same_end space text utf8 shown)
+chunk_text space (Verbatim text) more utf8 shown =
+    verbatim_text space (chars text) more
+    ∙ ap (λ b. chars text ++ formatted_atoms b more) (same_end space text utf8 shown)
 chunk_text space (Math text) more utf8 shown = ap (λ xs. 36 ∷ xs) (sym (append_assoc (chars text) (36 ∷ []) _))
 
 -- a chunk that isn't shown has no atoms
@@ -56,21 +65,31 @@ hidden (Verbatim text) none = ap (map Atom.verbatim) (no_text text none)
 hidden (Math text) none = absurd (false≢true (sym none))
 
 -- the styled text of the chunks from an index on
-styled_from : (chunks : List (Spanned Chunk)) (i : ℕ) (x : Spanned Chunk) → i < length chunks → x ≡ get_or chunks i x → styled (drop i chunks) ≡ atoms_of x.v ++ styled (drop (i + 1) chunks)
+styled_from : (chunks : List (Spanned Chunk)) (i : ℕ) (x : Spanned Chunk) → i < length chunks → x ≡ get_or chunks i x
+    → styled (drop i chunks) ≡ atoms_of x.v ++ styled (drop (i + 1) chunks)
 styled_from chunks i x within is = ap styled (drop_more chunks i x within ∙ ap (λ y. y ∷ drop (i + 1) chunks) (sym is))
 
 -- a step of the loop: a chunk is written
-pub shown_part : (space following : Bool) (chunks : List (Spanned Chunk)) (i : ℕ) (x : Spanned Chunk) (out more total : List ℕ) → i < length chunks → x ≡ get_or chunks i x
-    → IsUtf8 (text_of x.v) → is_shown x.v ≡ true → more ≡ out ++ encode_utf8_all (formatted_chunk (λ cs. cs) space x.v) → following ≡ space_after space x.v
-    → out ++ encode_utf8_all (formatted_atoms space (styled (drop i chunks))) ≡ total → more ++ encode_utf8_all (formatted_atoms following (styled (drop (i + 1) chunks))) ≡ total
+pub shown_part : (space following : Bool) (chunks : List (Spanned Chunk)) (i : ℕ) (x : Spanned Chunk)
+    (out more total : List ℕ) → i < length chunks → x ≡ get_or chunks i x
+    → IsUtf8 (text_of x.v) → is_shown x.v ≡ true → more ≡ out ++ encode_utf8_all (formatted_chunk (λ cs. cs) space x.v)
+    → following ≡ space_after space x.v
+    → out ++ encode_utf8_all (formatted_atoms space (styled (drop i chunks))) ≡ total
+    → more ++ encode_utf8_all (formatted_atoms following (styled (drop (i + 1) chunks))) ≡ total
 shown_part space following chunks i x out more total within is utf8 shown written decides so_far =
     let rest = styled (drop (i + 1) chunks) in
-    written_more out more total (formatted_chunk (λ cs. cs) space x.v) (formatted_atoms space (styled (drop i chunks))) (formatted_atoms following rest) written
-    (ap (formatted_atoms space) (styled_from chunks i x within is) ∙ chunk_text space x.v rest utf8 shown ∙ ap (λ b. formatted_chunk (λ cs. cs) space x.v ++ formatted_atoms b rest) (sym decides))
+    written_more out more total (formatted_chunk (λ cs. cs) space x.v) (formatted_atoms space (styled (drop i chunks)))
+    (formatted_atoms following rest) written
+    (ap (formatted_atoms space) (styled_from chunks i x within is) ∙ chunk_text space x.v rest utf8 shown
+    ∙ ap (λ b. formatted_chunk (λ cs. cs) space x.v ++ formatted_atoms b rest) (sym decides))
     so_far
 
 -- a step of the loop: a chunk is skipped
-pub hidden_part : (space : Bool) (chunks : List (Spanned Chunk)) (i : ℕ) (x : Spanned Chunk) (out total : List ℕ) → i < length chunks → x ≡ get_or chunks i x → is_shown x.v ≡ false
-    → out ++ encode_utf8_all (formatted_atoms space (styled (drop i chunks))) ≡ total → out ++ encode_utf8_all (formatted_atoms space (styled (drop (i + 1) chunks))) ≡ total
+pub hidden_part : (space : Bool) (chunks : List (Spanned Chunk)) (i : ℕ) (x : Spanned Chunk) (out total : List ℕ)
+    → i < length chunks → x ≡ get_or chunks i x → is_shown x.v ≡ false
+    → out ++ encode_utf8_all (formatted_atoms space (styled (drop i chunks))) ≡ total
+    → out ++ encode_utf8_all (formatted_atoms space (styled (drop (i + 1) chunks))) ≡ total
 hidden_part space chunks i x out total within is none so_far =
-    ap (λ l. out ++ encode_utf8_all (formatted_atoms space l)) (sym (styled_from chunks i x within is ∙ ap (λ l. l ++ styled (drop (i + 1) chunks)) (hidden x.v none))) ∙ so_far
+    ap (λ l. out ++ encode_utf8_all (formatted_atoms space l))
+    (sym (styled_from chunks i x within is ∙ ap (λ l. l ++ styled (drop (i + 1) chunks)) (hidden x.v none)))
+    ∙ so_far

@@ -20,7 +20,11 @@ skipped : (cs : List ℕ) → (lead : List ℕ) × (cs ≡ lead ++ skip_leading_
 skipped [] = ([], refl, refl)
 skipped (c ∷ cs) =
     let rest = skipped cs in
-    elim (is_whitespace c) as (λ b. is_whitespace c ≡ b → (lead : List ℕ) × (c ∷ cs ≡ lead ++ cond b (skip_leading_whitespace cs) (c ∷ cs)) × (list_all is_whitespace lead ≡ true)) [
+    elim (is_whitespace c) as
+    (λ b.
+    is_whitespace c ≡ b
+    → (lead : List ℕ) × (c ∷ cs ≡ lead ++ cond b (skip_leading_whitespace cs) (c ∷ cs))
+    × (list_all is_whitespace lead ≡ true)) [
       | true ↦ λ white. (c ∷ rest.0, ap (λ l. c ∷ l) rest.1, ap (λ b. b && list_all is_whitespace rest.0) white ∙ rest.2)
       | false ↦ λ other. ([], refl, refl)
     ] refl
@@ -30,7 +34,11 @@ dropped [] = ([], refl, refl)
 dropped (c ∷ cs) =
     let rest = dropped cs in
     elim (is_whitespace c && length (drop_trailing_whitespace cs) == 0)
-    as (λ b. (is_whitespace c && length (drop_trailing_whitespace cs) == 0) ≡ b → (trail : List ℕ) × (c ∷ cs ≡ cond b [] (c ∷ drop_trailing_whitespace cs) ++ trail) × (list_all is_whitespace trail ≡ true)) [
+    as
+    (λ b.
+    (is_whitespace c && length (drop_trailing_whitespace cs) == 0) ≡ b
+    → (trail : List ℕ) × (c ∷ cs ≡ cond b [] (c ∷ drop_trailing_whitespace cs) ++ trail)
+    × (list_all is_whitespace trail ≡ true)) [
       | true ↦ λ both.
           let parts = and_parts (is_whitespace c) (length (drop_trailing_whitespace cs) == 0) both in
           let none : drop_trailing_whitespace cs ≡ [] = nil_from_length _ (eqb-true _ 0 parts.1) in
@@ -67,22 +75,28 @@ end_left : Bool → List ℕ → List ℕ
 end_left true text = drop_trailing_whitespace text
 end_left false text = text
 
-start_bytes : (first : Bool) (text : List ℕ) → scalars text ≡ true → trimmed_start first (encode_utf8_all text) ≡ encode_utf8_all (start_left first text)
+start_bytes : (first : Bool) (text : List ℕ) → scalars text ≡ true
+    → trimmed_start first (encode_utf8_all text) ≡ encode_utf8_all (start_left first text)
 unfolding trim_start start_left
 start_bytes true text valid = ap (λ cs. encode_utf8_all (skip_leading_whitespace cs)) (chars-encodes text valid)
 start_bytes false text valid = refl
 
-end_bytes : (last : Bool) (text : List ℕ) → scalars text ≡ true → trimmed_end last (encode_utf8_all text) ≡ encode_utf8_all (end_left last text)
+end_bytes : (last : Bool) (text : List ℕ) → scalars text ≡ true
+    → trimmed_end last (encode_utf8_all text) ≡ encode_utf8_all (end_left last text)
 unfolding trim_end end_left
 end_bytes true text valid = ap (λ cs. encode_utf8_all (drop_trailing_whitespace cs)) (chars-encodes text valid)
 end_bytes false text valid = refl
 
-start_parts : (first : Bool) (text : List ℕ) → (lead : List ℕ) × (text ≡ lead ++ start_left first text) × (list_all is_whitespace lead ≡ true) × (first ≡ false → lead ≡ [])
+start_parts : (first : Bool) (text : List ℕ)
+    → (lead : List ℕ) × (text ≡ lead ++ start_left first text) × (list_all is_whitespace lead ≡ true)
+    × (first ≡ false → lead ≡ [])
 unfolding start_left
 start_parts true text = let cut = skipped text in (cut.0, cut.1, cut.2, λ no. absurd (false≢true (sym no)))
 start_parts false text = ([], refl, refl, λ _. refl)
 
-end_parts : (last : Bool) (text : List ℕ) → (trail : List ℕ) × (text ≡ end_left last text ++ trail) × (list_all is_whitespace trail ≡ true) × (last ≡ false → trail ≡ [])
+end_parts : (last : Bool) (text : List ℕ)
+    → (trail : List ℕ) × (text ≡ end_left last text ++ trail) × (list_all is_whitespace trail ≡ true)
+    × (last ≡ false → trail ≡ [])
 unfolding end_left
 end_parts true text = let cut = dropped text in (cut.0, cut.1, cut.2, λ no. absurd (false≢true (sym no)))
 end_parts false text = ([], sym (append-nil text), refl, λ _. refl)
@@ -90,7 +104,11 @@ end_parts false text = ([], sym (append-nil text), refl, λ _. refl)
 -- a part of a chunk is a normal chunk with the part's text
 part_chunk : (whole : List ℕ) (span : Range ℕ) (at : ℕ) (text : List ℕ) → (chunk_part whole span at text).v ≡ Normal text
 part_chunk whole span at text =
-    elim (length text == length whole) as (λ b. (if b then placed (Normal text) span.start span.end else placed (Normal text) (further span.start at) (further (further span.start at) (length text))).v ≡ Normal text) [
+    elim (length text == length whole) as
+    (λ b.
+    (if b then placed (Normal text) span.start span.end
+    else placed (Normal text) (further span.start at) (further (further span.start at) (length text))).v
+    ≡ Normal text) [
       | true ↦ refl
       | false ↦ refl
     ]
@@ -102,7 +120,8 @@ pub record IsPiece (whole : List ℕ) (span : Range ℕ) (at : ℕ) (first last 
   pub valid : scalars left ≡ true
   pub is : here ≡ chunk_part whole span (at + length (encode_utf8_all trimmed.lead)) (encode_utf8_all left)
 
-pub piece_is : (whole : List ℕ) (span : Range ℕ) (at : ℕ) (first last : Bool) (text : List ℕ) → scalars text ≡ true → IsPiece whole span at first last text (piece whole span at first last (encode_utf8_all text))
+pub piece_is : (whole : List ℕ) (span : Range ℕ) (at : ℕ) (first last : Bool) (text : List ℕ) → scalars text ≡ true
+    → IsPiece whole span at first last text (piece whole span at first last (encode_utf8_all text))
 piece_is whole span at first last text valid =
     let start = start_parts first text in
     let begun = start_left first text in
@@ -111,15 +130,29 @@ piece_is whole span at first last text valid =
     let left = end_left last begun in
     let left_valid : scalars left ≡ true = (scalars_parts left end.0 (ap scalars (sym end.1) ∙ begun_valid)).0 in
     let begun_bytes : trimmed_start first (encode_utf8_all text) ≡ encode_utf8_all begun = start_bytes first text valid in
-    let bytes : trimmed_end last (trimmed_start first (encode_utf8_all text)) ≡ encode_utf8_all left = ap (trimmed_end last) begun_bytes ∙ end_bytes last begun begun_valid in
+    let bytes : trimmed_end last (trimmed_start first (encode_utf8_all text)) ≡ encode_utf8_all left =
+    ap (trimmed_end last) begun_bytes ∙ end_bytes last begun begun_valid in
     let size : length (encode_utf8_all text) ≡ length (encode_utf8_all start.0) + length (encode_utf8_all begun) =
-    ap (λ cs. length (encode_utf8_all cs)) start.1 ∙ ap length (encodes-append start.0 begun) ∙ length-append (encode_utf8_all start.0) (encode_utf8_all begun) in
-    let skipped_bytes : length (encode_utf8_all text) - length (trimmed_start first (encode_utf8_all text)) ≡ length (encode_utf8_all start.0) = omega (arith, size, ap length begun_bytes) in
+    ap (λ cs. length (encode_utf8_all cs)) start.1 ∙ ap length (encodes-append start.0 begun)
+    ∙ length-append (encode_utf8_all start.0) (encode_utf8_all begun) in
+    let skipped_bytes : length (encode_utf8_all text) - length (trimmed_start first (encode_utf8_all text))
+    ≡ length (encode_utf8_all start.0) =
+    omega (arith, size, ap length begun_bytes) in
     record {
       left = left;
-      trimmed = record { lead = start.0; trail = end.0; is = start.1 ∙ ap (λ l. start.0 ++ l) end.1; white = start.2; blank = end.2; begins = start.3; ends = end.3 };
+      trimmed = record {
+        lead = start.0;
+        trail = end.0;
+        is = start.1 ∙ ap (λ l. start.0 ++ l) end.1;
+        white = start.2;
+        blank = end.2;
+        begins = start.3;
+        ends = end.3;
+      };
       valid = left_valid;
-      is = ap (λ n. chunk_part whole span (at + n) (trimmed_end last (trimmed_start first (encode_utf8_all text)))) skipped_bytes ∙ ap (chunk_part whole span (at + length (encode_utf8_all start.0))) bytes;
+      is =
+          ap (λ n. chunk_part whole span (at + n) (trimmed_end last (trimmed_start first (encode_utf8_all text))))
+          skipped_bytes ∙ ap (chunk_part whole span (at + length (encode_utf8_all start.0))) bytes;
     }
 
 -- a piece is a normal chunk with the text that is left
@@ -130,10 +163,12 @@ pub record SaysPiece (first last : Bool) (text : List ℕ) (here : Spanned Chunk
   pub is : here.v ≡ Normal (encode_utf8_all left)
   pub says : atoms_of here.v ≡ map Atom.normal left
 
-pub piece_says : (whole : List ℕ) (span : Range ℕ) (at : ℕ) (first last : Bool) (text : List ℕ) → scalars text ≡ true → SaysPiece first last text (piece whole span at first last (encode_utf8_all text))
+pub piece_says : (whole : List ℕ) (span : Range ℕ) (at : ℕ) (first last : Bool) (text : List ℕ) → scalars text ≡ true
+    → SaysPiece first last text (piece whole span at first last (encode_utf8_all text))
 piece_says whole span at first last text valid =
     let one = piece_is whole span at first last text valid in
-    let chunk : (piece whole span at first last (encode_utf8_all text)).v ≡ Normal (encode_utf8_all one.left) = ap (λ c. c.v) one.is ∙ part_chunk whole span _ _ in
+    let chunk : (piece whole span at first last (encode_utf8_all text)).v ≡ Normal (encode_utf8_all one.left) =
+    ap (λ c. c.v) one.is ∙ part_chunk whole span _ _ in
     record {
       left = one.left;
       trimmed = one.trimmed;

@@ -43,7 +43,9 @@ pub simple_text : (t : List ℕ) → list_all is_simple t ≡ true → text (alo
 simple_text t all =
     let ascii : IsAscii t = simple_ascii t all in
     let whole : chars t ≡ t = chars-IsAscii t ascii in
-    ap encode_utf8_all (append-nil (flowing false (chars t)) ∙ ap (flowing false) whole ∙ flowing_whole false t (simple_goes t all)) ∙ encodes-IsAscii t ascii
+    ap encode_utf8_all
+    (append-nil (flowing false (chars t)) ∙ ap (flowing false) whole ∙ flowing_whole false t (simple_goes t all))
+    ∙ encodes-IsAscii t ascii
 
 -- a text parses from its verbatim chunk
 pub string_survives : (t : List ℕ) → IsUtf8 t → Some (text (alone (Verbatim t))) ≡ Some t

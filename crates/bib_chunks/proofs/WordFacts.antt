@@ -24,11 +24,13 @@ use Rattle.bib_chunks.proofs.WholeFacts.{normal, normal_space, list_whole, rejoi
 abbrev pub letters : List ℕ
 letters = 97 ∷ 110 ∷ 100 ∷ []
 
-prepend_rejoined : (a : ℕ) (text : List ℕ) (more : List (List ℕ)) → rejoined letters (prepend (a ∷ []) (text ∷ more)) ≡ a ∷ rejoined letters (text ∷ more)
+prepend_rejoined : (a : ℕ) (text : List ℕ) (more : List (List ℕ))
+    → rejoined letters (prepend (a ∷ []) (text ∷ more)) ≡ a ∷ rejoined letters (text ∷ more)
 prepend_rejoined a text [] = refl
 prepend_rejoined a text (after ∷ more) = refl
 
-cut_rejoined : (text : List ℕ) (more : List (List ℕ)) → rejoined letters ([] ∷ text ∷ more) ≡ 97 ∷ 110 ∷ 100 ∷ rejoined letters (text ∷ more)
+cut_rejoined : (text : List ℕ) (more : List (List ℕ))
+    → rejoined letters ([] ∷ text ∷ more) ≡ 97 ∷ 110 ∷ 100 ∷ rejoined letters (text ∷ more)
 cut_rejoined text more = refl
 
 -- if the word is at the start of these characters, they begin with its letters
@@ -41,14 +43,17 @@ at_true false cs here = let (others, is, spaced) = word_letters false cs here in
 
 one_rejoined : (test space : Bool) (a n d : ℕ) (rest : List ℕ) → word_here space (a ∷ n ∷ d ∷ rest) ≡ test
     → rejoined letters (between_ands false rest) ≡ rest → rejoined letters (between_ands (is_whitespace a) (n ∷ d ∷ rest)) ≡ n ∷ d ∷ rest
-    → rejoined letters (cond test ([] ∷ between_ands false rest) (prepend (a ∷ []) (between_ands (is_whitespace a) (n ∷ d ∷ rest)))) ≡ a ∷ n ∷ d ∷ rest
+    → rejoined letters
+    (cond test ([] ∷ between_ands false rest) (prepend (a ∷ []) (between_ands (is_whitespace a) (n ∷ d ∷ rest))))
+    ≡ a ∷ n ∷ d ∷ rest
 one_rejoined true space a n d rest here cut on =
     let (text, more, some) = ands_some false rest in
     ap (λ ts. rejoined letters ([] ∷ ts)) some ∙ cut_rejoined text more ∙ ap (λ ts. 97 ∷ 110 ∷ 100 ∷ rejoined letters ts) (sym some)
     ∙ ap (λ l. 97 ∷ 110 ∷ 100 ∷ l) cut ∙ same_letters a n d rest (at_true space (a ∷ n ∷ d ∷ rest) here)
 one_rejoined false space a n d rest here cut on =
     let (text, more, some) = ands_some (is_whitespace a) (n ∷ d ∷ rest) in
-    ap (λ ts. rejoined letters (prepend (a ∷ []) ts)) some ∙ prepend_rejoined a text more ∙ ap (λ ts. a ∷ rejoined letters ts) (sym some) ∙ ap (λ l. a ∷ l) on
+    ap (λ ts. rejoined letters (prepend (a ∷ []) ts)) some ∙ prepend_rejoined a text more
+    ∙ ap (λ ts. a ∷ rejoined letters ts) (sym some) ∙ ap (λ l. a ∷ l) on
 
 -- the texts between the words, joined by the word, are the whole text
 pub ands_whole : (space : Bool) (cs : List ℕ) → rejoined letters (between_ands space cs) ≡ cs
@@ -56,7 +61,8 @@ ands_whole space [] = refl
 ands_whole space (a ∷ []) = refl
 ands_whole space (a ∷ n ∷ []) = refl
 ands_whole space (a ∷ n ∷ d ∷ rest) =
-    one_rejoined (word_here space (a ∷ n ∷ d ∷ rest)) space a n d rest refl (ands_whole false rest) (ands_whole (is_whitespace a) (n ∷ d ∷ rest))
+    one_rejoined (word_here space (a ∷ n ∷ d ∷ rest)) space a n d rest refl (ands_whole false rest)
+    (ands_whole (is_whitespace a) (n ∷ d ∷ rest))
 
 -- whether characters contain a word; the flag says whether white space comes before them
 abbrev pub holds_and : Bool → List ℕ → Bool
@@ -94,7 +100,11 @@ one_free false space a n d rest here cut on =
     let (tail, begins) = rejoined_first text more in
     let starts : n ∷ d ∷ rest ≡ text ++ tail = sym (ands_whole (is_whitespace a) (n ∷ d ∷ rest)) ∙ ap (rejoined letters) some ∙ begins in
     let free : AreFree (is_whitespace a) (text ∷ more) = rw some at on in
-    let none : word_here space (a ∷ text) ≡ false = false_from_ne_true _ (λ found. false≢true (sym here ∙ ap (λ l. word_here space (a ∷ l)) starts ∙ word_longer space (a ∷ text) tail found)) in
+    let none : word_here space (a ∷ text) ≡ false =
+    false_from_ne_true _
+    (λ found.
+    false≢true
+    (sym here ∙ ap (λ l. word_here space (a ∷ l)) starts ∙ word_longer space (a ∷ text) tail found)) in
     subst (λ ts. AreFree space (prepend (a ∷ []) ts)) (sym some) (ap (λ b. b || holds_and (is_whitespace a) text) none ∙ free.0, free.1)
 
 ands_free : (space : Bool) (cs : List ℕ) → AreFree space (between_ands space cs)
@@ -111,13 +121,19 @@ or_right false b holds = holds
 or_left : (a b : Bool) → a ≡ true → (a || b) ≡ true
 or_left a b holds = ap (λ c. c || b) holds
 
-found_and : (space : Bool) (before following : List ℕ) (s t : ℕ) → is_whitespace s ≡ true → is_whitespace t ≡ true → holds_and space (before ++ (s ∷ 97 ∷ 110 ∷ 100 ∷ t ∷ following)) ≡ true
+found_and : (space : Bool) (before following : List ℕ) (s t : ℕ) → is_whitespace s ≡ true → is_whitespace t ≡ true
+    → holds_and space (before ++ (s ∷ 97 ∷ 110 ∷ 100 ∷ t ∷ following)) ≡ true
 found_and space [] following s t white blank =
-    or_right (word_here space (s ∷ 97 ∷ 110 ∷ 100 ∷ t ∷ following)) _ (or_left (word_here (is_whitespace s) (97 ∷ 110 ∷ 100 ∷ t ∷ following)) _ (ap (λ b. b && true && is_whitespace t) white ∙ blank))
-found_and space (c ∷ before) following s t white blank = or_right (word_here space (c ∷ (before ++ (s ∷ 97 ∷ 110 ∷ 100 ∷ t ∷ following)))) _ (found_and (is_whitespace c) before following s t white blank)
+    or_right (word_here space (s ∷ 97 ∷ 110 ∷ 100 ∷ t ∷ following)) _
+    (or_left (word_here (is_whitespace s) (97 ∷ 110 ∷ 100 ∷ t ∷ following)) _
+    (ap (λ b. b && true && is_whitespace t) white ∙ blank))
+found_and space (c ∷ before) following s t white blank =
+    or_right (word_here space (c ∷ (before ++ (s ∷ 97 ∷ 110 ∷ 100 ∷ t ∷ following)))) _
+    (found_and (is_whitespace c) before following s t white blank)
 
 free_no_and : (text : List ℕ) → holds_and false text ≡ false → HasNoAnd text
-free_no_and text free before following s t white blank is = absurd (false≢true (sym free ∙ ap (holds_and false) is ∙ found_and false before following s t white blank))
+free_no_and text free before following s t white blank is =
+    absurd (false≢true (sym free ∙ ap (holds_and false) is ∙ found_and false before following s t white blank))
 
 all_no_and : (texts : List (List ℕ)) → AllByRecursion (λ t. holds_and false t ≡ false) texts → AllByRecursion HasNoAnd texts
 all_no_and [] free = tt
@@ -129,15 +145,19 @@ between_no_and cs = all_no_and (between_ands false cs) (all_free (between_ands f
 left_no_and : (first last : Bool) (text left : List ℕ) → IsTrimmed first last text left → HasNoAnd text → HasNoAnd left
 left_no_and first last text left cut none before following s t white blank is =
     none (cut.lead ++ before) (following ++ cut.trail) s t white blank
-    (cut.is ∙ ap (λ l. cut.lead ++ (l ++ cut.trail)) is ∙ ap (λ l. cut.lead ++ l) (append_assoc before (s ∷ 97 ∷ 110 ∷ 100 ∷ t ∷ following) cut.trail) ∙ sym (append_assoc cut.lead before _))
+    (cut.is ∙ ap (λ l. cut.lead ++ (l ++ cut.trail)) is
+    ∙ ap (λ l. cut.lead ++ l) (append_assoc before (s ∷ 97 ∷ 110 ∷ 100 ∷ t ∷ following) cut.trail)
+    ∙ sym (append_assoc cut.lead before _))
 
 chunk_no_and : (text : List ℕ) → scalars text ≡ true → HasNoAnd text → IsWithoutAnd (Normal (encode_utf8_all text))
 chunk_no_and text valid none = subst HasNoAnd (sym (chars-encodes text valid)) none
 
 -- a trimmed normal chunk has the trimmed text
-pub trimmed_says : (first last : Bool) (text : List ℕ) (span : Range ℕ) → IsUtf8 text → SaysPiece first last (chars text) (trimmed first last (Normal text) span)
+pub trimmed_says : (first last : Bool) (text : List ℕ) (span : Range ℕ) → IsUtf8 text
+    → SaysPiece first last (chars text) (trimmed first last (Normal text) span)
 trimmed_says first last text span utf8 =
-    subst (λ bs. SaysPiece first last (chars text) (piece text span 0 first last bs)) (encodes-chars text utf8) (piece_says text span 0 first last (chars text) (scalars-chars text utf8))
+    subst (λ bs. SaysPiece first last (chars text) (piece text span 0 first last bs)) (encodes-chars text utf8)
+    (piece_says text span 0 first last (chars text) (scalars-chars text utf8))
 
 trimmed_text : (first last : Bool) (v : Chunk) (span : Range ℕ) → IsUtf8 (text_of v) → IsUtf8 (text_of (trimmed first last v span).v)
 trimmed_text first last (Normal text) span utf8 =
@@ -154,7 +174,8 @@ trimmed_texts first (c ∷ after ∷ more) texts = (trimmed_text first false c.v
 
 pub and_list_no_and : (chunks : List (Spanned Chunk)) → AreTexts chunks → AllByRecursion HoldsNoAnd (and_list chunks)
 and_list_no_and chunks texts =
-    parts_hold HasNoAnd IsWithoutAnd left_no_and chunk_no_and letters 3 (between_ands false) (ands_whole false) between_no_and (λ text. tt) (λ text. tt) (trimmed_ends chunks) (trimmed_texts true chunks texts)
+    parts_hold HasNoAnd IsWithoutAnd left_no_and chunk_no_and letters 3 (between_ands false) (ands_whole false)
+    between_no_and (λ text. tt) (λ text. tt) (trimmed_ends chunks) (trimmed_texts true chunks texts)
 
 -- the atoms of a chunk are those of the trimmed one between white space
 record ChunkSpaced (first last : Bool) (v : Chunk) (here : Spanned Chunk) : Type 0 where
@@ -167,7 +188,15 @@ record ChunkSpaced (first last : Bool) (v : Chunk) (here : Spanned Chunk) : Type
   ends : last ≡ false → trail ≡ []
 
 same_spaced : (first last : Bool) (v : Chunk) (here : Spanned Chunk) → here.v ≡ v → ChunkSpaced first last v here
-same_spaced first last v here is = record { lead = []; trail = []; is = ap atoms_of (sym is) ∙ sym (append-nil _); white = refl; blank = refl; begins = λ _. refl; ends = λ _. refl }
+same_spaced first last v here is = record {
+  lead = [];
+  trail = [];
+  is = ap atoms_of (sym is) ∙ sym (append-nil _);
+  white = refl;
+  blank = refl;
+  begins = λ _. refl;
+  ends = λ _. refl;
+}
 
 chunk_spaced : (first last : Bool) (v : Chunk) (span : Range ℕ) → IsUtf8 (text_of v) → ChunkSpaced first last v (trimmed first last v span)
 chunk_spaced first last (Normal text) span utf8 =
@@ -176,7 +205,10 @@ chunk_spaced first last (Normal text) span utf8 =
     record {
       lead = cut.lead;
       trail = cut.trail;
-      is = ap normal cut.is ∙ map-append Atom.normal cut.lead (says.left ++ cut.trail) ∙ ap (λ l. normal cut.lead ++ l) (map-append Atom.normal says.left cut.trail ∙ ap (λ l. l ++ normal cut.trail) (sym says.says));
+      is =
+          ap normal cut.is ∙ map-append Atom.normal cut.lead (says.left ++ cut.trail)
+          ∙ ap (λ l. normal cut.lead ++ l)
+          (map-append Atom.normal says.left cut.trail ∙ ap (λ l. l ++ normal cut.trail) (sym says.says));
       white = cut.white;
       blank = cut.blank;
       begins = cut.begins;
@@ -201,7 +233,10 @@ are_spaced first (c ∷ []) texts =
     record {
       lead = one.lead;
       trail = one.trail;
-      is = append-nil (atoms_of c.v) ∙ one.is ∙ ap (λ l. normal one.lead ++ (l ++ normal one.trail)) (sym (append-nil (atoms_of (trimmed first true c.v c.span).v)));
+      is =
+          append-nil (atoms_of c.v) ∙ one.is
+          ∙ ap (λ l. normal one.lead ++ (l ++ normal one.trail))
+          (sym (append-nil (atoms_of (trimmed first true c.v c.span).v)));
       white = one.white;
       blank = one.blank;
       begins = one.begins;
@@ -211,21 +246,34 @@ are_spaced first (c ∷ after ∷ more) texts =
     let rest = are_spaced false (after ∷ more) texts.1 in
     let here = atoms_of (trimmed first false c.v c.span).v in
     let others = styled (trimmed_from false (after ∷ more)) in
-    let first_atoms : atoms_of c.v ≡ normal one.lead ++ here = one.is ∙ ap (λ l. normal one.lead ++ (here ++ normal l)) (one.ends refl) ∙ ap (λ l. normal one.lead ++ l) (append-nil here) in
-    let rest_atoms : styled (after ∷ more) ≡ others ++ normal rest.trail = rest.is ∙ ap (λ l. normal l ++ (others ++ normal rest.trail)) (rest.begins refl) in
+    let first_atoms : atoms_of c.v ≡ normal one.lead ++ here =
+    one.is ∙ ap (λ l. normal one.lead ++ (here ++ normal l)) (one.ends refl)
+    ∙ ap (λ l. normal one.lead ++ l) (append-nil here) in
+    let rest_atoms : styled (after ∷ more) ≡ others ++ normal rest.trail =
+    rest.is ∙ ap (λ l. normal l ++ (others ++ normal rest.trail)) (rest.begins refl) in
     record {
       lead = one.lead;
       trail = rest.trail;
-      is = ap (λ l. l ++ styled (after ∷ more)) first_atoms ∙ append_assoc (normal one.lead) here _ ∙ ap (λ l. normal one.lead ++ (here ++ l)) rest_atoms ∙ ap (λ l. normal one.lead ++ l) (sym (append_assoc here others (normal rest.trail)));
+      is =
+          ap (λ l. l ++ styled (after ∷ more)) first_atoms ∙ append_assoc (normal one.lead) here _
+          ∙ ap (λ l. normal one.lead ++ (here ++ l)) rest_atoms
+          ∙ ap (λ l. normal one.lead ++ l) (sym (append_assoc here others (normal rest.trail)));
       white = one.white;
       blank = rest.blank;
       begins = one.begins;
     }
 
-pub and_list_whole : (chunks : List (Spanned Chunk)) → AreTexts chunks → (inside : List Atom) × IsSpaced inside (styled chunks) × IsList and_word (map styled (and_list chunks)) inside
+pub and_list_whole : (chunks : List (Spanned Chunk)) → AreTexts chunks
+    → (inside : List Atom) × IsSpaced inside (styled chunks) × IsList and_word (map styled (and_list chunks)) inside
 and_list_whole chunks texts =
     let spaced = are_spaced true chunks texts in (
       styled (trimmed_ends chunks),
-      record { left = normal spaced.lead; right = normal spaced.trail; is = spaced.is; white = normal_space spaced.lead spaced.white; blank = normal_space spaced.trail spaced.blank },
+      record {
+        left = normal spaced.lead;
+        right = normal spaced.trail;
+        is = spaced.is;
+        white = normal_space spaced.lead spaced.white;
+        blank = normal_space spaced.trail spaced.blank;
+      },
       list_whole letters 3 (between_ands false) (ands_whole false) (trimmed_ends chunks) (trimmed_texts true chunks texts),
     )

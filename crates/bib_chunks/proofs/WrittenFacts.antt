@@ -26,21 +26,29 @@ pub spelled_reserved : (v : Bool) (c : ℕ) → is_grouping c ≡ false → v �
 unfolding spelled
 spelled_reserved v c other normal reserved = rw (other, normal, reserved) refl
 
-pub spelled_tilde : (v : Bool) (c : ℕ) → is_grouping c ≡ false → v ≡ false → is_reserved c ≡ false → c ≡ 126 → spelled v c ≡ codes "\\textasciitilde{}"
+pub spelled_tilde : (v : Bool) (c : ℕ) → is_grouping c ≡ false → v ≡ false → is_reserved c ≡ false → c ≡ 126
+    → spelled v c ≡ codes "\\textasciitilde{}"
 unfolding spelled
 spelled_tilde v c other normal free tilde = rw (other, normal, free, eq-eqb c 126 tilde) refl
 
-pub spelled_circumflex : (v : Bool) (c : ℕ) → is_grouping c ≡ false → v ≡ false → is_reserved c ≡ false → (c ≡ 126 → ⊥) → c ≡ 94 → spelled v c ≡ codes "\\textasciicircum{}"
+pub spelled_circumflex : (v : Bool) (c : ℕ) → is_grouping c ≡ false → v ≡ false → is_reserved c ≡ false → (c ≡ 126 → ⊥)
+    → c ≡ 94 → spelled v c ≡ codes "\\textasciicircum{}"
 unfolding spelled
 spelled_circumflex v c other normal free no_tilde circumflex = rw (other, normal, free, ne_eqb c 126 no_tilde, eq-eqb c 94 circumflex) refl
 
-pub spelled_other : (v : Bool) (c : ℕ) → is_grouping c ≡ false → v ≡ false → is_reserved c ≡ false → (c ≡ 126 → ⊥) → (c ≡ 94 → ⊥) → spelled v c ≡ c ∷ []
+pub spelled_other : (v : Bool) (c : ℕ) → is_grouping c ≡ false → v ≡ false → is_reserved c ≡ false → (c ≡ 126 → ⊥)
+    → (c ≡ 94 → ⊥) → spelled v c ≡ c ∷ []
 unfolding spelled
 spelled_other v c other normal free no_tilde no_circumflex = rw (other, normal, free, ne_eqb c 126 no_tilde, ne_eqb c 94 no_circumflex) refl
 
 -- a bare character is written unchanged
-bare_cases : (v grouping reserved tilde circumflex : Bool) (c : ℕ) → cond grouping false (cond v true (not (reserved || tilde || circumflex))) ≡ true
-    → cond grouping (92 ∷ c ∷ []) (cond v (c ∷ []) (cond reserved (92 ∷ c ∷ []) (cond tilde (codes "\\textasciitilde{}") (cond circumflex (codes "\\textasciicircum{}") (c ∷ []))))) ≡ c ∷ []
+bare_cases : (v grouping reserved tilde circumflex : Bool) (c : ℕ)
+    → cond grouping false (cond v true (not (reserved || tilde || circumflex))) ≡ true
+    → cond grouping (92 ∷ c ∷ [])
+    (cond v (c ∷ [])
+    (cond reserved (92 ∷ c ∷ [])
+    (cond tilde (codes "\\textasciitilde{}") (cond circumflex (codes "\\textasciicircum{}") (c ∷ [])))))
+    ≡ c ∷ []
 bare_cases v true reserved tilde circumflex c bare = absurd (false≢true bare)
 bare_cases true false reserved tilde circumflex c bare = refl
 bare_cases false false true tilde circumflex c bare = absurd (false≢true bare)
@@ -62,7 +70,8 @@ unfolding encode
 circumflex_bytes = refl
 
 -- a run of bare characters was written, and then one character
-pub written_run_char : (out one two total : List ℕ) {u w x : Place} {c : ℕ} (v : Bool) → Run (is_bare v) u w → IsUtf8 (ahead u) → CharAt w c x
+pub written_run_char : (out one two total : List ℕ) {u w x : Place} {c : ℕ} (v : Bool) → Run (is_bare v) u w
+    → IsUtf8 (ahead u) → CharAt w c x
     → one ≡ out ++ between u w → two ≡ one ++ encode_utf8_all (spelled v c)
     → out ++ encode_utf8_all (spelling v (chars (ahead u))) ≡ total
     → (x.text ≡ u.text) × IsUtf8 (ahead x) × (two ++ encode_utf8_all (spelling v (chars (ahead x))) ≡ total)
@@ -70,9 +79,15 @@ written_run_char out one two total {u} {w} {x} {c} v run utf8 char first second 
     let (cs, passed, all) = passed_run run utf8 in
     let following : Passed w (c ∷ []) x = passed_char char passed.utf8 in
     let run_spelling : spelling v cs ≡ cs = flat_map_same (is_bare v) (spelled v) (spelled_bare v) cs all in
-    let cut : spelling v (chars (ahead u)) ≡ cs ++ spelling v (chars (ahead w)) = ap (spelling v) passed.spelt ∙ flat_map-append (spelled v) cs _ ∙ ap (λ xs. xs ++ spelling v (chars (ahead w))) run_spelling in
-    let after : one ++ encode_utf8_all (spelling v (chars (ahead w))) ≡ total = written_more out one total cs _ _ (first ∙ ap (λ bs. out ++ bs) (passed_between passed)) cut before in
-    (following.same ∙ passed.same, following.utf8, written_more one two total (spelled v c) _ _ second (ap (spelling v) following.spelt) after)
+    let cut : spelling v (chars (ahead u)) ≡ cs ++ spelling v (chars (ahead w)) =
+    ap (spelling v) passed.spelt ∙ flat_map-append (spelled v) cs _
+    ∙ ap (λ xs. xs ++ spelling v (chars (ahead w))) run_spelling in
+    let after : one ++ encode_utf8_all (spelling v (chars (ahead w))) ≡ total =
+    written_more out one total cs _ _ (first ∙ ap (λ bs. out ++ bs) (passed_between passed)) cut before in (
+      following.same ∙ passed.same,
+      following.utf8,
+      written_more one two total (spelled v c) _ _ second (ap (spelling v) following.spelt) after,
+    )
 
 -- a run of bare characters was written, and the text ends
 pub written_run_end : (out one total : List ℕ) {u w : Place} (v : Bool) → Run (is_bare v) u w → IsUtf8 (ahead u) → AtEnd w
@@ -82,13 +97,18 @@ pub written_run_end : (out one total : List ℕ) {u w : Place} (v : Bool) → Ru
 written_run_end out one total {u} {w} v run utf8 end first before =
     let (cs, passed, all) = passed_run run utf8 in
     let run_spelling : spelling v cs ≡ cs = flat_map_same (is_bare v) (spelled v) (spelled_bare v) cs all in
-    let cut : spelling v (chars (ahead u)) ≡ cs ++ spelling v (chars (ahead w)) = ap (spelling v) passed.spelt ∙ flat_map-append (spelled v) cs _ ∙ ap (λ xs. xs ++ spelling v (chars (ahead w))) run_spelling in
-    let after : one ++ encode_utf8_all (spelling v (chars (ahead w))) ≡ total = written_more out one total cs _ _ (first ∙ ap (λ bs. out ++ bs) (passed_between passed)) cut before in
+    let cut : spelling v (chars (ahead u)) ≡ cs ++ spelling v (chars (ahead w)) =
+    ap (spelling v) passed.spelt ∙ flat_map-append (spelled v) cs _
+    ∙ ap (λ xs. xs ++ spelling v (chars (ahead w))) run_spelling in
+    let after : one ++ encode_utf8_all (spelling v (chars (ahead w))) ≡ total =
+    written_more out one total cs _ _ (first ∙ ap (λ bs. out ++ bs) (passed_between passed)) cut before in
     written_all one total (spelling v (chars (ahead w))) (ap (spelling v) (chars_at_end w end)) after
 
 -- math outside verbatim fields is written as its characters
-pub written_math : (v : Bool) (chunk : Chunk) (text bytes : List ℕ) → v ≡ false → chunk ≡ Math text → bytes ≡ text → written_chunk chunk v ≡ chars bytes
-written_math v chunk text bytes normal is same = ap (λ b. written_chunk chunk b) normal ∙ ap (λ x. written_chunk x false) is ∙ ap chars (sym same)
+pub written_math : (v : Bool) (chunk : Chunk) (text bytes : List ℕ) → v ≡ false → chunk ≡ Math text → bytes ≡ text
+    → written_chunk chunk v ≡ chars bytes
+written_math v chunk text bytes normal is same =
+    ap (λ b. written_chunk chunk b) normal ∙ ap (λ x. written_chunk x false) is ∙ ap chars (sym same)
 
 -- the texts before and after a chunk are ASCII
 pub lead_bytes : (o : Bool) (chunk : Chunk) → lead o chunk ≡ encode_utf8_all (lead o chunk)
@@ -106,12 +126,14 @@ trail_bytes (Verbatim text) = refl
 trail_bytes (Math text) = refl
 
 -- one chunk of a value was written
-pub written_part : (v o following : Bool) (chunks : List (Spanned Chunk)) (i : ℕ) (x : Spanned Chunk) (out more total : List ℕ) → i < length chunks → x ≡ get_or chunks i x
+pub written_part : (v o following : Bool) (chunks : List (Spanned Chunk)) (i : ℕ) (x : Spanned Chunk)
+    (out more total : List ℕ) → i < length chunks → x ≡ get_or chunks i x
     → more ≡ out ++ encode_utf8_all (lead o x.v ++ written_chunk x.v v ++ trail x.v) → following ≡ is_open_after o x.v
     → out ++ encode_utf8_all (written_chunks v o (drop i chunks)) ≡ total
     → more ++ encode_utf8_all (written_chunks v following (drop (i + 1) chunks)) ≡ total
 written_part v o following chunks i x out more total within is written closes before =
     let split : drop i chunks ≡ x ∷ drop (i + 1) chunks = drop_more chunks i x within ∙ ap (λ y. y ∷ drop (i + 1) chunks) (sym is) in
     let part = lead o x.v ++ written_chunk x.v v ++ trail x.v in
-    let cut : written_chunks v o (drop i chunks) ≡ part ++ written_chunks v following (drop (i + 1) chunks) = ap (written_chunks v o) split ∙ ap (λ b. part ++ written_chunks v b (drop (i + 1) chunks)) (sym closes) in
+    let cut : written_chunks v o (drop i chunks) ≡ part ++ written_chunks v following (drop (i + 1) chunks) =
+    ap (written_chunks v o) split ∙ ap (λ b. part ++ written_chunks v b (drop (i + 1) chunks)) (sym closes) in
     written_more out more total part _ _ written cut before

@@ -151,12 +151,14 @@ halves (Verbatim text) span separator = None
 halves (Math text) span separator = None
 
 -- a cut with `chunks` prepended to the chunks before it
-abbrev pub cut_after : List (Spanned Chunk) → Option (List (Spanned Chunk) × List (Spanned Chunk)) → Option (List (Spanned Chunk) × List (Spanned Chunk))
+abbrev pub cut_after : List (Spanned Chunk) → Option (List (Spanned Chunk) × List (Spanned Chunk))
+    → Option (List (Spanned Chunk) × List (Spanned Chunk))
 cut_after chunks None = None
 cut_after chunks (Some cut) = Some (chunks ++ cut.0, cut.1)
 
 -- the cut of a chunk and the chunks `rest` after it, given the halves of the chunk and the cut of `rest`
-abbrev pub cut_first : Spanned Chunk → List (Spanned Chunk) → Option (Spanned Chunk × Spanned Chunk) → Option (List (Spanned Chunk) × List (Spanned Chunk)) → Option (List (Spanned Chunk) × List (Spanned Chunk))
+abbrev pub cut_first : Spanned Chunk → List (Spanned Chunk) → Option (Spanned Chunk × Spanned Chunk)
+    → Option (List (Spanned Chunk) × List (Spanned Chunk)) → Option (List (Spanned Chunk) × List (Spanned Chunk))
 cut_first c rest (Some both) later = Some (both.0 ∷ [], both.1 ∷ rest)
 cut_first c rest None later = cut_after (c ∷ []) later
 

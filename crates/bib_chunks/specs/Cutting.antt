@@ -25,7 +25,8 @@ all_parts parts following = parts.done ++ onto parts.last following
 
 -- reading these pieces takes `old` to `new`, whatever parts come after them
 abbrev pub ReadsPieces : Parts → Parts → List (Spanned Chunk) → Type 0
-ReadsPieces old new pieces = (following : List (List (Spanned Chunk))) → all_parts new following ≡ all_parts old (joined_parts pieces following)
+ReadsPieces old new pieces =
+    (following : List (List (Spanned Chunk))) → all_parts new following ≡ all_parts old (joined_parts pieces following)
 
 -- `before` and `following` are the texts before and after the first separator of a text, both UTF-8
 pub record IsFirstCut (separator : Separator) (text before following : List ℕ) : Type 0 where

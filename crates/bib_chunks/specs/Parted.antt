@@ -64,7 +64,9 @@ HoldsNoComma part = list_any is_normal_comma (styled part) ≡ false
 
 -- characters contain no word `and` with white space right before and after it
 abbrev pub HasNoAnd : List ℕ → Type 0
-HasNoAnd text = (before following : List ℕ) (s t : ℕ) → is_whitespace s ≡ true → is_whitespace t ≡ true → text ≡ before ++ (s ∷ char.letter_a ∷ char.letter_n ∷ char.letter_d ∷ t ∷ following) → ⊥
+HasNoAnd text =
+    (before following : List ℕ) (s t : ℕ) → is_whitespace s ≡ true → is_whitespace t ≡ true
+    → text ≡ before ++ (s ∷ char.letter_a ∷ char.letter_n ∷ char.letter_d ∷ t ∷ following) → ⊥
 
 -- a chunk isn't normal or contains no such word
 abbrev pub IsWithoutAnd : Chunk → Type 0

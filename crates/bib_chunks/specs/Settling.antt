@@ -39,7 +39,8 @@ MayFollow before a = IsSettledAtom true a × (runs_into before a ≡ false)
 -- atoms are settled after `before`; the flag says whether the field is a verbatim one
 abbrev pub AreSettledAfter : Bool → Before → List Atom → Type 0
 AreSettledAfter is_verbatim before [] = Unit {0}
-AreSettledAfter is_verbatim before (a ∷ rest) = IsSettledAtom is_verbatim a × (runs_into before a ≡ false) × AreSettledAfter is_verbatim (neighbour a) rest
+AreSettledAfter is_verbatim before (a ∷ rest) =
+    IsSettledAtom is_verbatim a × (runs_into before a ≡ false) × AreSettledAfter is_verbatim (neighbour a) rest
 
 -- no text that begins with these atoms is settled after `before`; the flag says whether the field is a verbatim one
 abbrev pub IsStuckIn : Bool → Before → List Atom → Type 0

@@ -26,22 +26,28 @@ module _ {V : Type 0} (C : V → V → Type 0) where
   same_order [] [] z = refl
   same_order [] (f ∷ fs) z = absurd z
   same_order (e ∷ es) [] z = absurd z
-  same_order (e ∷ es) (f ∷ fs) z = ap₂ (λ a b. a && b) (ap (λ k. below_all by_bytes k fs) z.0.0 ∙ below_copy e.0 es fs z.1) (same_order es fs z.1)
+  same_order (e ∷ es) (f ∷ fs) z =
+      ap₂ (λ a b. a && b) (ap (λ k. below_all by_bytes k fs) z.0.0 ∙ below_copy e.0 es fs z.1) (same_order es fs z.1)
 
   -- a copy of sorted pairs is sorted
   pub sorted_copy : (es fs : List (List ℕ × V)) → AllZip CopiedPair es fs → IsSorted es → IsSorted fs
   sorted_copy es fs z sorted = same_order es fs z ∙ sorted
 
   -- the map of a copy of sorted pairs is a copy of their map
-  pub map_copy : (m : ByText V) (es fs : List (List ℕ × V)) → map_of es ≡ m → IsSorted es → AllZip CopiedPair es fs → AreClones C m (map_of fs)
+  pub map_copy : (m : ByText V) (es fs : List (List ℕ × V)) → map_of es ≡ m → IsSorted es → AllZip CopiedPair es fs
+      → AreClones C m (map_of fs)
   map_copy m es fs is sorted z =
       subst (λ l. AllZip CopiedPair l (entries (map_of fs))) (sym (entries_are m es is sorted))
       (subst (λ l. AllZip CopiedPair es l) (sym (entries_are (map_of fs) fs refl (sorted_copy es fs z sorted))) z)
 
   -- a copy of a map equals the map if each copy of a value equals the value
   pub same_copy : ((v w : V) → C v w → w ≡ v) → (m n : ByText V) → AreClones C m n → n ≡ m
-  same_copy each m n z = same_entries_map n m (same_from_all_zip CopiedPair (entries m) (entries n) z (λ p q r i. (r.0 i, each p.1 q.1 r.1 i)))
+  same_copy each m n z =
+      same_entries_map n m
+      (same_from_all_zip CopiedPair (entries m) (entries n) z (λ p q r i. (r.0 i, each p.1 q.1 r.1 i)))
 
 -- comparing the sorted pairs of two maps compares the maps
-pub compared : {V : Type 0} (same : V → V → Bool) (m n : ByText V) (es fs : List (List ℕ × V)) → map_of es ≡ m → IsSorted es → map_of fs ≡ n → IsSorted fs → pointwise (same_pair same) es fs ≡ same_pairs same m n
-compared same m n es fs is sorted is' sorted' = sym (ap₂ (pointwise (same_pair same)) (entries_are m es is sorted) (entries_are n fs is' sorted'))
+pub compared : {V : Type 0} (same : V → V → Bool) (m n : ByText V) (es fs : List (List ℕ × V)) → map_of es ≡ m
+    → IsSorted es → map_of fs ≡ n → IsSorted fs → pointwise (same_pair same) es fs ≡ same_pairs same m n
+compared same m n es fs is sorted is' sorted' =
+    sym (ap₂ (pointwise (same_pair same)) (entries_are m es is sorted) (entries_are n fs is' sorted'))

@@ -13,11 +13,23 @@ pub record IsReadyTo (missing ready : List ℕ) (index : ℕ) : Type 0 where
   pub before : (p : ℕ) → p < index → times p ready ≡ cond (eqb (missing_at missing p) 0) 1 0
   pub after : (p : ℕ) → index ≤ p → times p ready ≡ 0
 
-pub ready_step : (missing ready ready' : List ℕ) (index : ℕ) → ((missing_at missing index ≡ 0) × (ready' ≡ ready ++ index ∷ [])) ⊎ ((1 ≤ missing_at missing index) × (ready' ≡ ready)) → IsReadyTo missing ready index → IsReadyTo missing ready' (index + 1)
+pub ready_step : (missing ready ready' : List ℕ) (index : ℕ)
+    → ((missing_at missing index ≡ 0) × (ready' ≡ ready ++ index ∷ []))
+    ⊎ ((1 ≤ missing_at missing index) × (ready' ≡ ready)) → IsReadyTo missing ready index
+    → IsReadyTo missing ready' (index + 1)
 ready_step missing ready ready' index (inl (z, e)) h = record {
   before = λ p below. elim (eqb_tells index p) [
-    | inl t ↦ rw (← t.1) (omega (arith, ap (times index) e, count_push index index ready, h.after index (omega arith), as_one _ true (eq-eqb index index refl), zero_yes (missing_at missing index) z))
-    | inr t ↦ let lt : p < index = omega (arith, t.1) in omega (arith, ap (times p) e, count_push p index ready, h.before p lt, as_one _ false t.0)
+    | inl t ↦ rw (← t.1)
+        (omega (
+          arith,
+          ap (times index) e,
+          count_push index index ready,
+          h.after index (omega arith),
+          as_one _ true (eq-eqb index index refl),
+          zero_yes (missing_at missing index) z,
+        ))
+    | inr t ↦ let lt : p < index =
+        omega (arith, t.1) in omega (arith, ap (times p) e, count_push p index ready, h.before p lt, as_one _ false t.0)
   ];
   after = λ p above. elim (eqb_tells index p) [
     | inl t ↦ absurd (omega (arith, t.1))
@@ -32,7 +44,8 @@ ready_step missing ready ready' index (inr (z, e)) h = record {
   after = λ p above. omega (arith, ap (times p) e, h.after p (omega arith));
 }
 
-pub ready_end : (missing ready : List ℕ) → IsReadyTo missing ready (length missing) → (p : ℕ) → times p ready ≡ cond (eqb (missing_at missing p) 0) 1 0
+pub ready_end : (missing ready : List ℕ) → IsReadyTo missing ready (length missing) → (p : ℕ)
+    → times p ready ≡ cond (eqb (missing_at missing p) 0) 1 0
 ready_end missing ready h p = elim (cases_lt p (length missing)) [
   | inl t ↦ h.before p t
   | inr t ↦ let past = get_or_past missing p 1 t in omega (arith, h.after p t, zero_no (missing_at missing p) (omega (arith, past)))
@@ -52,7 +65,8 @@ pub record IsFilled (graph waiting : List (List ℕ)) (entry i : ℕ) : Type 0 w
   pub after : (index e : ℕ) → entry < e → times e (refs_of waiting index) ≡ 0
 
 module _ (graph : List (List ℕ)) where
-  pub filled_none : (waiting : List (List ℕ)) → length waiting ≡ length graph → ((index : ℕ) → refs_of waiting index ≡ []) → IsFilled graph waiting 0 0
+  pub filled_none : (waiting : List (List ℕ)) → length waiting ≡ length graph
+      → ((index : ℕ) → refs_of waiting index ≡ []) → IsFilled graph waiting 0 0
   filled_none waiting len none = record {
     same_length = len;
     before = λ index e below. absurd (omega arith);
@@ -60,7 +74,8 @@ module _ (graph : List (List ℕ)) where
     after = λ index e above. ap (times e) (none index);
   }
 
-  pub filled_next : (waiting : List (List ℕ)) (entry i : ℕ) → length (refs_of graph entry) ≤ i → IsFilled graph waiting entry i → IsFilled graph waiting (entry + 1) 0
+  pub filled_next : (waiting : List (List ℕ)) (entry i : ℕ) → length (refs_of graph entry) ≤ i
+      → IsFilled graph waiting entry i → IsFilled graph waiting (entry + 1) 0
   filled_next waiting entry i all h = record {
     same_length = h.same_length;
     before = λ index e below. elim (eqb_tells entry e) [
@@ -85,12 +100,18 @@ module _ (graph : List (List ℕ)) where
     ],
   )
 
-  pub filled_more : (waiting : List (List ℕ)) (entry i r : ℕ) → i < length (refs_of graph entry) → r ≡ get_or (refs_of graph entry) i 0 → r < length waiting → IsFilled graph waiting entry i → IsFilled graph (set waiting r (refs_of waiting r ++ entry ∷ [])) entry (i + 1)
+  pub filled_more : (waiting : List (List ℕ)) (entry i r : ℕ) → i < length (refs_of graph entry)
+      → r ≡ get_or (refs_of graph entry) i 0 → r < length waiting → IsFilled graph waiting entry i
+      → IsFilled graph (set waiting r (refs_of waiting r ++ entry ∷ [])) entry (i + 1)
   filled_more waiting entry i r within at below h =
       let new : List (List ℕ) = set waiting r (refs_of waiting r ++ entry ∷ []) in
-      let adds : (index e : ℕ) → times e (refs_of new index) ≡ times e (refs_of waiting index) + cond (eqb r index) (cond (eqb entry e) 1 0) 0
+      let adds : (index e : ℕ)
+      → times e (refs_of new index)
+      ≡ times e (refs_of waiting index) + cond (eqb r index) (cond (eqb entry e) 1 0) 0
       = λ index e. elim (eqb_tells r index) [
-        | inl t ↦ rw (← t.1) (rw (get_or-set_same waiting r (refs_of waiting r ++ entry ∷ []) [] below, eq-eqb r r refl) (count_push e entry (refs_of waiting r)))
+        | inl t ↦ rw (← t.1)
+            (rw (get_or-set_same waiting r (refs_of waiting r ++ entry ∷ []) [] below, eq-eqb r r refl)
+            (count_push e entry (refs_of waiting r)))
         | inr t ↦ rw (get_or-set_other waiting r index (refs_of waiting r ++ entry ∷ []) [] (λ u. t.1 (sym u)), t.0) (omega arith)
       ] in
       let no : (index e : ℕ) → (entry ≢ e) → cond {A = ℕ} (eqb r index) (cond (eqb entry e) 1 0) 0 ≡ 0

@@ -12,15 +12,18 @@ module _ {V : Type 0} (name : List ℕ) (pairs : List (List ℕ × V)) (i : ℕ)
       → map.find by_bytes name (drop i pairs) ≡ cond b (Some p.1) (map.find by_bytes name (drop (i + 1) pairs))
   at_pair p h here b is =
       at_drop_more (λ l. map.find by_bytes name l) pairs i p h
-      ∙ ap (λ b. cond b (Some (get_or pairs i p).1) (map.find by_bytes name (drop (i + 1) pairs))) (is_eq-slice_cmp name (get_or pairs i p).0 ∙ ap (λ q. bytes_eq name q.0) (sym here) ∙ is)
+      ∙ ap (λ b. cond b (Some (get_or pairs i p).1) (map.find by_bytes name (drop (i + 1) pairs)))
+      (is_eq-slice_cmp name (get_or pairs i p).0 ∙ ap (λ q. bytes_eq name q.0) (sym here) ∙ is)
       ∙ ap (λ q. cond b (Some q.1) (map.find by_bytes name (drop (i + 1) pairs))) (sym here)
 
   -- a search from a pair with the name finds its value
-  pub found : (p : List ℕ × V) → i < length pairs → p ≡ get_or pairs i p → bytes_eq name p.0 ≡ true → map.find by_bytes name (drop i pairs) ≡ Some p.1
+  pub found : (p : List ℕ × V) → i < length pairs → p ≡ get_or pairs i p → bytes_eq name p.0 ≡ true
+      → map.find by_bytes name (drop i pairs) ≡ Some p.1
   found p h here is = at_pair p h here true is
 
   -- a search from a pair with another name continues at the next pair
-  pub passed : (p : List ℕ × V) → i < length pairs → p ≡ get_or pairs i p → bytes_eq name p.0 ≡ false → map.find by_bytes name (drop i pairs) ≡ map.find by_bytes name (drop (i + 1) pairs)
+  pub passed : (p : List ℕ × V) → i < length pairs → p ≡ get_or pairs i p → bytes_eq name p.0 ≡ false
+      → map.find by_bytes name (drop i pairs) ≡ map.find by_bytes name (drop (i + 1) pairs)
   passed p h here is = at_pair p h here false is
 
   -- a search after the last pair finds nothing

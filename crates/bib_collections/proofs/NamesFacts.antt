@@ -13,17 +13,22 @@ use Rattle.bib_collections.specs.Names.{claimed, claims_for, moved, moved_pair, 
 use Rattle.bib_collections.proofs.SortedFacts.{first, second, both, less, tied, holds, is_true, entries_are}
 
 -- claiming names and one more name is claiming the names and then inserting the last one
-pub claimed_next : (names : ByText ℕ) (index : ℕ) (done : List (List ℕ)) (name : List ℕ) → claimed names (claims_for (done ++ name ∷ []) index) ≡ map.insert (claimed names (claims_for done index)) name index
+pub claimed_next : (names : ByText ℕ) (index : ℕ) (done : List (List ℕ)) (name : List ℕ)
+    → claimed names (claims_for (done ++ name ∷ []) index)
+    ≡ map.insert (claimed names (claims_for done index)) name index
 claimed_next names index [] name = refl
 claimed_next names index (d ∷ done) name = claimed_next (map.insert names d index) index done name
 
 -- keeping or dropping an element by a flag is the same as by an option with or without it
-kept_or_dropped : {X : Type 0} (b : Bool) (o : Option X) (y : X) (zs : List X) → MatchBool b (o ≡ Some y) (o ≡ None) → cond b (y ∷ zs) zs ≡ cons_option o zs
+kept_or_dropped : {X : Type 0} (b : Bool) (o : Option X) (y : X) (zs : List X) → MatchBool b (o ≡ Some y) (o ≡ None)
+    → cond b (y ∷ zs) zs ≡ cons_option o zs
 kept_or_dropped true o y zs is = ap (λ p. cons_option p zs) (sym is)
 kept_or_dropped false o y zs is = ap (λ p. cons_option p zs) (sym is)
 
 -- a closure that keeps or drops each element by the function `h` leaves the elements of `filter_map`
-pub retained : {S X : Type 0} (R : S → X → Bool → S → X → Type 0) (h : X → Option X) (s : S) → ((x : X) (b : Bool) (t : S) (y : X) → R s x b t y → MatchBool b (h x ≡ Some y) (h x ≡ None) × (t ≡ s)) → (xs ys : List X) → RetainsInTurn R s xs ys → ys ≡ filter_map h xs
+pub retained : {S X : Type 0} (R : S → X → Bool → S → X → Type 0) (h : X → Option X) (s : S)
+    → ((x : X) (b : Bool) (t : S) (y : X) → R s x b t y → MatchBool b (h x ≡ Some y) (h x ≡ None) × (t ≡ s))
+    → (xs ys : List X) → RetainsInTurn R s xs ys → ys ≡ filter_map h xs
 retained R h s step [] ys is = is
 retained R h s step (x ∷ xs) ys is =
     let one = step x is.0 is.1 is.2 is.3 in
@@ -40,13 +45,15 @@ module _ {K X Y : Type 0} (R : K → K → Ordering) (f : X → Option Y) where
   below-revalued x [] h = tt
   below-revalued x (e ∷ es) h =
       let rest = below-revalued x es (second _ _ h) in
-      elim (f e.1) as (λ o. T (below_all R x (cons_option (option_map (λ v. (e.0, v)) o) (filter_map (revalue f) es)))) [ None ↦ rest | Some v ↦ both _ _ (first _ _ h) rest ]
+      elim (f e.1) as (λ o. T (below_all R x (cons_option (option_map (λ v. (e.0, v)) o) (filter_map (revalue f) es))))
+      [ None ↦ rest | Some v ↦ both _ _ (first _ _ h) rest ]
 
   pub sorted-revalued : (es : List (K × X)) → T (is_sorted R es) → T (is_sorted R (filter_map (revalue f) es))
   sorted-revalued [] h = tt
   sorted-revalued (e ∷ es) h =
       let rest = sorted-revalued es (second _ _ h) in
-      elim (f e.1) as (λ o. T (is_sorted R (cons_option (option_map (λ v. (e.0, v)) o) (filter_map (revalue f) es)))) [ None ↦ rest | Some v ↦ both _ _ (below-revalued e.0 es (first _ _ h)) rest ]
+      elim (f e.1) as (λ o. T (is_sorted R (cons_option (option_map (λ v. (e.0, v)) o) (filter_map (revalue f) es))))
+      [ None ↦ rest | Some v ↦ both _ _ (below-revalued e.0 es (first _ _ h)) rest ]
 
   module _ (o : IsTotalOrder R) where
     absent : (q x : K) (es : List (K × Y)) → R q x ≡ Equal → T (below_all R x es) → find R q es ≡ None
@@ -54,19 +61,29 @@ module _ {K X Y : Type 0} (R : K → K → Ordering) (f : X → Option Y) where
     absent q x (e ∷ es) same h =
         ap (λ r. cond (is_eq r) (Some e.1) (find R q es)) (o.congr q x e.0 same ∙ less _ (first _ _ h)) ∙ absent q x es same (second _ _ h)
 
-    pub find-revalued : (q : K) (es : List (K × X)) → T (is_sorted R es) → find R q (filter_map (revalue f) es) ≡ option_and_then f (find R q es)
+    pub find-revalued : (q : K) (es : List (K × X)) → T (is_sorted R es)
+        → find R q (filter_map (revalue f) es) ≡ option_and_then f (find R q es)
     find-revalued q [] h = refl
     find-revalued q (e ∷ es) h =
         let rest = find-revalued q es (second _ _ h) in
-        elim (eq_by_cmp R q e.0) as (λ b. eq_by_cmp R q e.0 ≡ b → find R q (cons_option (revalue f e) (filter_map (revalue f) es)) ≡ option_and_then f (cond b (Some e.1) (find R q es))) [
+        elim (eq_by_cmp R q e.0) as
+        (λ b.
+        eq_by_cmp R q e.0 ≡ b
+        → find R q (cons_option (revalue f e) (filter_map (revalue f) es))
+        ≡ option_and_then f (cond b (Some e.1) (find R q es))) [
           | true ↦ λ same. elim (f e.1) as (λ v. find R q (cons_option (option_map (λ v. (e.0, v)) v) (filter_map (revalue f) es)) ≡ v) [
             | None ↦ absent q e.0 (filter_map (revalue f) es) (tied _ (subst T (sym same) tt)) (below-revalued e.0 es (first _ _ h))
             | Some v ↦ ap (λ b. cond b (Some v) (find R q (filter_map (revalue f) es))) same
           ]
-          | false ↦ λ other. elim (f e.1) as (λ v. find R q (cons_option (option_map (λ v. (e.0, v)) v) (filter_map (revalue f) es)) ≡ option_and_then f (find R q es)) [
-            | None ↦ rest
-            | Some v ↦ ap (λ b. cond b (Some v) (find R q (filter_map (revalue f) es))) other ∙ rest
-          ]
+          | false ↦
+              λ other.
+              elim (f e.1) as
+              (λ v.
+              find R q (cons_option (option_map (λ v. (e.0, v)) v) (filter_map (revalue f) es))
+              ≡ option_and_then f (find R q es)) [
+                | None ↦ rest
+                | Some v ↦ ap (λ b. cond b (Some v) (find R q (filter_map (revalue f) es))) other ∙ rest
+              ]
         ] refl
 
 -- sorted pairs after the removal of an index are sorted
@@ -74,11 +91,13 @@ pub moved_sorted : (taken : ℕ) (es : List (List ℕ × ℕ)) → IsSorted es �
 moved_sorted taken es sorted = is_true _ (sorted-revalued by_bytes (moved taken) es (holds _ sorted))
 
 -- the map of sorted pairs after the removal of an index is their map without that index
-pub moved_names : (taken : ℕ) (m : ByText ℕ) (es : List (List ℕ × ℕ)) → map_of es ≡ m → IsSorted es → map_of (filter_map (moved_pair taken) es) ≡ without_index m taken
+pub moved_names : (taken : ℕ) (m : ByText ℕ) (es : List (List ℕ × ℕ)) → map_of es ≡ m → IsSorted es
+    → map_of (filter_map (moved_pair taken) es) ≡ without_index m taken
 moved_names taken m es is sorted = ap (λ l. map_of (filter_map (moved_pair taken) l)) (sym (entries_are m es is sorted))
 
 -- the index of a name after an index is removed
-pub get-without_index : (taken : ℕ) (m : ByText ℕ) (q : List ℕ) → map.get (without_index m taken) q ≡ option_and_then (moved taken) (map.get m q)
+pub get-without_index : (taken : ℕ) (m : ByText ℕ) (q : List ℕ)
+    → map.get (without_index m taken) q ≡ option_and_then (moved taken) (map.get m q)
 get-without_index taken m q =
     get-from_sorted by_bytes _ q (sorted-revalued by_bytes (moved taken) (map.entries m) (entries_sorted m))
     ∙ find-revalued by_bytes (moved taken) nat_list_cmp_total q (map.entries m) (entries_sorted m)

@@ -29,22 +29,30 @@ at_index order i b within (j, below, e) =
     (j, lt, get_or_default order j 0 b (omega arith) ∙ sym (get_or-take i order j b lt) ∙ e)
 
 -- an index comes after each index that it leads to
-following : (graph : List (List ℕ)) (order : List ℕ) (a b : ℕ) → AreInOrder graph order → Leads graph a b → (i : ℕ) → i < length order → get_or order i 0 ≡ a → (j : ℕ) × (j < i) × (get_or order j 0 ≡ b)
+following : (graph : List (List ℕ)) (order : List ℕ) (a b : ℕ) → AreInOrder graph order → Leads graph a b → (i : ℕ)
+    → i < length order → get_or order i 0 ≡ a → (j : ℕ) × (j < i) × (get_or order j 0 ≡ b)
 following graph order a b h (one e) i within at =
-    at_index order i b within (All-contains (Contains (take i order)) (refs_of graph a) b (subst (λ x. All (Contains (take i order)) (refs_of graph x)) at (h i within)) e)
+    at_index order i b within
+    (All-contains (Contains (take i order)) (refs_of graph a) b
+    (subst (λ x. All (Contains (take i order)) (refs_of graph x)) at (h i within)) e)
 following graph order a c h (more {b = b} e r) i within at =
-    let j = at_index order i b within (All-contains (Contains (take i order)) (refs_of graph a) b (subst (λ x. All (Contains (take i order)) (refs_of graph x)) at (h i within)) e) in
+    let j =
+    at_index order i b within
+    (All-contains (Contains (take i order)) (refs_of graph a) b
+    (subst (λ x. All (Contains (take i order)) (refs_of graph x)) at (h i within)) e) in
     let k = following graph order b c h r j.0 (omega arith) j.2 in
     (k.0, omega arith, k.2)
 
 -- the index at `i` of an order doesn't lead to itself; the proof is by recursion on the bound `n`
-no_return_at : (graph : List (List ℕ)) (order : List ℕ) (a : ℕ) → AreInOrder graph order → Leads graph a a → (n i : ℕ) → i < n → i < length order → get_or order i 0 ≡ a → ⊥
+no_return_at : (graph : List (List ℕ)) (order : List ℕ) (a : ℕ) → AreInOrder graph order → Leads graph a a → (n i : ℕ)
+    → i < n → i < length order → get_or order i 0 ≡ a → ⊥
 no_return_at graph order a h r zero i below within at = absurd (omega arith)
 no_return_at graph order a h r (suc n) i below within at =
     let j = following graph order a a h r i within at in no_return_at graph order a h r n j.0 (omega arith) (omega arith) j.2
 
 -- an index that occurs once in such an order doesn't lead to itself
-pub no_return : (graph : List (List ℕ)) (order : List ℕ) (a : ℕ) → AreInOrder graph order → count_by (λ t. eqb t a) order ≡ 1 → Leads graph a a → ⊥
+pub no_return : (graph : List (List ℕ)) (order : List ℕ) (a : ℕ) → AreInOrder graph order
+    → count_by (λ t. eqb t a) order ≡ 1 → Leads graph a a → ⊥
 no_return graph order a h counted r =
     let there = contains_from_count a order (omega arith) in
     no_return_at graph order a h r (suc there.0) there.0 (omega arith) there.1 (get_or_default order there.0 0 a there.1 ∙ there.2)

@@ -28,7 +28,8 @@ no_root n index = elim (cases_lt index n) [
 -- each reference of `inside` is a reversed reference of `graph` between indices with the same root
 pub record IsTurnedInside (graph : List (List ℕ)) (roots : List (Option ℕ)) (inside : List (List ℕ)) : Type 0 where
   pub same_length : length inside ≡ length graph
-  pub turned : (index entry : ℕ) → Contains (refs_of inside index) entry → Contains (refs_of graph entry) index × (root_at roots index ≡ root_at roots entry)
+  pub turned : (index entry : ℕ) → Contains (refs_of inside index) entry
+      → Contains (refs_of graph entry) index × (root_at roots index ≡ root_at roots entry)
 
 -- `Leads` is transitive
 joined : {graph : List (List ℕ)} {a b c : ℕ} → Leads graph a b → Leads graph b c → Leads graph a c
@@ -44,16 +45,23 @@ module _ (graph : List (List ℕ)) where
     clash e = cc
 
   -- setting the root of the indices that it leads to keeps the property of roots
-  pub roots_set : (root : ℕ) (reached : List ℕ) (old new : List (Option ℕ)) → AreReached graph root reached → ((index : ℕ) → (root_at new index ≡ root_at old index) ⊎ ((root_at new index ≡ Some root) × Contains reached index)) → AreRoots graph old → AreRoots graph new
+  pub roots_set : (root : ℕ) (reached : List ℕ) (old new : List (Option ℕ)) → AreReached graph root reached
+      →
+      ((index : ℕ)
+      → (root_at new index ≡ root_at old index) ⊎ ((root_at new index ≡ Some root) × Contains reached index))
+      → AreRoots graph old → AreRoots graph new
   roots_set root reached old new found sets h index other is = ⊎_elim
       (λ same. h index other (sym same ∙ is))
-      (λ t. subst (λ r. Leads graph r index) (some_same (sym t.0 ∙ is)) (All-contains (λ r. (r < length graph) × Leads graph root r) reached index found t.1).1)
+      (λ t.
+      subst (λ r. Leads graph r index) (some_same (sym t.0 ∙ is))
+      (All-contains (λ r. (r < length graph) × Leads graph root r) reached index found t.1).1)
       (sets index)
 
   -- ---- reversed references
 
   -- empty rows have no reversed references
-  pub inside_none : (roots : List (Option ℕ)) (inside : List (List ℕ)) → length inside ≡ length graph → ((index : ℕ) → refs_of inside index ≡ []) → IsTurnedInside graph roots inside
+  pub inside_none : (roots : List (Option ℕ)) (inside : List (List ℕ)) → length inside ≡ length graph
+      → ((index : ℕ) → refs_of inside index ≡ []) → IsTurnedInside graph roots inside
   inside_none roots inside len none = record {
     same_length = len;
     turned = λ index entry c. absurd (nothing (subst (λ l. Contains l entry) (none index) c));
@@ -62,14 +70,22 @@ module _ (graph : List (List ℕ)) where
     nothing c = omega (arith, c.1)
 
   -- one more reversed reference between indices with the same root
-  pub inside_more : (roots : List (Option ℕ)) (inside : List (List ℕ)) (r entry : ℕ) → r < length inside → Contains (refs_of graph entry) r → root_at roots r ≡ root_at roots entry → IsTurnedInside graph roots inside → IsTurnedInside graph roots (set inside r (refs_of inside r ++ entry ∷ []))
+  pub inside_more : (roots : List (Option ℕ)) (inside : List (List ℕ)) (r entry : ℕ) → r < length inside
+      → Contains (refs_of graph entry) r → root_at roots r ≡ root_at roots entry → IsTurnedInside graph roots inside
+      → IsTurnedInside graph roots (set inside r (refs_of inside r ++ entry ∷ []))
   inside_more roots inside r entry within edge same h = record {
     same_length = length-set inside r (refs_of inside r ++ entry ∷ []) ∙ h.same_length;
     turned = λ index e c. elim (eqb_tells index r) [
       | inl t ↦ ⊎_elim
           (λ was. h.turned index e (subst (λ x. Contains (refs_of inside x) e) (sym t.1) was))
-          (λ new. subst (λ x. Contains (refs_of graph x) index × (root_at roots index ≡ root_at roots x)) new (subst (λ x. Contains (refs_of graph entry) x × (root_at roots x ≡ root_at roots entry)) (sym t.1) (edge, same)))
-          (Contains-push_cases (refs_of inside r) entry e (subst (λ l. Contains l e) (ap (refs_of (set inside r (refs_of inside r ++ entry ∷ []))) t.1 ∙ get_or-set_same inside r (refs_of inside r ++ entry ∷ []) [] within) c))
+          (λ new.
+          subst (λ x. Contains (refs_of graph x) index × (root_at roots index ≡ root_at roots x)) new
+          (subst (λ x. Contains (refs_of graph entry) x × (root_at roots x ≡ root_at roots entry)) (sym t.1)
+          (edge, same)))
+          (Contains-push_cases (refs_of inside r) entry e
+          (subst (λ l. Contains l e)
+          (ap (refs_of (set inside r (refs_of inside r ++ entry ∷ []))) t.1
+          ∙ get_or-set_same inside r (refs_of inside r ++ entry ∷ []) [] within) c))
       | inr t ↦ h.turned index e (subst (λ l. Contains l e) (get_or-set_other inside r index (refs_of inside r ++ entry ∷ []) [] t.1) c)
     ];
   }
@@ -88,7 +104,8 @@ module _ (graph : List (List ℕ)) where
     in_range = All-from_get_or (λ row. All (λ r. r < length inside) row) inside []
         (λ i below. All-from_get_or (λ r. r < length inside) (refs_of inside i) 0
         (λ k within. subst (λ n. get_or (refs_of inside i) k 0 < n) (sym h.same_length)
-        (entry_below i (get_or (refs_of inside i) k 0) (h.turned i (get_or (refs_of inside i) k 0) (Contains-get_or (refs_of inside i) k 0 within)).0)));
+        (entry_below i (get_or (refs_of inside i) k 0)
+        (h.turned i (get_or (refs_of inside i) k 0) (Contains-get_or (refs_of inside i) k 0 within)).0)));
     turned = h.turned;
   }
 
@@ -102,7 +119,8 @@ module _ (graph : List (List ℕ)) where
         (further rest.0 t.0, t.1 ∙ rest.1)
 
     -- if a search in `inside` from a root with itself as root marks an index, this index leads to itself
-    pub returning_more : (root : ℕ) (old new : List Bool) → AreRoots graph roots → root_at roots root ≡ Some root → IsSpread inside root old new → AllLeadToThemselves graph old → AllLeadToThemselves graph new
+    pub returning_more : (root : ℕ) (old new : List Bool) → AreRoots graph roots → root_at roots root ≡ Some root
+        → IsSpread inside root old new → AllLeadToThemselves graph old → AllLeadToThemselves graph new
     returning_more root old new are is spread before index marked = ⊎_elim
         (λ was. before index was)
         (λ leads. let t = turned_leads root index leads in joined t.0 (are index root (sym t.1 ∙ is)))
@@ -119,7 +137,8 @@ module _ (graph : List (List ℕ)) where
     pub sound : AllLeadToThemselves graph marks
     pub whole : (earlier : ℕ) → earlier < index → Leads graph earlier earlier → is_marked marks earlier ≡ true
 
-  pub marked_on : (index : ℕ) (marks : List Bool) → (Leads graph index index → is_marked marks index ≡ true) → AreMarkedTo index marks → AreMarkedTo (index + 1) marks
+  pub marked_on : (index : ℕ) (marks : List Bool) → (Leads graph index index → is_marked marks index ≡ true)
+      → AreMarkedTo index marks → AreMarkedTo (index + 1) marks
   marked_on index marks here h = record {
     same_length = h.same_length;
     sound = h.sound;
@@ -130,7 +149,9 @@ module _ (graph : List (List ℕ)) where
   }
 
   -- the mark of `index` is set to the result of a search from it
-  pub marked_more : (index : ℕ) (found : Bool) (marks : List Bool) → index < length graph → (found ≡ true) ↔ Leads graph index index → AreMarkedTo index marks → AreMarkedTo (index + 1) (set marks index found)
+  pub marked_more : (index : ℕ) (found : Bool) (marks : List Bool) → index < length graph
+      → (found ≡ true) ↔ Leads graph index index → AreMarkedTo index marks
+      → AreMarkedTo (index + 1) (set marks index found)
   marked_more index found marks within exact h =
       let inside : index < length marks = omega (arith, within, h.same_length) in
       record {
@@ -146,7 +167,9 @@ module _ (graph : List (List ℕ)) where
       }
 
   -- an index that isn't a suspect or already has a mark needs no search
-  pub marked_left : (index : ℕ) (suspects marks : List Bool) → index < length graph → AreSuspects graph suspects → (is_marked suspects index ≡ false) ⊎ (is_marked marks index ≡ true) → AreMarkedTo index marks → AreMarkedTo (index + 1) marks
+  pub marked_left : (index : ℕ) (suspects marks : List Bool) → index < length graph → AreSuspects graph suspects
+      → (is_marked suspects index ≡ false) ⊎ (is_marked marks index ≡ true) → AreMarkedTo index marks
+      → AreMarkedTo (index + 1) marks
   marked_left index suspects marks within none (inl clear) h = marked_on index marks (λ leads. absurd (none index within clear leads)) h
   marked_left index suspects marks within none (inr marked) h = marked_on index marks (λ leads. marked) h
 

@@ -16,19 +16,23 @@ abbrev pub unmarked : List Bool → ℕ
 unmarked marks = count_by not marks
 
 -- marking an index without a mark lowers their number by 1
-pub unmarked_less : (marks : List Bool) (r : ℕ) → r < length marks → is_marked marks r ≡ false → unmarked (set marks r true) + 1 ≡ unmarked marks
+pub unmarked_less : (marks : List Bool) (r : ℕ) → r < length marks → is_marked marks r ≡ false
+    → unmarked (set marks r true) + 1 ≡ unmarked marks
 unmarked_less marks r within h =
     let e = sum_by-set (λ b. cond (not b) 1 0) marks r true false within in omega (arith, e, ap (λ (b : Bool). cond {A = ℕ} (not b) 1 0) h)
 
 -- after setting the mark of an index, this index has it, and any other index has its old one
-pub set_decides : {b : Bool} (marks : List Bool) (index p : ℕ) → index < length marks → ((p ≡ index) × (is_marked (set marks index b) p ≡ b)) ⊎ ((p ≢ index) × (is_marked (set marks index b) p ≡ is_marked marks p))
+pub set_decides : {b : Bool} (marks : List Bool) (index p : ℕ) → index < length marks
+    → ((p ≡ index) × (is_marked (set marks index b) p ≡ b))
+    ⊎ ((p ≢ index) × (is_marked (set marks index b) p ≡ is_marked marks p))
 set_decides {b} marks index p within =
     elim (eqb_tells p index) [
       | inl t ↦ inl (t.1, rw t.1 (get_or-set_same marks index b false within))
       | inr t ↦ inr (t.1, get_or-set_other marks index p b false t.1)
     ]
 
-pub mark_kept : (marks : List Bool) (index r : ℕ) → index < length marks → is_marked marks r ≡ true → is_marked (set marks index true) r ≡ true
+pub mark_kept : (marks : List Bool) (index r : ℕ) → index < length marks → is_marked marks r ≡ true
+    → is_marked (set marks index true) r ≡ true
 mark_kept marks index r within h = elim (set_decides {b = true} marks index r within) [ inl t ↦ t.1 | inr t ↦ t.1 ∙ h ]
 
 pub none_marked : (n p : ℕ) → is_marked (replicate n false) p ≡ false
@@ -56,7 +60,8 @@ module _ (graph : List (List ℕ)) (start : ℕ) (old : List Bool) where
     pub same_length : length marks ≡ length graph
     pub kept : (index : ℕ) → is_marked old index ≡ true → is_marked marks index ≡ true
     pub only : (index : ℕ) → is_marked marks index ≡ true → (is_marked old index ≡ true) ⊎ Leads graph start index
-    pub closed : (index : ℕ) → IsFound marks start index → Contains waiting index ⊎ All (λ r. is_marked marks r ≡ true) (refs_of graph index)
+    pub closed : (index : ℕ) → IsFound marks start index
+        → Contains waiting index ⊎ All (λ r. is_marked marks r ≡ true) (refs_of graph index)
 
   -- `index` is `start`, or it is marked and `start` leads to it
   abbrev pub IsAhead : List Bool → ℕ → Type 0
@@ -91,12 +96,21 @@ module _ (graph : List (List ℕ)) (start : ℕ) (old : List Bool) where
   }
 
   -- a reference of the current index can be marked and added to the waiting indices
-  search_more : (marks : List Bool) (pending : List ℕ) (index r : ℕ) → r < length graph → Contains (refs_of graph index) r → IsAhead marks index → IsSearch marks (index ∷ pending) → IsSearch (set marks r true) (index ∷ (pending ++ r ∷ []))
+  search_more : (marks : List Bool) (pending : List ℕ) (index r : ℕ) → r < length graph
+      → Contains (refs_of graph index) r → IsAhead marks index → IsSearch marks (index ∷ pending)
+      → IsSearch (set marks r true) (index ∷ (pending ++ r ∷ []))
   search_more marks pending index r within edge ahead h =
       let r_in : r < length marks = omega (arith, h.same_length) in
       let kept : (x : ℕ) → is_marked marks x ≡ true → is_marked (set marks r true) x ≡ true = λ x d. mark_kept marks r x r_in d in
-      let still : (p : ℕ) → Contains (index ∷ pending) p ⊎ All (λ x. is_marked marks x ≡ true) (refs_of graph p) → Contains (index ∷ (pending ++ r ∷ [])) p ⊎ All (λ x. is_marked (set marks r true) x ≡ true) (refs_of graph p)
-      = λ p. ⊎_elim (λ w. inl (Contains-append_left (index ∷ pending) (r ∷ []) p w)) (λ all. inr (All-weaker (λ x. is_marked marks x ≡ true) (λ x. is_marked (set marks r true) x ≡ true) kept (refs_of graph p) all)) in
+      let still : (p : ℕ) → Contains (index ∷ pending) p ⊎ All (λ x. is_marked marks x ≡ true) (refs_of graph p)
+      → Contains (index ∷ (pending ++ r ∷ [])) p
+      ⊎ All (λ x. is_marked (set marks r true) x ≡ true) (refs_of graph p)
+      = λ p.
+      ⊎_elim (λ w. inl (Contains-append_left (index ∷ pending) (r ∷ []) p w))
+      (λ all.
+      inr
+      (All-weaker (λ x. is_marked marks x ≡ true) (λ x. is_marked (set marks r true) x ≡ true) kept
+      (refs_of graph p) all)) in
       record {
         same_length = length-set marks r true ∙ h.same_length;
         kept = λ p d. kept p (h.kept p d);
@@ -105,49 +119,75 @@ module _ (graph : List (List ℕ)) (start : ℕ) (old : List Bool) where
           | inr t ↦ h.only p (sym t.1 ∙ d)
         ];
         closed = λ p f. elim (set_decides {b = true} marks r p r_in) [
-          | inl t ↦ inl (subst (Contains (index ∷ (pending ++ r ∷ []))) (sym t.0) (contains_more index r (pending ++ r ∷ []) (Contains-push pending r)))
+          | inl t ↦ inl
+              (subst (Contains (index ∷ (pending ++ r ∷ []))) (sym t.0)
+              (contains_more index r (pending ++ r ∷ []) (Contains-push pending r)))
           | inr t ↦ still p (h.closed p (⊎_elim (λ e. inl e) (λ d. inr (sym t.1 ∙ d)) f))
         ];
       }
 
   -- the reference at `i` has no mark: it is marked and waits
-  pub looking_more : (index : ℕ) (refs : List ℕ) (i bound : ℕ) (marks marks' : List Bool) (pending pending' : List ℕ) → get_or refs i 0 < length graph → Contains (refs_of graph index) (get_or refs i 0) → is_marked marks (get_or refs i 0) ≡ false → marks' ≡ set marks (get_or refs i 0) true → pending' ≡ pending ++ get_or refs i 0 ∷ [] → IsLooking index refs i bound marks pending → IsLooking index refs (i + 1) bound marks' pending'
+  pub looking_more : (index : ℕ) (refs : List ℕ) (i bound : ℕ) (marks marks' : List Bool) (pending pending' : List ℕ)
+      → get_or refs i 0 < length graph → Contains (refs_of graph index) (get_or refs i 0)
+      → is_marked marks (get_or refs i 0) ≡ false → marks' ≡ set marks (get_or refs i 0) true
+      → pending' ≡ pending ++ get_or refs i 0 ∷ [] → IsLooking index refs i bound marks pending
+      → IsLooking index refs (i + 1) bound marks' pending'
   looking_more index refs i bound marks marks' pending pending' within edge new s p h =
       let r = get_or refs i 0 in
       let r_in : r < length marks = omega (arith, h.search.same_length) in
       let Ahead : ℕ → Type 0 = IsAhead (set marks r true) in
       rw (s, p) (record {
         search = search_more marks pending index r within edge h.here h.search;
-        found = All-push Ahead pending r (All-weaker (IsAhead marks) Ahead (λ x f. ahead_kept marks r x r_in f) pending h.found) (inr (get_or-set_same marks r true false r_in, ahead_further marks index r h.here edge));
+        found =
+            All-push Ahead pending r
+            (All-weaker (IsAhead marks) Ahead (λ x f. ahead_kept marks r x r_in f) pending h.found)
+            (inr (get_or-set_same marks r true false r_in, ahead_further marks index r h.here edge));
         here = ahead_kept marks r index r_in h.here;
-        looked = below_more _ _ (λ k below. mark_kept marks r (get_or refs k 0) r_in (h.looked k below)) (get_or-set_same marks r true false r_in);
+        looked =
+            below_more _ _ (λ k below. mark_kept marks r (get_or refs k 0) r_in (h.looked k below))
+            (get_or-set_same marks r true false r_in);
         less = omega (arith, h.less, unmarked_less marks r r_in new, length_push pending r);
       })
 
   -- the reference at `i` already has a mark
-  pub looking_on : (index : ℕ) (refs : List ℕ) (i bound : ℕ) (marks marks' : List Bool) (pending pending' : List ℕ) → is_marked marks (get_or refs i 0) ≡ true → marks' ≡ marks → pending' ≡ pending → IsLooking index refs i bound marks pending → IsLooking index refs (i + 1) bound marks' pending'
+  pub looking_on : (index : ℕ) (refs : List ℕ) (i bound : ℕ) (marks marks' : List Bool) (pending pending' : List ℕ)
+      → is_marked marks (get_or refs i 0) ≡ true → marks' ≡ marks → pending' ≡ pending
+      → IsLooking index refs i bound marks pending → IsLooking index refs (i + 1) bound marks' pending'
   looking_on index refs i bound marks marks' pending pending' seen s p h =
       rw (s, p) (record { search = h.search; found = h.found; here = h.here; looked = below_more _ _ h.looked seen; less = h.less })
 
   -- an index whose references are all marked need not wait
-  pub search_next : (marks : List Bool) (pending : List ℕ) (index : ℕ) → All (λ x. is_marked marks x ≡ true) (refs_of graph index) → IsSearch marks (index ∷ pending) → IsSearch marks pending
+  pub search_next : (marks : List Bool) (pending : List ℕ) (index : ℕ)
+      → All (λ x. is_marked marks x ≡ true) (refs_of graph index) → IsSearch marks (index ∷ pending)
+      → IsSearch marks pending
   search_next marks pending index all h = record {
     same_length = h.same_length;
     kept = h.kept;
     only = h.only;
-    closed = λ p f. ⊎_elim (λ w. ⊎_elim (λ e. inr (subst (λ x. All (λ y. is_marked marks y ≡ true) (refs_of graph x)) e all)) (λ v. inl v) (cons_cases index p pending w)) (λ a. inr a) (h.closed p f);
+    closed = λ p f.
+        ⊎_elim
+        (λ w.
+        ⊎_elim (λ e. inr (subst (λ x. All (λ y. is_marked marks y ≡ true) (refs_of graph x)) e all))
+        (λ v. inl v) (cons_cases index p pending w)) (λ a. inr a) (h.closed p f);
   }
 
   -- the last waiting index can become the current one
-  pub search_popped : (marks : List Bool) (before new : List ℕ) (index : ℕ) → before ≡ new ++ index ∷ [] → IsSearch marks before → IsSearch marks (index ∷ new)
+  pub search_popped : (marks : List Bool) (before new : List ℕ) (index : ℕ) → before ≡ new ++ index ∷ []
+      → IsSearch marks before → IsSearch marks (index ∷ new)
   search_popped marks before new index e h = record {
     same_length = h.same_length;
     kept = h.kept;
     only = h.only;
-    closed = λ p f. ⊎_elim (λ w. inl (⊎_elim (λ v. contains_more index p new v) (λ same. (0, omega arith, same)) (Contains-push_cases new index p (subst (λ l. Contains l p) e w)))) (λ a. inr a) (h.closed p f);
+    closed = λ p f.
+        ⊎_elim
+        (λ w.
+        inl
+        (⊎_elim (λ v. contains_more index p new v) (λ same. (0, omega arith, same))
+        (Contains-push_cases new index p (subst (λ l. Contains l p) e w)))) (λ a. inr a) (h.closed p f);
   }
 
-  all_marked : (marks : List Bool) (p : ℕ) → IsSearch marks [] → IsFound marks start p → All (λ r. is_marked marks r ≡ true) (refs_of graph p)
+  all_marked : (marks : List Bool) (p : ℕ) → IsSearch marks [] → IsFound marks start p
+      → All (λ r. is_marked marks r ≡ true) (refs_of graph p)
   all_marked marks p h f = ⊎_elim (λ w. absurd (omega (arith, w.1))) (λ all. all) (h.closed p f)
 
   -- if no index waits, all that `start` leads to is marked
@@ -162,27 +202,36 @@ module _ (graph : List (List ℕ)) (start : ℕ) (old : List Bool) where
 
 module _ (graph : List (List ℕ)) where
   -- if each marked index refers only to marked ones, all that an index with marked references leads to is marked
-  closed_on : (marks : List Bool) (a b : ℕ) → IsClosed graph marks → Leads graph a b → All (λ r. is_marked marks r ≡ true) (refs_of graph a) → is_marked marks b ≡ true
+  closed_on : (marks : List Bool) (a b : ℕ) → IsClosed graph marks → Leads graph a b
+      → All (λ r. is_marked marks r ≡ true) (refs_of graph a) → is_marked marks b ≡ true
   closed_on marks a b h (one e) all = All-contains (λ r. is_marked marks r ≡ true) (refs_of graph a) b all e
-  closed_on marks a c h (more {b = b} e r) all = closed_on marks b c h r (h b (All-contains (λ r. is_marked marks r ≡ true) (refs_of graph a) b all e))
+  closed_on marks a c h (more {b = b} e r) all =
+      closed_on marks b c h r (h b (All-contains (λ r. is_marked marks r ≡ true) (refs_of graph a) b all e))
 
   -- a search from an index that leads to itself marks this index
-  pub marked_on_cycle : (start : ℕ) (old new : List Bool) → IsSpread graph start old new → Leads graph start start → is_marked new start ≡ true
+  pub marked_on_cycle : (start : ℕ) (old new : List Bool) → IsSpread graph start old new → Leads graph start start
+      → is_marked new start ≡ true
   marked_on_cycle start old new h r = closed_on new start start h.closed r h.found
 
   -- after the start of a search is marked too, each marked index still refers only to marked ones
-  pub closed_more : (start : ℕ) (old new : List Bool) → start < length graph → IsSpread graph start old new → IsClosed graph (set new start true)
+  pub closed_more : (start : ℕ) (old new : List Bool) → start < length graph → IsSpread graph start old new
+      → IsClosed graph (set new start true)
   closed_more start old new within h p d =
       let start_in : start < length new = omega (arith, h.same_length) in
-      let kept : (q : ℕ) → All (λ x. is_marked new x ≡ true) (refs_of graph q) → All (λ x. is_marked (set new start true) x ≡ true) (refs_of graph q)
-      = λ q all. All-weaker (λ x. is_marked new x ≡ true) (λ x. is_marked (set new start true) x ≡ true) (λ x m. mark_kept new start x start_in m) (refs_of graph q) all in
+      let kept : (q : ℕ) → All (λ x. is_marked new x ≡ true) (refs_of graph q)
+      → All (λ x. is_marked (set new start true) x ≡ true) (refs_of graph q)
+      = λ q all.
+      All-weaker (λ x. is_marked new x ≡ true) (λ x. is_marked (set new start true) x ≡ true)
+      (λ x m. mark_kept new start x start_in m) (refs_of graph q) all in
       elim (set_decides {b = true} new start p start_in) [
         | inl t ↦ kept p (subst (λ x. All (λ y. is_marked new y ≡ true) (refs_of graph x)) (sym t.0) h.found)
         | inr t ↦ kept p (h.closed p (sym t.1 ∙ d))
       ]
 
   -- the start of a search is a suspect exactly if the search marked it
-  pub suspects_more : (start : ℕ) (suspects old new : List Bool) → start < length suspects → IsSpread graph start old new → AreSuspects graph suspects → AreSuspects graph (set suspects start (is_marked new start))
+  pub suspects_more : (start : ℕ) (suspects old new : List Bool) → start < length suspects
+      → IsSpread graph start old new → AreSuspects graph suspects
+      → AreSuspects graph (set suspects start (is_marked new start))
   suspects_more start suspects old new within h none p inside clear r =
       elim (set_decides {b = is_marked new start} suspects start p within) [
         | inl t ↦

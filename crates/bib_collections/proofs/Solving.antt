@@ -12,7 +12,8 @@ use Rattle.bib_collections.proofs.Work.{as_one, times_from_contains}
 use Rattle.std.proofs.lemmas.List.Sums.{sum_by-take-le, sum_by_more}
 
 -- the index at `i` of a topological order isn't among the indices before `i`
-pub new_turn : (graph : List (List ℕ)) (order : List ℕ) (i : ℕ) → IsTopologicalOrder graph order → i < length order → Contains (take i order) (get_or order i 0) → ⊥
+pub new_turn : (graph : List (List ℕ)) (order : List ℕ) (i : ℕ) → IsTopologicalOrder graph order → i < length order
+    → Contains (take i order) (get_or order i 0) → ⊥
 new_turn graph order i h within there =
     let p : ℕ = get_or order i 0 in
     let before = times_from_contains p (take i order) there in
@@ -30,7 +31,8 @@ among_first order i m r below within at =
     (m, omega (arith, length-take-le i order within), get_or-take i order m r below ∙ get_or_default order m r 0 (omega arith) ∙ at)
 
 -- the references of an index among the first `i` of an order are also among the first `i`
-earlier_refs : (graph : List (List ℕ)) (order : List ℕ) (i q : ℕ) → IsTopologicalOrder graph order → i < length order → Contains (take i order) q → All (Contains (take i order)) (refs_of graph q)
+earlier_refs : (graph : List (List ℕ)) (order : List ℕ) (i q : ℕ) → IsTopologicalOrder graph order → i < length order
+    → Contains (take i order) q → All (Contains (take i order)) (refs_of graph q)
 earlier_refs graph order i q h within there =
     let j = at_index order i q within there in
     let all = subst (λ x. All (Contains (take j.0 order)) (refs_of graph x)) j.2 (h.in_order j.0 (omega arith)) in
@@ -46,29 +48,48 @@ module _ {V : Type 0} (none : V) (rule : ℕ → List V → V) (graph : List (Li
     kept = λ p h. refl;
   }
 
-  pub solved_more : (i : ℕ) (values : List V) (value : V) → IsTopologicalOrder graph order → i < length order → get_or order i 0 < length values → value ≡ rule (get_or order i 0) (map (λ r. get_or values r none) (refs_of graph (get_or order i 0))) → IsSolvedTo none rule graph order start i values → IsSolvedTo none rule graph order start (i + 1) (set values (get_or order i 0) value)
+  pub solved_more : (i : ℕ) (values : List V) (value : V) → IsTopologicalOrder graph order → i < length order
+      → get_or order i 0 < length values
+      → value ≡ rule (get_or order i 0) (map (λ r. get_or values r none) (refs_of graph (get_or order i 0)))
+      → IsSolvedTo none rule graph order start i values
+      → IsSolvedTo none rule graph order start (i + 1) (set values (get_or order i 0) value)
   solved_more i values value sorted within below is h =
       let p : ℕ = get_or order i 0 in
       let Earlier : ℕ → Type 0 = Contains (take i order) in
       let fresh : Earlier p → ⊥ = new_turn graph order i sorted within in
       let other : (q : ℕ) → Earlier q → q ≢ p = λ q c e. fresh (subst Earlier e c) in
       let new : List V = set values p value in
-      let same : (q : ℕ) → All Earlier (refs_of graph q) → map (λ r. get_or values r none) (refs_of graph q) ≡ map (λ r. get_or new r none) (refs_of graph q)
+      let same : (q : ℕ) → All Earlier (refs_of graph q)
+      → map (λ r. get_or values r none) (refs_of graph q) ≡ map (λ r. get_or new r none) (refs_of graph q)
       = λ q all. map_agree (λ r. get_or values r none) (λ r. get_or new r none) (refs_of graph q)
       (λ r e. sym (get_or-set_other values p r value none (other r (All-contains Earlier (refs_of graph q) r all e)))) in
-      let cases : (q : ℕ) → Contains (take (i + 1) order) q → Earlier q ⊎ (p ≡ q) = λ q c. Contains-push_cases (take i order) p q (subst (λ l. Contains l q) (take_more order i 0 within) c) in
+      let cases : (q : ℕ) → Contains (take (i + 1) order) q → Earlier q ⊎ (p ≡ q) =
+      λ q c. Contains-push_cases (take i order) p q (subst (λ l. Contains l q) (take_more order i 0 within) c) in
       record {
         same_length = length-set values p value ∙ h.same_length;
         solved = λ q c. ⊎_elim
-            (λ e. get_or-set_other values p q value none (other q e) ∙ h.solved q e ∙ ap (rule q) (same q (earlier_refs graph order i q sorted within e)))
+            (λ e.
+            get_or-set_other values p q value none (other q e) ∙ h.solved q e
+            ∙ ap (rule q) (same q (earlier_refs graph order i q sorted within e)))
             (λ e. subst (λ x. get_or new x none ≡ rule x (map (λ r. get_or new r none) (refs_of graph x))) e
             (get_or-set_same values p value none below ∙ is ∙ ap (rule p) (same p (sorted.in_order i within))))
             (cases q c);
-        kept = λ q no. get_or-set_other values p q value none (λ e. no (subst (λ l. Contains l q) (sym (take_more order i 0 within)) (subst (Contains (take i order ++ p ∷ [])) (sym e) (Contains-push (take i order) p)))) ∙ h.kept q (λ c. no (subst (λ l. Contains l q) (sym (take_more order i 0 within)) (Contains-append_left (take i order) (p ∷ []) q c)));
+        kept = λ q no.
+            get_or-set_other values p q value none
+            (λ e.
+            no
+            (subst (λ l. Contains l q) (sym (take_more order i 0 within))
+            (subst (Contains (take i order ++ p ∷ [])) (sym e) (Contains-push (take i order) p))))
+            ∙ h.kept q
+            (λ c.
+            no
+            (subst (λ l. Contains l q) (sym (take_more order i 0 within))
+            (Contains-append_left (take i order) (p ∷ []) q c)));
       }
 
   -- after the last index of the order, the equation is solved
-  pub solved_all : (values : List V) → IsTopologicalOrder graph order → length start ≡ length graph → IsSolvedTo none rule graph order start (length order) values → Solves none rule graph values
+  pub solved_all : (values : List V) → IsTopologicalOrder graph order → length start ≡ length graph
+      → IsSolvedTo none rule graph order start (length order) values → Solves none rule graph values
   solved_all values sorted len h = record {
     same_length = h.same_length ∙ len;
     each = λ p within. h.solved p (subst (λ l. Contains l p) (sym (take_all (length order) order (omega arith)))

@@ -56,7 +56,8 @@ module _ {K V : Type 0} {R : K → K → Ordering} (o : IsTotalOrder R) where
   below_at x (e ∷ es) h (suc j) d lt = below_at x es (second _ _ h) j d (omega arith)
 
   -- a pair has a smaller key than each pair after it
-  pub rises : (es : List (K × V)) → T (is_sorted R es) → (i j : ℕ) (d : K × V) → i < j → j < length es → R (get_or es i d).0 (get_or es j d).0 ≡ Less
+  pub rises : (es : List (K × V)) → T (is_sorted R es) → (i j : ℕ) (d : K × V) → i < j → j < length es
+      → R (get_or es i d).0 (get_or es j d).0 ≡ Less
   rises [] h i j d before lt = absurd (omega arith)
   rises (e ∷ es) h i zero d before lt = absurd (omega arith)
   rises (e ∷ es) h zero (suc j) d before lt = below_at e.0 es (first _ _ h) j d (omega arith)
@@ -73,34 +74,41 @@ module _ {K V : Type 0} {R : K → K → Ordering} (o : IsTotalOrder R) where
   gap_later k e es i smaller = o.antisymm k e.0 ∙ ap ordering_reverse (smaller 0 e (omega arith) (omega arith))
 
   -- a key with a gap between smaller and greater keys isn't found
-  pub gap_find : (k : K) (es : List (K × V)) (i : ℕ) → i ≤ length es → AllWithin (λ p. R p.0 k ≡ Less) es 0 i → AllWithin (λ p. R p.0 k ≡ Greater) es i (length es) → find R k es ≡ None
+  pub gap_find : (k : K) (es : List (K × V)) (i : ℕ) → i ≤ length es → AllWithin (λ p. R p.0 k ≡ Less) es 0 i
+      → AllWithin (λ p. R p.0 k ≡ Greater) es i (length es) → find R k es ≡ None
   gap_find k [] i le smaller greater = refl
   gap_find k (e ∷ es) zero le smaller greater =
       ap (λ r. cond (is_eq r) (Some e.1) (find R k es)) (gap_first k e es greater)
       ∙ gap_find k es zero (omega arith) (λ j d a b. absurd (omega arith)) (λ j d a b. greater (suc j) d (omega arith) (omega arith))
   gap_find k (e ∷ es) (suc i) le smaller greater =
       ap (λ r. cond (is_eq r) (Some e.1) (find R k es)) (gap_later k e es i smaller)
-      ∙ gap_find k es i (omega arith) (λ j d a b. smaller (suc j) d (omega arith) (omega arith)) (λ j d a b. greater (suc j) d (omega arith) (omega arith))
+      ∙ gap_find k es i (omega arith) (λ j d a b. smaller (suc j) d (omega arith) (omega arith))
+      (λ j d a b. greater (suc j) d (omega arith) (omega arith))
 
   -- putting a pair with such a key inserts it at the gap
-  pub gap_put : (k : K) (v : V) (es : List (K × V)) (i : ℕ) → i ≤ length es → AllWithin (λ p. R p.0 k ≡ Less) es 0 i → AllWithin (λ p. R p.0 k ≡ Greater) es i (length es) → put R k v es ≡ insert es i (k, v)
+  pub gap_put : (k : K) (v : V) (es : List (K × V)) (i : ℕ) → i ≤ length es → AllWithin (λ p. R p.0 k ≡ Less) es 0 i
+      → AllWithin (λ p. R p.0 k ≡ Greater) es i (length es) → put R k v es ≡ insert es i (k, v)
   gap_put k v [] zero le smaller greater = refl
   gap_put k v [] (suc i) le smaller greater = absurd (omega arith)
   gap_put k v (e ∷ es) zero le smaller greater =
       ap (λ r. by_order r ((k, v) ∷ e ∷ es) ((e.0, v) ∷ es) (e ∷ put R k v es)) (gap_first k e es greater)
   gap_put k v (e ∷ es) (suc i) le smaller greater =
       ap (λ r. by_order r ((k, v) ∷ e ∷ es) ((e.0, v) ∷ es) (e ∷ put R k v es)) (gap_later k e es i smaller)
-      ∙ ap (λ l. e ∷ l) (gap_put k v es i (omega arith) (λ j d a b. smaller (suc j) d (omega arith) (omega arith)) (λ j d a b. greater (suc j) d (omega arith) (omega arith)))
+      ∙ ap (λ l. e ∷ l)
+      (gap_put k v es i (omega arith) (λ j d a b. smaller (suc j) d (omega arith) (omega arith))
+      (λ j d a b. greater (suc j) d (omega arith) (omega arith)))
 
   index_first : (k : K) (e : K × V) (es : List (K × V)) → HoldsAt (λ p. R p.0 k ≡ Equal) (e ∷ es) 0 → R k e.0 ≡ Equal
   index_first k e es here = o.antisymm k e.0 ∙ ap ordering_reverse (here e)
 
-  index_later : (k : K) (e : K × V) (es : List (K × V)) (i : ℕ) → T (below_all R e.0 es) → i < length es → HoldsAt (λ p. R p.0 k ≡ Equal) es i → R k e.0 ≡ Greater
+  index_later : (k : K) (e : K × V) (es : List (K × V)) (i : ℕ) → T (below_all R e.0 es) → i < length es
+      → HoldsAt (λ p. R p.0 k ≡ Equal) es i → R k e.0 ≡ Greater
   index_later k e es i below lt here =
       sym (o.congr (get_or es i e).0 k e.0 (here e)) ∙ o.antisymm _ _ ∙ ap ordering_reverse (below_at e.0 es below i e lt)
 
   -- the value at the index of a key is found
-  pub index_find : (k : K) (es : List (K × V)) (i : ℕ) → T (is_sorted R es) → i < length es → HoldsAt (λ p. R p.0 k ≡ Equal) es i → (d : K × V) → find R k es ≡ Some (get_or es i d).1
+  pub index_find : (k : K) (es : List (K × V)) (i : ℕ) → T (is_sorted R es) → i < length es
+      → HoldsAt (λ p. R p.0 k ≡ Equal) es i → (d : K × V) → find R k es ≡ Some (get_or es i d).1
   index_find k [] i sorted lt here d = absurd (omega arith)
   index_find k (e ∷ es) zero sorted lt here d = ap (λ r. cond (is_eq r) (Some e.1) (find R k es)) (index_first k e es here)
   index_find k (e ∷ es) (suc i) sorted lt here d =
@@ -108,9 +116,11 @@ module _ {K V : Type 0} {R : K → K → Ordering} (o : IsTotalOrder R) where
       ∙ index_find k es i (second _ _ sorted) (omega arith) here d
 
   -- putting a value for a key that has an index replaces the value there
-  pub index_put : (k : K) (v : V) (es : List (K × V)) (i : ℕ) → T (is_sorted R es) → i < length es → HoldsAt (λ p. R p.0 k ≡ Equal) es i → (d : K × V) → put R k v es ≡ set es i ((get_or es i d).0, v)
+  pub index_put : (k : K) (v : V) (es : List (K × V)) (i : ℕ) → T (is_sorted R es) → i < length es
+      → HoldsAt (λ p. R p.0 k ≡ Equal) es i → (d : K × V) → put R k v es ≡ set es i ((get_or es i d).0, v)
   index_put k v [] i sorted lt here d = absurd (omega arith)
-  index_put k v (e ∷ es) zero sorted lt here d = ap (λ r. by_order r ((k, v) ∷ e ∷ es) ((e.0, v) ∷ es) (e ∷ put R k v es)) (index_first k e es here)
+  index_put k v (e ∷ es) zero sorted lt here d =
+      ap (λ r. by_order r ((k, v) ∷ e ∷ es) ((e.0, v) ∷ es) (e ∷ put R k v es)) (index_first k e es here)
   index_put k v (e ∷ es) (suc i) sorted lt here d =
       ap (λ r. by_order r ((k, v) ∷ e ∷ es) ((e.0, v) ∷ es) (e ∷ put R k v es)) (index_later k e es i (first _ _ sorted) (omega arith) here)
       ∙ ap (λ l. e ∷ l) (index_put k v es i (second _ _ sorted) (omega arith) here d)
@@ -127,7 +137,8 @@ module _ {K V : Type 0} {R : K → K → Ordering} (o : IsTotalOrder R) where
       ∙ ap (λ l. e ∷ l) (below_others x k es same (second _ _ below))
 
   -- the pairs of other keys are the pairs without the one at the index of the key
-  pub index_others : (k : K) (es : List (K × V)) (i : ℕ) → T (is_sorted R es) → i < length es → HoldsAt (λ p. R p.0 k ≡ Equal) es i → others k es ≡ remove es i
+  pub index_others : (k : K) (es : List (K × V)) (i : ℕ) → T (is_sorted R es) → i < length es
+      → HoldsAt (λ p. R p.0 k ≡ Equal) es i → others k es ≡ remove es i
   unfolding others
   index_others k [] i sorted lt here = absurd (omega arith)
   index_others k (e ∷ es) zero sorted lt here =
@@ -138,30 +149,42 @@ module _ {K V : Type 0} {R : K → K → Ordering} (o : IsTotalOrder R) where
       ∙ ap (λ l. e ∷ l) (index_others k es i (second _ _ sorted) (omega arith) here)
 
   -- if a key has a gap, all pairs have other keys
-  pub gap_others : (k : K) (es : List (K × V)) (i : ℕ) → i ≤ length es → AllWithin (λ p. R p.0 k ≡ Less) es 0 i → AllWithin (λ p. R p.0 k ≡ Greater) es i (length es) → others k es ≡ es
+  pub gap_others : (k : K) (es : List (K × V)) (i : ℕ) → i ≤ length es → AllWithin (λ p. R p.0 k ≡ Less) es 0 i
+      → AllWithin (λ p. R p.0 k ≡ Greater) es i (length es) → others k es ≡ es
   unfolding others
   gap_others k [] i le smaller greater = refl
   gap_others k (e ∷ es) zero le smaller greater =
       ap (λ r. cond (not (is_eq r)) (e ∷ others k es) (others k es)) (gap_first k e es greater)
-      ∙ ap (λ l. e ∷ l) (gap_others k es zero (omega arith) (λ j d a b. absurd (omega arith)) (λ j d a b. greater (suc j) d (omega arith) (omega arith)))
+      ∙ ap (λ l. e ∷ l)
+      (gap_others k es zero (omega arith) (λ j d a b. absurd (omega arith))
+      (λ j d a b. greater (suc j) d (omega arith) (omega arith)))
   gap_others k (e ∷ es) (suc i) le smaller greater =
       ap (λ r. cond (not (is_eq r)) (e ∷ others k es) (others k es)) (gap_later k e es i smaller)
-      ∙ ap (λ l. e ∷ l) (gap_others k es i (omega arith) (λ j d a b. smaller (suc j) d (omega arith) (omega arith)) (λ j d a b. greater (suc j) d (omega arith) (omega arith)))
+      ∙ ap (λ l. e ∷ l)
+      (gap_others k es i (omega arith) (λ j d a b. smaller (suc j) d (omega arith) (omega arith))
+      (λ j d a b. greater (suc j) d (omega arith) (omega arith)))
 
   -- inserting into the map of sorted pairs puts a pair among them
-  pub insert-from_sorted : (es : List (K × V)) (k : K) (v : V) → T (is_sorted R es) → map.insert (from_sorted {R = R} es) k v ≡ from_sorted (put R k v es)
+  pub insert-from_sorted : (es : List (K × V)) (k : K) (v : V) → T (is_sorted R es)
+      → map.insert (from_sorted {R = R} es) k v ≡ from_sorted (put R k v es)
   insert-from_sorted es k v h =
-      same_entries_map _ _ (entries-insert o _ k v ∙ ap (put R k v) (entries-from_sorted R es h) ∙ sym (entries-from_sorted R _ (is_sorted-put R o k v es h)))
+      same_entries_map _ _
+      (entries-insert o _ k v ∙ ap (put R k v) (entries-from_sorted R es h)
+      ∙ sym (entries-from_sorted R _ (is_sorted-put R o k v es h)))
 
   -- removing a key from the map of sorted pairs leaves the pairs of other keys
-  pub remove-from_sorted : IsAntisymmetric R → (es : List (K × V)) (k : K) → T (is_sorted R es) → map.remove (from_sorted {R = R} es) k ≡ from_sorted (others k es)
+  pub remove-from_sorted : IsAntisymmetric R → (es : List (K × V)) (k : K) → T (is_sorted R es)
+      → map.remove (from_sorted {R = R} es) k ≡ from_sorted (others k es)
   unfolding others
   remove-from_sorted same es k h = same_map o same _ _ (λ q.
       get-remove o _ k q
       ∙ ap (cond (eq_by_cmp R q k) None) (get-from_sorted R es q h)
       ∙ turned (eq_by_cmp R q k) None (find R q es)
       ∙ ap (λ b. cond (not b) (find R q es) None) ((eq_by_cmp_equiv o).symm q k)
-      ∙ sym (get-from_sorted R _ q (is_sorted-where_key R _ es h) ∙ find-where_key R (λ x. not (eq_by_cmp R k x)) q (λ x t. ap (λ r. not (is_eq r)) (sym (alike_right o q x k t))) es))
+      ∙ sym
+      (get-from_sorted R _ q (is_sorted-where_key R _ es h)
+      ∙ find-where_key R (λ x. not (eq_by_cmp R k x)) q
+      (λ x t. ap (λ r. not (is_eq r)) (sym (alike_right o q x k t))) es))
 
   pub is_sorted-others : (es : List (K × V)) (k : K) → T (is_sorted R es) → T (is_sorted R (others k es))
   unfolding others
@@ -173,7 +196,9 @@ by_bytes-IsAntisymmetric = slice_cmp-IsAntisymmetric nat_cmp-IsAntisymmetric
 
 -- the map of no pairs is the empty map
 pub no_pairs : {V : Type 0} (es : List (List ℕ × V)) → es ≡ [] → from_sorted {R = by_bytes} es ≡ map.empty
-no_pairs es none = subst (λ l. from_sorted {R = by_bytes} l ≡ map.empty) (sym none) (empty_of_len _ (len-entries _ ∙ ap length (entries-from_sorted by_bytes [] tt)))
+no_pairs es none =
+    subst (λ l. from_sorted {R = by_bytes} l ≡ map.empty) (sym none)
+    (empty_of_len _ (len-entries _ ∙ ap length (entries-from_sorted by_bytes [] tt)))
 
 -- removing a missing name doesn't change a map
 pub remove_absent : {V : Type 0} (m : ByText V) (k : List ℕ) → map.get m k ≡ None → m ≡ map.remove m k
@@ -209,16 +234,21 @@ module _ {V : Type 0} (m : ByText V) (es : List (List ℕ × V)) (is : from_sort
   module _ (i : ℕ) (at : IsIndexOf es k i) where
     pub get_at : (d : List ℕ × V) → map.get m k ≡ Some (get_or es i d).1
     unfolding h
-    get_at d = subst (λ n. map.get n k ≡ Some (get_or es i d).1) is (get-from_sorted by_bytes es k h ∙ index_find nat_list_cmp_total k es i h at.in_range at.has_name d)
+    get_at d =
+        subst (λ n. map.get n k ≡ Some (get_or es i d).1) is
+        (get-from_sorted by_bytes es k h ∙ index_find nat_list_cmp_total k es i h at.in_range at.has_name d)
 
     pub set_sorted : (v : V) (d : List ℕ × V) → IsSorted (set es i ((get_or es i d).0, v))
     unfolding h
-    set_sorted v d = subst IsSorted (index_put nat_list_cmp_total k v es i h at.in_range at.has_name d) (is_true _ (is_sorted-put by_bytes nat_list_cmp_total k v es h))
+    set_sorted v d =
+        subst IsSorted (index_put nat_list_cmp_total k v es i h at.in_range at.has_name d)
+        (is_true _ (is_sorted-put by_bytes nat_list_cmp_total k v es h))
 
     pub set_at : (v : V) (d : List ℕ × V) → from_sorted (set es i ((get_or es i d).0, v)) ≡ map.insert m k v
     unfolding h
     set_at v d = subst (λ n. from_sorted (set es i ((get_or es i d).0, v)) ≡ map.insert n k v) is
-        (ap from_sorted (sym (index_put nat_list_cmp_total k v es i h at.in_range at.has_name d)) ∙ sym (insert-from_sorted nat_list_cmp_total es k v h))
+        (ap from_sorted (sym (index_put nat_list_cmp_total k v es i h at.in_range at.has_name d))
+        ∙ sym (insert-from_sorted nat_list_cmp_total es k v h))
 
     -- replacing the value of the pair at the index inserts it into the map
     pub set_written : (x : List ℕ × V) → x ≡ get_or es i x → (v : V) → map_of (set es i (x.0, v)) ≡ map.insert m k v
@@ -226,34 +256,45 @@ module _ {V : Type 0} (m : ByText V) (es : List (List ℕ × V)) (is : from_sort
 
     pub remove_sorted : IsSorted (remove es i)
     unfolding h
-    remove_sorted = subst IsSorted (index_others nat_list_cmp_total k es i h at.in_range at.has_name) (is_true _ (is_sorted-others nat_list_cmp_total es k h))
+    remove_sorted =
+        subst IsSorted (index_others nat_list_cmp_total k es i h at.in_range at.has_name)
+        (is_true _ (is_sorted-others nat_list_cmp_total es k h))
 
     pub remove_at : from_sorted (remove es i) ≡ map.remove m k
     unfolding h
     remove_at = subst (λ n. from_sorted (remove es i) ≡ map.remove n k) is
-        (ap from_sorted (sym (index_others nat_list_cmp_total k es i h at.in_range at.has_name)) ∙ sym (remove-from_sorted nat_list_cmp_total by_bytes-IsAntisymmetric es k h))
+        (ap from_sorted (sym (index_others nat_list_cmp_total k es i h at.in_range at.has_name))
+        ∙ sym (remove-from_sorted nat_list_cmp_total by_bytes-IsAntisymmetric es k h))
 
   module _ (i : ℕ) (gap : IsGapFor es k i) where
     pub get_gap : map.get m k ≡ None
     unfolding h
-    get_gap = subst (λ n. map.get n k ≡ None) is (get-from_sorted by_bytes es k h ∙ gap_find nat_list_cmp_total k es i gap.in_range gap.smaller gap.greater)
+    get_gap =
+        subst (λ n. map.get n k ≡ None) is
+        (get-from_sorted by_bytes es k h ∙ gap_find nat_list_cmp_total k es i gap.in_range gap.smaller gap.greater)
 
     pub insert_sorted : (v : V) → IsSorted (insert es i (k, v))
     unfolding h
-    insert_sorted v = subst IsSorted (gap_put nat_list_cmp_total k v es i gap.in_range gap.smaller gap.greater) (is_true _ (is_sorted-put by_bytes nat_list_cmp_total k v es h))
+    insert_sorted v =
+        subst IsSorted (gap_put nat_list_cmp_total k v es i gap.in_range gap.smaller gap.greater)
+        (is_true _ (is_sorted-put by_bytes nat_list_cmp_total k v es h))
 
     pub insert_gap : (v : V) → from_sorted (insert es i (k, v)) ≡ map.insert m k v
     unfolding h
     insert_gap v = subst (λ n. from_sorted (insert es i (k, v)) ≡ map.insert n k v) is
-        (ap from_sorted (sym (gap_put nat_list_cmp_total k v es i gap.in_range gap.smaller gap.greater)) ∙ sym (insert-from_sorted nat_list_cmp_total es k v h))
+        (ap from_sorted (sym (gap_put nat_list_cmp_total k v es i gap.in_range gap.smaller gap.greater))
+        ∙ sym (insert-from_sorted nat_list_cmp_total es k v h))
 
     pub remove_gap : m ≡ map.remove m k
     unfolding h
     remove_gap = subst (λ n. n ≡ map.remove n k) is
-        (ap from_sorted (sym (gap_others nat_list_cmp_total k es i gap.in_range gap.smaller gap.greater)) ∙ sym (remove-from_sorted nat_list_cmp_total by_bytes-IsAntisymmetric es k h))
+        (ap from_sorted (sym (gap_others nat_list_cmp_total k es i gap.in_range gap.smaller gap.greater))
+        ∙ sym (remove-from_sorted nat_list_cmp_total by_bytes-IsAntisymmetric es k h))
 
 -- a binary search ends at the index of a name, or at the gap for it
-pub searched : {V : Type 0} (es : List (List ℕ × V)) → IsSorted es → (k : List ℕ) (r : Result ℕ ℕ) → IsSearchInRange r (length es) → IsBinarySearchResult (λ pair. by_bytes pair.0 k) es r → MatchResult r (IsIndexOf es k) (IsGapFor es k)
+pub searched : {V : Type 0} (es : List (List ℕ × V)) → IsSorted es → (k : List ℕ) (r : Result ℕ ℕ)
+    → IsSearchInRange r (length es) → IsBinarySearchResult (λ pair. by_bytes pair.0 k) es r
+    → MatchResult r (IsIndexOf es k) (IsGapFor es k)
 searched es sorted k (Ok i) lt here = record { in_range = lt; has_name = here }
 searched es sorted k (Err i) le parted =
     let apart = parted (searchable_from_sorted nat_list_cmp_total (λ pair. pair.0) es k (ascends nat_list_cmp_total es (holds _ sorted))) in
@@ -265,8 +306,12 @@ lent n f g same = λ i. inl (n, λ w. same w i)
 
 -- a map is the map of its own pairs
 pub of_its_entries : {V : Type 0} (m : ByText V) → map.from_entries (map.entries m) ≡ m
-of_its_entries m = same_map nat_list_cmp_total by_bytes-IsAntisymmetric _ _ (λ q. map.get-from_entries nat_list_cmp_total (map.entries m) q ∙ sym (map.get-entries m q))
+of_its_entries m =
+    same_map nat_list_cmp_total by_bytes-IsAntisymmetric _ _
+    (λ q. map.get-from_entries nat_list_cmp_total (map.entries m) q ∙ sym (map.get-entries m q))
 
 -- inserting one more pair after the pairs `before` gives the map of all these pairs
-pub one_more : {V : Type 0} (pairs before : List (List ℕ × V)) (name : List ℕ) (value : V) → map.insert {R = by_bytes} (map.from_entries (reverse before ++ pairs)) name value ≡ map.from_entries (reverse (before ++ (name, value) ∷ []) ++ pairs)
+pub one_more : {V : Type 0} (pairs before : List (List ℕ × V)) (name : List ℕ) (value : V)
+    → map.insert {R = by_bytes} (map.from_entries (reverse before ++ pairs)) name value
+    ≡ map.from_entries (reverse (before ++ (name, value) ∷ []) ++ pairs)
 one_more pairs before name value = ap (λ l. map.from_entries (l ++ pairs)) (sym (reverse-append before ((name, value) ∷ [])))

@@ -34,12 +34,15 @@ module _ {K V : Type 0} {R : K → K → Ordering} (o : IsTotalOrder R) where
   unfolding named first_value
   find-named q [] = refl
   find-named q (e ∷ es) =
-      elim (eq_by_cmp R q e.0) as (λ b. cond b (Some e.1) (find R q es) ≡ first_value (cond b (e ∷ named q es) (named q es))) [ true ↦ refl | false ↦ find-named q es ]
+      elim (eq_by_cmp R q e.0) as
+      (λ b. cond b (Some e.1) (find R q es) ≡ first_value (cond b (e ∷ named q es) (named q es)))
+      [ true ↦ refl | false ↦ find-named q es ]
 
   ties_are : (q : K) (v : V) (e : K × V) → ties (below R) (q, v) e ≡ eq_by_cmp R q e.0
   ties_are q v e =
       ap (λ r. not (is_lt (R q e.0)) && not (is_lt r)) (o.antisymm e.0 q)
-      ∙ elim (R q e.0) as (λ r. (not (is_lt r) && not (is_lt (ordering_reverse r))) ≡ is_eq r) [ Less ↦ refl | Equal ↦ refl | Greater ↦ refl ]
+      ∙ elim (R q e.0) as (λ r. (not (is_lt r) && not (is_lt (ordering_reverse r))) ≡ is_eq r)
+      [ Less ↦ refl | Equal ↦ refl | Greater ↦ refl ]
 
   named-ties : (q : K) (v : V) (es : List (K × V)) → named q es ≡ filter (ties (below R) (q, v)) es
   unfolding named
@@ -70,8 +73,13 @@ module _ {K V : Type 0} {R : K → K → Ordering} (o : IsTotalOrder R) where
   pub find-dedup_from : (q : K) (k : K × V) (xs : List (K × V)) → find R q (dedup_from (tie R) k xs) ≡ find R q (k ∷ xs)
   find-dedup_from q k [] = refl
   find-dedup_from q k (x ∷ xs) =
-      elim (tie R x k) as (λ b. tie R x k ≡ b → find R q (cond b (dedup_from (tie R) k xs) (k ∷ dedup_from (tie R) x xs)) ≡ find R q (k ∷ x ∷ xs)) [
-        | true ↦ λ same. find-dedup_from q k xs ∙ hidden_past (eq_by_cmp R q k.0) (eq_by_cmp R q x.0) (Some k.1) (Some x.1) (find R q xs) (ap is_eq (alike_right o x.0 k.0 q (tied _ (holds _ same))))
+      elim (tie R x k) as
+      (λ b.
+      tie R x k ≡ b
+      → find R q (cond b (dedup_from (tie R) k xs) (k ∷ dedup_from (tie R) x xs)) ≡ find R q (k ∷ x ∷ xs)) [
+        | true ↦ λ same. find-dedup_from q k xs
+            ∙ hidden_past (eq_by_cmp R q k.0) (eq_by_cmp R q x.0) (Some k.1) (Some x.1) (find R q xs)
+            (ap is_eq (alike_right o x.0 k.0 q (tied _ (holds _ same))))
         | false ↦ λ other. ap (cond (eq_by_cmp R q k.0) (Some k.1)) (find-dedup_from q x xs)
       ] refl
 
@@ -91,7 +99,8 @@ module _ {K V : Type 0} {R : K → K → Ordering} (o : IsTotalOrder R) where
   pub sorted-dedup : (xs : List (K × V)) → IsSortedBy (below R) xs → T (is_sorted R (dedup (tie R) xs))
   sorted-dedup xs sorted = strictly _ (IsStrictlySortedBy-dedup (on_total (λ e. e.0) o) (λ x y. refl) xs sorted)
 
-module _ {V : Type 0} (pairs sorted : List (List ℕ × V)) (rising : IsSortedBy (below by_bytes) sorted) (stable : IsStableBy (below by_bytes) (reverse pairs) sorted) where
+module _ {V : Type 0} (pairs sorted : List (List ℕ × V)) (rising : IsSortedBy (below by_bytes) sorted)
+    (stable : IsStableBy (below by_bytes) (reverse pairs) sorted) where
   pub sorted_pairs : IsSorted (dedup (tie by_bytes) sorted)
   sorted_pairs = is_true _ (sorted-dedup nat_list_cmp_total sorted rising)
 

@@ -27,23 +27,28 @@ map_agree f g (x ∷ xs) h =
     let d = map f (x ∷ xs) in
     ext_get_or (f x) (map f (x ∷ xs)) (map g (x ∷ xs)) (length-map (x ∷ xs) f ∙ sym (length-map (x ∷ xs) g))
     (λ i below. let within : i < length (x ∷ xs) = subst (λ n. i < n) (length-map (x ∷ xs) f) below in
-    get_or-map f (x ∷ xs) i x (f x) within ∙ h (get_or (x ∷ xs) i x) (Contains-get_or (x ∷ xs) i x within) ∙ sym (get_or-map g (x ∷ xs) i x (f x) within))
+    get_or-map f (x ∷ xs) i x (f x) within ∙ h (get_or (x ∷ xs) i x) (Contains-get_or (x ∷ xs) i x within)
+    ∙ sym (get_or-map g (x ∷ xs) i x (f x) within))
 
 -- each reference in a graph is less than the number of entries
-pub below_from_edge : (graph : List (List ℕ)) (a b : ℕ) → IsInRange graph → a < length graph → Contains (refs_of graph a) b → b < length graph
+pub below_from_edge : (graph : List (List ℕ)) (a b : ℕ) → IsInRange graph → a < length graph
+    → Contains (refs_of graph a) b → b < length graph
 below_from_edge graph a b in_range within h =
-    All-contains (λ r. r < length graph) (refs_of graph a) b (All-get_or (λ refs. All (λ r. r < length graph) refs) graph a [] within in_range) h
+    All-contains (λ r. r < length graph) (refs_of graph a) b
+    (All-get_or (λ refs. All (λ r. r < length graph) refs) graph a [] within in_range) h
 
 module _ (graph : List (List ℕ)) (in_range : IsInRange graph) (none : HasNoCycle graph) where
   -- an index is none of the indices that lead to it
-  apart : (a : ℕ) (visited : List ℕ) → a < length graph → AllByRecursion (λ v. Leads graph v a) visited → AllByRecursion (λ v. eqb a v ≡ false) visited
+  apart : (a : ℕ) (visited : List ℕ) → a < length graph → AllByRecursion (λ v. Leads graph v a) visited
+      → AllByRecursion (λ v. eqb a v ≡ false) visited
   apart a [] within r = r
   apart a (v ∷ vs) within r = (
     elim (eqb_tells a v) [ inl e ↦ absurd (none a within (subst (λ x. Leads graph x a) (sym e.1) r.0)) | inr e ↦ e.0 ],
     apart a vs within r.1,
   )
 
-  all_further : (a b : ℕ) (visited : List ℕ) → Contains (refs_of graph a) b → AllByRecursion (λ v. Leads graph v a) visited → AllByRecursion (λ v. Leads graph v b) visited
+  all_further : (a b : ℕ) (visited : List ℕ) → Contains (refs_of graph a) b
+      → AllByRecursion (λ v. Leads graph v a) visited → AllByRecursion (λ v. Leads graph v b) visited
   all_further a b [] e r = r
   all_further a b (v ∷ vs) e r = (further r.0 e, all_further a b vs e r.1)
 
@@ -51,16 +56,21 @@ module _ (graph : List (List ℕ)) (in_range : IsInRange graph) (none : HasNoCyc
   few : (visited : List ℕ) → AllByRecursion (λ v. v < length graph) visited → IsDistinct eqb visited → length visited ≤ length graph
   few visited below distinct =
       length-le_from_distinct_below visited (length graph) distinct
-      (λ q h. All-contains (λ v. v < length graph) visited q (All-from_recursion (λ v. v < length graph) visited below) (Contains-from_any eqb-true q visited h))
+      (λ q h.
+      All-contains (λ v. v < length graph) visited q (All-from_recursion (λ v. v < length graph) visited below)
+      (Contains-from_any eqb-true q visited h))
 
   -- If distinct visited indices lead to `a`, no walk of `k` references begins at `a`, where `k` is the number of the other
   -- indices.
-  no_walk_from : (k : ℕ) (visited : List ℕ) (a : ℕ) → length visited + k ≡ length graph → AllByRecursion (λ v. v < length graph) visited → IsDistinct eqb visited → AllByRecursion (λ v. Leads graph v a) visited → a < length graph → HasWalk graph k a → ⊥
+  no_walk_from : (k : ℕ) (visited : List ℕ) (a : ℕ) → length visited + k ≡ length graph
+      → AllByRecursion (λ v. v < length graph) visited → IsDistinct eqb visited
+      → AllByRecursion (λ v. Leads graph v a) visited → a < length graph → HasWalk graph k a → ⊥
   unfolding IsDistinct
   no_walk_from zero visited a n below distinct r within w =
       let many = few (a ∷ visited) (within, below) (apart a visited within r, distinct) in omega arith
   no_walk_from (suc k) visited a n below distinct r within (b, e, w) =
-      no_walk_from k (a ∷ visited) b (omega arith) (within, below) (apart a visited within r, distinct) (one e, all_further a b visited e r) (below_from_edge graph a b in_range within e) w
+      no_walk_from k (a ∷ visited) b (omega arith) (within, below) (apart a visited within r, distinct)
+      (one e, all_further a b visited e r) (below_from_edge graph a b in_range within e) w
 
   -- without cycles, no walk of as many references as there are entries begins at an entry
   pub no_long_walk : (a : ℕ) → a < length graph → HasWalk graph (length graph) a → ⊥
@@ -69,7 +79,9 @@ module _ (graph : List (List ℕ)) (in_range : IsInRange graph) (none : HasNoCyc
 
   module _ {V : Type 0} (nothing : V) (step : ℕ → List V → V) where
     -- two solutions agree on each index at which no walk of `k` references begins
-    agree : (k : ℕ) (values others : List V) (a : ℕ) → Solves nothing step graph values → Solves nothing step graph others → a < length graph → (HasWalk graph k a → ⊥) → get_or others a nothing ≡ get_or values a nothing
+    agree : (k : ℕ) (values others : List V) (a : ℕ) → Solves nothing step graph values
+        → Solves nothing step graph others → a < length graph → (HasWalk graph k a → ⊥)
+        → get_or others a nothing ≡ get_or values a nothing
     agree zero values others a s t within h = absurd (h tt)
     agree (suc k) values others a s t within h =
         t.each a within
@@ -100,7 +112,9 @@ module _ (graph : List (List ℕ)) (in_range : IsInRange graph) (none : HasNoCyc
     solved = record {
       same_length = length-map-range_with_len (unfolded (length graph)) 0 (length graph);
       each = λ a within. at_solution a within ∙ steady (length graph) a within (no_long_walk a within)
-          ∙ ap (step a) (map_agree (unfolded (length graph)) (λ r. get_or solution r nothing) (refs_of graph a) (λ b e. sym (at_solution b (below_from_edge graph a b in_range within e))));
+          ∙ ap (step a)
+          (map_agree (unfolded (length graph)) (λ r. get_or solution r nothing) (refs_of graph a)
+          (λ b e. sym (at_solution b (below_from_edge graph a b in_range within e))));
     }
 
     pub one_solution : HasOneSolution nothing step graph

@@ -4,7 +4,8 @@ use Rattle.std.specs.Prelude.{◌≡◌, ℕ, List, length, map, take, slice_ind
 use Rattle.std.specs.List.{Contains}
 use Rattle.bib_collections.specs.Graph.{Graph, refs_of}
 
-pub record IsSolvedTo {V : Type 0} (none : V) (rule : ℕ → List V → V) (graph : Graph) (order : List ℕ) (start : List V) (i : ℕ) (values : List V) : Type 0 where
+pub record IsSolvedTo {V : Type 0} (none : V) (rule : ℕ → List V → V) (graph : Graph) (order : List ℕ) (start : List V)
+    (i : ℕ) (values : List V) : Type 0 where
   pub same_length : length values ≡ length start
   pub solved : (index : ℕ) → Contains (take i order) index
       → slice_index_or values index none ≡ rule index (map (λ r. slice_index_or values r none) (refs_of graph index))

@@ -16,7 +16,9 @@ missing_at missing index = slice_index_or missing index 1
 
 -- in the row of `waiting` at an index, an entry occurs as often as it refers to the index
 abbrev pub AreWaiting : Graph → Graph → Type 0
-AreWaiting graph waiting = (length waiting ≡ length graph) × ((index entry : ℕ) → times entry (refs_of waiting index) ≡ times index (refs_of graph entry))
+AreWaiting graph waiting =
+    (length waiting ≡ length graph)
+    × ((index entry : ℕ) → times entry (refs_of waiting index) ≡ times index (refs_of graph entry))
 
 -- A reference is missing if its index isn't in `order` yet; `missing` has the counts. An index without missing references
 -- is once in `order` or in `ready`. Any other index is in neither.

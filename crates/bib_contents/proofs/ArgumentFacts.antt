@@ -19,7 +19,8 @@ use Rattle.bib_contents.proofs.ProgressFacts.{passes_then, passes_none}
 -- a place after the passed characters is in the text
 pub passes_within : {u v : Place} {cs : List ℕ} → Passes u cs v → u.at ≤ length u.text → v.at ≤ length v.text
 passes_within {u} {v} {cs} passed within =
-    let sizes : length u.text - u.at ≡ length (encode_utf8_all cs) + length (drop v.at v.text) = sym (length-drop u.at u.text) ∙ ap length passed.here ∙ length-append (encode_utf8_all cs) _ in
+    let sizes : length u.text - u.at ≡ length (encode_utf8_all cs) + length (drop v.at v.text) =
+    sym (length-drop u.at u.text) ∙ ap length passed.here ∙ length-append (encode_utf8_all cs) _ in
     let texts : length v.text ≡ length u.text = ap length passed.same in
     let next : v.at ≡ u.at + length (encode_utf8_all cs) = passed.next in
     omega arith
@@ -43,12 +44,14 @@ passes_one {u} {v} {c} passed =
     omega arith
 
 -- the text between two places consists of the passed characters
-pub passes_text : {u v : Place} {cs : List ℕ} (start : ℕ) (bs : List ℕ) → Passes u cs v → start ≡ u.at → IsUtf8 bs → bs ≡ between (place v.text start) v → chars bs ≡ cs
+pub passes_text : {u v : Place} {cs : List ℕ} (start : ℕ) (bs : List ℕ) → Passes u cs v → start ≡ u.at → IsUtf8 bs
+    → bs ≡ between (place v.text start) v → chars bs ≡ cs
 passes_text {u} {v} {cs} start bs passed is utf8 taken =
     let next : v.at ≡ u.at + length (encode_utf8_all cs) = passed.next in
     let size : length (encode_utf8_all cs) ≡ v.at - u.at = omega arith in
     let cut : between (place v.text start) v ≡ encode_utf8_all cs =
-    ap (λ n. take (v.at - n) (drop n v.text)) is ∙ ap (λ t. take (v.at - u.at) (drop u.at t)) passed.same ∙ ap (take (v.at - u.at)) passed.here ∙ take_at (encode_utf8_all cs) (drop v.at v.text) (v.at - u.at) size in
+    ap (λ n. take (v.at - n) (drop n v.text)) is ∙ ap (λ t. take (v.at - u.at) (drop u.at t)) passed.same
+    ∙ ap (take (v.at - u.at)) passed.here ∙ take_at (encode_utf8_all cs) (drop v.at v.text) (v.at - u.at) size in
     chars_whole cs bs utf8 (taken ∙ cut)
 
 -- hyphens are encoded as themselves
@@ -79,9 +82,11 @@ pub after_first : {c d : ℕ} {xs ys : List ℕ} → c ∷ xs ≡ d ∷ ys → x
 after_first same = ap (drop 1) same
 
 -- a dollar sign without a second one begins no unit
-pub no_formula : (text : List ℕ) → list_all (λ c. not (c == 36)) text ≡ true → (u : ContentUnit) (rest : List ℕ) → IsNext false u (36 ∷ text) rest → ⊥
+pub no_formula : (text : List ℕ) → list_all (λ c. not (c == 36)) text ≡ true → (u : ContentUnit) (rest : List ℕ)
+    → IsNext false u (36 ∷ text) rest → ⊥
 no_formula text all u rest one =
-    let is : ContentUnit.formula (prefix (λ d. not (d == 36)) text) ≡ u = ap (first_unit false) one.spells ∙ unit_first false u rest one.fits in
+    let is : ContentUnit.formula (prefix (λ d. not (d == 36)) text) ≡ u =
+    ap (first_unit false) one.spells ∙ unit_first false u rest one.fits in
     let inside = prefix (λ d. not (d == 36)) text in
     let spelt : text ≡ (inside ++ 36 ∷ []) ++ rest = after_first (one.spells ∙ ap (λ x. unit_spelling x ++ rest) (sym is)) in
     without_dollar inside rest (rw spelt at all)
@@ -93,7 +98,8 @@ all_none (c ∷ cs) all =
     rw (not-true (c == 36) parts.0) (all_none cs parts.1)
 
 -- math up to the second dollar sign is the first unit
-pub formula_found : (before text after : List ℕ) → list_all (λ d. not (d == 36)) text ≡ true → before ≡ text ++ 36 ∷ after → IsNext false (ContentUnit.formula text) (36 ∷ before) after
+pub formula_found : (before text after : List ℕ) → list_all (λ d. not (d == 36)) text ≡ true
+    → before ≡ text ++ 36 ∷ after → IsNext false (ContentUnit.formula text) (36 ∷ before) after
 formula_found before text after all is = record {
   fits = rw (all_none text all) refl;
   spells = ap (λ xs. 36 ∷ xs) (is ∙ sym (append_assoc text (36 ∷ []) after));
@@ -152,11 +158,14 @@ pub braced_none : (u : Place) → BracedRead u 0 u
 braced_none u = record { characters = []; passed = passes_none u; balanced = λ tail. refl; closed = refl }
 
 -- a run of characters without braces keeps the depth
-braced_run : {u s t : Place} {depth : ℕ} {run : List ℕ} → BracedRead u depth s → Passes s run t → list_all is_no_brace run ≡ true → BracedRead u depth t
+braced_run : {u s t : Place} {depth : ℕ} {run : List ℕ} → BracedRead u depth s → Passes s run t
+    → list_all is_no_brace run ≡ true → BracedRead u depth t
 braced_run {u} {s} {t} {depth} {run} read passed plain = record {
   characters = read.characters ++ run;
   passed = passes_then read.passed passed;
-  balanced = λ tail. ap (balances 0) (append_assoc read.characters run tail) ∙ read.balanced (run ++ tail) ∙ balances_run depth run tail plain;
+  balanced = λ tail.
+      ap (balances 0) (append_assoc read.characters run tail) ∙ read.balanced (run ++ tail)
+      ∙ balances_run depth run tail plain;
   closed = read.closed ∙ ap (closes depth) passed.left ∙ closes_run depth run (left t) plain;
 }
 
@@ -165,12 +174,15 @@ braced_open : {u s t : Place} {depth : ℕ} → BracedRead u depth s → Passes 
 braced_open {u} {s} {t} {depth} read passed = record {
   characters = read.characters ++ 123 ∷ [];
   passed = passes_then read.passed passed;
-  balanced = λ tail. ap (balances 0) (append_assoc read.characters (123 ∷ []) tail) ∙ read.balanced (123 ∷ tail) ∙ ap (λ n. balances n tail) (sym (add-one depth));
+  balanced = λ tail.
+      ap (balances 0) (append_assoc read.characters (123 ∷ []) tail) ∙ read.balanced (123 ∷ tail)
+      ∙ ap (λ n. balances n tail) (sym (add-one depth));
   closed = read.closed ∙ ap (closes depth) passed.left ∙ ap (λ n. closes n (left t)) (sym (add-one depth));
 }
 
 -- a closing brace of an open one decreases the depth
-braced_close : {u s t : Place} {depth : ℕ} → BracedRead u depth s → nat_lt 0 depth ≡ true → Passes s (125 ∷ []) t → BracedRead u (depth - 1) t
+braced_close : {u s t : Place} {depth : ℕ} → BracedRead u depth s → nat_lt 0 depth ≡ true → Passes s (125 ∷ []) t
+    → BracedRead u (depth - 1) t
 braced_close {u} {s} {t} {depth} read within passed = record {
   characters = read.characters ++ 125 ∷ [];
   passed = passes_then read.passed passed;
@@ -182,21 +194,25 @@ braced_close {u} {s} {t} {depth} read within passed = record {
 pub next_brace : (c : ℕ) (xs rest : List ℕ) → begins is_no_brace xs ≡ false → xs ≡ c ∷ rest → is_no_brace c ≡ false
 next_brace c xs rest ends is = rw is at ends
 
-pub braced_opens : {u s t w : Place} {depth : ℕ} {run : List ℕ} → BracedRead u depth s → Passes s run t → list_all is_no_brace run ≡ true → Passes t (123 ∷ []) w → BracedRead u (depth + 1) w
+pub braced_opens : {u s t w : Place} {depth : ℕ} {run : List ℕ} → BracedRead u depth s → Passes s run t
+    → list_all is_no_brace run ≡ true → Passes t (123 ∷ []) w → BracedRead u (depth + 1) w
 braced_opens read passed plain brace = braced_open (braced_run read passed plain) brace
 
 -- a brace that isn't an opening one is a closing one
 pub is_closing : (c : ℕ) → is_no_brace c ≡ false → (c ≡ 123 → ⊥) → c ≡ 125
 is_closing c brace differs = grind arith
 
-pub braced_closes : {u s t w : Place} {depth : ℕ} {run : List ℕ} {c : ℕ} → BracedRead u depth s → Passes s run t → list_all is_no_brace run ≡ true → begins is_no_brace (left t) ≡ false → Passes t (c ∷ []) w → (c ≡ 123 → ⊥) → nat_lt 0 depth ≡ true
+pub braced_closes : {u s t w : Place} {depth : ℕ} {run : List ℕ} {c : ℕ} → BracedRead u depth s → Passes s run t
+    → list_all is_no_brace run ≡ true → begins is_no_brace (left t) ≡ false → Passes t (c ∷ []) w → (c ≡ 123 → ⊥)
+    → nat_lt 0 depth ≡ true
     → BracedRead u (depth - 1) w
 braced_closes {u} {s} {t} {w} {depth} {run} {c} read passed plain ends brace differs within =
     let is : c ≡ 125 = is_closing c (next_brace c (left t) (left w) ends brace.left) differs in
     braced_close (braced_run read passed plain) within (subst (λ x. Passes t (x ∷ []) w) is brace)
 
 -- at depth 0 a closing brace ends the argument
-pub braced_found : {u s t w : Place} {run : List ℕ} {c : ℕ} → BracedRead u 0 s → Passes s run t → list_all is_no_brace run ≡ true → begins is_no_brace (left t) ≡ false → Passes t (c ∷ []) w → (c ≡ 123 → ⊥)
+pub braced_found : {u s t w : Place} {run : List ℕ} {c : ℕ} → BracedRead u 0 s → Passes s run t
+    → list_all is_no_brace run ≡ true → begins is_no_brace (left t) ≡ false → Passes t (c ∷ []) w → (c ≡ 123 → ⊥)
     → (cs : List ℕ) × Passes u cs t × (left u ≡ cs ++ 125 ∷ left w) × (balances 0 cs ≡ true)
 braced_found {u} {s} {t} {w} {run} {c} read passed plain ends brace differs =
     let is : c ≡ 125 = is_closing c (next_brace c (left t) (left w) ends brace.left) differs in
@@ -209,14 +225,16 @@ braced_found {u} {s} {t} {w} {run} {c} read passed plain ends brace differs =
     )
 
 -- if the text ends first, no brace closes the argument
-pub braced_never : {u s t : Place} {depth : ℕ} {run : List ℕ} → BracedRead u depth s → Passes s run t → list_all is_no_brace run ≡ true → left t ≡ []
+pub braced_never : {u s t : Place} {depth : ℕ} {run : List ℕ} → BracedRead u depth s → Passes s run t
+    → list_all is_no_brace run ≡ true → left t ≡ []
     → (text rest : List ℕ) → left u ≡ text ++ 125 ∷ rest → balances 0 text ≡ true → ⊥
 braced_never {u} {s} {t} {depth} {run} read passed plain ended text rest is balanced =
     let whole = braced_run read passed plain in
     both_ways (closes 0 (left u)) (whole.closed ∙ ap (closes depth) ended) (ap (closes 0) is ∙ closes_balanced 0 text rest balanced)
 
 -- a step of the loop: an opening brace
-pub braced_opened : {u s t w : Place} {depth : ℕ} {run : List ℕ} {c : ℕ} → BracedRead u depth s → depth ≤ s.at → Passes s run t → list_all is_no_brace run ≡ true → Passes t (c ∷ []) w → c ≡ 123
+pub braced_opened : {u s t w : Place} {depth : ℕ} {run : List ℕ} {c : ℕ} → BracedRead u depth s → depth ≤ s.at
+    → Passes s run t → list_all is_no_brace run ≡ true → Passes t (c ∷ []) w → c ≡ 123
     → BracedRead u (depth + 1) w × (depth + 1 ≤ w.at)
 braced_opened {u} {s} {t} {w} {depth} {run} {c} read bound passed plain brace is = (
   braced_opens read passed plain (subst (λ x. Passes t (x ∷ []) w) is brace),
@@ -224,7 +242,9 @@ braced_opened {u} {s} {t} {w} {depth} {run} {c} read bound passed plain brace is
 )
 
 -- a step of the loop: a closing brace
-pub braced_closed : {u s t w : Place} {depth : ℕ} {run : List ℕ} {c : ℕ} → BracedRead u depth s → depth ≤ s.at → Passes s run t → list_all is_no_brace run ≡ true → begins is_no_brace (left t) ≡ false → Passes t (c ∷ []) w → (c ≡ 123 → ⊥) → (depth ≡ 0 → ⊥)
+pub braced_closed : {u s t w : Place} {depth : ℕ} {run : List ℕ} {c : ℕ} → BracedRead u depth s → depth ≤ s.at
+    → Passes s run t → list_all is_no_brace run ≡ true → begins is_no_brace (left t) ≡ false → Passes t (c ∷ []) w
+    → (c ≡ 123 → ⊥) → (depth ≡ 0 → ⊥)
     → BracedRead u (depth - 1) w × (depth - 1 ≤ w.at)
 braced_closed {u} {s} {t} {w} {depth} {run} {c} read bound passed plain ends brace differs some =
     let positive : 0 < depth = omega (arith, some) in (
@@ -233,7 +253,9 @@ braced_closed {u} {s} {t} {w} {depth} {run} {c} read bound passed plain ends bra
     )
 
 -- an argument and its closing brace were passed
-pub encloses : {u t w inside : Place} {cs : List ℕ} (start : ℕ) → Passes u cs t → balances 0 cs ≡ true → Passes t (125 ∷ []) w → inside ≡ place (take t.at t.text) start → start ≡ u.at → IsUtf8 (drop inside.at inside.text) → t.at ≤ length t.text → Encloses u inside w
+pub encloses : {u t w inside : Place} {cs : List ℕ} (start : ℕ) → Passes u cs t → balances 0 cs ≡ true
+    → Passes t (125 ∷ []) w → inside ≡ place (take t.at t.text) start → start ≡ u.at
+    → IsUtf8 (drop inside.at inside.text) → t.at ≤ length t.text → Encloses u inside w
 encloses {u} {t} {w} {inside} {cs} start passed balanced brace is here utf8 within =
     let size : length (take t.at t.text) ≡ t.at = length-take-le t.at t.text within in
     let long : length inside.text ≡ t.at = ap (λ p. length p.text) is ∙ size in
@@ -241,8 +263,11 @@ encloses {u} {t} {w} {inside} {cs} start passed balanced brace is here utf8 with
     let next : t.at ≡ u.at + length (encode_utf8_all cs) = passed.next in
     let following : t.at + 1 ≤ w.at = passes_one brace in
     let cut : drop inside.at inside.text ≡ encode_utf8_all cs =
-    ap (λ p. drop p.at p.text) is ∙ ap (λ n. drop n (take t.at t.text)) here ∙ ap (λ n. drop u.at (take n t.text)) next ∙ drop-take u.at (length (encode_utf8_all cs)) t.text
-    ∙ ap (λ bs. take (length (encode_utf8_all cs)) (drop u.at bs)) passed.same ∙ ap (take (length (encode_utf8_all cs))) passed.here ∙ take_at (encode_utf8_all cs) (drop t.at t.text) (length (encode_utf8_all cs)) refl in
+    ap (λ p. drop p.at p.text) is ∙ ap (λ n. drop n (take t.at t.text)) here ∙ ap (λ n. drop u.at (take n t.text)) next
+    ∙ drop-take u.at (length (encode_utf8_all cs)) t.text
+    ∙ ap (λ bs. take (length (encode_utf8_all cs)) (drop u.at bs)) passed.same
+    ∙ ap (take (length (encode_utf8_all cs))) passed.here
+    ∙ take_at (encode_utf8_all cs) (drop t.at t.text) (length (encode_utf8_all cs)) refl in
     let same : left inside ≡ cs = chars_whole cs (drop inside.at inside.text) utf8 cut in
     record {
       stands = record {
@@ -255,8 +280,11 @@ encloses {u} {t} {w} {inside} {cs} start passed balanced brace is here utf8 with
       balanced = ap (balances 0) same ∙ balanced;
     }
 
-pub braced_encloses : {u s t w inside : Place} {depth : ℕ} {run : List ℕ} {c : ℕ} (start : ℕ) → BracedRead u depth s → depth ≡ 0 → Passes s run t → list_all is_no_brace run ≡ true → begins is_no_brace (left t) ≡ false → Passes t (c ∷ []) w → (c ≡ 123 → ⊥)
-    → inside ≡ place (take t.at t.text) start → start ≡ u.at → IsUtf8 (drop inside.at inside.text) → t.at ≤ length t.text → Encloses u inside w
+pub braced_encloses : {u s t w inside : Place} {depth : ℕ} {run : List ℕ} {c : ℕ} (start : ℕ) → BracedRead u depth s
+    → depth ≡ 0 → Passes s run t → list_all is_no_brace run ≡ true → begins is_no_brace (left t) ≡ false
+    → Passes t (c ∷ []) w → (c ≡ 123 → ⊥)
+    → inside ≡ place (take t.at t.text) start → start ≡ u.at → IsUtf8 (drop inside.at inside.text)
+    → t.at ≤ length t.text → Encloses u inside w
 braced_encloses {u} {s} {t} {w} {inside} {depth} {run} {c} start read none passed plain ends brace differs is here utf8 within =
     let found = braced_found (subst (λ d. BracedRead u d s) none read) passed plain ends brace differs in
     let closing : c ≡ 125 = is_closing c (next_brace c (left t) (left w) ends brace.left) differs in
@@ -267,15 +295,20 @@ chars_brace : (bs rest : List ℕ) → IsUtf8 bs → bs ≡ 125 ∷ rest → cha
 unfolding lib.Utf8.encode
 chars_brace bs rest utf8 is = (chars_past (125 ∷ []) bs rest utf8 is).0
 
-brace_eaten : {t w : Place} {rest : List ℕ} (found : Option ℕ) → MatchOption found ((left t ≡ []) × (w ≡ t)) (λ c. Passes t (c ∷ []) w) → left t ≡ 125 ∷ rest → Passes t (125 ∷ []) w
+brace_eaten : {t w : Place} {rest : List ℕ} (found : Option ℕ)
+    → MatchOption found ((left t ≡ []) × (w ≡ t)) (λ c. Passes t (c ∷ []) w) → left t ≡ 125 ∷ rest
+    → Passes t (125 ∷ []) w
 brace_eaten None eaten ahead = absurd (cc (eaten.0, ahead))
 brace_eaten {t} {w} (Some c) eaten ahead = let is : c ≡ 125 = cc (eaten.left, ahead) in subst (λ x. Passes t (x ∷ []) w) is eaten
 
 -- an argument whose end is known, and its closing brace
-pub known_encloses : {u t w inside : Place} (start end : ℕ) (found : Option ℕ) → Closes u.text start end → start ≡ u.at → t ≡ place u.text end → IsUtf8 (drop u.at u.text) → end < length u.text → MatchOption found ((left t ≡ []) × (w ≡ t)) (λ c. Passes t (c ∷ []) w)
+pub known_encloses : {u t w inside : Place} (start end : ℕ) (found : Option ℕ) → Closes u.text start end → start ≡ u.at
+    → t ≡ place u.text end → IsUtf8 (drop u.at u.text) → end < length u.text
+    → MatchOption found ((left t ≡ []) × (w ≡ t)) (λ c. Passes t (c ∷ []) w)
     → inside ≡ place (take t.at t.text) start → IsUtf8 (drop inside.at inside.text) → Encloses u inside w
 known_encloses {u} {t} {w} {inside} start end found closes here there utf8 within eaten is inside_utf8 =
-    let spelt : drop u.at u.text ≡ encode_utf8_all closes.inside ++ drop end u.text = subst (λ n. drop n u.text ≡ encode_utf8_all closes.inside ++ drop end u.text) here closes.spelt in
+    let spelt : drop u.at u.text ≡ encode_utf8_all closes.inside ++ drop end u.text =
+    subst (λ n. drop n u.text ≡ encode_utf8_all closes.inside ++ drop end u.text) here closes.spelt in
     let past = chars_past closes.inside (drop u.at u.text) (drop end u.text) utf8 spelt in
     let passed : Passes u closes.inside t = record {
       same = ap (λ p. p.text) there;
@@ -285,15 +318,19 @@ known_encloses {u} {t} {w} {inside} start end found closes here there utf8 withi
     } in
     let ahead : left t ≡ 125 ∷ chars (drop (end + 1) u.text) =
     ap (λ p. chars (drop p.at p.text)) there ∙ chars_brace (drop end u.text) (drop (end + 1) u.text) past.1 closes.brace in
-    encloses start passed closes.balanced (brace_eaten found eaten ahead) is here inside_utf8 (omega (arith, ap (λ p. p.at) there, within, ap (λ p. length p.text) there))
+    encloses start passed closes.balanced (brace_eaten found eaten ahead) is here inside_utf8
+    (omega (arith, ap (λ p. p.at) there, within, ap (λ p. length p.text) there))
 
 -- the end of an argument is at a character boundary
-pub closes_boundary : {text : List ℕ} {start end : ℕ} → Closes text start end → IsUtf8 (drop start text) → end < length text → IsCharBoundary text end
+pub closes_boundary : {text : List ℕ} {start end : ℕ} → Closes text start end → IsUtf8 (drop start text)
+    → end < length text → IsCharBoundary text end
 closes_boundary {text} {start} {end} closes utf8 within =
-    IsCharBoundary-from_drop text end (omega (arith, within)) (chars_past closes.inside (drop start text) (drop end text) utf8 closes.spelt).1
+    IsCharBoundary-from_drop text end (omega (arith, within))
+    (chars_past closes.inside (drop start text) (drop end text) utf8 closes.spelt).1
 
 -- the depth of an argument is below 2^63
-pub braced_bound : {u s : Place} {depth : ℕ} → BracedRead u depth s → u.at ≤ length u.text → length u.text < 2 ^ 63 → depth ≤ s.at → depth < 2 ^ 63
+pub braced_bound : {u s : Place} {depth : ℕ} → BracedRead u depth s → u.at ≤ length u.text → length u.text < 2 ^ 63
+    → depth ≤ s.at → depth < 2 ^ 63
 braced_bound {u} {s} {depth} read within fits bound =
     let inside : s.at ≤ length s.text = passes_within read.passed within in
     let same : length s.text ≡ length u.text = ap length read.passed.same in

@@ -88,7 +88,9 @@ tail_plain false cs right = characters_plain cs right
 pub name_plain : (name : List ℕ) → is_name name ≡ true → list_all is_unbroken name ≡ true
 name_plain [] right = absurd (both_ways false refl right)
 name_plain (c ∷ cs) right =
-    let parts = and_parts (not (is_escaped false c) && not (is_blank c)) (if is_sign c then is_empty cs else list_all is_name_character cs) right in
+    let parts =
+    and_parts (not (is_escaped false c) && not (is_blank c))
+    (if is_sign c then is_empty cs else list_all is_name_character cs) right in
     and_from _ _ (first_plain c (and_parts (not (is_escaped false c)) (not (is_blank c)) parts.0).1) (tail_plain (is_sign c) cs parts.1)
 
 escaped_break : (c : ℕ) → is_break c ≡ true → is_escaped false c ≡ false
@@ -113,7 +115,9 @@ replicate_plain zero c plain = refl
 replicate_plain (suc n) c plain = and_from _ _ plain (replicate_plain n c plain)
 
 pub dashes_plain : (n : ℕ) → list_all is_unbroken (dashes n) ≡ true
-dashes_plain n = plain_append (replicate (n / 3) 8212) (if n % 3 == 2 then 8211 ∷ [] else if n % 3 == 1 then 45 ∷ [] else []) (replicate_plain (n / 3) 8212 refl) (last (n % 3 == 2) (n % 3 == 1))
+dashes_plain n =
+    plain_append (replicate (n / 3) 8212) (if n % 3 == 2 then 8211 ∷ [] else if n % 3 == 1 then 45 ∷ [] else [])
+    (replicate_plain (n / 3) 8212 refl) (last (n % 3 == 2) (n % 3 == 1))
   where
     last : (two one : Bool) → list_all is_unbroken (if two then 8211 ∷ [] else if one then 45 ∷ [] else []) ≡ true
     last true one = refl
@@ -136,8 +140,12 @@ pub record IsUnitWritten (is_flat : Bool) (u : ContentUnit) : Type 0 where
   pub laid_is : laid is_flat (unit_text u []) ≡ unit_written is_flat u
   pub first : begins is_break (unit_text u []) ≡ false
 
-written_plain : (is_flat : Bool) (u : ContentUnit) → unit_written is_flat u ≡ unit_text u [] → list_all is_unbroken (unit_text u []) ≡ true → IsUnitWritten is_flat u
-written_plain is_flat u same all = record { laid_is = laid_plain is_flat (unit_text u []) all ∙ sym same; first = (capped_plain (unit_text u []) all).first }
+written_plain : (is_flat : Bool) (u : ContentUnit) → unit_written is_flat u ≡ unit_text u []
+    → list_all is_unbroken (unit_text u []) ≡ true → IsUnitWritten is_flat u
+written_plain is_flat u same all = record {
+  laid_is = laid_plain is_flat (unit_text u []) all ∙ sym same;
+  first = (capped_plain (unit_text u []) all).first;
+}
 
 -- a unit without an argument in braces is written as its text, put on one line
 pub unit_laid : (is_flat : Bool) (u : ContentUnit) (rest : List ℕ) → fits false u rest ≡ true → held u ≡ None → IsUnitWritten is_flat u
@@ -145,44 +153,63 @@ unit_laid is_flat (ContentUnit.hyphens n) rest right none = written_plain is_fla
 unit_laid is_flat (ContentUnit.spaces cs) rest right none = written_plain is_flat (ContentUnit.spaces cs) refl refl
 unit_laid is_flat ContentUnit.opening rest right none = written_plain is_flat ContentUnit.opening refl refl
 unit_laid is_flat ContentUnit.closing rest right none = written_plain is_flat ContentUnit.closing refl refl
-unit_laid is_flat (ContentUnit.escaped c) rest right none = written_plain is_flat (ContentUnit.escaped c) refl (and_from _ _ (escaped_plain c right) refl)
+unit_laid is_flat (ContentUnit.escaped c) rest right none =
+    written_plain is_flat (ContentUnit.escaped c) refl (and_from _ _ (escaped_plain c right) refl)
 unit_laid is_flat ContentUnit.backslash rest right none = written_plain is_flat ContentUnit.backslash refl refl
 unit_laid is_flat (ContentUnit.copied c) rest right none = record { laid_is = laid_copied is_flat c; first = refl }
 unit_laid is_flat (ContentUnit.formula text) rest right none = written_plain is_flat (ContentUnit.formula text) refl refl
 unit_laid is_flat (ContentUnit.command name space Argument.without) rest right none =
-    written_plain is_flat (ContentUnit.command name space Argument.without) refl (alone_plain name (name_plain name (command_parts false name space rest Argument.without right).1))
+    written_plain is_flat (ContentUnit.command name space Argument.without) refl
+    (alone_plain name (name_plain name (command_parts false name space rest Argument.without right).1))
 unit_laid is_flat (ContentUnit.command name space Argument.empty) rest right none =
     let plain = name_plain name (command_parts false name space rest Argument.empty right).1 in
     let capped : IsCapped [] = record { first = refl; last = refl } in
-    record { laid_is = laid_given is_flat name [] plain capped ∙ ap (λ cs. command_text name (Some cs)) (laid_plain is_flat [] refl); first = (capped_given name [] plain capped).first }
+    record {
+      laid_is =
+          laid_given is_flat name [] plain capped ∙ ap (λ cs. command_text name (Some cs)) (laid_plain is_flat [] refl);
+      first = (capped_given name [] plain capped).first;
+    }
 unit_laid is_flat (ContentUnit.command name space (Argument.single c)) rest right none =
     let parts = command_parts false name space rest (Argument.single c) right in
     let plain = name_plain name parts.1 in
     let one : list_all is_unbroken (c ∷ []) ≡ true = and_from _ _ (single_plain c parts.4) refl in
     record {
-      laid_is = laid_given is_flat name (c ∷ []) plain (capped_plain (c ∷ []) one) ∙ ap (λ cs. command_text name (Some cs)) (laid_plain is_flat (c ∷ []) one);
+      laid_is =
+          laid_given is_flat name (c ∷ []) plain (capped_plain (c ∷ []) one)
+          ∙ ap (λ cs. command_text name (Some cs)) (laid_plain is_flat (c ∷ []) one);
       first = (capped_given name (c ∷ []) plain (capped_plain (c ∷ []) one)).first;
     }
 unit_laid is_flat (ContentUnit.command name space (Argument.braced text)) rest right none = absurd (no_argument (sym none))
-unit_laid is_flat (ContentUnit.other c) rest right none = written_plain is_flat (ContentUnit.other c) refl (and_from _ _ (ordinary_plain c right) refl)
+unit_laid is_flat (ContentUnit.other c) rest right none =
+    written_plain is_flat (ContentUnit.other c) refl (and_from _ _ (ordinary_plain c right) refl)
 
 -- more atoms were parsed, and their text was written
-pub read_more : {is_flat : Bool} {whole base text rest : List ℕ} {depth after : ℕ} {now more : List ℕ} (atoms : List Atom) (cs : List ℕ) → IsReadTo is_flat whole base text depth now → Goes false depth text atoms after rest → IsLed atoms → argument_written is_flat atoms ≡ cs
+pub read_more : {is_flat : Bool} {whole base text rest : List ℕ} {depth after : ℕ} {now more : List ℕ}
+    (atoms : List Atom) (cs : List ℕ) → IsReadTo is_flat whole base text depth now
+    → Goes false depth text atoms after rest → IsLed atoms → argument_written is_flat atoms ≡ cs
     → more ≡ now ++ encode_utf8_all cs → IsReadTo is_flat whole base rest after more
 read_more {is_flat} {whole} {base} {text} {rest} {depth} {after} {now} {more} atoms cs read goes led is grew = record {
   atoms = read.atoms ++ atoms;
   goes = goes_then read.goes goes;
   wrote =
       wrote_more now more (base ++ argument_written is_flat read.atoms) cs read.wrote grew
-      ∙ ap encode_utf8_all (append_assoc base (argument_written is_flat read.atoms) cs ∙ ap (λ xs. base ++ xs) (ap (λ xs. argument_written is_flat read.atoms ++ xs) (sym is) ∙ sym (written_append is_flat read.atoms atoms led)));
+      ∙ ap encode_utf8_all
+      (append_assoc base (argument_written is_flat read.atoms) cs
+      ∙ ap (λ xs. base ++ xs)
+      (ap (λ xs. argument_written is_flat read.atoms ++ xs) (sym is)
+      ∙ sym (written_append is_flat read.atoms atoms led)));
 }
 
 -- a run of ordinary characters was parsed
-pub read_run : {is_flat : Bool} {whole base text rest : List ℕ} {depth : ℕ} {now more : List ℕ} (run : List ℕ) → IsReadTo is_flat whole base text depth now → text ≡ run ++ rest → list_all (is_ordinary false) run ≡ true → more ≡ now ++ encode_utf8_all run
+pub read_run : {is_flat : Bool} {whole base text rest : List ℕ} {depth : ℕ} {now more : List ℕ} (run : List ℕ)
+    → IsReadTo is_flat whole base text depth now → text ≡ run ++ rest → list_all (is_ordinary false) run ≡ true
+    → more ≡ now ++ encode_utf8_all run
     → IsReadTo is_flat whole base rest depth more
 read_run {is_flat} {whole} {base} {text} {rest} {depth} run read leading_run all grew =
     let plain = ordinary_all run all in
-    read_more (map (character depth) run) run read (subst (λ xs. Goes false depth xs (map (character depth) run) depth rest) (sym leading_run) (goes_run false depth run rest all)) (led_characters depth run (capped_plain run plain).first)
+    read_more (map (character depth) run) run read
+    (subst (λ xs. Goes false depth xs (map (character depth) run) depth rest) (sym leading_run)
+    (goes_run false depth run rest all)) (led_characters depth run (capped_plain run plain).first)
     (written_characters is_flat depth run ∙ laid_plain (is_flat_at is_flat depth) run plain) grew
 
 pub held_none : (unit : TextUnit) → held (text_unit_of unit) ≡ None
@@ -200,21 +227,28 @@ pub holds_none : (u : ContentUnit) {A : Type 0} (argument : List ℕ) → held u
 holds_none u argument none holds = absurd (no_argument (sym none ∙ holds))
 
 -- a unit of text was parsed
-pub read_text : {is_flat : Bool} {whole base text rest : List ℕ} {depth : ℕ} {now more : List ℕ} (unit : TextUnit) → IsReadTo is_flat whole base text depth now → IsNext false (text_unit_of unit) text rest
-    → more ≡ now ++ encode_utf8_all (unit_written (is_flat_at is_flat depth) (text_unit_of unit)) → IsReadTo is_flat whole base rest depth more
+pub read_text : {is_flat : Bool} {whole base text rest : List ℕ} {depth : ℕ} {now more : List ℕ} (unit : TextUnit)
+    → IsReadTo is_flat whole base text depth now → IsNext false (text_unit_of unit) text rest
+    → more ≡ now ++ encode_utf8_all (unit_written (is_flat_at is_flat depth) (text_unit_of unit))
+    → IsReadTo is_flat whole base rest depth more
 read_text {is_flat} {whole} {base} {text} {rest} {depth} unit read one grew =
     let u = text_unit_of unit in
     let is = text_unit depth unit in
     let wrote = unit_laid (is_flat_at is_flat depth) u rest one.fits (held_none unit) in
     read_more (map (character depth) (unit_text u [])) (unit_written (is_flat_at is_flat depth) u) read
-    (subst (λ atoms. Goes false depth text atoms depth rest) (is.means []) (goes_unit {inner = []} one is.closable (λ argument holds. holds_none (text_unit_of unit) argument (held_none unit) holds) is.deep))
+    (subst (λ atoms. Goes false depth text atoms depth rest) (is.means [])
+    (goes_unit {inner = []} one is.closable
+    (λ argument holds. holds_none (text_unit_of unit) argument (held_none unit) holds) is.deep))
     (led_characters depth (unit_text u []) wrote.first) (written_characters is_flat depth (unit_text u []) ∙ wrote.laid_is) grew
 
 -- math was parsed
-pub read_math : {is_flat : Bool} {whole base text rest : List ℕ} {depth : ℕ} {now more : List ℕ} (math : List ℕ) → IsReadTo is_flat whole base text depth now → IsNext false (ContentUnit.formula math) text rest
+pub read_math : {is_flat : Bool} {whole base text rest : List ℕ} {depth : ℕ} {now more : List ℕ} (math : List ℕ)
+    → IsReadTo is_flat whole base text depth now → IsNext false (ContentUnit.formula math) text rest
     → more ≡ now ++ encode_utf8_all (36 ∷ (laid is_flat math ++ 36 ∷ [])) → IsReadTo is_flat whole base rest depth more
 read_math {is_flat} math read one grew =
-    read_more (Atom.math math ∷ []) (36 ∷ (laid is_flat math ++ 36 ∷ [])) read (goes_unit {inner = []} one refl (λ argument holds. absurd (no_argument holds)) refl) (led_math math) (written_math is_flat math) grew
+    read_more (Atom.math math ∷ []) (36 ∷ (laid is_flat math ++ 36 ∷ [])) read
+    (goes_unit {inner = []} one refl (λ argument holds. absurd (no_argument holds)) refl) (led_math math)
+    (written_math is_flat math) grew
 
 led_none : IsLed []
 led_none = record { any = λ space. refl; first = refl }
@@ -224,14 +258,22 @@ written_none true = refl
 written_none false = refl
 
 -- an opening brace was parsed
-pub read_opening : {is_flat : Bool} {whole base text rest : List ℕ} {depth after : ℕ} {now : List ℕ} → IsReadTo is_flat whole base text depth now → IsNext false ContentUnit.opening text rest → after ≡ depth + 1 → IsReadTo is_flat whole base rest after now
+pub read_opening : {is_flat : Bool} {whole base text rest : List ℕ} {depth after : ℕ} {now : List ℕ}
+    → IsReadTo is_flat whole base text depth now → IsNext false ContentUnit.opening text rest → after ≡ depth + 1
+    → IsReadTo is_flat whole base rest after now
 read_opening {is_flat} {depth = depth} read one is =
-    read_more [] [] read (goes_unit {inner = []} one refl (λ argument holds. absurd (no_argument holds)) (is ∙ add-one depth)) led_none (written_none is_flat) (sym (append-nil _))
+    read_more [] [] read
+    (goes_unit {inner = []} one refl (λ argument holds. absurd (no_argument holds)) (is ∙ add-one depth)) led_none
+    (written_none is_flat) (sym (append-nil _))
 
 -- a closing brace was parsed
-pub read_closing : {is_flat : Bool} {whole base text rest : List ℕ} {depth after : ℕ} {now : List ℕ} → IsReadTo is_flat whole base text depth now → IsNext false ContentUnit.closing text rest → (depth ≡ 0 → ⊥) → after ≡ depth - 1 → IsReadTo is_flat whole base rest after now
+pub read_closing : {is_flat : Bool} {whole base text rest : List ℕ} {depth after : ℕ} {now : List ℕ}
+    → IsReadTo is_flat whole base text depth now → IsNext false ContentUnit.closing text rest → (depth ≡ 0 → ⊥)
+    → after ≡ depth - 1 → IsReadTo is_flat whole base rest after now
 read_closing {is_flat} {depth = depth} read one some is =
-    read_more [] [] read (goes_unit {inner = []} one (lt-ltb 0 depth (omega (arith, some))) (λ argument holds. absurd (no_argument holds)) is) led_none (written_none is_flat) (sym (append-nil _))
+    read_more [] [] read
+    (goes_unit {inner = []} one (lt-ltb 0 depth (omega (arith, some)))
+    (λ argument holds. absurd (no_argument holds)) is) led_none (written_none is_flat) (sym (append-nil _))
 
 -- an argument fails if its next unit doesn't end
 pub fails_on : {is_flat : Bool} {whole base text : List ℕ} {depth : ℕ} {now : List ℕ} {kind : ParseErrorKind}

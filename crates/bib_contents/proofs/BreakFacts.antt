@@ -36,7 +36,8 @@ mapping_plain : (c : ℕ) → list_all is_unbroken (canonical_mapping c) ≡ tru
 unfolding tables values_ok decomposition_stepped
 mapping_plain = Stepped-at_values decomposition decomposition_stepped (λ entry. list_all is_unbroken (if_canonical entry)) refl
 
-plain_flat_map : (f : ℕ → List ℕ) → ((c : ℕ) → is_unbroken c ≡ true → list_all is_unbroken (f c) ≡ true) → (cs : List ℕ) → list_all is_unbroken cs ≡ true → list_all is_unbroken (flat_map f cs) ≡ true
+plain_flat_map : (f : ℕ → List ℕ) → ((c : ℕ) → is_unbroken c ≡ true → list_all is_unbroken (f c) ≡ true) → (cs : List ℕ)
+    → list_all is_unbroken cs ≡ true → list_all is_unbroken (flat_map f cs) ≡ true
 plain_flat_map f each [] all = refl
 plain_flat_map f each (c ∷ cs) all =
     let parts = and_parts (is_unbroken c) (list_all is_unbroken cs) all in
@@ -50,7 +51,9 @@ plain_expand : (depth c : ℕ) → list_all is_unbroken (expand canonical_mappin
 unfolding expand
 plain_expand zero c = mapping_plain c
 plain_expand (suc depth) c =
-    plain_flat_map (λ x. or_itself x (expand canonical_mapping depth x)) (λ x plain. plain_itself x (expand canonical_mapping depth x) plain (plain_expand depth x)) (canonical_mapping c) (mapping_plain c)
+    plain_flat_map (λ x. or_itself x (expand canonical_mapping depth x))
+    (λ x plain. plain_itself x (expand canonical_mapping depth x) plain (plain_expand depth x))
+    (canonical_mapping c) (mapping_plain c)
 
 plain_table : (c : ℕ) → list_all is_unbroken (canonical_decomposition c) ≡ true
 unfolding canonical_decomposition
@@ -100,8 +103,11 @@ pub nfc_some : (c : ℕ) (cs : List ℕ) → nfc (c ∷ cs) ≡ [] → ⊥
 unfolding decomposed
 nfc_some c cs none =
     let same : nfd (c ∷ cs) ≡ [] = sym (nfd-nfc (c ∷ cs)) ∙ ap nfd none ∙ normalize-nil Nfd in
-    let size : length (nfd (c ∷ cs)) ≡ length (flat_map (decompose Nfd) (c ∷ cs)) = ap length (normalize-Nfd (c ∷ cs)) ∙ length-canonical_order (flat_map (decompose Nfd) (c ∷ cs)) in
-    let parts : length (flat_map (decompose Nfd) (c ∷ cs)) ≡ length (decompose Nfd c) + length (flat_map (decompose Nfd) cs) = length-append (decompose Nfd c) (flat_map (decompose Nfd) cs) in
+    let size : length (nfd (c ∷ cs)) ≡ length (flat_map (decompose Nfd) (c ∷ cs)) =
+    ap length (normalize-Nfd (c ∷ cs)) ∙ length-canonical_order (flat_map (decompose Nfd) (c ∷ cs)) in
+    let parts : length (flat_map (decompose Nfd) (c ∷ cs))
+    ≡ length (decompose Nfd c) + length (flat_map (decompose Nfd) cs) =
+    length-append (decompose Nfd c) (flat_map (decompose Nfd) cs) in
     let empty : length (nfd (c ∷ cs)) ≡ 0 = ap length same in
     let some = length-from_decompose Nfd c (decompose Nfd c) refl in
     omega (arith, some.0)

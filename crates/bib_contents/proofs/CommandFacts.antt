@@ -27,7 +27,8 @@ abbrev pub copyright : List ℕ
 copyright = codes "copyright"
 
 -- the tables of symbols are equal, row by row
-pub symbols_are : map {B = List ℕ × List ℕ} (λ row. (row.0.now, row.1.now)) SYMBOLS ≡ map {B = List ℕ × List ℕ} (λ row. (encode_utf8_all row.0, encode_utf8_all row.1)) symbols
+pub symbols_are : map {B = List ℕ × List ℕ} (λ row. (row.0.now, row.1.now)) SYMBOLS
+    ≡ map {B = List ℕ × List ℕ} (λ row. (encode_utf8_all row.0, encode_utf8_all row.1)) symbols
 unfolding encode_utf8 symbols
 symbols_are = refl
 
@@ -36,17 +37,24 @@ same_name : (name bytes : List ℕ) → IsUtf8 bytes → bytes_eq (encode_utf8_a
 same_name name bytes utf8 =
     let by_bytes = bytes_eq-Decides (encode_utf8_all name) bytes in
     let by_chars = bytes_eq-Decides name (chars bytes) in
-    same_from_decides {P = name ≡ chars bytes} _ _
-    (λ h. encodes_same name (chars bytes) (by_bytes.0 h ∙ sym (encodes-chars bytes utf8)), λ e. by_bytes.1 (ap encode_utf8_all e ∙ encodes-chars bytes utf8))
+    same_from_decides {P = name ≡ chars bytes} _ _ (
+      λ h. encodes_same name (chars bytes) (by_bytes.0 h ∙ sym (encodes-chars bytes utf8)),
+      λ e. by_bytes.1 (ap encode_utf8_all e ∙ encodes-chars bytes utf8),
+    )
     by_chars
 
 -- a look-up in an encoded table is the encoded look-up
-pub named_encoded : (rows : List (List ℕ × List ℕ)) (bytes : List ℕ) → IsUtf8 bytes → named (map (λ row. (encode_utf8_all row.0, encode_utf8_all row.1)) rows) bytes ≡ option_map encode_utf8_all (named rows (chars bytes))
+pub named_encoded : (rows : List (List ℕ × List ℕ)) (bytes : List ℕ) → IsUtf8 bytes
+    → named (map (λ row. (encode_utf8_all row.0, encode_utf8_all row.1)) rows) bytes
+    ≡ option_map encode_utf8_all (named rows (chars bytes))
 named_encoded [] bytes utf8 = refl
 named_encoded (row ∷ rows) bytes utf8 =
-    here (bytes_eq (encode_utf8_all row.0) bytes) (bytes_eq row.0 (chars bytes)) (named (map (λ row. (encode_utf8_all row.0, encode_utf8_all row.1)) rows) bytes) (named rows (chars bytes)) row.1 (same_name row.0 bytes utf8) (named_encoded rows bytes utf8)
+    here (bytes_eq (encode_utf8_all row.0) bytes) (bytes_eq row.0 (chars bytes))
+    (named (map (λ row. (encode_utf8_all row.0, encode_utf8_all row.1)) rows) bytes) (named rows (chars bytes))
+    row.1 (same_name row.0 bytes utf8) (named_encoded rows bytes utf8)
   where
-    here : (is_here is_named : Bool) (first : Option (List ℕ)) (all : Option (List ℕ)) (this : List ℕ) → is_here ≡ is_named → first ≡ option_map encode_utf8_all all
+    here : (is_here is_named : Bool) (first : Option (List ℕ)) (all : Option (List ℕ)) (this : List ℕ)
+        → is_here ≡ is_named → first ≡ option_map encode_utf8_all all
         → cond is_here (Some (encode_utf8_all this)) first ≡ option_map encode_utf8_all (cond is_named (Some this) all)
     here true true first all this same following = refl
     here true false first all this same following = cc
@@ -54,7 +62,8 @@ named_encoded (row ∷ rows) bytes utf8 =
     here false false first all this same following = following
 
 -- a text of two or more characters isn't in a table of one-character names
-pub named_longer : {A : Type 0} (rows : List (List ℕ × A)) (c d : ℕ) (cs : List ℕ) → list_all (λ row. eqb (length row.0) 1) rows ≡ true → named rows (c ∷ d ∷ cs) ≡ None
+pub named_longer : {A : Type 0} (rows : List (List ℕ × A)) (c d : ℕ) (cs : List ℕ)
+    → list_all (λ row. eqb (length row.0) 1) rows ≡ true → named rows (c ∷ d ∷ cs) ≡ None
 named_longer [] c d cs short = refl
 named_longer (row ∷ rows) c d cs short =
     let parts = and_parts (eqb (length row.0) 1) (list_all (λ row. eqb (length row.0) 1) rows) short in
@@ -82,13 +91,15 @@ unfolding unicode_normalization
 stroke_stays = refl
 
 -- a test that each value of a table passes, each found value passes
-pub named_passes : {A : Type 0} (test : A → Bool) (rows : List (List ℕ × A)) (name : List ℕ) (value : A) → list_all (λ row. test row.1) rows ≡ true → named rows name ≡ Some value → test value ≡ true
+pub named_passes : {A : Type 0} (test : A → Bool) (rows : List (List ℕ × A)) (name : List ℕ) (value : A)
+    → list_all (λ row. test row.1) rows ≡ true → named rows name ≡ Some value → test value ≡ true
 named_passes {A = A} test [] name value all found = cc
 named_passes {A = A} test (row ∷ rows) name value all found =
     let parts = and_parts (test row.1) (list_all (λ row. test row.1) rows) all in
     here (bytes_eq row.0 name) (named rows name) row.1 value parts.0 (named_passes test rows name value parts.1) found
   where
-    here : (is_here : Bool) (rest : Option A) (this value : A) → test this ≡ true → (rest ≡ Some value → test value ≡ true) → cond is_here (Some this) rest ≡ Some value → test value ≡ true
+    here : (is_here : Bool) (rest : Option A) (this value : A) → test this ≡ true
+        → (rest ≡ Some value → test value ≡ true) → cond is_here (Some this) rest ≡ Some value → test value ≡ true
     here true rest this value passes following found = cc
     here false rest this value passes following found = following found
 
@@ -107,24 +118,31 @@ composed_pair : (c mark : ℕ) → c < 128 → is_in_form Nfd (mark ∷ []) ≡ 
 composed_pair c mark ascii stays = nfc-by_nfd (c ∷ mark ∷ []) ∙ ap compose (decomposed_pair c mark ascii stays)
 
 -- an ASCII letter and a mark that compose are composed
-pub composes : (c mark whole : ℕ) → c < 128 → is_in_form Nfd (mark ∷ []) ≡ true → primary_composite c mark ≡ Some whole → nfc (c ∷ mark ∷ []) ≡ whole ∷ []
+pub composes : (c mark whole : ℕ) → c < 128 → is_in_form Nfd (mark ∷ []) ≡ true → primary_composite c mark ≡ Some whole
+    → nfc (c ∷ mark ∷ []) ≡ whole ∷ []
 composes c mark whole ascii stays one =
     let starter = class-latin c (omega arith) in
     composed_pair c mark ascii stays ∙ compose-starter c (mark ∷ []) (omega arith)
     ∙ compose_after-joined c [] mark whole [] (joined-free c [] mark (is_blocked-nil mark) ∙ one) ∙ compose_after-nil whole []
 
 -- an ASCII letter and a mark that do not compose stay two characters
-pub stays_apart : (c mark : ℕ) → c < 128 → is_in_form Nfd (mark ∷ []) ≡ true → primary_composite c mark ≡ None → nfc (c ∷ mark ∷ []) ≡ c ∷ mark ∷ []
+pub stays_apart : (c mark : ℕ) → c < 128 → is_in_form Nfd (mark ∷ []) ≡ true → primary_composite c mark ≡ None
+    → nfc (c ∷ mark ∷ []) ≡ c ∷ mark ∷ []
 stays_apart c mark ascii stays none =
     let starter = class-latin c (omega arith) in
     composed_pair c mark ascii stays ∙ compose-starter c (mark ∷ []) (omega arith) ∙ following (is_starter mark) refl
   where
     following : (b : Bool) → is_starter mark ≡ b → compose_after c [] (mark ∷ []) ≡ c ∷ mark ∷ []
-    following true is = compose_after-starter c [] mark [] (joined-none c [] mark none) (is_starter-true mark is) ∙ ap (λ cs. c ∷ cs) (compose_after-nil mark [])
-    following false is = compose_after-kept c [] mark [] (joined-none c [] mark none) (is_starter-false mark is) ∙ compose_after-nil c (mark ∷ [])
+    following true is =
+        compose_after-starter c [] mark [] (joined-none c [] mark none) (is_starter-true mark is)
+        ∙ ap (λ cs. c ∷ cs) (compose_after-nil mark [])
+    following false is =
+        compose_after-kept c [] mark [] (joined-none c [] mark none) (is_starter-false mark is)
+        ∙ compose_after-nil c (mark ∷ [])
 
 -- a mark is put on the last character
-pub with_mark-push : (mark : ℕ) (leading_run : List ℕ) (c : ℕ) → with_mark mark (leading_run ++ c ∷ []) ≡ leading_run ++ nfc (letter c ∷ mark ∷ [])
+pub with_mark-push : (mark : ℕ) (leading_run : List ℕ) (c : ℕ)
+    → with_mark mark (leading_run ++ c ∷ []) ≡ leading_run ++ nfc (letter c ∷ mark ∷ [])
 with_mark-push mark [] c = refl
 with_mark-push mark (d ∷ []) c = refl
 with_mark-push mark (d ∷ e ∷ leading_run) c = ap (λ cs. d ∷ cs) (with_mark-push mark (e ∷ leading_run) c)
@@ -134,14 +152,19 @@ pub chars_one : (bytes : List ℕ) (c : ℕ) → IsUtf8 bytes → bytes ≡ enco
 chars_one bytes c utf8 spells = chars_past_char bytes [] c utf8 (spells ∙ sym (append-nil _)) ∙ ap (λ cs. c ∷ cs) chars-nil
 
 -- the characters of a text with a last character
-pub chars_last : (bytes leading_run : List ℕ) (c : ℕ) → IsUtf8 bytes → IsUtf8 leading_run → bytes ≡ leading_run ++ encode_utf8 c → chars bytes ≡ chars leading_run ++ c ∷ []
+pub chars_last : (bytes leading_run : List ℕ) (c : ℕ) → IsUtf8 bytes → IsUtf8 leading_run
+    → bytes ≡ leading_run ++ encode_utf8 c → chars bytes ≡ chars leading_run ++ c ∷ []
 chars_last bytes leading_run c utf8 prefix_utf8 ends =
-    let past = chars_past (chars leading_run) bytes (encode_utf8 c) utf8 (ends ∙ ap (λ bs. bs ++ encode_utf8 c) (sym (encodes-chars leading_run prefix_utf8))) in
+    let past =
+    chars_past (chars leading_run) bytes (encode_utf8 c) utf8
+    (ends ∙ ap (λ bs. bs ++ encode_utf8 c) (sym (encodes-chars leading_run prefix_utf8))) in
     past.0 ∙ ap (λ cs. chars leading_run ++ cs) (chars_one (encode_utf8 c) c past.1 refl)
 
 -- a text that isn't a name in bytes isn't it in characters
 pub not_named : (bytes name : List ℕ) → IsUtf8 bytes → (bytes ≡ encode_utf8_all name → ⊥) → bytes_eq (chars bytes) name ≡ false
-not_named bytes name utf8 differs = reported (bytes_eq (chars bytes) name) (λ h. differs (sym (encodes-chars bytes utf8) ∙ ap encode_utf8_all ((bytes_eq-Decides _ _).0 h)))
+not_named bytes name utf8 differs =
+    reported (bytes_eq (chars bytes) name)
+    (λ h. differs (sym (encodes-chars bytes utf8) ∙ ap encode_utf8_all ((bytes_eq-Decides _ _).0 h)))
   where
     reported : (b : Bool) → (b ≡ true → ⊥) → b ≡ false
     reported true wrong = absurd (wrong refl)
@@ -154,15 +177,19 @@ accents_empty [] none = refl
 accents_empty (b ∷ bytes) none = absurd (omega arith)
 
 -- no accent has a name of two or more characters
-pub accents_longer : (bytes rest : List ℕ) (c : ℕ) → IsUtf8 bytes → bytes ≡ encode_utf8 c ++ rest → eqb (length rest) 0 ≡ false → None ≡ named accents (chars bytes)
+pub accents_longer : (bytes rest : List ℕ) (c : ℕ) → IsUtf8 bytes → bytes ≡ encode_utf8 c ++ rest
+    → eqb (length rest) 0 ≡ false → None ≡ named accents (chars bytes)
 accents_longer bytes rest c utf8 spells more =
-    sym (ap (named accents) (chars_past_char bytes rest c utf8 spells) ∙ longer (chars rest) (encodes-chars rest (IsUtf8-past_char bytes rest c utf8 spells)))
+    sym
+    (ap (named accents) (chars_past_char bytes rest c utf8 spells)
+    ∙ longer (chars rest) (encodes-chars rest (IsUtf8-past_char bytes rest c utf8 spells)))
   where
     longer : (cs : List ℕ) → encode_utf8_all cs ≡ rest → named accents (c ∷ cs) ≡ None
     longer [] spelt = absurd (false≢true (sym more ∙ ap (λ bs. eqb (length bs) 0) (sym spelt)))
     longer (d ∷ cs) spelt = named_longer accents c d cs accents_short
 
-pub accents_one : (bytes rest : List ℕ) (c : ℕ) → IsUtf8 bytes → bytes ≡ encode_utf8 c ++ rest → eqb (length rest) 0 ≡ true → chars bytes ≡ c ∷ []
+pub accents_one : (bytes rest : List ℕ) (c : ℕ) → IsUtf8 bytes → bytes ≡ encode_utf8 c ++ rest
+    → eqb (length rest) 0 ≡ true → chars bytes ≡ c ∷ []
 accents_one bytes [] c utf8 spells none = chars_past_char bytes [] c utf8 spells ∙ ap (λ cs. c ∷ cs) chars-nil
 accents_one bytes (r ∷ rest) c utf8 spells none = let empty : length (r ∷ rest) ≡ 0 = eqb-true _ _ none in absurd (omega arith)
 
@@ -188,29 +215,36 @@ unfolding chars
 other_copyright_with name argument is = ap (λ bs. other (chars bs) (Some argument)) is
 
 -- the text of an unknown command without an argument
-pub other_unknown : (name : List ℕ) → IsUtf8 name → (name ≡ 111 ∷ [] → ⊥) → (name ≡ copyright → ⊥) → other (chars name) None ≡ 92 ∷ (chars name ++ 32 ∷ [])
+pub other_unknown : (name : List ℕ) → IsUtf8 name → (name ≡ 111 ∷ [] → ⊥) → (name ≡ copyright → ⊥)
+    → other (chars name) None ≡ 92 ∷ (chars name ++ 32 ∷ [])
 unfolding encode_utf8
 other_unknown name utf8 not_o not_copyright = rw (not_named name (111 ∷ []) utf8 not_o, not_named name copyright utf8 not_copyright)
 
-pub other_unknown_with : (name argument : List ℕ) → IsUtf8 name → (name ≡ 111 ∷ [] → ⊥) → (name ≡ copyright → ⊥) → other (chars name) (Some argument) ≡ codes "\\" ++ chars name ++ codes "{" ++ argument ++ codes "}"
+pub other_unknown_with : (name argument : List ℕ) → IsUtf8 name → (name ≡ 111 ∷ [] → ⊥) → (name ≡ copyright → ⊥)
+    → other (chars name) (Some argument) ≡ codes "\\" ++ chars name ++ codes "{" ++ argument ++ codes "}"
 unfolding encode_utf8
-other_unknown_with name argument utf8 not_o not_copyright = rw (not_named name (111 ∷ []) utf8 not_o, not_named name copyright utf8 not_copyright)
+other_unknown_with name argument utf8 not_o not_copyright =
+    rw (not_named name (111 ∷ []) utf8 not_o, not_named name copyright utf8 not_copyright)
 
 -- the text of a command that is an accent
-pub given_accent : (name : List ℕ) (argument : Option (List ℕ)) (mark : ℕ) → named accents name ≡ Some mark → command_text name argument ≡ accented mark argument
+pub given_accent : (name : List ℕ) (argument : Option (List ℕ)) (mark : ℕ) → named accents name ≡ Some mark
+    → command_text name argument ≡ accented mark argument
 unfolding command_text
 given_accent name argument mark is = rw is
 
-pub given_symbol : (name : List ℕ) (argument : Option (List ℕ)) (text : List ℕ) → named accents name ≡ None → named symbols name ≡ Some text → command_text name argument ≡ text
+pub given_symbol : (name : List ℕ) (argument : Option (List ℕ)) (text : List ℕ) → named accents name ≡ None
+    → named symbols name ≡ Some text → command_text name argument ≡ text
 unfolding command_text
 given_symbol name argument text none is = rw (none, is)
 
-pub given_other : (name : List ℕ) (argument : Option (List ℕ)) → named accents name ≡ None → named symbols name ≡ None → command_text name argument ≡ other name argument
+pub given_other : (name : List ℕ) (argument : Option (List ℕ)) → named accents name ≡ None → named symbols name ≡ None
+    → command_text name argument ≡ other name argument
 unfolding command_text
 given_other name argument none absent = rw (none, absent)
 
 -- a found text in UTF-8 is the encoding of a found text
-pub symbol_text : (found : Option (List ℕ)) (bytes : List ℕ) → Some bytes ≡ option_map encode_utf8_all found → (text : List ℕ) × (found ≡ Some text) × (bytes ≡ encode_utf8_all text)
+pub symbol_text : (found : Option (List ℕ)) (bytes : List ℕ) → Some bytes ≡ option_map encode_utf8_all found
+    → (text : List ℕ) × (found ≡ Some text) × (bytes ≡ encode_utf8_all text)
 symbol_text None bytes is = absurd (cc)
 symbol_text (Some text) bytes is = (text, refl, cc)
 
@@ -230,5 +264,6 @@ pub symbol_chars : (name text bytes : List ℕ) → named symbols name ≡ Some 
 symbol_chars name text bytes found is = chars_whole text bytes (symbol_utf8 name text bytes found is) is
 
 -- the text of an unknown command with its argument, regrouped
-pub unknown_shape : (name argument : List ℕ) → codes "\\" ++ name ++ codes "{" ++ argument ++ codes "}" ≡ 92 ∷ (name ++ 123 ∷ (argument ++ 125 ∷ []))
+pub unknown_shape : (name argument : List ℕ)
+    → codes "\\" ++ name ++ codes "{" ++ argument ++ codes "}" ≡ 92 ∷ (name ++ 123 ∷ (argument ++ 125 ∷ []))
 unknown_shape name argument = simp append_assoc

@@ -11,7 +11,8 @@ use Rattle.bib_contents.proofs.LaidFacts.{last_of}
 use Rattle.unicode_normalization.specs.Forms.{nfc}
 
 -- characters appended to others
-pub wrote_more : (now more before cs : List ℕ) → now ≡ encode_utf8_all before → more ≡ now ++ encode_utf8_all cs → more ≡ encode_utf8_all (before ++ cs)
+pub wrote_more : (now more before cs : List ℕ) → now ≡ encode_utf8_all before → more ≡ now ++ encode_utf8_all cs
+    → more ≡ encode_utf8_all (before ++ cs)
 wrote_more now more before cs was grew = grew ∙ ap (λ bs. bs ++ encode_utf8_all cs) was ∙ sym (encodes-append before cs)
 
 no_characters : (cs : List ℕ) → length cs ≤ 0 → cs ≡ []
@@ -21,16 +22,21 @@ no_characters (c ∷ cs) none = absurd (omega (arith, none))
 -- a last part that adds no bytes is empty
 pub nothing_after : (base inside : List ℕ) → length (encode_utf8_all (base ++ inside)) ≤ length (encode_utf8_all base) → inside ≡ []
 nothing_after base inside short =
-    let size : length (encode_utf8_all (base ++ inside)) ≡ length (encode_utf8_all base) + length (encode_utf8_all inside) = ap length (encodes-append base inside) ∙ length-append (encode_utf8_all base) _ in
+    let size : length (encode_utf8_all (base ++ inside))
+    ≡ length (encode_utf8_all base) + length (encode_utf8_all inside) =
+    ap length (encodes-append base inside) ∙ length-append (encode_utf8_all base) _ in
     let wide : length inside ≤ length (encode_utf8_all inside) = length-le-encodes inside in
     no_characters inside (omega (arith, short, size, wide))
 
 -- a mark is written by itself if the text before it is empty
-pub marked_none : (base inside : List ℕ) (mark : ℕ) (sign old new : List ℕ) {start : ℕ} → length (encode_utf8_all base) ≡ start → old ≡ encode_utf8_all (base ++ inside) → length old ≤ start → sign ≡ bare mark → new ≡ old ++ encode_utf8_all sign
+pub marked_none : (base inside : List ℕ) (mark : ℕ) (sign old new : List ℕ) {start : ℕ}
+    → length (encode_utf8_all base) ≡ start → old ≡ encode_utf8_all (base ++ inside) → length old ≤ start
+    → sign ≡ bare mark → new ≡ old ++ encode_utf8_all sign
     → new ≡ encode_utf8_all (base ++ with_mark mark inside)
 marked_none base inside mark sign old new {start} size is short bare_is grew =
     let none : inside ≡ [] = nothing_after base inside (omega (arith, short, size, ap length is)) in
-    wrote_more old new (base ++ inside) sign is grew ∙ ap (λ cs. encode_utf8_all ((base ++ cs) ++ sign)) none ∙ ap (λ cs. encode_utf8_all (cs ++ sign)) (append-nil base)
+    wrote_more old new (base ++ inside) sign is grew ∙ ap (λ cs. encode_utf8_all ((base ++ cs) ++ sign)) none
+    ∙ ap (λ cs. encode_utf8_all (cs ++ sign)) (append-nil base)
     ∙ ap (λ cs. encode_utf8_all (base ++ cs)) bare_is ∙ ap (λ cs. encode_utf8_all (base ++ with_mark mark cs)) (sym none)
 
 -- texts with one more character each are equal part by part
@@ -46,46 +52,64 @@ last_same (x ∷ xs) (y ∷ ys) c d is =
     (ap (λ z. z ∷ xs) first ∙ ap (λ zs. y ∷ zs) rest.0, rest.1)
 
 -- a mark is put on the last character of a text
-pub marked_some : (base : List ℕ) (c : ℕ) (cs : List ℕ) (mark last : ℕ) (old leading_run new : List ℕ) → IsUtf8 old → IsUtf8 leading_run → old ≡ encode_utf8_all (base ++ c ∷ cs) → old ≡ leading_run ++ encode_utf8 last
+pub marked_some : (base : List ℕ) (c : ℕ) (cs : List ℕ) (mark last : ℕ) (old leading_run new : List ℕ) → IsUtf8 old
+    → IsUtf8 leading_run → old ≡ encode_utf8_all (base ++ c ∷ cs) → old ≡ leading_run ++ encode_utf8 last
     → new ≡ leading_run ++ encode_utf8_all (nfc (letter last ∷ mark ∷ [])) → new ≡ encode_utf8_all (base ++ with_mark mark (c ∷ cs))
 marked_some base c cs mark last old leading_run new utf8 prefix_utf8 is popped grew =
     let split = last_of c cs in
-    let whole : chars old ≡ (base ++ split.0) ++ split.1 ∷ [] = chars_whole (base ++ c ∷ cs) old utf8 is ∙ ap (λ xs. base ++ xs) split.2 ∙ sym (append_assoc base split.0 (split.1 ∷ [])) in
-    let parts = last_same (chars leading_run) (base ++ split.0) last split.1 (sym (chars_last old leading_run last utf8 prefix_utf8 popped) ∙ whole) in
+    let whole : chars old ≡ (base ++ split.0) ++ split.1 ∷ [] =
+    chars_whole (base ++ c ∷ cs) old utf8 is ∙ ap (λ xs. base ++ xs) split.2
+    ∙ sym (append_assoc base split.0 (split.1 ∷ [])) in
+    let parts =
+    last_same (chars leading_run) (base ++ split.0) last split.1
+    (sym (chars_last old leading_run last utf8 prefix_utf8 popped) ∙ whole) in
     wrote_more leading_run new (chars leading_run) (nfc (letter last ∷ mark ∷ [])) (sym (encodes-chars leading_run prefix_utf8)) grew
     ∙ ap (λ xs. encode_utf8_all (xs ++ nfc (letter last ∷ mark ∷ []))) parts.0
-    ∙ ap encode_utf8_all (append_assoc base split.0 _ ∙ ap (λ d. base ++ (split.0 ++ nfc (letter d ∷ mark ∷ []))) parts.1 ∙ ap (λ xs. base ++ xs) (sym (ap (with_mark mark) split.2 ∙ with_mark-push mark split.0 split.1)))
+    ∙ ap encode_utf8_all
+    (append_assoc base split.0 _ ∙ ap (λ d. base ++ (split.0 ++ nfc (letter d ∷ mark ∷ []))) parts.1
+    ∙ ap (λ xs. base ++ xs) (sym (ap (with_mark mark) split.2 ∙ with_mark-push mark split.0 split.1)))
 
-pub marked_after : (base inside : List ℕ) (mark last : ℕ) (old leading_run new : List ℕ) {start : ℕ} → length (encode_utf8_all base) ≡ start → start < length old → IsUtf8 old → IsUtf8 leading_run → old ≡ encode_utf8_all (base ++ inside) → old ≡ leading_run ++ encode_utf8 last
+pub marked_after : (base inside : List ℕ) (mark last : ℕ) (old leading_run new : List ℕ) {start : ℕ}
+    → length (encode_utf8_all base) ≡ start → start < length old → IsUtf8 old → IsUtf8 leading_run
+    → old ≡ encode_utf8_all (base ++ inside) → old ≡ leading_run ++ encode_utf8 last
     → new ≡ leading_run ++ encode_utf8_all (nfc (letter last ∷ mark ∷ [])) → new ≡ encode_utf8_all (base ++ with_mark mark inside)
 marked_after base [] mark last old leading_run new size more utf8 prefix_utf8 is popped grew =
     let same : length old ≡ length (encode_utf8_all base) = ap length is ∙ ap (λ cs. length (encode_utf8_all cs)) (append-nil base) in
     absurd (omega (arith, size, more, same))
-marked_after base (c ∷ cs) mark last old leading_run new size more utf8 prefix_utf8 is popped grew = marked_some base c cs mark last old leading_run new utf8 prefix_utf8 is popped grew
+marked_after base (c ∷ cs) mark last old leading_run new size more utf8 prefix_utf8 is popped grew =
+    marked_some base c cs mark last old leading_run new utf8 prefix_utf8 is popped grew
 
 -- a text truncated to the start of its last part
-pub cut_back : (base inside now cut : List ℕ) {start : ℕ} → length (encode_utf8_all base) ≡ start → now ≡ encode_utf8_all (base ++ inside) → cut ≡ take start now → cut ≡ encode_utf8_all base
+pub cut_back : (base inside now cut : List ℕ) {start : ℕ} → length (encode_utf8_all base) ≡ start
+    → now ≡ encode_utf8_all (base ++ inside) → cut ≡ take start now → cut ≡ encode_utf8_all base
 cut_back base inside now cut {start} size is taken =
     taken ∙ ap (take start) (is ∙ encodes-append base inside) ∙ take_at (encode_utf8_all base) (encode_utf8_all inside) start size
 
 -- the start of a text's last part is a character boundary
-pub boundary_at : (base inside bs : List ℕ) {start : ℕ} → length (encode_utf8_all base) ≡ start → bs ≡ encode_utf8_all (base ++ inside) → IsUtf8 bs → IsCharBoundary bs start
+pub boundary_at : (base inside bs : List ℕ) {start : ℕ} → length (encode_utf8_all base) ≡ start
+    → bs ≡ encode_utf8_all (base ++ inside) → IsUtf8 bs → IsCharBoundary bs start
 boundary_at base inside bs {start} size is utf8 =
     let parts : bs ≡ encode_utf8_all base ++ encode_utf8_all inside = is ∙ encodes-append base inside in
-    subst (IsCharBoundary bs) size (IsCharBoundary-at_seam bs (encode_utf8_all base) (encode_utf8_all inside) parts (chars_past base bs (encode_utf8_all inside) utf8 parts).1)
+    subst (IsCharBoundary bs) size
+    (IsCharBoundary-at_seam bs (encode_utf8_all base) (encode_utf8_all inside) parts
+    (chars_past base bs (encode_utf8_all inside) utf8 parts).1)
 
 -- a symbol replaces an argument
-pub symbol_end : (base inside now cut new text : List ℕ) {start : ℕ} → length (encode_utf8_all (base ++ [])) ≡ start → now ≡ encode_utf8_all ((base ++ []) ++ inside) → cut ≡ take start now → new ≡ cut ++ text → IsUtf8 text
+pub symbol_end : (base inside now cut new text : List ℕ) {start : ℕ} → length (encode_utf8_all (base ++ [])) ≡ start
+    → now ≡ encode_utf8_all ((base ++ []) ++ inside) → cut ≡ take start now → new ≡ cut ++ text → IsUtf8 text
     → new ≡ encode_utf8_all (base ++ chars text)
 symbol_end base inside now cut new text {start} size is taken grew utf8 =
     let back : cut ≡ encode_utf8_all base = cut_back (base ++ []) inside now cut size is taken ∙ ap encode_utf8_all (append-nil base) in
     wrote_more cut new base (chars text) back (grew ∙ ap (λ bs. cut ++ bs) (sym (encodes-chars text utf8)))
 
 -- the end of an unknown command
-pub unknown_end : (base name inside now new : List ℕ) → now ≡ encode_utf8_all ((base ++ 92 ∷ (name ++ 123 ∷ [])) ++ inside) → new ≡ now ++ encode_utf8_all (125 ∷ []) → new ≡ encode_utf8_all (base ++ 92 ∷ (name ++ 123 ∷ (inside ++ 125 ∷ [])))
+pub unknown_end : (base name inside now new : List ℕ)
+    → now ≡ encode_utf8_all ((base ++ 92 ∷ (name ++ 123 ∷ [])) ++ inside) → new ≡ now ++ encode_utf8_all (125 ∷ [])
+    → new ≡ encode_utf8_all (base ++ 92 ∷ (name ++ 123 ∷ (inside ++ 125 ∷ [])))
 unknown_end base name inside now new is grew = wrote_more now new _ (125 ∷ []) is grew ∙ ap encode_utf8_all (regrouped base name inside)
   where
-    regrouped : (base name inside : List ℕ) → ((base ++ 92 ∷ (name ++ 123 ∷ [])) ++ inside) ++ 125 ∷ [] ≡ base ++ 92 ∷ (name ++ 123 ∷ (inside ++ 125 ∷ []))
+    regrouped : (base name inside : List ℕ)
+        → ((base ++ 92 ∷ (name ++ 123 ∷ [])) ++ inside) ++ 125 ∷ [] ≡ base ++ 92 ∷ (name ++ 123 ∷ (inside ++ 125 ∷ []))
     regrouped base name inside = simp append_assoc
 
 -- characters appended to a text
@@ -97,5 +121,7 @@ pub wrote_from : (old new cs : List ℕ) → IsUtf8 old → new ≡ encode_utf8_
 wrote_from old new cs utf8 is = is ∙ encodes-append (chars old) cs ∙ ap (λ bs. bs ++ encode_utf8_all cs) (encodes-chars old utf8)
 
 -- math between dollar signs
-pub between_dollars : (cs old one two new : List ℕ) → one ≡ old ++ encode_utf8_all (36 ∷ []) → two ≡ one ++ encode_utf8_all cs → new ≡ two ++ encode_utf8_all (36 ∷ []) → new ≡ old ++ encode_utf8_all (36 ∷ (cs ++ 36 ∷ []))
+pub between_dollars : (cs old one two new : List ℕ) → one ≡ old ++ encode_utf8_all (36 ∷ [])
+    → two ≡ one ++ encode_utf8_all cs → new ≡ two ++ encode_utf8_all (36 ∷ [])
+    → new ≡ old ++ encode_utf8_all (36 ∷ (cs ++ 36 ∷ []))
 between_dollars cs old one two new first middle last = three_parts old one two new (36 ∷ []) cs (36 ∷ []) first middle last

@@ -48,7 +48,8 @@ no_unit_fails backslash u rest one = no_escape [] false refl refl u rest one
 no_unit_fails (brace name text named whole none) u rest one =
     let takes = takes_next name [] in
     let after = 123 ∷ text in
-    command_none (name ++ after) name after [] after takes false refl named whole refl refl no_space refl refl (unclosed text takes none) u rest one
+    command_none (name ++ after) name after [] after takes false refl named whole refl refl no_space refl refl
+    (unclosed text takes none) u rest one
 
 -- a text whose first unit fails isn't empty
 some_fails : {is_verbatim : Bool} {text : List ℕ} → UnitFails is_verbatim text → text ≡ [] → ⊥
@@ -88,7 +89,8 @@ pub fails_here : {is_verbatim : Bool} {depth : ℕ} {u : ContentUnit} {text rest
 fails_here one (inl closed) = rw (closed.1) (unopened one closed.0)
 fails_here one (inr within) = inside one within.1 within.2
 
-pub fails_taken : {is_verbatim : Bool} {whole text rest : List ℕ} {u : ContentUnit} {start now : List Atom} {depth : ℕ} {kind : ParseErrorKind}
+pub fails_taken : {is_verbatim : Bool} {whole text rest : List ℕ} {u : ContentUnit} {start now : List Atom} {depth : ℕ}
+    {kind : ParseErrorKind}
     → ReadSoFar is_verbatim whole start text depth now → IsNext is_verbatim u text rest → IsUntaken u depth kind
     → ContentFails is_verbatim 0 whole kind
 fails_taken read one untaken = read.goes.fails _ (fails_here one untaken)

@@ -44,16 +44,22 @@ pub record IsBegun (frame : Frame) (name under : List ℕ) (low high : ℕ) : Ty
 
 -- frames that wait, each for the argument of the one above. The topmost waits for the argument `whole` of the command
 -- `name`, before which the output is `under`. The lowest argument is the first one.
-pub data AreWaiting (first_name first_whole first_under : List ℕ) (ends : Ends) (low high : ℕ) : List ℕ → List ℕ → Bool → List ℕ → List Frame → Type 0 where
-  none : {name whole under : List ℕ} {is_flat : Bool} → name ≡ first_name → whole ≡ first_whole → is_flat ≡ false → under ≡ first_under → AreWaiting first_name first_whole first_under ends low high name whole is_flat under []
-  above : {name whole under : List ℕ} {is_flat : Bool} {frame : Frame} {frames : List Frame} (below_name below_whole below_under before space : List ℕ) → IsBegun frame below_name below_under low high → AreKnown ends frame.s.text
+pub data AreWaiting (first_name first_whole first_under : List ℕ) (ends : Ends) (low high : ℕ) : List ℕ → List ℕ → Bool
+    → List ℕ → List Frame → Type 0 where
+  none : {name whole under : List ℕ} {is_flat : Bool} → name ≡ first_name → whole ≡ first_whole → is_flat ≡ false
+      → under ≡ first_under → AreWaiting first_name first_whole first_under ends low high name whole is_flat under []
+  above : {name whole under : List ℕ} {is_flat : Bool} {frame : Frame} {frames : List Frame}
+      (below_name below_whole below_under before space : List ℕ) → IsBegun frame below_name below_under low high
+      → AreKnown ends frame.s.text
       → IsReadTo frame.is_flat below_whole (below_under ++ made_before frame.effect below_name) before frame.depth (encode_utf8_all under)
-      → IsNext false (ContentUnit.command name space (Argument.braced whole)) before (left frame.s) → is_flat ≡ is_flat_at frame.is_flat frame.depth
+      → IsNext false (ContentUnit.command name space (Argument.braced whole)) before (left frame.s)
+      → is_flat ≡ is_flat_at frame.is_flat frame.depth
       → AreWaiting first_name first_whole first_under ends low high below_name below_whole frame.is_flat below_under frames
       → AreWaiting first_name first_whole first_under ends low high name whole is_flat under (frame ∷ frames)
 
 -- an argument is being parsed, and frames wait for it
-pub record IsReading (first_name first_whole first_under : List ℕ) (ends : Ends) (low high : ℕ) (frame : Frame) (frames : List Frame) (now : List ℕ) : Type 0 where
+pub record IsReading (first_name first_whole first_under : List ℕ) (ends : Ends) (low high : ℕ) (frame : Frame)
+    (frames : List Frame) (now : List ℕ) : Type 0 where
   pub name : List ℕ
   pub whole : List ℕ
   pub under : List ℕ
@@ -68,32 +74,45 @@ weight [] = 0
 weight (frame ∷ frames) = length (left frame.s) + 1 + weight frames
 
 -- a frame whose parsing went on
-pub begun_on : {frame on : Frame} {name under : List ℕ} {low high : ℕ} → IsBegun frame name under low high → KeepsFrame frame on → StandsRight on → IsBegun on name under low high
+pub begun_on : {frame on : Frame} {name under : List ℕ} {low high : ℕ} → IsBegun frame name under low high
+    → KeepsFrame frame on → StandsRight on → IsBegun on name under low high
 begun_on {frame} {on} {name} {under} {low} {high} begun kept right = record {
   gives = λ argument. begun.gives argument ∙ ap (λ e. made e name argument) (sym kept.effect);
   fit = subst IsFit (sym kept.effect) begun.fit;
   plain = begun.plain;
   start = ap (λ e. length (encode_utf8_all (under ++ made_before e name))) kept.effect ∙ begun.start ∙ sym kept.start;
   following = (let a : low ≤ frame.s.at = begun.following in let b : frame.s.at ≤ on.s.at = kept.ahead in omega arith);
-  within = (let a : length frame.s.text ≤ high = begun.within in let b : length on.s.text ≡ length frame.s.text = ap length kept.text in omega arith);
+  within =
+      (let a : length frame.s.text ≤ high = begun.within in
+      let b : length on.s.text ≡ length frame.s.text = ap length kept.text in omega arith);
   right = right;
 }
 
-based_on : (old new : Effect) {flat : Bool} {whole rest now : List ℕ} {depth : ℕ} (under name : List ℕ) → new ≡ old → IsReadTo flat whole (under ++ made_before old name) rest depth now → IsReadTo flat whole (under ++ made_before new name) rest depth now
-based_on old new {flat} {whole} {rest} {now} {depth} under name same read = subst (λ e. IsReadTo flat whole (under ++ made_before e name) rest depth now) (sym same) read
+based_on : (old new : Effect) {flat : Bool} {whole rest now : List ℕ} {depth : ℕ} (under name : List ℕ) → new ≡ old
+    → IsReadTo flat whole (under ++ made_before old name) rest depth now
+    → IsReadTo flat whole (under ++ made_before new name) rest depth now
+based_on old new {flat} {whole} {rest} {now} {depth} under name same read =
+    subst (λ e. IsReadTo flat whole (under ++ made_before e name) rest depth now) (sym same) read
 
 -- the parse of an argument at its end
-ended_as : {flat : Bool} {whole base now : List ℕ} {depth : ℕ} (read : IsReadTo flat whole base [] depth now) → Reads false 0 whole read.atoms
+ended_as : {flat : Bool} {whole base now : List ℕ} {depth : ℕ} (read : IsReadTo flat whole base [] depth now)
+    → Reads false 0 whole read.atoms
 ended_as {whole = whole} read = subst (Reads false 0 whole) (append-nil read.atoms) (read.goes.onward [] end)
 
 module _ {first_name first_whole first_under : List ℕ} {ends : Ends} {low high : ℕ} where
-  waiting_on : (old new : Bool) {name whole under : List ℕ} {frames : List Frame} → new ≡ old → AreWaiting first_name first_whole first_under ends low high name whole old under frames
+  waiting_on : (old new : Bool) {name whole under : List ℕ} {frames : List Frame} → new ≡ old
+      → AreWaiting first_name first_whole first_under ends low high name whole old under frames
       → AreWaiting first_name first_whole first_under ends low high name whole new under frames
-  waiting_on old new {name} {whole} {under} {frames} same waiting = subst (λ flat. AreWaiting first_name first_whole first_under ends low high name whole flat under frames) (sym same) waiting
+  waiting_on old new {name} {whole} {under} {frames} same waiting =
+      subst (λ flat. AreWaiting first_name first_whole first_under ends low high name whole flat under frames)
+      (sym same) waiting
 
   -- a unit was parsed
-  pub reading_on : {frame on : Frame} {frames : List Frame} {now more : List ℕ} (reading : IsReading first_name first_whole first_under ends low high frame frames now) → KeepsFrame frame on → StandsRight on
-      → IsReadTo on.is_flat reading.whole (reading.under ++ made_before frame.effect reading.name) (left on.s) on.depth more → IsReading first_name first_whole first_under ends low high on frames more
+  pub reading_on : {frame on : Frame} {frames : List Frame} {now more : List ℕ}
+      (reading : IsReading first_name first_whole first_under ends low high frame frames now) → KeepsFrame frame on
+      → StandsRight on
+      → IsReadTo on.is_flat reading.whole (reading.under ++ made_before frame.effect reading.name) (left on.s) on.depth
+      more → IsReading first_name first_whole first_under ends low high on frames more
   reading_on {frame} {on} reading kept right read = record {
     name = reading.name;
     whole = reading.whole;
@@ -105,26 +124,41 @@ module _ {first_name first_whole first_under : List ℕ} {ends : Ends} {low high
   }
 
   -- the argument of a command in the argument was begun
-  pub reading_above : {frame on above : Frame} {frames : List Frame} {now more most name : List ℕ} (before space inside : List ℕ) (reading : IsReading first_name first_whole first_under ends low high frame frames now) → KeepsFrame frame on → StandsRight on
-      → IsReadTo on.is_flat reading.whole (reading.under ++ made_before frame.effect reading.name) before on.depth (encode_utf8_all more) → IsNext false (ContentUnit.command name space (Argument.braced inside)) before (left on.s)
-      → IsBegun above name more low high → AreKnown ends above.s.text → above.is_flat ≡ is_flat_at on.is_flat on.depth → IsReadTo above.is_flat inside (more ++ made_before above.effect name) (left above.s) above.depth most
+  pub reading_above : {frame on above : Frame} {frames : List Frame} {now more most name : List ℕ}
+      (before space inside : List ℕ)
+      (reading : IsReading first_name first_whole first_under ends low high frame frames now) → KeepsFrame frame on
+      → StandsRight on
+      → IsReadTo on.is_flat reading.whole (reading.under ++ made_before frame.effect reading.name) before on.depth
+      (encode_utf8_all more)
+      → IsNext false (ContentUnit.command name space (Argument.braced inside)) before (left on.s)
+      → IsBegun above name more low high → AreKnown ends above.s.text → above.is_flat ≡ is_flat_at on.is_flat on.depth
+      → IsReadTo above.is_flat inside (more ++ made_before above.effect name) (left above.s) above.depth most
       → IsReading first_name first_whole first_under ends low high above (on ∷ frames) most
-  reading_above {frame} {on} {above} {frames} {now} {more} {most} {name} before space inside reading kept right read one begun known flat begins = record {
-    name = name;
-    whole = inside;
-    under = more;
-    begun = begun;
-    known = known;
-    read = begins;
-    waiting =
-        AreWaiting.above reading.name reading.whole reading.under before space (begun_on reading.begun kept right) (subst (AreKnown ends) (sym kept.text) reading.known) (based_on frame.effect on.effect reading.under reading.name kept.effect read) one flat
-        (waiting_on frame.is_flat on.is_flat kept.is_flat reading.waiting);
-  }
+  reading_above {frame} {on} {above} {frames} {now} {more} {most} {name} before space inside reading kept right read one
+      begun known flat begins = record {
+        name = name;
+        whole = inside;
+        under = more;
+        begun = begun;
+        known = known;
+        read = begins;
+        waiting =
+            AreWaiting.above reading.name reading.whole reading.under before space (begun_on reading.begun kept right)
+            (subst (AreKnown ends) (sym kept.text) reading.known)
+            (based_on frame.effect on.effect reading.under reading.name kept.effect read) one flat
+            (waiting_on frame.is_flat on.is_flat kept.is_flat reading.waiting);
+      }
 
   -- the argument ended, and the frame below goes on
-  below_of : {name whole under most : List ℕ} {is_flat : Bool} {below : Frame} {frames : List Frame} → AreWaiting first_name first_whole first_under ends low high name whole is_flat under (below ∷ frames) → (atoms : List Atom) → Reads false 0 whole atoms
-      → list_all is_unbroken name ≡ true → most ≡ encode_utf8_all (under ++ command_text name (Some (argument_written is_flat atoms))) → IsReading first_name first_whole first_under ends low high below frames most
-  below_of {name} {whole} {under} {most} {is_flat} {below} {frames} (AreWaiting.above below_name below_whole below_under before space begun known read one flat waiting) atoms inner plain wrote =
+  below_of : {name whole under most : List ℕ} {is_flat : Bool} {below : Frame} {frames : List Frame}
+      → AreWaiting first_name first_whole first_under ends low high name whole is_flat under (below ∷ frames)
+      → (atoms : List Atom) → Reads false 0 whole atoms
+      → list_all is_unbroken name ≡ true
+      → most ≡ encode_utf8_all (under ++ command_text name (Some (argument_written is_flat atoms)))
+      → IsReading first_name first_whole first_under ends low high below frames most
+  below_of {name} {whole} {under} {most} {is_flat} {below} {frames}
+      (AreWaiting.above below_name below_whole below_under before space begun known read one flat waiting) atoms
+      inner plain wrote =
       let formatted = formatted_atoms false atoms in
       let capped = whole_capped (whole_reads inner) in
       let said = command_text name (Some formatted) in
@@ -136,36 +170,62 @@ module _ {first_name first_whole first_under : List ℕ} {ends : Ends} {low high
         known = known;
         read =
             read_more (map (character below.depth) said) (command_text name (Some (argument_written is_flat atoms))) read
-            (goes_unit {u = ContentUnit.command name space (Argument.braced whole)} {inner = atoms} one refl (λ argument holds. subst (λ t. Reads false 0 t atoms) (held_is holds) inner) refl)
+            (goes_unit {u = ContentUnit.command name space (Argument.braced whole)} {inner = atoms} one refl
+            (λ argument holds. subst (λ t. Reads false 0 t atoms) (held_is holds) inner) refl)
             (led_characters below.depth said (capped_given name formatted plain capped).first)
-            (written_characters below.is_flat below.depth said ∙ laid_given (is_flat_at below.is_flat below.depth) name formatted plain capped ∙ ap (λ b. command_text name (Some (laid b formatted))) (sym flat))
+            (written_characters below.is_flat below.depth said
+            ∙ laid_given (is_flat_at below.is_flat below.depth) name formatted plain capped
+            ∙ ap (λ b. command_text name (Some (laid b formatted))) (sym flat))
             (wrote ∙ encodes-append under (command_text name (Some (argument_written is_flat atoms))));
         waiting = waiting;
       }
 
-  pub reading_below : {frame on below : Frame} {frames : List Frame} {now more most : List ℕ} (reading : IsReading first_name first_whole first_under ends low high frame (below ∷ frames) now) → KeepsFrame frame on
-      → (read : IsReadTo on.is_flat reading.whole (reading.under ++ made_before frame.effect reading.name) [] on.depth more) → most ≡ encode_utf8_all (reading.under ++ made on.effect reading.name (argument_written on.is_flat read.atoms))
+  pub reading_below : {frame on below : Frame} {frames : List Frame} {now more most : List ℕ}
+      (reading : IsReading first_name first_whole first_under ends low high frame (below ∷ frames) now)
+      → KeepsFrame frame on
+      →
+      (read : IsReadTo on.is_flat reading.whole (reading.under ++ made_before frame.effect reading.name) [] on.depth
+      more)
+      → most ≡ encode_utf8_all (reading.under ++ made on.effect reading.name (argument_written on.is_flat read.atoms))
       → IsReading first_name first_whole first_under ends low high below frames most
   reading_below {frame} {on} {below} {frames} {now} {more} {most} reading kept read wrote =
-      let gives : made on.effect reading.name (argument_written on.is_flat read.atoms) ≡ command_text reading.name (Some (argument_written frame.is_flat read.atoms)) =
-      ap (λ e. made e reading.name (argument_written on.is_flat read.atoms)) kept.effect ∙ sym (reading.begun.gives (argument_written on.is_flat read.atoms)) ∙ ap (λ b. command_text reading.name (Some (argument_written b read.atoms))) kept.is_flat in
-      below_of reading.waiting read.atoms (ended_as read) reading.begun.plain (wrote ∙ ap (λ cs. encode_utf8_all (reading.under ++ cs)) gives)
+      let gives : made on.effect reading.name (argument_written on.is_flat read.atoms)
+      ≡ command_text reading.name (Some (argument_written frame.is_flat read.atoms)) =
+      ap (λ e. made e reading.name (argument_written on.is_flat read.atoms)) kept.effect
+      ∙ sym (reading.begun.gives (argument_written on.is_flat read.atoms))
+      ∙ ap (λ b. command_text reading.name (Some (argument_written b read.atoms))) kept.is_flat in
+      below_of reading.waiting read.atoms (ended_as read) reading.begun.plain
+      (wrote ∙ ap (λ cs. encode_utf8_all (reading.under ++ cs)) gives)
 
   -- the first argument ended
-  done_of : {name whole under most : List ℕ} {is_flat : Bool} → AreWaiting first_name first_whole first_under ends low high name whole is_flat under [] → (atoms : List Atom) → Reads false 0 whole atoms → most ≡ encode_utf8_all (under ++ command_text name (Some (argument_written is_flat atoms)))
-      → (inner : List Atom) × Reads false 0 first_whole inner × (most ≡ encode_utf8_all (first_under ++ command_text first_name (Some (formatted_atoms false inner))))
+  done_of : {name whole under most : List ℕ} {is_flat : Bool}
+      → AreWaiting first_name first_whole first_under ends low high name whole is_flat under [] → (atoms : List Atom)
+      → Reads false 0 whole atoms
+      → most ≡ encode_utf8_all (under ++ command_text name (Some (argument_written is_flat atoms)))
+      → (inner : List Atom) × Reads false 0 first_whole inner
+      × (most ≡ encode_utf8_all (first_under ++ command_text first_name (Some (formatted_atoms false inner))))
   done_of {name} {whole} {under} {most} {is_flat} (AreWaiting.none name_is whole_is flat_is under_is) atoms inner wrote = (
     atoms,
     subst (λ t. Reads false 0 t atoms) whole_is inner,
-    wrote ∙ ap (λ xs. encode_utf8_all (xs ++ command_text name (Some (argument_written is_flat atoms)))) under_is ∙ ap (λ xs. encode_utf8_all (first_under ++ command_text xs (Some (argument_written is_flat atoms)))) name_is ∙ ap (λ b. encode_utf8_all (first_under ++ command_text first_name (Some (argument_written b atoms)))) flat_is,
+    wrote ∙ ap (λ xs. encode_utf8_all (xs ++ command_text name (Some (argument_written is_flat atoms)))) under_is
+        ∙ ap (λ xs. encode_utf8_all (first_under ++ command_text xs (Some (argument_written is_flat atoms)))) name_is
+        ∙ ap (λ b. encode_utf8_all (first_under ++ command_text first_name (Some (argument_written b atoms)))) flat_is,
   )
 
-  pub reading_done : {frame on : Frame} {now more most : List ℕ} (reading : IsReading first_name first_whole first_under ends low high frame [] now) → KeepsFrame frame on
-      → (read : IsReadTo on.is_flat reading.whole (reading.under ++ made_before frame.effect reading.name) [] on.depth more) → most ≡ encode_utf8_all (reading.under ++ made on.effect reading.name (argument_written on.is_flat read.atoms))
-      → (inner : List Atom) × Reads false 0 first_whole inner × (most ≡ encode_utf8_all (first_under ++ command_text first_name (Some (formatted_atoms false inner))))
+  pub reading_done : {frame on : Frame} {now more most : List ℕ}
+      (reading : IsReading first_name first_whole first_under ends low high frame [] now) → KeepsFrame frame on
+      →
+      (read : IsReadTo on.is_flat reading.whole (reading.under ++ made_before frame.effect reading.name) [] on.depth
+      more)
+      → most ≡ encode_utf8_all (reading.under ++ made on.effect reading.name (argument_written on.is_flat read.atoms))
+      → (inner : List Atom) × Reads false 0 first_whole inner
+      × (most ≡ encode_utf8_all (first_under ++ command_text first_name (Some (formatted_atoms false inner))))
   reading_done {frame} {on} {now} {more} {most} reading kept read wrote =
-      let gives : made on.effect reading.name (argument_written on.is_flat read.atoms) ≡ command_text reading.name (Some (argument_written frame.is_flat read.atoms)) =
-      ap (λ e. made e reading.name (argument_written on.is_flat read.atoms)) kept.effect ∙ sym (reading.begun.gives (argument_written on.is_flat read.atoms)) ∙ ap (λ b. command_text reading.name (Some (argument_written b read.atoms))) kept.is_flat in
+      let gives : made on.effect reading.name (argument_written on.is_flat read.atoms)
+      ≡ command_text reading.name (Some (argument_written frame.is_flat read.atoms)) =
+      ap (λ e. made e reading.name (argument_written on.is_flat read.atoms)) kept.effect
+      ∙ sym (reading.begun.gives (argument_written on.is_flat read.atoms))
+      ∙ ap (λ b. command_text reading.name (Some (argument_written b read.atoms))) kept.is_flat in
       done_of reading.waiting read.atoms (ended_as read) (wrote ∙ ap (λ cs. encode_utf8_all (reading.under ++ cs)) gives)
 
   -- if a nested argument fails, the first one does
@@ -177,7 +237,10 @@ module _ {first_name first_whole first_under : List ℕ} {ends : Ends} {low high
       fails_up waiting (fails_argument read one fails)
 
   -- the first argument was begun
-  pub reading_first : {frame : Frame} {now : List ℕ} → IsBegun frame first_name first_under low high → AreKnown ends frame.s.text → frame.is_flat ≡ false → IsReadTo frame.is_flat first_whole (first_under ++ made_before frame.effect first_name) (left frame.s) frame.depth now
+  pub reading_first : {frame : Frame} {now : List ℕ} → IsBegun frame first_name first_under low high
+      → AreKnown ends frame.s.text → frame.is_flat ≡ false
+      → IsReadTo frame.is_flat first_whole (first_under ++ made_before frame.effect first_name) (left frame.s)
+      frame.depth now
       → IsReading first_name first_whole first_under ends low high frame [] now
   reading_first {frame} begun known flat read = record {
     name = first_name;
@@ -190,7 +253,8 @@ module _ {first_name first_whole first_under : List ℕ} {ends : Ends} {low high
   }
 
 -- an argument that begins was parsed up to its start
-pub read_start : {is_flat : Bool} {whole base rest now : List ℕ} {depth : ℕ} → rest ≡ whole → depth ≡ 0 → now ≡ encode_utf8_all base → IsReadTo is_flat whole base rest depth now
+pub read_start : {is_flat : Bool} {whole base rest now : List ℕ} {depth : ℕ} → rest ≡ whole → depth ≡ 0
+    → now ≡ encode_utf8_all base → IsReadTo is_flat whole base rest depth now
 read_start {is_flat} {whole} {base} {rest} {now} {depth} same shallow wrote = record {
   atoms = [];
   goes = rw (same, shallow) (goes_here false 0 whole);
@@ -202,7 +266,8 @@ take_shorter : (n : ℕ) (bs : List ℕ) → length (take n bs) ≡ n → n ≤ 
 take_shorter n bs is = omega (arith, length-take n bs, is)
 
 drop_of_take : (k n : ℕ) (bs : List ℕ) → k ≤ n → drop k (take n bs) ≡ take (n - k) (drop k bs)
-drop_of_take k n bs within = let whole : n ≡ k + (n - k) = omega (arith, within) in ap (λ m. drop k (take m bs)) whole ∙ drop-take k (n - k) bs
+drop_of_take k n bs within =
+    let whole : n ≡ k + (n - k) = omega (arith, within) in ap (λ m. drop k (take m bs)) whole ∙ drop-take k (n - k) bs
 
 closes_in : {text : List ℕ} {begin end : ℕ} (n : ℕ) → Closes text begin end → end < n → Closes (take n text) begin end
 closes_in {text} {begin} {end} n closes within =
@@ -214,48 +279,75 @@ closes_in {text} {begin} {end} n closes within =
       inside = closes.inside;
       width = wide;
       spelt =
-          drop_of_take begin n text (omega (arith, wide, within)) ∙ ap (take (n - begin)) closes.spelt ∙ ap (λ k. take k (encode_utf8_all closes.inside ++ drop end text)) more
-          ∙ take-append-add (encode_utf8_all closes.inside) (drop end text) (n - end) ∙ ap (λ bs. encode_utf8_all closes.inside ++ bs) (sym tail);
+          drop_of_take begin n text (omega (arith, wide, within)) ∙ ap (take (n - begin)) closes.spelt
+          ∙ ap (λ k. take k (encode_utf8_all closes.inside ++ drop end text)) more
+          ∙ take-append-add (encode_utf8_all closes.inside) (drop end text) (n - end)
+          ∙ ap (λ bs. encode_utf8_all closes.inside ++ bs) (sym tail);
       balanced = closes.balanced;
-      brace = tail ∙ ap (take (n - end)) closes.brace ∙ ap (λ k. take k (125 ∷ drop (end + 1) text)) next ∙ ap (λ bs. 125 ∷ bs) (sym (drop_of_take (end + 1) n text (omega (arith, within))));
+      brace =
+          tail ∙ ap (take (n - end)) closes.brace ∙ ap (λ k. take k (125 ∷ drop (end + 1) text)) next
+          ∙ ap (λ bs. 125 ∷ bs) (sym (drop_of_take (end + 1) n text (omega (arith, within))));
     }
 
 -- ends that are known in a text are known in an argument of it
-pub known_inside : (ends : Ends) {text : List ℕ} {low high : ℕ} {inside : Place} → AreKnown ends text → IsInside text low inside high → AreKnown ends inside.text
+pub known_inside : (ends : Ends) {text : List ℕ} {low high : ℕ} {inside : Place} → AreKnown ends text
+    → IsInside text low inside high → AreKnown ends inside.text
 known_inside ends {text} {low} {high} {inside} known stands index some within =
     let long : length inside.text ≤ length text = take_shorter (length inside.text) text (sym (ap length stands.cut)) in
     let end = slice_index ends.places.items index in
-    subst (λ bs. Closes bs (ends.start + index) end) (sym stands.cut) (closes_in (length inside.text) (known index some (omega (arith, within, long))) (omega (arith, within)))
+    subst (λ bs. Closes bs (ends.start + index) end) (sym stands.cut)
+    (closes_in (length inside.text) (known index some (omega (arith, within, long))) (omega (arith, within)))
 
 -- fewer characters are left than a larger size
-pub shorter_wider : (next : Next) (size wide low lower : ℕ) (text same : List ℕ) (s : Place) → IsShorterThan size text low s next → size ≤ wide → lower ≤ low → text ≡ same → IsShorterThan wide same lower s next
+pub shorter_wider : (next : Next) (size wide low lower : ℕ) (text same : List ℕ) (s : Place)
+    → IsShorterThan size text low s next → size ≤ wide → lower ≤ low → text ≡ same
+    → IsShorterThan wide same lower s next
 shorter_wider Read size wide low lower text same s shorter wider following is = omega (arith, shorter, wider)
 shorter_wider (Follows name inside) size wide low lower text same s shorter wider following is = (
   omega (arith, shorter.0, wider),
-  record { cut = shorter.1.cut ∙ ap (take (length inside.text)) is; following = omega (arith, shorter.1.following, following); within = shorter.1.within; ends = shorter.1.ends },
+  record {
+    cut = shorter.1.cut ∙ ap (take (length inside.text)) is;
+    following = omega (arith, shorter.1.following, following);
+    within = shorter.1.within;
+    ends = shorter.1.ends;
+  },
 )
 shorter_wider End size wide low lower text same s shorter wider following is = omega (arith, shorter, wider)
 
 -- a unit has at least one byte
-pub unit_ahead : (u : ContentUnit) (s t : Place) → IsNext false u (left s) (left t) → t.at ≡ s.at + length (encode_utf8_all (unit_spelling u)) → s.at + 1 ≤ t.at
+pub unit_ahead : (u : ContentUnit) (s t : Place) → IsNext false u (left s) (left t)
+    → t.at ≡ s.at + length (encode_utf8_all (unit_spelling u)) → s.at + 1 ≤ t.at
 unit_ahead u s t one next =
     let shorter : length (left t) < length (left s) = (unit_shorter one).0 in
-    let size : length (left s) ≡ length (unit_spelling u) + length (left t) = ap length one.spells ∙ length-append (unit_spelling u) (left t) in
+    let size : length (left s) ≡ length (unit_spelling u) + length (left t) =
+    ap length one.spells ∙ length-append (unit_spelling u) (left t) in
     let wide : length (unit_spelling u) ≤ length (encode_utf8_all (unit_spelling u)) = length-le-encodes (unit_spelling u) in
     omega arith
 
 -- the text after a command and its argument are together shorter than the text before it
-pub applied_shorter : (name space argument before rest : List ℕ) → IsNext false (ContentUnit.command name space (Argument.braced argument)) before rest → length rest + length argument + 1 < length before
+pub applied_shorter : (name space argument before rest : List ℕ)
+    → IsNext false (ContentUnit.command name space (Argument.braced argument)) before rest
+    → length rest + length argument + 1 < length before
 applied_shorter name space argument before rest one =
-    let size : length before ≡ length (unit_spelling (ContentUnit.command name space (Argument.braced argument))) + length rest = ap length one.spells ∙ length-append (unit_spelling (ContentUnit.command name space (Argument.braced argument))) rest in
+    let size : length before
+    ≡ length (unit_spelling (ContentUnit.command name space (Argument.braced argument))) + length rest =
+    ap length one.spells
+    ∙ length-append (unit_spelling (ContentUnit.command name space (Argument.braced argument))) rest in
     let inside : length (argument ++ 125 ∷ []) ≡ length argument + 1 = length-append argument (125 ∷ []) in
-    let spaced : length (space ++ 123 ∷ (argument ++ 125 ∷ [])) ≡ length space + length (123 ∷ (argument ++ 125 ∷ [])) = length-append space (123 ∷ (argument ++ 125 ∷ [])) in
-    let named : length (name ++ (space ++ 123 ∷ (argument ++ 125 ∷ []))) ≡ length name + length (space ++ 123 ∷ (argument ++ 125 ∷ [])) = length-append name _ in
+    let spaced : length (space ++ 123 ∷ (argument ++ 125 ∷ [])) ≡ length space + length (123 ∷ (argument ++ 125 ∷ [])) =
+    length-append space (123 ∷ (argument ++ 125 ∷ [])) in
+    let named : length (name ++ (space ++ 123 ∷ (argument ++ 125 ∷ [])))
+    ≡ length name + length (space ++ 123 ∷ (argument ++ 125 ∷ [])) =
+    length-append name _ in
     omega arith
 
 -- an argument was begun
-pub begun_here : {frame : Frame} {name old now : List ℕ} {inside : Place} {low high : ℕ} → frame.s ≡ inside → frame.depth ≡ 0 → ((argument : List ℕ) → command_text name (Some argument) ≡ made frame.effect name argument) → IsFit frame.effect → list_all is_unbroken name ≡ true
-    → now ≡ old ++ encode_utf8_all (made_before frame.effect name) → frame.start ≡ length now → IsUtf8 old → low ≤ inside.at → length inside.text ≤ high → inside.at ≤ length inside.text → IsBegun frame name (chars old) low high
+pub begun_here : {frame : Frame} {name old now : List ℕ} {inside : Place} {low high : ℕ} → frame.s ≡ inside
+    → frame.depth ≡ 0 → ((argument : List ℕ) → command_text name (Some argument) ≡ made frame.effect name argument)
+    → IsFit frame.effect → list_all is_unbroken name ≡ true
+    → now ≡ old ++ encode_utf8_all (made_before frame.effect name) → frame.start ≡ length now → IsUtf8 old
+    → low ≤ inside.at → length inside.text ≤ high → inside.at ≤ length inside.text
+    → IsBegun frame name (chars old) low high
 begun_here {frame} {name} {old} {now} {inside} {low} {high} same shallow gives fit plain wrote start utf8 following within stands = record {
   gives = gives;
   fit = fit;
@@ -267,26 +359,44 @@ begun_here {frame} {name} {old} {now} {inside} {low} {high} same shallow gives f
 }
 
 -- at the start of an argument nothing was parsed
-pub read_begun : (frame : Frame) {flat : Bool} (name old now : List ℕ) {inside : Place} → frame.s ≡ inside → frame.depth ≡ 0 → now ≡ old ++ encode_utf8_all (made_before frame.effect name) → IsUtf8 old
+pub read_begun : (frame : Frame) {flat : Bool} (name old now : List ℕ) {inside : Place} → frame.s ≡ inside
+    → frame.depth ≡ 0 → now ≡ old ++ encode_utf8_all (made_before frame.effect name) → IsUtf8 old
     → IsReadTo flat (left inside) (chars old ++ made_before frame.effect name) (left frame.s) frame.depth now
-read_begun frame name old now same shallow wrote utf8 = read_start (ap left same) shallow (wrote_after old now (made_before frame.effect name) utf8 wrote)
+read_begun frame name old now same shallow wrote utf8 =
+    read_start (ap left same) shallow (wrote_after old now (made_before frame.effect name) utf8 wrote)
 
 module _ {first_name first_whole first_under : List ℕ} {ends : Ends} {low high : ℕ} where
   -- a command with an argument in braces comes next, and the argument was begun
-  pub reading_follows : {frame on above : Frame} {frames : List Frame} {now more most name : List ℕ} {inside : Place} (reading : IsReading first_name first_whole first_under ends low high frame frames now) → KeepsFrame frame on → StandsRight on → IsUtf8 more
-      → (before space : List ℕ) → IsReadTo on.is_flat reading.whole (reading.under ++ made_before frame.effect reading.name) before on.depth more → IsNext false (ContentUnit.command name space (Argument.braced (left inside))) before (left on.s)
-      → IsInside frame.s.text frame.s.at inside on.s.at → above.s ≡ inside → above.depth ≡ 0 → above.is_flat ≡ is_flat_at on.is_flat on.depth → ((argument : List ℕ) → command_text name (Some argument) ≡ made above.effect name argument) → IsFit above.effect
-      → most ≡ more ++ encode_utf8_all (made_before above.effect name) → above.start ≡ length most → IsReading first_name first_whole first_under ends low high above (on ∷ frames) most
-  reading_follows {frame} {on} {above} {frames} {now} {more} {most} {name} {inside} reading kept right utf8 before space read one stands same shallow flat gives fit wrote start =
+  pub reading_follows : {frame on above : Frame} {frames : List Frame} {now more most name : List ℕ} {inside : Place}
+      (reading : IsReading first_name first_whole first_under ends low high frame frames now) → KeepsFrame frame on
+      → StandsRight on → IsUtf8 more
+      → (before space : List ℕ)
+      → IsReadTo on.is_flat reading.whole (reading.under ++ made_before frame.effect reading.name) before on.depth more
+      → IsNext false (ContentUnit.command name space (Argument.braced (left inside))) before (left on.s)
+      → IsInside frame.s.text frame.s.at inside on.s.at → above.s ≡ inside → above.depth ≡ 0
+      → above.is_flat ≡ is_flat_at on.is_flat on.depth
+      → ((argument : List ℕ) → command_text name (Some argument) ≡ made above.effect name argument) → IsFit above.effect
+      → most ≡ more ++ encode_utf8_all (made_before above.effect name) → above.start ≡ length most
+      → IsReading first_name first_whole first_under ends low high above (on ∷ frames) most
+  reading_follows {frame} {on} {above} {frames} {now} {more} {most} {name} {inside} reading kept right utf8 before space
+      read one stands same shallow flat gives fit wrote start =
       let named = name_plain name (command_parts false name space (left on.s) (Argument.braced (left inside)) one.fits).1 in
-      let following : low ≤ inside.at = (let a : low ≤ frame.s.at = reading.begun.following in let b : frame.s.at ≤ inside.at = stands.following in omega arith) in
+      let following : low ≤ inside.at =
+      (let a : low ≤ frame.s.at = reading.begun.following in
+      let b : frame.s.at ≤ inside.at = stands.following in omega arith) in
       let long : length inside.text ≤ length frame.s.text = take_shorter (length inside.text) frame.s.text (sym (ap length stands.cut)) in
       let within : length inside.text ≤ high = (let a : length frame.s.text ≤ high = reading.begun.within in omega arith) in
       reading_above before space (left inside) reading kept right
-      (subst (λ bs. IsReadTo on.is_flat reading.whole (reading.under ++ made_before frame.effect reading.name) before on.depth bs) (sym (encodes-chars more utf8)) read) one
-      (begun_here same shallow gives fit named wrote start utf8 following within stands.within) (subst (λ u. AreKnown ends u.text) (sym same) (known_inside ends reading.known stands)) flat (read_begun above name more most same shallow wrote utf8)
+      (subst
+      (λ bs.
+      IsReadTo on.is_flat reading.whole (reading.under ++ made_before frame.effect reading.name) before
+      on.depth bs) (sym (encodes-chars more utf8)) read) one
+      (begun_here same shallow gives fit named wrote start utf8 following within stands.within)
+      (subst (λ u. AreKnown ends u.text) (sym same) (known_inside ends reading.known stands)) flat
+      (read_begun above name more most same shallow wrote utf8)
 
 -- an error between two positions is between wider ones
-pub stays_wider : {low high lower higher : ℕ} {e : ParseError} → StaysBetween low high e → lower ≤ low → high ≤ higher → StaysBetween lower higher e
+pub stays_wider : {low high lower higher : ℕ} {e : ParseError} → StaysBetween low high e → lower ≤ low → high ≤ higher
+    → StaysBetween lower higher e
 stays_wider (inl memory) lows highs = inl memory
 stays_wider (inr lies) lows highs = inr (omega (arith, lies.0, lows), lies.1, omega (arith, lies.2, highs))

@@ -31,10 +31,12 @@ pub flowing_any : (space : Bool) (cs : List ℕ) → begins is_break cs ≡ fals
 flowing_any space [] plain = refl
 flowing_any space (c ∷ cs) plain = rw plain refl
 
-pub flowing_append : (space : Bool) (xs ys : List ℕ) → begins is_break ys ≡ false → flowing space (xs ++ ys) ≡ flowing space xs ++ flowing false ys
+pub flowing_append : (space : Bool) (xs ys : List ℕ) → begins is_break ys ≡ false
+    → flowing space (xs ++ ys) ≡ flowing space xs ++ flowing false ys
 flowing_append space [] ys plain = flowing_any space ys plain
 flowing_append space (c ∷ xs) ys plain =
-    ap (λ cs. unbroken space c ++ cs) (flowing_append (ends_in_space space (unbroken space c)) xs ys plain) ∙ sym (append_assoc (unbroken space c) _ _)
+    ap (λ cs. unbroken space c ++ cs) (flowing_append (ends_in_space space (unbroken space c)) xs ys plain)
+    ∙ sym (append_assoc (unbroken space c) _ _)
 
 -- a text without line breaks is unchanged on one line
 pub flowing_plain : (space : Bool) (cs : List ℕ) → list_all is_unbroken cs ≡ true → flowing space cs ≡ cs
@@ -44,7 +46,8 @@ flowing_plain space (c ∷ cs) all =
     rw (not-true (is_break c) parts.0) (ap (λ xs. c ∷ xs) (flowing_plain (is_whitespace c) cs parts.1))
 
 -- a line break leaves no line break on one line
-lined_break : (space : Bool) (c : ℕ) (cs : List ℕ) → is_break c ≡ true → list_all is_unbroken (flowing true cs) ≡ true → list_all is_unbroken (flowing space (c ∷ cs)) ≡ true
+lined_break : (space : Bool) (c : ℕ) (cs : List ℕ) → is_break c ≡ true → list_all is_unbroken (flowing true cs) ≡ true
+    → list_all is_unbroken (flowing space (c ∷ cs)) ≡ true
 lined_break true c cs breaks rest = rw breaks rest
 lined_break false c cs breaks rest = rw breaks rest
 
@@ -56,7 +59,8 @@ flowing_lined space (c ∷ cs) = elim (cases_Bool (is_break c)) [
   | inr plain ↦ rw (plain, plain) (flowing_lined (is_whitespace c) cs)
 ]
 
-pub plain_append : (xs ys : List ℕ) → list_all is_unbroken xs ≡ true → list_all is_unbroken ys ≡ true → list_all is_unbroken (xs ++ ys) ≡ true
+pub plain_append : (xs ys : List ℕ) → list_all is_unbroken xs ≡ true → list_all is_unbroken ys ≡ true
+    → list_all is_unbroken (xs ++ ys) ≡ true
 plain_append [] ys first second = second
 plain_append (x ∷ xs) ys first second =
     let parts = and_parts (is_unbroken x) (list_all is_unbroken xs) first in
@@ -114,7 +118,8 @@ letter_plain c plain = elim (cases_Bool (c == 0x131)) [
 
 -- a letter with a mark on it has no line break
 marked_letter : (c mark : ℕ) → is_break c ≡ false → is_unbroken mark ≡ true → list_all is_unbroken (nfc (letter c ∷ mark ∷ [])) ≡ true
-marked_letter c mark plain mark_plain = plain_nfc (letter c ∷ mark ∷ []) (and_from _ _ (letter_plain c plain) (and_from _ _ mark_plain refl))
+marked_letter c mark plain mark_plain =
+    plain_nfc (letter c ∷ mark ∷ []) (and_from _ _ (letter_plain c plain) (and_from _ _ mark_plain refl))
 
 bare_plain : (mark : ℕ) → is_unbroken mark ≡ true → list_all is_unbroken (bare mark) ≡ true
 bare_plain mark plain = elim (cases_Bool (mark == 0x302)) [
@@ -126,16 +131,21 @@ bare_plain mark plain = elim (cases_Bool (mark == 0x302)) [
 ]
 
 -- putting a mark on the last character and putting a text on one line can be exchanged
-pub flowing_marked : (mark : ℕ) (cs : List ℕ) → is_unbroken mark ≡ true → ends_in_break cs ≡ false → flowing false (with_mark mark cs) ≡ with_mark mark (flowing false cs)
+pub flowing_marked : (mark : ℕ) (cs : List ℕ) → is_unbroken mark ≡ true → ends_in_break cs ≡ false
+    → flowing false (with_mark mark cs) ≡ with_mark mark (flowing false cs)
 flowing_marked mark [] plain last = flowing_plain false (bare mark) (bare_plain mark plain)
 flowing_marked mark (c ∷ cs) plain last =
     let split = last_of c cs in
     let here : is_break split.1 ≡ false = last_plain split.0 split.1 (subst (λ xs. ends_in_break xs ≡ false) split.2 last) in
     let composed : list_all is_unbroken (nfc (letter split.1 ∷ mark ∷ [])) ≡ true = marked_letter split.1 mark here plain in
     let kept : flowing false (split.1 ∷ []) ≡ split.1 ∷ [] = flowing_plain false (split.1 ∷ []) (rw here refl) in
-    let whole : flowing false (c ∷ cs) ≡ flowing false split.0 ++ split.1 ∷ [] = ap (flowing false) split.2 ∙ flowing_append false split.0 (split.1 ∷ []) here ∙ ap (λ xs. flowing false split.0 ++ xs) kept in
+    let whole : flowing false (c ∷ cs) ≡ flowing false split.0 ++ split.1 ∷ [] =
+    ap (flowing false) split.2 ∙ flowing_append false split.0 (split.1 ∷ []) here
+    ∙ ap (λ xs. flowing false split.0 ++ xs) kept in
     ap (λ xs. flowing false (with_mark mark xs)) split.2 ∙ ap (flowing false) (with_mark-push mark split.0 split.1)
-    ∙ flowing_append false split.0 (nfc (letter split.1 ∷ mark ∷ [])) (capped_plain (nfc (letter split.1 ∷ mark ∷ [])) composed).first ∙ ap (λ xs. flowing false split.0 ++ xs) (flowing_plain false (nfc (letter split.1 ∷ mark ∷ [])) composed)
+    ∙ flowing_append false split.0 (nfc (letter split.1 ∷ mark ∷ []))
+    (capped_plain (nfc (letter split.1 ∷ mark ∷ [])) composed).first
+    ∙ ap (λ xs. flowing false split.0 ++ xs) (flowing_plain false (nfc (letter split.1 ∷ mark ∷ [])) composed)
     ∙ sym (with_mark-push mark (flowing false split.0) split.1) ∙ sym (ap (with_mark mark) whole)
 
 capped_marked : (mark : ℕ) (cs : List ℕ) → is_unbroken mark ≡ true → IsCapped cs → IsCapped (with_mark mark cs)
@@ -144,12 +154,19 @@ capped_marked mark (c ∷ cs) plain capped =
     let split = last_of c cs in
     let here : is_break split.1 ≡ false = last_plain split.0 split.1 (subst (λ xs. ends_in_break xs ≡ false) split.2 capped.last) in
     let composed : list_all is_unbroken (nfc (letter split.1 ∷ mark ∷ [])) ≡ true = marked_letter split.1 mark here plain in
-    let is : with_mark mark (c ∷ cs) ≡ split.0 ++ nfc (letter split.1 ∷ mark ∷ []) = ap (with_mark mark) split.2 ∙ with_mark-push mark split.0 split.1 in
+    let is : with_mark mark (c ∷ cs) ≡ split.0 ++ nfc (letter split.1 ∷ mark ∷ []) =
+    ap (with_mark mark) split.2 ∙ with_mark-push mark split.0 split.1 in
     let caps = capped_plain (nfc (letter split.1 ∷ mark ∷ [])) composed in
-    let leading_run : begins is_break (split.0 ++ nfc (letter split.1 ∷ mark ∷ [])) ≡ false = prefix_plain split.0 (split.1 ∷ []) (nfc (letter split.1 ∷ mark ∷ [])) (subst (λ xs. begins is_break xs ≡ false) split.2 capped.first) caps.first in
-    rw is record { first = leading_run; last = ends_some split.0 (nfc (letter split.1 ∷ mark ∷ [])) (nfc_some (letter split.1) (mark ∷ [])) caps.last }
+    let leading_run : begins is_break (split.0 ++ nfc (letter split.1 ∷ mark ∷ [])) ≡ false =
+    prefix_plain split.0 (split.1 ∷ []) (nfc (letter split.1 ∷ mark ∷ []))
+    (subst (λ xs. begins is_break xs ≡ false) split.2 capped.first) caps.first in
+    rw is record {
+      first = leading_run;
+      last = ends_some split.0 (nfc (letter split.1 ∷ mark ∷ [])) (nfc_some (letter split.1) (mark ∷ [])) caps.last;
+    }
   where
-    prefix_plain : (leading_run tail other : List ℕ) → begins is_break (leading_run ++ tail) ≡ false → begins is_break other ≡ false → begins is_break (leading_run ++ other) ≡ false
+    prefix_plain : (leading_run tail other : List ℕ) → begins is_break (leading_run ++ tail) ≡ false
+        → begins is_break other ≡ false → begins is_break (leading_run ++ other) ≡ false
     prefix_plain [] tail other first second = second
     prefix_plain (x ∷ leading_run) tail other first second = first
 
@@ -178,38 +195,53 @@ kind_other name accent symbol = elim (cases_Bool (bytes_eq name (codes "o"))) [
   ]
 ]
 
-kind_found : (name : List ℕ) (accent : Option ℕ) (symbol : Option (List ℕ)) → named accents name ≡ accent → named symbols name ≡ symbol → Kind name
-kind_found name (Some m) symbol accent_is symbol_is = Kind.marks m (named_passes is_unbroken accents name m accents_plain accent_is) (λ cs. given_accent name (Some cs) m accent_is)
-kind_found name None (Some xs) accent_is symbol_is = Kind.stands xs (named_passes (list_all is_unbroken) symbols name xs symbols_plain symbol_is) (λ cs. given_symbol name (Some cs) xs accent_is symbol_is)
+kind_found : (name : List ℕ) (accent : Option ℕ) (symbol : Option (List ℕ)) → named accents name ≡ accent
+    → named symbols name ≡ symbol → Kind name
+kind_found name (Some m) symbol accent_is symbol_is =
+    Kind.marks m (named_passes is_unbroken accents name m accents_plain accent_is)
+    (λ cs. given_accent name (Some cs) m accent_is)
+kind_found name None (Some xs) accent_is symbol_is =
+    Kind.stands xs (named_passes (list_all is_unbroken) symbols name xs symbols_plain symbol_is)
+    (λ cs. given_symbol name (Some cs) xs accent_is symbol_is)
 kind_found name None None accent_is symbol_is = kind_other name accent_is symbol_is
 
 kind_of : (name : List ℕ) → Kind name
 kind_of name = kind_found name (named accents name) (named symbols name) refl refl
 
-capped_kind : {name : List ℕ} → Kind name → (cs : List ℕ) → list_all is_unbroken name ≡ true → IsCapped cs → IsCapped (command_text name (Some cs))
+capped_kind : {name : List ℕ} → Kind name → (cs : List ℕ) → list_all is_unbroken name ≡ true → IsCapped cs
+    → IsCapped (command_text name (Some cs))
 capped_kind {name} (Kind.marks m plain is) cs named capped = subst IsCapped (sym (is cs)) (capped_marked m cs plain capped)
 capped_kind {name} (Kind.stands xs plain is) cs named capped = subst IsCapped (sym (is cs)) (capped_plain xs plain)
-capped_kind {name} (Kind.precedes is) cs named capped = subst IsCapped (sym (is cs)) (capped_append (169 ∷ []) cs (record { first = refl; last = refl }) capped)
+capped_kind {name} (Kind.precedes is) cs named capped =
+    subst IsCapped (sym (is cs)) (capped_append (169 ∷ []) cs (record { first = refl; last = refl }) capped)
 capped_kind {name} (Kind.stays is) cs named capped =
-    subst IsCapped (sym (is cs)) record { first = refl; last = ends_append (92 ∷ name) 123 (cs ++ 125 ∷ []) (ends_append (123 ∷ cs) 125 [] refl) }
+    subst IsCapped (sym (is cs)) record
+    { first = refl; last = ends_append (92 ∷ name) 123 (cs ++ 125 ∷ []) (ends_append (123 ∷ cs) 125 [] refl) }
 
 -- the effect on a text that neither begins nor ends with a line break is such a text
 pub capped_given : (name cs : List ℕ) → list_all is_unbroken name ≡ true → IsCapped cs → IsCapped (command_text name (Some cs))
 capped_given name cs named capped = capped_kind (kind_of name) cs named capped
 
-flowing_kind : {name : List ℕ} → Kind name → (cs : List ℕ) → list_all is_unbroken name ≡ true → IsCapped cs → flowing false (command_text name (Some cs)) ≡ command_text name (Some (flowing false cs))
-flowing_kind (Kind.marks m plain is) cs named capped = ap (flowing false) (is cs) ∙ flowing_marked m cs plain capped.last ∙ sym (is (flowing false cs))
-flowing_kind (Kind.stands xs plain is) cs named capped = ap (flowing false) (is cs) ∙ flowing_plain false xs plain ∙ sym (is (flowing false cs))
-flowing_kind (Kind.precedes is) cs named capped = ap (flowing false) (is cs) ∙ flowing_append false (169 ∷ []) cs capped.first ∙ sym (is (flowing false cs))
+flowing_kind : {name : List ℕ} → Kind name → (cs : List ℕ) → list_all is_unbroken name ≡ true → IsCapped cs
+    → flowing false (command_text name (Some cs)) ≡ command_text name (Some (flowing false cs))
+flowing_kind (Kind.marks m plain is) cs named capped =
+    ap (flowing false) (is cs) ∙ flowing_marked m cs plain capped.last ∙ sym (is (flowing false cs))
+flowing_kind (Kind.stands xs plain is) cs named capped =
+    ap (flowing false) (is cs) ∙ flowing_plain false xs plain ∙ sym (is (flowing false cs))
+flowing_kind (Kind.precedes is) cs named capped =
+    ap (flowing false) (is cs) ∙ flowing_append false (169 ∷ []) cs capped.first ∙ sym (is (flowing false cs))
 flowing_kind {name} (Kind.stays is) cs named capped =
     let closed : flowing false (cs ++ 125 ∷ []) ≡ flowing false cs ++ 125 ∷ [] = flowing_append false cs (125 ∷ []) refl in
-    let opened : flowing false (123 ∷ (cs ++ 125 ∷ [])) ≡ 123 ∷ (flowing false cs ++ 125 ∷ []) = flowing_append false (123 ∷ []) (cs ++ 125 ∷ []) (begins_append cs (125 ∷ []) capped.first refl) ∙ ap (λ xs. 123 ∷ xs) closed in
+    let opened : flowing false (123 ∷ (cs ++ 125 ∷ [])) ≡ 123 ∷ (flowing false cs ++ 125 ∷ []) =
+    flowing_append false (123 ∷ []) (cs ++ 125 ∷ []) (begins_append cs (125 ∷ []) capped.first refl)
+    ∙ ap (λ xs. 123 ∷ xs) closed in
     ap (flowing false) (is cs) ∙ flowing_append false (92 ∷ name) (123 ∷ (cs ++ 125 ∷ [])) refl
     ∙ ap (λ xs. xs ++ flowing false (123 ∷ (cs ++ 125 ∷ []))) (flowing_plain false (92 ∷ name) (and_from (is_unbroken 92) _ refl named))
     ∙ ap (λ xs. (92 ∷ name) ++ xs) opened ∙ sym (is (flowing false cs))
 
 -- applying a command and putting its argument on one line can be exchanged
-pub laid_given : (is_flat : Bool) (name cs : List ℕ) → list_all is_unbroken name ≡ true → IsCapped cs → laid is_flat (command_text name (Some cs)) ≡ command_text name (Some (laid is_flat cs))
+pub laid_given : (is_flat : Bool) (name cs : List ℕ) → list_all is_unbroken name ≡ true → IsCapped cs
+    → laid is_flat (command_text name (Some cs)) ≡ command_text name (Some (laid is_flat cs))
 laid_given true name cs named capped = flowing_kind (kind_of name) cs named capped
 laid_given false name cs named capped = refl
 
@@ -223,10 +255,17 @@ alone_other name all = elim (cases_Bool (bytes_eq name (codes "o"))) [
   ]
 ]
 
-alone_found : (name : List ℕ) (accent : Option ℕ) (symbol : Option (List ℕ)) → named accents name ≡ accent → named symbols name ≡ symbol → list_all is_unbroken name ≡ true → list_all is_unbroken (command_text name None) ≡ true
-alone_found name (Some m) symbol accent_is symbol_is all = ap (list_all is_unbroken) (given_accent name None m accent_is) ∙ and_from _ _ (named_passes is_unbroken accents name m accents_plain accent_is) refl
-alone_found name None (Some xs) accent_is symbol_is all = ap (list_all is_unbroken) (given_symbol name None xs accent_is symbol_is) ∙ named_passes (list_all is_unbroken) symbols name xs symbols_plain symbol_is
-alone_found name None None accent_is symbol_is all = ap (list_all is_unbroken) (given_other name None accent_is symbol_is) ∙ alone_other name all
+alone_found : (name : List ℕ) (accent : Option ℕ) (symbol : Option (List ℕ)) → named accents name ≡ accent
+    → named symbols name ≡ symbol → list_all is_unbroken name ≡ true
+    → list_all is_unbroken (command_text name None) ≡ true
+alone_found name (Some m) symbol accent_is symbol_is all =
+    ap (list_all is_unbroken) (given_accent name None m accent_is)
+    ∙ and_from _ _ (named_passes is_unbroken accents name m accents_plain accent_is) refl
+alone_found name None (Some xs) accent_is symbol_is all =
+    ap (list_all is_unbroken) (given_symbol name None xs accent_is symbol_is)
+    ∙ named_passes (list_all is_unbroken) symbols name xs symbols_plain symbol_is
+alone_found name None None accent_is symbol_is all =
+    ap (list_all is_unbroken) (given_other name None accent_is symbol_is) ∙ alone_other name all
 
 pub alone_plain : (name : List ℕ) → list_all is_unbroken name ≡ true → list_all is_unbroken (command_text name None) ≡ true
 alone_plain name all = alone_found name (named accents name) (named symbols name) refl refl all
@@ -238,10 +277,12 @@ space_after space (Atom.normal c ∷ rest) = space_after (ends_in_space space (u
 space_after space (Atom.verbatim c ∷ rest) = space_after (is_whitespace c) rest
 space_after space (Atom.math text ∷ rest) = space_after space rest
 
-pub formatted_append : (space : Bool) (xs ys : List Atom) → formatted_atoms space (xs ++ ys) ≡ formatted_atoms space xs ++ formatted_atoms (space_after space xs) ys
+pub formatted_append : (space : Bool) (xs ys : List Atom)
+    → formatted_atoms space (xs ++ ys) ≡ formatted_atoms space xs ++ formatted_atoms (space_after space xs) ys
 formatted_append space [] ys = refl
 formatted_append space (Atom.normal c ∷ xs) ys =
-    ap (λ cs. unbroken space c ++ cs) (formatted_append (ends_in_space space (unbroken space c)) xs ys) ∙ sym (append_assoc (unbroken space c) _ _)
+    ap (λ cs. unbroken space c ++ cs) (formatted_append (ends_in_space space (unbroken space c)) xs ys)
+    ∙ sym (append_assoc (unbroken space c) _ _)
 formatted_append space (Atom.verbatim c ∷ xs) ys = ap (λ cs. c ∷ cs) (formatted_append (is_whitespace c) xs ys)
 formatted_append space (Atom.math text ∷ xs) ys =
     ap (λ cs. 36 ∷ (text ++ 36 ∷ cs)) (formatted_append space xs ys) ∙ ap (λ cs. 36 ∷ cs) (sym (append_assoc text _ _))
@@ -261,7 +302,8 @@ pub record IsLed (atoms : List Atom) : Type 0 where
   pub first : begins is_break (formatted_atoms false atoms) ≡ false
 
 -- the text of appended atoms, if the second ones do not begin with a line break
-pub written_append : (is_flat : Bool) (xs ys : List Atom) → IsLed ys → argument_written is_flat (xs ++ ys) ≡ argument_written is_flat xs ++ argument_written is_flat ys
+pub written_append : (is_flat : Bool) (xs ys : List Atom) → IsLed ys
+    → argument_written is_flat (xs ++ ys) ≡ argument_written is_flat xs ++ argument_written is_flat ys
 written_append false xs ys led = formatted_append false xs ys ∙ ap (λ cs. formatted_atoms false xs ++ cs) (led.any (space_after false xs))
 written_append true xs ys led =
     ap (flowing false) (formatted_append false xs ys ∙ ap (λ cs. formatted_atoms false xs ++ cs) (led.any (space_after false xs)))
@@ -291,10 +333,12 @@ is_flat_at is_flat depth = is_flat || depth == 0
 in_braces : (depth : ℕ) → (suc depth == 0) ≡ false
 in_braces depth = ne_eqb (suc depth) 0 (λ same. omega (arith, same))
 
-pub written_characters : (is_flat : Bool) (depth : ℕ) (cs : List ℕ) → argument_written is_flat (map (character depth) cs) ≡ laid (is_flat_at is_flat depth) cs
+pub written_characters : (is_flat : Bool) (depth : ℕ) (cs : List ℕ)
+    → argument_written is_flat (map (character depth) cs) ≡ laid (is_flat_at is_flat depth) cs
 written_characters false zero cs = formatted_normal false cs
 written_characters false (suc depth) cs = rw (in_braces depth) (formatted_verbatim false depth cs)
-written_characters true zero cs = ap (flowing false) (formatted_normal false cs) ∙ flowing_plain false (flowing false cs) (flowing_lined false cs)
+written_characters true zero cs =
+    ap (flowing false) (formatted_normal false cs) ∙ flowing_plain false (flowing false cs) (flowing_lined false cs)
 written_characters true (suc depth) cs = ap (flowing false) (formatted_verbatim false depth cs)
 
 pub written_math : (is_flat : Bool) (text : List ℕ) → argument_written is_flat (Atom.math text ∷ []) ≡ 36 ∷ (laid is_flat text ++ 36 ∷ [])

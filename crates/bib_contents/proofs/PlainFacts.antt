@@ -21,11 +21,14 @@ pub reads_none : (is_verbatim : Bool) (u : Place) → ReadsAs is_verbatim u [] u
 reads_none is_verbatim u = record { passed = []; passes = passes_none u; goes = λ depth. goes_here is_verbatim depth (left u) }
 
 -- two texts that are parsed as characters, one after the other
-pub reads_then : {is_verbatim : Bool} {u v w : Place} {cs ds : List ℕ} → ReadsAs is_verbatim u cs v → ReadsAs is_verbatim v ds w → ReadsAs is_verbatim u (cs ++ ds) w
+pub reads_then : {is_verbatim : Bool} {u v w : Place} {cs ds : List ℕ} → ReadsAs is_verbatim u cs v
+    → ReadsAs is_verbatim v ds w → ReadsAs is_verbatim u (cs ++ ds) w
 reads_then {is_verbatim} {u} {v} {w} {cs} {ds} first second = record {
   passed = first.passed ++ second.passed;
   passes = passes_then first.passes second.passes;
-  goes = λ depth. subst (λ xs. Goes is_verbatim depth (left u) xs depth (left w)) (sym (map-append (character depth) cs ds)) (goes_then (first.goes depth) (second.goes depth));
+  goes = λ depth.
+      subst (λ xs. Goes is_verbatim depth (left u) xs depth (left w)) (sym (map-append (character depth) cs ds))
+      (goes_then (first.goes depth) (second.goes depth));
 }
 
 -- the characters from `u` to `v` are parsed as themselves
@@ -38,7 +41,9 @@ pub itself_none : (is_verbatim : Bool) (u : Place) → IsUtf8 (ahead u) → Itse
 itself_none is_verbatim u utf8 = record { shown = []; passed = passed_none u utf8; goes = λ depth. goes_here is_verbatim depth (left u) }
 
 -- one more character, which is a unit
-itself_more : {is_verbatim : Bool} {u v w : Place} {c : ℕ} → Itself is_verbatim u v → CharAt v c w → ((depth : ℕ) → Goes is_verbatim depth (c ∷ left w) (map (character depth) (c ∷ [])) depth (left w)) → Itself is_verbatim u w
+itself_more : {is_verbatim : Bool} {u v w : Place} {c : ℕ} → Itself is_verbatim u v → CharAt v c w
+    → ((depth : ℕ) → Goes is_verbatim depth (c ∷ left w) (map (character depth) (c ∷ [])) depth (left w))
+    → Itself is_verbatim u w
 itself_more {is_verbatim} {u} {v} {w} {c} before char goes =
     let one = passed_char char before.passed.utf8 in
     record {
@@ -46,34 +51,49 @@ itself_more {is_verbatim} {u} {v} {w} {c} before char goes =
       passed = passed_append before.passed one;
       goes = λ depth.
           let here : Goes is_verbatim depth (left v) (map (character depth) (c ∷ [])) depth (left w) = rw one.spelt (goes depth) in
-          subst (λ xs. Goes is_verbatim depth (left u) xs depth (left w)) (sym (map-append (character depth) before.shown (c ∷ []))) (goes_then (before.goes depth) here);
+          subst (λ xs. Goes is_verbatim depth (left u) xs depth (left w))
+          (sym (map-append (character depth) before.shown (c ∷ []))) (goes_then (before.goes depth) here);
     }
 
-pub itself_ordinary : {is_verbatim : Bool} {u v w : Place} {c : ℕ} → Itself is_verbatim u v → CharAt v c w → is_ordinary is_verbatim c ≡ true → Itself is_verbatim u w
+pub itself_ordinary : {is_verbatim : Bool} {u v w : Place} {c : ℕ} → Itself is_verbatim u v → CharAt v c w
+    → is_ordinary is_verbatim c ≡ true → Itself is_verbatim u w
 itself_ordinary {is_verbatim} {u} {v} {w} {c} before char ordinary =
     let one : IsNext is_verbatim (ContentUnit.other c) (c ∷ left w) (left w) = record { fits = ordinary; spells = refl } in
-    itself_more before char (λ depth. goes_unit {u = ContentUnit.other c} {inner = []} one refl (λ argument holds. absurd (no_argument holds)) refl)
+    itself_more before char
+    (λ depth.
+    goes_unit {u = ContentUnit.other c} {inner = []} one refl (λ argument holds. absurd (no_argument holds))
+    refl)
 
-itself_space : {is_verbatim : Bool} {u v w : Place} → Itself is_verbatim u v → CharAt v 32 w → begins is_space (left w) ≡ false → Itself is_verbatim u w
+itself_space : {is_verbatim : Bool} {u v w : Place} → Itself is_verbatim u v → CharAt v 32 w
+    → begins is_space (left w) ≡ false → Itself is_verbatim u w
 unfolding is_space
 itself_space {is_verbatim} {u} {v} {w} before char stops =
     let one : IsNext is_verbatim (ContentUnit.spaces (32 ∷ [])) (32 ∷ left w) (left w) = record { fits = ap not stops; spells = refl } in
-    itself_more before char (λ depth. goes_unit {u = ContentUnit.spaces (32 ∷ [])} {inner = []} one refl (λ argument holds. absurd (no_argument holds)) refl)
+    itself_more before char
+    (λ depth.
+    goes_unit {u = ContentUnit.spaces (32 ∷ [])} {inner = []} one refl
+    (λ argument holds. absurd (no_argument holds)) refl)
 
-itself_hyphen : {is_verbatim : Bool} {u v w : Place} → Itself is_verbatim u v → CharAt v 45 w → begins (λ d. d == 45) (left w) ≡ false → Itself is_verbatim u w
+itself_hyphen : {is_verbatim : Bool} {u v w : Place} → Itself is_verbatim u v → CharAt v 45 w
+    → begins (λ d. d == 45) (left w) ≡ false → Itself is_verbatim u w
 itself_hyphen {is_verbatim} {u} {v} {w} before char stops =
     let one : IsNext is_verbatim (ContentUnit.hyphens 1) (45 ∷ left w) (left w) = record { fits = ap not stops; spells = refl } in
-    itself_more before char (λ depth. goes_unit {u = ContentUnit.hyphens 1} {inner = []} one refl (λ argument holds. absurd (no_argument holds)) refl)
+    itself_more before char
+    (λ depth.
+    goes_unit {u = ContentUnit.hyphens 1} {inner = []} one refl (λ argument holds. absurd (no_argument holds))
+    refl)
 
-pub itself_alone : {is_verbatim : Bool} {u v w : Place} {c : ℕ} → Itself is_verbatim u v → CharAt v c w → is_alone c (left w) ≡ true → Itself is_verbatim u w
-itself_alone {is_verbatim} {u} {v} {w} {c} before char alone = elim (or_cases (c == 32 && not (begins is_space (left w))) (c == 45 && not (begins (λ d. d == 45) (left w))) alone) [
-  | inl space ↦
-      let parts = and_parts (c == 32) (not (begins is_space (left w))) space in
-      itself_space before (subst (λ x. CharAt v x w) (eqb-true c 32 parts.0) char) (not-true _ parts.1)
-  | inr hyphen ↦
-      let parts = and_parts (c == 45) (not (begins (λ d. d == 45) (left w))) hyphen in
-      itself_hyphen before (subst (λ x. CharAt v x w) (eqb-true c 45 parts.0) char) (not-true _ parts.1)
-]
+pub itself_alone : {is_verbatim : Bool} {u v w : Place} {c : ℕ} → Itself is_verbatim u v → CharAt v c w
+    → is_alone c (left w) ≡ true → Itself is_verbatim u w
+itself_alone {is_verbatim} {u} {v} {w} {c} before char alone =
+    elim (or_cases (c == 32 && not (begins is_space (left w))) (c == 45 && not (begins (λ d. d == 45) (left w))) alone) [
+      | inl space ↦
+          let parts = and_parts (c == 32) (not (begins is_space (left w))) space in
+          itself_space before (subst (λ x. CharAt v x w) (eqb-true c 32 parts.0) char) (not-true _ parts.1)
+      | inr hyphen ↦
+          let parts = and_parts (c == 45) (not (begins (λ d. d == 45) (left w))) hyphen in
+          itself_hyphen before (subst (λ x. CharAt v x w) (eqb-true c 45 parts.0) char) (not-true _ parts.1)
+    ]
 
 -- ---- one character and the text after it
 
@@ -89,36 +109,46 @@ pub alone_last : (c : ℕ) (rest : List ℕ) → rest ≡ [] → (c ≡ 32 → �
 alone_last c rest ends differs = rw (ends, ne_eqb c 32 differs) (and-true (c == 45))
 
 -- the character at a place is the first of those left
-pub left_here : (text : List ℕ) (at : ℕ) {v : Place} {c : ℕ} → IsUtf8 text → IsCharBoundary text at → CharAt (place text at) c v → left (place text at) ≡ c ∷ left v
+pub left_here : (text : List ℕ) (at : ℕ) {v : Place} {c : ℕ} → IsUtf8 text → IsCharBoundary text at
+    → CharAt (place text at) c v → left (place text at) ≡ c ∷ left v
 left_here text at utf8 boundary char = stands_left char (IsUtf8-drop text at utf8 boundary)
 
 -- at the start no character was passed
-pub itself_start : (is_verbatim : Bool) (text : List ℕ) (at : ℕ) → IsUtf8 (drop at text) → Itself is_verbatim (place text at) (place text at)
+pub itself_start : (is_verbatim : Bool) (text : List ℕ) (at : ℕ) → IsUtf8 (drop at text)
+    → Itself is_verbatim (place text at) (place text at)
 itself_start is_verbatim text at utf8 = itself_none is_verbatim (place text at) utf8
 
 -- one more ordinary character
-pub itself_char : {is_verbatim : Bool} {u v : Place} {c : ℕ} (text : List ℕ) (at : ℕ) → Itself is_verbatim u (place text at) → CharAt (place text at) c v → is_ordinary is_verbatim c ≡ true → Itself is_verbatim u (place text (at + len_utf8 c))
-itself_char {is_verbatim} {u} text at before char ordinary = subst (λ p. Itself is_verbatim u p) (place_after char) (itself_ordinary before char ordinary)
+pub itself_char : {is_verbatim : Bool} {u v : Place} {c : ℕ} (text : List ℕ) (at : ℕ)
+    → Itself is_verbatim u (place text at) → CharAt (place text at) c v → is_ordinary is_verbatim c ≡ true
+    → Itself is_verbatim u (place text (at + len_utf8 c))
+itself_char {is_verbatim} {u} text at before char ordinary =
+    subst (λ p. Itself is_verbatim u p) (place_after char) (itself_ordinary before char ordinary)
 
 -- the passed characters are the text between the places
-pub itself_reads : {is_verbatim : Bool} {u v : Place} (eaten : List ℕ) → Itself is_verbatim u v → IsUtf8 eaten → eaten ≡ between u v → ReadsAs is_verbatim u (chars eaten) v
+pub itself_reads : {is_verbatim : Bool} {u v : Place} (eaten : List ℕ) → Itself is_verbatim u v → IsUtf8 eaten
+    → eaten ≡ between u v → ReadsAs is_verbatim u (chars eaten) v
 itself_reads {is_verbatim} {u} {v} eaten itself utf8 is =
     let same : chars eaten ≡ itself.shown = chars_whole itself.shown eaten utf8 (is ∙ passed_between itself.passed) in
     rw same record { passed = itself.shown; passes = passes itself.passed; goes = itself.goes }
 
 -- the same between equal places
-pub reads_moved : {is_verbatim : Bool} {cs : List ℕ} (text : List ℕ) (start at : ℕ) (u v : Place) → text ≡ u.text → start ≡ u.at → v ≡ place u.text at → ReadsAs is_verbatim (place text start) cs (place text at) → ReadsAs is_verbatim u cs v
+pub reads_moved : {is_verbatim : Bool} {cs : List ℕ} (text : List ℕ) (start at : ℕ) (u v : Place) → text ≡ u.text
+    → start ≡ u.at → v ≡ place u.text at → ReadsAs is_verbatim (place text start) cs (place text at)
+    → ReadsAs is_verbatim u cs v
 reads_moved {is_verbatim} {cs} text start at u v same here there reads =
     subst (λ p. ReadsAs is_verbatim p cs v) (same_place {u = place text start} {v = u} same here)
     (subst (λ p. ReadsAs is_verbatim (place text start) cs p) (ap (λ t. place t at) same ∙ sym there) reads)
 
 -- ---- runs of white space and of hyphens
 
-some_space : (space rest tail : List ℕ) (c : ℕ) → c ∷ rest ≡ space ++ tail → is_space c ≡ true → begins is_space tail ≡ false → is_empty space ≡ false
+some_space : (space rest tail : List ℕ) (c : ℕ) → c ∷ rest ≡ space ++ tail → is_space c ≡ true
+    → begins is_space tail ≡ false → is_empty space ≡ false
 some_space [] rest tail c is white stops = absurd (both_ways (begins is_space tail) stops (subst (λ t. begins is_space t ≡ true) is white))
 some_space (d ∷ ds) rest tail c is white stops = refl
 
-pub spaces_next : (is_verbatim : Bool) {u w : Place} (c : ℕ) (rest space : List ℕ) → left u ≡ c ∷ rest → is_space c ≡ true → Passes u space w → list_all is_space space ≡ true → begins is_space (left w) ≡ false
+pub spaces_next : (is_verbatim : Bool) {u w : Place} (c : ℕ) (rest space : List ℕ) → left u ≡ c ∷ rest
+    → is_space c ≡ true → Passes u space w → list_all is_space space ≡ true → begins is_space (left w) ≡ false
     → IsNext is_verbatim (ContentUnit.spaces space) (left u) (left w)
 spaces_next is_verbatim {u} {w} c rest space here white passed all stops = record {
   fits = rw (some_space space rest (left w) c (sym here ∙ passed.left) white stops, all, stops) refl;
@@ -126,7 +156,9 @@ spaces_next is_verbatim {u} {w} c rest space here white passed all stops = recor
 }
 
 -- white space is parsed as one space
-pub reads_spaces : {is_verbatim : Bool} {u w : Place} {space : List ℕ} → IsNext is_verbatim (ContentUnit.spaces space) (left u) (left w) → Passes u space w → ReadsAs is_verbatim u (32 ∷ []) w
+pub reads_spaces : {is_verbatim : Bool} {u w : Place} {space : List ℕ}
+    → IsNext is_verbatim (ContentUnit.spaces space) (left u) (left w) → Passes u space w
+    → ReadsAs is_verbatim u (32 ∷ []) w
 reads_spaces {space = space} one passed = record {
   passed = space;
   passes = passed;
@@ -134,11 +166,14 @@ reads_spaces {space = space} one passed = record {
 }
 
 some_hyphens : (n : ℕ) (rest tail : List ℕ) → 45 ∷ rest ≡ replicate n 45 ++ tail → begins (λ d. d == 45) tail ≡ false → nat_lt 0 n ≡ true
-some_hyphens zero rest tail is stops = absurd (both_ways (begins (λ d. d == 45) tail) stops (subst (λ t. begins (λ d. d == 45) t ≡ true) is refl))
+some_hyphens zero rest tail is stops =
+    absurd (both_ways (begins (λ d. d == 45) tail) stops (subst (λ t. begins (λ d. d == 45) t ≡ true) is refl))
 some_hyphens (suc n) rest tail is stops = lt-ltb 0 (suc n) (omega arith)
 
 -- hyphens are parsed as dashes
-pub reads_hyphens : (is_verbatim : Bool) {u w : Place} {c : ℕ} {rest cs : List ℕ} (n : ℕ) → left u ≡ c ∷ rest → c ≡ 45 → Passes u cs w → left u ≡ replicate n 45 ++ left w → begins (λ d. d == 45) (left w) ≡ false → ReadsAs is_verbatim u (dashes n) w
+pub reads_hyphens : (is_verbatim : Bool) {u w : Place} {c : ℕ} {rest cs : List ℕ} (n : ℕ) → left u ≡ c ∷ rest → c ≡ 45
+    → Passes u cs w → left u ≡ replicate n 45 ++ left w → begins (λ d. d == 45) (left w) ≡ false
+    → ReadsAs is_verbatim u (dashes n) w
 reads_hyphens is_verbatim {u} {w} {c} {rest} {cs} n here hyphen passed spelt stops =
     let some : nat_lt 0 n ≡ true = some_hyphens n rest (left w) (ap (λ d. d ∷ rest) (sym hyphen) ∙ sym here ∙ spelt) stops in
     let one : IsNext is_verbatim (ContentUnit.hyphens n) (left u) (left w) = record { fits = rw (some, stops) refl; spells = spelt } in
@@ -149,7 +184,9 @@ reads_hyphens is_verbatim {u} {w} {c} {rest} {cs} n here hyphen passed spelt sto
     }
 
 -- texts that were parsed and written one after another
-pub renders_then : {is_verbatim : Bool} {u v w : Place} (a b c : List ℕ) → (shown : List ℕ) × ReadsAs is_verbatim u shown v × (b ≡ a ++ encode_utf8_all shown) → (shown : List ℕ) × ReadsAs is_verbatim v shown w × (c ≡ b ++ encode_utf8_all shown)
+pub renders_then : {is_verbatim : Bool} {u v w : Place} (a b c : List ℕ)
+    → (shown : List ℕ) × ReadsAs is_verbatim u shown v × (b ≡ a ++ encode_utf8_all shown)
+    → (shown : List ℕ) × ReadsAs is_verbatim v shown w × (c ≡ b ++ encode_utf8_all shown)
     → (shown : List ℕ) × ReadsAs is_verbatim u shown w × (c ≡ a ++ encode_utf8_all shown)
 renders_then a b c first second = (first.0 ++ second.0, reads_then first.1 second.1, two_parts a b c first.0 second.0 first.2 second.2)
 
@@ -158,10 +195,13 @@ pub reads_same : {is_verbatim : Bool} {u v : Place} → v ≡ u → ReadsAs is_v
 reads_same {is_verbatim} {u} {v} same = subst (λ p. ReadsAs is_verbatim u [] p) (sym same) (reads_none is_verbatim u)
 
 -- an escaped character is the first unit
-pub escaped_next : (is_verbatim : Bool) {u w : Place} (c : ℕ) → Passes u (92 ∷ c ∷ []) w → is_escaped is_verbatim c ≡ true → IsNext is_verbatim (ContentUnit.escaped c) (left u) (left w)
+pub escaped_next : (is_verbatim : Bool) {u w : Place} (c : ℕ) → Passes u (92 ∷ c ∷ []) w
+    → is_escaped is_verbatim c ≡ true → IsNext is_verbatim (ContentUnit.escaped c) (left u) (left w)
 escaped_next is_verbatim c passed escaped = record { fits = escaped; spells = passed.left }
 
-pub reads_escaped : {is_verbatim : Bool} {u w : Place} {c : ℕ} → IsNext is_verbatim (ContentUnit.escaped c) (left u) (left w) → Passes u (92 ∷ c ∷ []) w → ReadsAs is_verbatim u (c ∷ []) w
+pub reads_escaped : {is_verbatim : Bool} {u w : Place} {c : ℕ}
+    → IsNext is_verbatim (ContentUnit.escaped c) (left u) (left w) → Passes u (92 ∷ c ∷ []) w
+    → ReadsAs is_verbatim u (c ∷ []) w
 reads_escaped {c = c} one passed = record {
   passed = 92 ∷ c ∷ [];
   passes = passed;

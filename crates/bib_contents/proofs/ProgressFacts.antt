@@ -17,12 +17,15 @@ passes passed = record { same = passed.same; here = passed.here; next = passed.n
 pub passes_then : {u v w : Place} {cs ds : List ℕ} → Passes u cs v → Passes v ds w → Passes u (cs ++ ds) w
 passes_then {u} {v} {w} {cs} {ds} first second =
     let joined : encode_utf8_all (cs ++ ds) ≡ encode_utf8_all cs ++ encode_utf8_all ds = encodes-append cs ds in
-    let sizes : length (encode_utf8_all (cs ++ ds)) ≡ length (encode_utf8_all cs) + length (encode_utf8_all ds) = ap length joined ∙ length-append (encode_utf8_all cs) _ in
+    let sizes : length (encode_utf8_all (cs ++ ds)) ≡ length (encode_utf8_all cs) + length (encode_utf8_all ds) =
+    ap length joined ∙ length-append (encode_utf8_all cs) _ in
     let next_first : v.at ≡ u.at + length (encode_utf8_all cs) = first.next in
     let next_second : w.at ≡ v.at + length (encode_utf8_all ds) = second.next in
     record {
       same = second.same ∙ first.same;
-      here = first.here ∙ ap (λ bs. encode_utf8_all cs ++ bs) second.here ∙ sym (append_assoc (encode_utf8_all cs) _ _) ∙ ap (λ bs. bs ++ ahead w) (sym joined);
+      here =
+          first.here ∙ ap (λ bs. encode_utf8_all cs ++ bs) second.here ∙ sym (append_assoc (encode_utf8_all cs) _ _)
+          ∙ ap (λ bs. bs ++ ahead w) (sym joined);
       next = omega arith;
       left = first.left ∙ ap (λ bs. cs ++ bs) second.left ∙ sym (append_assoc cs ds _);
     }
@@ -38,11 +41,15 @@ stands u c rest utf8 is = (_, char_here u.text (encode_utf8_all rest) u.at c (sy
 pub stands_left : {u v : Place} {c : ℕ} → CharAt u c v → IsUtf8 (ahead u) → left u ≡ c ∷ left v
 stands_left char utf8 = (passed_char char utf8).spelt
 
-pub peeked : (u : Place) (found : Option ℕ) → IsUtf8 (ahead u) → MatchOption found (AtEnd u) (λ c. (v : Place) × CharAt u c v) → MatchOption found (left u ≡ []) (λ c. (rest : List ℕ) × (left u ≡ c ∷ rest))
+pub peeked : (u : Place) (found : Option ℕ) → IsUtf8 (ahead u)
+    → MatchOption found (AtEnd u) (λ c. (v : Place) × CharAt u c v)
+    → MatchOption found (left u ≡ []) (λ c. (rest : List ℕ) × (left u ≡ c ∷ rest))
 peeked u None utf8 end = chars_at_end u end
 peeked u (Some c) utf8 char = (_, stands_left char.1 utf8)
 
-pub taken : (u v : Place) (found : Option ℕ) → IsUtf8 (ahead u) → MatchOption found (AtEnd u × (v ≡ u)) (λ c. CharAt u c v) → MatchOption found ((left u ≡ []) × (v ≡ u)) (λ c. Passes u (c ∷ []) v)
+pub taken : (u v : Place) (found : Option ℕ) → IsUtf8 (ahead u)
+    → MatchOption found (AtEnd u × (v ≡ u)) (λ c. CharAt u c v)
+    → MatchOption found ((left u ≡ []) × (v ≡ u)) (λ c. Passes u (c ∷ []) v)
 taken u v None utf8 end = (chars_at_end u end.0, end.1)
 taken u v (Some c) utf8 char = passes (passed_char char utf8)
 
@@ -50,7 +57,8 @@ pub taken_same : (u v : Place) (found : Option ℕ) → MatchOption found (AtEnd
 taken_same u v None end = ap (λ w. w.text) end.1
 taken_same u v (Some c) char = char.same
 
-pub taken_utf8 : (u v : Place) (found : Option ℕ) → IsUtf8 (ahead u) → MatchOption found (AtEnd u × (v ≡ u)) (λ c. CharAt u c v) → IsUtf8 (ahead v)
+pub taken_utf8 : (u v : Place) (found : Option ℕ) → IsUtf8 (ahead u)
+    → MatchOption found (AtEnd u × (v ≡ u)) (λ c. CharAt u c v) → IsUtf8 (ahead v)
 taken_utf8 u v None utf8 end = rw end.1 utf8
 taken_utf8 u v (Some c) utf8 char = (passed_char char utf8).utf8
 
@@ -59,21 +67,30 @@ pub begins_not : (test : ℕ → Bool) (u : Place) (cs : List ℕ) → IsUtf8 (a
 begins_not test u [] utf8 is stops = refl
 begins_not test u (c ∷ cs) utf8 is stops = let here = stands u c cs utf8 is in stops c here.0 here.1
 
-pub taken_if : (u v : Place) (c : ℕ) (found : Bool) → IsUtf8 (ahead u) → MatchBool found (CharAt u c v) ((v ≡ u) × ((w : Place) → CharAt u c w → ⊥))
+pub taken_if : (u v : Place) (c : ℕ) (found : Bool) → IsUtf8 (ahead u)
+    → MatchBool found (CharAt u c v) ((v ≡ u) × ((w : Place) → CharAt u c w → ⊥))
     → MatchBool found (Passes u (c ∷ []) v) ((v ≡ u) × (begins (λ d. d == c) (left u) ≡ false))
 taken_if u v c true utf8 char = passes (passed_char char utf8)
-taken_if u v c false utf8 none = (none.0, begins_not (λ d. d == c) u (left u) utf8 refl (λ d w char. false_from_ne_true (d == c) (λ same. none.1 w (subst (λ x. CharAt u x w) (eqb-true d c same) char))))
+taken_if u v c false utf8 none = (
+  none.0,
+  begins_not (λ d. d == c) u (left u) utf8 refl
+      (λ d w char.
+      false_from_ne_true (d == c) (λ same. none.1 w (subst (λ x. CharAt u x w) (eqb-true d c same) char))),
+)
 
-pub taken_if_same : (u v : Place) (c : ℕ) (found : Bool) → MatchBool found (CharAt u c v) ((v ≡ u) × ((w : Place) → CharAt u c w → ⊥)) → v.text ≡ u.text
+pub taken_if_same : (u v : Place) (c : ℕ) (found : Bool)
+    → MatchBool found (CharAt u c v) ((v ≡ u) × ((w : Place) → CharAt u c w → ⊥)) → v.text ≡ u.text
 taken_if_same u v c true char = char.same
 taken_if_same u v c false none = ap (λ w. w.text) none.0
 
-pub taken_if_utf8 : (u v : Place) (c : ℕ) (found : Bool) → IsUtf8 (ahead u) → MatchBool found (CharAt u c v) ((v ≡ u) × ((w : Place) → CharAt u c w → ⊥)) → IsUtf8 (ahead v)
+pub taken_if_utf8 : (u v : Place) (c : ℕ) (found : Bool) → IsUtf8 (ahead u)
+    → MatchBool found (CharAt u c v) ((v ≡ u) × ((w : Place) → CharAt u c w → ⊥)) → IsUtf8 (ahead v)
 taken_if_utf8 u v c true utf8 char = (passed_char char utf8).utf8
 taken_if_utf8 u v c false utf8 none = rw none.0 utf8
 
 -- the longest run of characters that pass a test
-pub taken_while : (test : ℕ → Bool) (u v : Place) (eaten : List ℕ) → IsUtf8 (ahead u) → IsUtf8 eaten → Longest test u v → eaten ≡ between u v
+pub taken_while : (test : ℕ → Bool) (u v : Place) (eaten : List ℕ) → IsUtf8 (ahead u) → IsUtf8 eaten → Longest test u v
+    → eaten ≡ between u v
     → Passes u (chars eaten) v × (list_all test (chars eaten) ≡ true) × (begins test (left v) ≡ false)
 taken_while test u v eaten utf8 text longest is =
     let passed = passed_run longest.run utf8 in
@@ -84,5 +101,6 @@ pub taken_while_utf8 : (test : ℕ → Bool) (u v : Place) → IsUtf8 (ahead u) 
 taken_while_utf8 test u v utf8 longest = (passed_run longest.run utf8).1.utf8
 
 -- the passed characters are the text between the places
-pub passes_between : {u v : Place} {cs : List ℕ} → Passes u cs v → IsUtf8 (between u v) → between u v ≡ encode_utf8_all cs → chars (between u v) ≡ cs
+pub passes_between : {u v : Place} {cs : List ℕ} → Passes u cs v → IsUtf8 (between u v)
+    → between u v ≡ encode_utf8_all cs → chars (between u v) ≡ cs
 passes_between {u} {v} {cs} passed utf8 is = chars_whole cs (between u v) utf8 is

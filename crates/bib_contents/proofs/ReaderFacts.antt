@@ -22,19 +22,26 @@ pub goes_here : (is_verbatim : Bool) (depth : ℕ) (text : List ℕ) → Goes is
 goes_here is_verbatim depth text = record { onward = λ more read. read; back = λ whole read. (whole, read); fails = λ kind fails. fails }
 
 -- two parts were parsed, one after the other
-pub goes_then : {is_verbatim : Bool} {depth after last : ℕ} {text rest tail : List ℕ} {first second : List Atom} → Goes is_verbatim depth text first after rest → Goes is_verbatim after rest second last tail
+pub goes_then : {is_verbatim : Bool} {depth after last : ℕ} {text rest tail : List ℕ} {first second : List Atom}
+    → Goes is_verbatim depth text first after rest → Goes is_verbatim after rest second last tail
     → Goes is_verbatim depth text (first ++ second) last tail
 goes_then {is_verbatim} {depth} {after} {last} {text} {rest} {tail} {first} {second} one two = record {
-  onward = λ more read. subst (Reads is_verbatim depth text) (sym (append_assoc first second more)) (one.onward (second ++ more) (two.onward more read));
+  onward = λ more read.
+      subst (Reads is_verbatim depth text) (sym (append_assoc first second more))
+      (one.onward (second ++ more) (two.onward more read));
   back = λ whole read. two.back (one.back whole read).0 (one.back whole read).1;
   fails = λ kind fails. one.fails kind (two.fails kind fails);
 }
 
 -- if a text can be parsed, so can the argument of its first unit and the text after the unit
-pub unit_back : {is_verbatim : Bool} {depth : ℕ} {text rest : List ℕ} {u : ContentUnit} {whole : List Atom} → IsNext is_verbatim u text rest → Reads is_verbatim depth text whole
-    → (is_closable depth u ≡ true) × ((argument : List ℕ) → held u ≡ Some argument → (inner : List Atom) × Reads false 0 argument inner) × ((more : List Atom) × Reads is_verbatim (depth_after depth u) rest more)
+pub unit_back : {is_verbatim : Bool} {depth : ℕ} {text rest : List ℕ} {u : ContentUnit} {whole : List Atom}
+    → IsNext is_verbatim u text rest → Reads is_verbatim depth text whole
+    → (is_closable depth u ≡ true)
+    × ((argument : List ℕ) → held u ≡ Some argument → (inner : List Atom) × Reads false 0 argument inner)
+    × ((more : List Atom) × Reads is_verbatim (depth_after depth u) rest more)
 unit_back one end = absurd (no_unit_at_end one)
-unit_back {is_verbatim} {depth} {text} {rest} {u} one (next {u = w} {rest = left} {inner = inner} {atoms = atoms} two closable argument read) =
+unit_back {is_verbatim} {depth} {text} {rest} {u} one
+    (next {u = w} {rest = left} {inner = inner} {atoms = atoms} two closable argument read) =
     let same : w ≡ u = unit_same two one in
     let tail : left ≡ rest = rest_same two one in (
       rw (← same) closable,
@@ -43,7 +50,9 @@ unit_back {is_verbatim} {depth} {text} {rest} {u} one (next {u = w} {rest = left
     )
 
 -- a unit was parsed
-pub goes_unit : {is_verbatim : Bool} {depth after : ℕ} {text rest : List ℕ} {u : ContentUnit} {inner : List Atom} → IsNext is_verbatim u text rest → is_closable depth u ≡ true → ((argument : List ℕ) → held u ≡ Some argument → Reads false 0 argument inner) → after ≡ depth_after depth u
+pub goes_unit : {is_verbatim : Bool} {depth after : ℕ} {text rest : List ℕ} {u : ContentUnit} {inner : List Atom}
+    → IsNext is_verbatim u text rest → is_closable depth u ≡ true
+    → ((argument : List ℕ) → held u ≡ Some argument → Reads false 0 argument inner) → after ≡ depth_after depth u
     → Goes is_verbatim depth text (meaning depth u inner) after rest
 goes_unit {inner = inner} one closable argument deep = record {
   onward = λ more read. next one closable argument (rw (← deep) read);
@@ -55,12 +64,15 @@ pub no_argument : {t : List ℕ} → None ≡ Some t → ⊥
 no_argument same = cc
 
 -- ordinary characters are parsed as themselves
-pub goes_run : (is_verbatim : Bool) (depth : ℕ) (run rest : List ℕ) → list_all (is_ordinary is_verbatim) run ≡ true → Goes is_verbatim depth (run ++ rest) (map (character depth) run) depth rest
+pub goes_run : (is_verbatim : Bool) (depth : ℕ) (run rest : List ℕ) → list_all (is_ordinary is_verbatim) run ≡ true
+    → Goes is_verbatim depth (run ++ rest) (map (character depth) run) depth rest
 goes_run is_verbatim depth [] rest all = goes_here is_verbatim depth rest
 goes_run is_verbatim depth (c ∷ cs) rest all =
     let parts = and_parts (is_ordinary is_verbatim c) (list_all (is_ordinary is_verbatim) cs) all in
     let one : IsNext is_verbatim (ContentUnit.other c) (c ∷ (cs ++ rest)) (cs ++ rest) = record { fits = parts.0; spells = refl } in
-    goes_then (goes_unit {u = ContentUnit.other c} {inner = []} one refl (λ argument holds. absurd (no_argument holds)) refl) (goes_run is_verbatim depth cs rest parts.1)
+    goes_then
+    (goes_unit {u = ContentUnit.other c} {inner = []} one refl (λ argument holds. absurd (no_argument holds)) refl)
+    (goes_run is_verbatim depth cs rest parts.1)
 
 -- a text was parsed up to `rest`, and its atoms were added to `start`
 pub record ReadSoFar (is_verbatim : Bool) (whole : List ℕ) (start : List Atom) (rest : List ℕ) (depth : ℕ) (now : List Atom) : Type 0 where
@@ -71,7 +83,9 @@ pub record ReadSoFar (is_verbatim : Bool) (whole : List ℕ) (start : List Atom)
 pub read_none : (is_verbatim : Bool) (whole : List ℕ) (start now : List Atom) → now ≡ start → ReadSoFar is_verbatim whole start whole 0 now
 read_none is_verbatim whole start now same = record { atoms = []; goes = goes_here is_verbatim 0 whole; is = same ∙ sym (append-nil start) }
 
-pub read_plain : {is_verbatim : Bool} {whole text rest : List ℕ} {start now more : List Atom} {depth : ℕ} (atoms : List Atom) → ReadSoFar is_verbatim whole start text depth now → Goes is_verbatim depth text atoms depth rest
+pub read_plain : {is_verbatim : Bool} {whole text rest : List ℕ} {start now more : List Atom} {depth : ℕ}
+    (atoms : List Atom) → ReadSoFar is_verbatim whole start text depth now
+    → Goes is_verbatim depth text atoms depth rest
     → more ≡ now ++ atoms → ReadSoFar is_verbatim whole start rest depth more
 read_plain {start = start} atoms read goes written = record {
   atoms = read.atoms ++ atoms;
@@ -79,7 +93,8 @@ read_plain {start = start} atoms read goes written = record {
   is = written ∙ ap (λ xs. xs ++ atoms) read.is ∙ append_assoc start read.atoms atoms;
 }
 
-pub read_unit : {is_verbatim : Bool} {whole text rest : List ℕ} {u : ContentUnit} {start now more : List Atom} {depth after : ℕ} → ReadSoFar is_verbatim whole start text depth now → IsNext is_verbatim u text rest
+pub read_unit : {is_verbatim : Bool} {whole text rest : List ℕ} {u : ContentUnit} {start now more : List Atom}
+    {depth after : ℕ} → ReadSoFar is_verbatim whole start text depth now → IsNext is_verbatim u text rest
     → Took u depth now after more → ReadSoFar is_verbatim whole start rest after more
 read_unit {is_verbatim} {whole} {text} {rest} {u} {start} {now} {more} {depth} {after} read one took = record {
   atoms = read.atoms ++ meaning depth u took.inner;
@@ -88,7 +103,8 @@ read_unit {is_verbatim} {whole} {text} {rest} {u} {start} {now} {more} {depth} {
 }
 
 -- at the end of the text its atoms are those of the contents
-pub read_all : {is_verbatim : Bool} {whole text : List ℕ} {start now : List Atom} {depth : ℕ} → ReadSoFar is_verbatim whole start text depth now → text ≡ []
+pub read_all : {is_verbatim : Bool} {whole text : List ℕ} {start now : List Atom} {depth : ℕ}
+    → ReadSoFar is_verbatim whole start text depth now → text ≡ []
     → (atoms : List Atom) × Reads is_verbatim 0 whole atoms × (now ≡ start ++ atoms)
 read_all {is_verbatim} {whole} {text} {start} {now} {depth} read ends =
     (read.atoms, subst (Reads is_verbatim 0 whole) (append-nil read.atoms) (read.goes.onward [] (rw ends end)), read.is)
@@ -125,11 +141,15 @@ held_length_is (ContentUnit.formula math) text is = absurd (no_argument is)
 held_length_is (ContentUnit.other c) text is = absurd (no_argument is)
 
 -- a unit is longer than its argument in braces
-unit_longer : (is_verbatim : Bool) (u : ContentUnit) (rest : List ℕ) → fits is_verbatim u rest ≡ true → held_length u < length (unit_spelling u)
+unit_longer : (is_verbatim : Bool) (u : ContentUnit) (rest : List ℕ) → fits is_verbatim u rest ≡ true
+    → held_length u < length (unit_spelling u)
 unit_longer is_verbatim (ContentUnit.command name space (Argument.braced text)) rest right =
     let inside : length (text ++ 125 ∷ []) ≡ length text + 1 = length-append text (125 ∷ []) in
-    let spaced : length (space ++ 123 ∷ (text ++ 125 ∷ [])) ≡ length space + (length (text ++ 125 ∷ []) + 1) = length-append space (123 ∷ (text ++ 125 ∷ [])) ∙ ap (λ n. length space + n) (sym (add-one _)) in
-    let named : length (name ++ (space ++ 123 ∷ (text ++ 125 ∷ []))) ≡ length name + length (space ++ 123 ∷ (text ++ 125 ∷ [])) = length-append name _ in
+    let spaced : length (space ++ 123 ∷ (text ++ 125 ∷ [])) ≡ length space + (length (text ++ 125 ∷ []) + 1) =
+    length-append space (123 ∷ (text ++ 125 ∷ [])) ∙ ap (λ n. length space + n) (sym (add-one _)) in
+    let named : length (name ++ (space ++ 123 ∷ (text ++ 125 ∷ [])))
+    ≡ length name + length (space ++ 123 ∷ (text ++ 125 ∷ [])) =
+    length-append name _ in
     omega arith
 unit_longer is_verbatim (ContentUnit.command name space Argument.without) rest right = omega arith
 unit_longer is_verbatim (ContentUnit.command name space Argument.empty) rest right = omega arith
@@ -147,7 +167,8 @@ unit_longer is_verbatim (ContentUnit.formula text) rest right = omega arith
 unit_longer is_verbatim (ContentUnit.other c) rest right = omega arith
 
 -- the text after a unit and the argument of the unit are shorter than the text before it
-pub unit_shorter : {is_verbatim : Bool} {u : ContentUnit} {text rest : List ℕ} → IsNext is_verbatim u text rest → (length rest < length text) × (held_length u < length text)
+pub unit_shorter : {is_verbatim : Bool} {u : ContentUnit} {text rest : List ℕ} → IsNext is_verbatim u text rest
+    → (length rest < length text) × (held_length u < length text)
 unit_shorter {is_verbatim} {u} {text} {rest} one =
     let longer : held_length u < length (unit_spelling u) = unit_longer is_verbatim u rest one.fits in
     let size : length text ≡ length (unit_spelling u) + length rest = ap length one.spells ∙ length-append (unit_spelling u) rest in
@@ -155,7 +176,10 @@ unit_shorter {is_verbatim} {u} {text} {rest} one =
 
 -- if the open chunk is empty, the finished ones have all atoms
 pub nothing_grows : (out : List (Spanned Chunk)) (growing : OpenChunk) → string_bytes growing.text ≡ [] → styled out ≡ so_far out growing
-nothing_grows out growing empty = sym (ap (λ cs. styled out ++ map (character growing.depth) cs) (ap chars empty ∙ chars-nil) ∙ append-nil (styled out))
+nothing_grows out growing empty =
+    sym
+    (ap (λ cs. styled out ++ map (character growing.depth) cs) (ap chars empty ∙ chars-nil)
+    ∙ append-nil (styled out))
 
 pub no_bytes : (bs : List ℕ) → length bs ≡ 0 → bs ≡ []
 no_bytes [] none = refl

@@ -17,7 +17,8 @@ use Rattle.bib_contents.proofs.ReaderFacts.{ReadSoFar, read_none, read_plain, re
 use Rattle.bib_contents.proofs.TakingFacts.{grown_chars}
 
 -- contents were parsed up to the cursor `s`: the chunks have the atoms so far, stay joined, and are in order
-pub record Reading (is_verbatim : Bool) (text : List ℕ) (offset : ℕ) (start : List (Spanned Chunk)) (s : Place) (growing : OpenChunk) (out : List (Spanned Chunk)) : Type 0 where
+pub record Reading (is_verbatim : Bool) (text : List ℕ) (offset : ℕ) (start : List (Spanned Chunk)) (s : Place)
+    (growing : OpenChunk) (out : List (Spanned Chunk)) : Type 0 where
   pub read : ReadSoFar is_verbatim (chars text) (styled start) (left s) growing.depth (so_far out growing)
   pub shorter : length (left s) ≤ length (chars text)
   pub joined : AreJoined start → AreJoined out
@@ -27,10 +28,15 @@ pub record Reading (is_verbatim : Bool) (text : List ℕ) (offset : ℕ) (start 
   pub within : s.at ≤ length s.text
 
 -- at the start nothing was parsed
-pub reading_none : (is_verbatim : Bool) (text : List ℕ) (offset : ℕ) (start : List (Spanned Chunk)) (s : Place) (growing : OpenChunk) → s ≡ record { text = text; at = 0 } → offset ≤ 2 ^ 64 - 1 → growing.depth ≡ 0 → growing.start ≡ offset
+pub reading_none : (is_verbatim : Bool) (text : List ℕ) (offset : ℕ) (start : List (Spanned Chunk)) (s : Place)
+    (growing : OpenChunk) → s ≡ record { text = text; at = 0 } → offset ≤ 2 ^ 64 - 1 → growing.depth ≡ 0
+    → growing.start ≡ offset
     → string_bytes growing.text ≡ [] → Reading is_verbatim text offset start s growing start
 reading_none is_verbatim text offset start s growing here fits shallow begins empty = record {
-  read = rw (here, shallow) (read_none is_verbatim (chars text) (styled start) _ (ap (λ cs. styled start ++ map (character 0) cs) (ap chars empty ∙ chars-nil) ∙ append-nil (styled start)));
+  read =
+      rw (here, shallow)
+      (read_none is_verbatim (chars text) (styled start) _
+      (ap (λ cs. styled start ++ map (character 0) cs) (ap chars empty ∙ chars-nil) ∙ append-nil (styled start)));
   shorter = rw here (omega arith);
   joined = λ joined. joined;
   placed = λ low placed. rw (begins, here) (placed, omega (arith, fits));
@@ -40,7 +46,9 @@ reading_none is_verbatim text offset start s growing here fits shallow begins em
 }
 
 -- a step of the loop: a run of plain characters
-pub reading_plain : {is_verbatim : Bool} {text : List ℕ} {offset : ℕ} {start out : List (Spanned Chunk)} {s t : Place} (growing grown : OpenChunk) → Reading is_verbatim text offset start s growing out → Renders is_verbatim s t growing.text grown.text
+pub reading_plain : {is_verbatim : Bool} {text : List ℕ} {offset : ℕ} {start out : List (Spanned Chunk)} {s t : Place}
+    (growing grown : OpenChunk) → Reading is_verbatim text offset start s growing out
+    → Renders is_verbatim s t growing.text grown.text
     → grown.depth ≡ growing.depth → grown.start ≡ growing.start → Reading is_verbatim text offset start t grown out
 reading_plain {is_verbatim} {text} {offset} {start} {out} {s} {t} growing grown reading renders depth begins =
     let shown : List ℕ = renders.0 in
@@ -48,11 +56,15 @@ reading_plain {is_verbatim} {text} {offset} {start} {out} {s} {t} growing grown 
     let ahead : s.at ≤ t.at = passes_ahead passes in
     let more : so_far out grown ≡ so_far out growing ++ map (character growing.depth) shown =
     ap (λ d. styled out ++ map (character d) (chars (string_bytes grown.text))) depth
-    ∙ ap (λ cs. styled out ++ map (character growing.depth) cs) (grown_chars (string_bytes growing.text) (string_bytes grown.text) shown (IsUtf8-string_bytes growing.text) (IsUtf8-string_bytes grown.text) renders.2)
+    ∙ ap (λ cs. styled out ++ map (character growing.depth) cs)
+    (grown_chars (string_bytes growing.text) (string_bytes grown.text) shown (IsUtf8-string_bytes growing.text)
+    (IsUtf8-string_bytes grown.text) renders.2)
     ∙ ap (λ xs. styled out ++ xs) (map-append (character growing.depth) (chars (string_bytes growing.text)) shown)
     ∙ sym (append_assoc (styled out) _ _) in
     record {
-      read = subst (λ d. ReadSoFar is_verbatim (chars text) (styled start) (left t) d (so_far out grown)) (sym depth) (read_plain (map (character growing.depth) shown) reading.read (renders.1.goes growing.depth) more);
+      read =
+          subst (λ d. ReadSoFar is_verbatim (chars text) (styled start) (left t) d (so_far out grown)) (sym depth)
+          (read_plain (map (character growing.depth) shown) reading.read (renders.1.goes growing.depth) more);
       shorter =
           let size : length (left t) ≤ length (left s) = passes_shorter passes in
           let before : length (left s) ≤ length (chars text) = reading.shorter in
@@ -65,13 +77,18 @@ reading_plain {is_verbatim} {text} {offset} {start} {out} {s} {t} growing grown 
     }
 
 -- the position after a unit is as many bytes further as the unit has
-pub unit_place : {is_verbatim : Bool} {u : ContentUnit} {s t : Place} → IsNext is_verbatim u (left s) (left t) → t.text ≡ s.text → IsUtf8 (drop s.at s.text) → IsUtf8 (drop t.at t.text) → s.at ≤ length s.text → t.at ≤ length t.text
+pub unit_place : {is_verbatim : Bool} {u : ContentUnit} {s t : Place} → IsNext is_verbatim u (left s) (left t)
+    → t.text ≡ s.text → IsUtf8 (drop s.at s.text) → IsUtf8 (drop t.at t.text) → s.at ≤ length s.text
+    → t.at ≤ length t.text
     → t.at ≡ s.at + length (encode_utf8_all (unit_spelling u))
 unit_place {is_verbatim} {u} {s} {t} one same utf8 utf8' within within' =
     let bytes : drop s.at s.text ≡ encode_utf8_all (unit_spelling u) ++ drop t.at t.text =
-    sym (encodes-chars (drop s.at s.text) utf8) ∙ ap encode_utf8_all one.spells ∙ encodes-append (unit_spelling u) (left t) ∙ ap (λ bs. encode_utf8_all (unit_spelling u) ++ bs) (encodes-chars (drop t.at t.text) utf8') in
+    sym (encodes-chars (drop s.at s.text) utf8) ∙ ap encode_utf8_all one.spells
+    ∙ encodes-append (unit_spelling u) (left t)
+    ∙ ap (λ bs. encode_utf8_all (unit_spelling u) ++ bs) (encodes-chars (drop t.at t.text) utf8') in
     let sizes : length s.text - s.at ≡ length (encode_utf8_all (unit_spelling u)) + (length t.text - t.at) =
-    sym (length-drop s.at s.text) ∙ ap length bytes ∙ length-append (encode_utf8_all (unit_spelling u)) _ ∙ ap (λ n. length (encode_utf8_all (unit_spelling u)) + n) (length-drop t.at t.text) in
+    sym (length-drop s.at s.text) ∙ ap length bytes ∙ length-append (encode_utf8_all (unit_spelling u)) _
+    ∙ ap (λ n. length (encode_utf8_all (unit_spelling u)) + n) (length-drop t.at t.text) in
     let texts : length t.text ≡ length s.text = ap length same in
     omega arith
 
@@ -89,8 +106,11 @@ deeper depth (ContentUnit.command name space argument) = omega arith
 deeper depth (ContentUnit.other c) = omega arith
 
 -- a step of the loop: a unit
-pub reading_unit : {is_verbatim : Bool} {text : List ℕ} {offset : ℕ} {start out more : List (Spanned Chunk)} {s t : Place} {u : ContentUnit} (growing grown : OpenChunk) → Reading is_verbatim text offset start s growing out → IsNext is_verbatim u (left s) (left t) → t.text ≡ s.text
-    → t.at ≡ s.at + length (encode_utf8_all (unit_spelling u)) → t.at ≤ length t.text → Took u growing.depth (so_far out growing) grown.depth (so_far more grown) → (AreJoined out → AreJoined more)
+pub reading_unit : {is_verbatim : Bool} {text : List ℕ} {offset : ℕ} {start out more : List (Spanned Chunk)}
+    {s t : Place} {u : ContentUnit} (growing grown : OpenChunk)
+    → Reading is_verbatim text offset start s growing out → IsNext is_verbatim u (left s) (left t) → t.text ≡ s.text
+    → t.at ≡ s.at + length (encode_utf8_all (unit_spelling u)) → t.at ≤ length t.text
+    → Took u growing.depth (so_far out growing) grown.depth (so_far more grown) → (AreJoined out → AreJoined more)
     → StaysPlaced out growing (saturated (offset + s.at)) more grown (saturated (offset + t.at))
     → Reading is_verbatim text offset start t grown more
 reading_unit {is_verbatim} {text} {offset} {start} {out} {more} {s} {t} {u} growing grown reading one same next within took joined moved =
@@ -112,14 +132,18 @@ reading_unit {is_verbatim} {text} {offset} {start} {out} {more} {s} {t} {u} grow
     }
 
 -- at the end of the text the atoms are those of the contents
-pub reading_all : {is_verbatim : Bool} {text : List ℕ} {offset : ℕ} {start out : List (Spanned Chunk)} {s : Place} (growing : OpenChunk) (after : List Atom) → Reading is_verbatim text offset start s growing out → left s ≡ [] → after ≡ so_far out growing
+pub reading_all : {is_verbatim : Bool} {text : List ℕ} {offset : ℕ} {start out : List (Spanned Chunk)} {s : Place}
+    (growing : OpenChunk) (after : List Atom) → Reading is_verbatim text offset start s growing out → left s ≡ []
+    → after ≡ so_far out growing
     → (atoms : List Atom) × Reads is_verbatim 0 (chars text) atoms × (after ≡ styled start ++ atoms)
 reading_all growing after reading ends is =
     let all = read_all reading.read ends in
     (all.0, all.1, is ∙ all.2)
 
 -- the last chunk begins in the text
-pub reading_ends : {is_verbatim : Bool} {text : List ℕ} {offset : ℕ} {start out : List (Spanned Chunk)} {s : Place} (growing : OpenChunk) → Reading is_verbatim text offset start s growing out → (low : ℕ) → ArePlaced low offset start
+pub reading_ends : {is_verbatim : Bool} {text : List ℕ} {offset : ℕ} {start out : List (Spanned Chunk)} {s : Place}
+    (growing : OpenChunk) → Reading is_verbatim text offset start s growing out → (low : ℕ)
+    → ArePlaced low offset start
     → ArePlaced low growing.start out × (growing.start ≤ saturated (offset + length text))
 reading_ends {is_verbatim} {text} {offset} {start} {out} {s} growing reading low placed =
     let was = reading.placed low placed in

@@ -30,7 +30,8 @@ use Rattle.bib_contents.proofs.ReaderFacts.{nothing_grows, no_argument, placed_w
 -- the characters of a text after an append
 pub grown_chars : (bs more cs : List ℕ) → IsUtf8 bs → IsUtf8 more → more ≡ bs ++ encode_utf8_all cs → chars more ≡ chars bs ++ cs
 grown_chars bs more cs utf8 utf8' grew =
-    chars_whole (chars bs ++ cs) more utf8' (grew ∙ ap (λ xs. xs ++ encode_utf8_all cs) (sym (encodes-chars bs utf8)) ∙ sym (encodes-append (chars bs) cs))
+    chars_whole (chars bs ++ cs) more utf8'
+    (grew ∙ ap (λ xs. xs ++ encode_utf8_all cs) (sym (encodes-chars bs utf8)) ∙ sym (encodes-append (chars bs) cs))
 
 -- a unit of text may occur at any depth, doesn't change it, and has characters as atoms
 pub record IsTextUnit (depth : ℕ) (u : ContentUnit) : Type 0 where
@@ -52,11 +53,15 @@ pub held_is : {text argument : List ℕ} → Some text ≡ Some argument → tex
 held_is same = cc
 
 -- characters were appended to the open chunk
-took_characters : (u : ContentUnit) (growing grown : OpenChunk) (out : List (Spanned Chunk)) (inner : List Atom) → IsTextUnit growing.depth u → ((argument : List ℕ) → held u ≡ Some argument → Reads false 0 argument inner)
-    → Writes growing.text grown.text (unit_text u inner) → grown.depth ≡ growing.depth → Took u growing.depth (so_far out growing) grown.depth (so_far out grown)
+took_characters : (u : ContentUnit) (growing grown : OpenChunk) (out : List (Spanned Chunk)) (inner : List Atom)
+    → IsTextUnit growing.depth u → ((argument : List ℕ) → held u ≡ Some argument → Reads false 0 argument inner)
+    → Writes growing.text grown.text (unit_text u inner) → grown.depth ≡ growing.depth
+    → Took u growing.depth (so_far out growing) grown.depth (so_far out grown)
 took_characters u growing grown out inner is argument written depth =
     let cs = unit_text u inner in
-    let grew : chars (string_bytes grown.text) ≡ chars (string_bytes growing.text) ++ cs = grown_chars (string_bytes growing.text) (string_bytes grown.text) cs (IsUtf8-string_bytes growing.text) (IsUtf8-string_bytes grown.text) written in
+    let grew : chars (string_bytes grown.text) ≡ chars (string_bytes growing.text) ++ cs =
+    grown_chars (string_bytes growing.text) (string_bytes grown.text) cs (IsUtf8-string_bytes growing.text)
+    (IsUtf8-string_bytes grown.text) written in
     record {
       inner = inner;
       closable = is.closable;
@@ -70,15 +75,23 @@ took_characters u growing grown out inner is argument written depth =
           ∙ ap (λ xs. so_far out growing ++ xs) (sym (is.means inner));
     }
 
-pub took_text : (unit : TextUnit) (growing grown : OpenChunk) (out : List (Spanned Chunk)) (inner : List Atom) → ((argument : List ℕ) → held (text_unit_of unit) ≡ Some argument → Reads false 0 argument inner)
-    → Writes growing.text grown.text (unit_text (text_unit_of unit) inner) → grown.depth ≡ growing.depth → Took (text_unit_of unit) growing.depth (so_far out growing) grown.depth (so_far out grown)
-took_text unit growing grown out inner argument written depth = took_characters (text_unit_of unit) growing grown out inner (text_unit growing.depth unit) argument written depth
+pub took_text : (unit : TextUnit) (growing grown : OpenChunk) (out : List (Spanned Chunk)) (inner : List Atom)
+    → ((argument : List ℕ) → held (text_unit_of unit) ≡ Some argument → Reads false 0 argument inner)
+    → Writes growing.text grown.text (unit_text (text_unit_of unit) inner) → grown.depth ≡ growing.depth
+    → Took (text_unit_of unit) growing.depth (so_far out growing) grown.depth (so_far out grown)
+took_text unit growing grown out inner argument written depth =
+    took_characters (text_unit_of unit) growing grown out inner (text_unit growing.depth unit) argument written depth
 
 -- the text of a command with an argument in braces was appended
-pub took_applied : (name space argument : List ℕ) (growing grown : OpenChunk) (out : List (Spanned Chunk)) (inner : List Atom) → Reads false 0 argument inner → Writes growing.text grown.text (command_text name (Some (formatted_atoms false inner))) → grown.depth ≡ growing.depth
+pub took_applied : (name space argument : List ℕ) (growing grown : OpenChunk) (out : List (Spanned Chunk))
+    (inner : List Atom) → Reads false 0 argument inner
+    → Writes growing.text grown.text (command_text name (Some (formatted_atoms false inner)))
+    → grown.depth ≡ growing.depth
     → Took (ContentUnit.command name space (Argument.braced argument)) growing.depth (so_far out growing) grown.depth (so_far out grown)
 took_applied name space argument growing grown out inner read written depth =
-    took_characters (ContentUnit.command name space (Argument.braced argument)) growing grown out inner record { closable = refl; deep = refl; means = λ inner. refl } (λ text holds. subst (λ t. Reads false 0 t inner) (held_is holds) read) written depth
+    took_characters (ContentUnit.command name space (Argument.braced argument)) growing grown out inner record
+    { closable = refl; deep = refl; means = λ inner. refl }
+    (λ text holds. subst (λ t. Reads false 0 t inner) (held_is holds) read) written depth
 
 -- a unit that isn't put on one line is written as its text
 as_is : (unit : TextUnit) → unit_written false (text_unit_of unit) ≡ unit_text (text_unit_of unit) []
@@ -90,11 +103,14 @@ as_is (shown.Copied c) = refl
 as_is (shown.Command name space argument) = refl
 as_is (shown.Other c) = refl
 
-pub as_text : (old new : List ℕ) (unit : TextUnit) → new ≡ old ++ encode_utf8_all (unit_written false (text_unit_of unit)) → new ≡ old ++ encode_utf8_all (unit_text (text_unit_of unit) [])
+pub as_text : (old new : List ℕ) (unit : TextUnit)
+    → new ≡ old ++ encode_utf8_all (unit_written false (text_unit_of unit))
+    → new ≡ old ++ encode_utf8_all (unit_text (text_unit_of unit) [])
 as_text old new unit wrote = wrote ∙ ap (λ cs. old ++ encode_utf8_all cs) (as_is unit)
 
 -- math was appended
-pub took_formula : (text : List ℕ) (depth : ℕ) (grown : OpenChunk) (before : List Atom) (out : List (Spanned Chunk)) → string_bytes grown.text ≡ [] → grown.depth ≡ depth → styled out ≡ before ++ Atom.math text ∷ []
+pub took_formula : (text : List ℕ) (depth : ℕ) (grown : OpenChunk) (before : List Atom) (out : List (Spanned Chunk))
+    → string_bytes grown.text ≡ [] → grown.depth ≡ depth → styled out ≡ before ++ Atom.math text ∷ []
     → Took (ContentUnit.formula text) depth before grown.depth (so_far out grown)
 took_formula text depth grown before out empty same atoms = record {
   inner = [];
@@ -105,7 +121,8 @@ took_formula text depth grown before out empty same atoms = record {
 }
 
 -- a brace was opened
-pub took_opening : (depth : ℕ) (grown : OpenChunk) (before : List Atom) (out : List (Spanned Chunk)) → string_bytes grown.text ≡ [] → grown.depth ≡ depth + 1 → styled out ≡ before
+pub took_opening : (depth : ℕ) (grown : OpenChunk) (before : List Atom) (out : List (Spanned Chunk))
+    → string_bytes grown.text ≡ [] → grown.depth ≡ depth + 1 → styled out ≡ before
     → Took ContentUnit.opening depth before grown.depth (so_far out grown)
 took_opening depth grown before out empty same atoms = record {
   inner = [];
@@ -115,7 +132,8 @@ took_opening depth grown before out empty same atoms = record {
   atoms = sym (nothing_grows out grown empty) ∙ atoms ∙ sym (append-nil before);
 }
 
-pub took_closing : (depth : ℕ) (grown : OpenChunk) (before : List Atom) (out : List (Spanned Chunk)) → (depth ≡ 0 → ⊥) → string_bytes grown.text ≡ [] → grown.depth ≡ depth - 1 → styled out ≡ before
+pub took_closing : (depth : ℕ) (grown : OpenChunk) (before : List Atom) (out : List (Spanned Chunk)) → (depth ≡ 0 → ⊥)
+    → string_bytes grown.text ≡ [] → grown.depth ≡ depth - 1 → styled out ≡ before
     → Took ContentUnit.closing depth before grown.depth (so_far out grown)
 took_closing depth grown before out some empty same atoms = record {
   inner = [];
@@ -128,7 +146,8 @@ took_closing depth grown before out some empty same atoms = record {
 -- math is spelt with at least two bytes
 pub formula_wide : (text : List ℕ) → 2 ≤ length (encode_utf8_all (36 ∷ (text ++ 36 ∷ [])))
 formula_wide text =
-    let characters : length (36 ∷ (text ++ 36 ∷ [])) ≤ length (encode_utf8_all (36 ∷ (text ++ 36 ∷ []))) = length-le-encodes (36 ∷ (text ++ 36 ∷ [])) in
+    let characters : length (36 ∷ (text ++ 36 ∷ [])) ≤ length (encode_utf8_all (36 ∷ (text ++ 36 ∷ []))) =
+    length-le-encodes (36 ∷ (text ++ 36 ∷ [])) in
     let inside : length (text ++ 36 ∷ []) ≡ length text + 1 = length-append text (36 ∷ []) in
     omega arith
 
@@ -137,7 +156,9 @@ sizes : (a b : List ℕ) → length (encode_utf8_all (a ++ b)) ≡ length (encod
 sizes a b = ap length (encodes-append a b) ∙ length-append (encode_utf8_all a) (encode_utf8_all b)
 
 -- a command is at least three bytes longer than its argument in braces
-pub braced_wide : (name space text : List ℕ) → length (encode_utf8_all text) + 3 ≤ length (encode_utf8_all (unit_spelling (ContentUnit.command name space (Argument.braced text))))
+pub braced_wide : (name space text : List ℕ)
+    → length (encode_utf8_all text) + 3
+    ≤ length (encode_utf8_all (unit_spelling (ContentUnit.command name space (Argument.braced text))))
 braced_wide name space text =
     let one : 1 ≤ length (encode_utf8_all (125 ∷ [])) = length-le-encodes (125 ∷ []) in
     let two : 1 ≤ length (encode_utf8_all (123 ∷ [])) = length-le-encodes (123 ∷ []) in
@@ -150,23 +171,29 @@ braced_wide name space text =
     omega (arith, one, two, three, closed, opened, spaced, named, whole)
 
 -- the next chunk begins after the last one
-pub placed_after : (low end following start : ℕ) (out : List (Spanned Chunk)) → ArePlaced low end out → end ≤ following → start ≡ following → ArePlaced low start out × (start ≤ following)
-placed_after low end following start out placed wider is = (placed_wider low end start out placed (omega (arith, wider, is)), omega (arith, is))
+pub placed_after : (low end following start : ℕ) (out : List (Spanned Chunk)) → ArePlaced low end out → end ≤ following
+    → start ≡ following → ArePlaced low start out × (start ≤ following)
+placed_after low end following start out placed wider is =
+    (placed_wider low end start out placed (omega (arith, wider, is)), omega (arith, is))
 
 -- the unit of a command with this argument
-pub command_is : {unit : TextUnit} {name space : Bor (List ℕ)} {command_text : units.Argument} (argument : units.Argument) → unit ≡ shown.Command name space command_text → command_text ≡ argument
+pub command_is : {unit : TextUnit} {name space : Bor (List ℕ)} {command_text : units.Argument}
+    (argument : units.Argument) → unit ≡ shown.Command name space command_text → command_text ≡ argument
     → text_unit_of unit ≡ ContentUnit.command (chars name.now) (chars space.now) (argument_of argument)
 command_is {unit} {name} {space} {command_text} argument is same =
     ap text_unit_of is ∙ ap (λ a. ContentUnit.command (chars name.now) (chars space.now) (argument_of a)) same
 
 -- the positions around the argument of a unit, given by equal numbers
-pub stands_at : (text : List ℕ) (low high start end : ℕ) → start ≡ low → end ≡ high → (unit : all_units.Unit) → IsArgumentBetween text low unit high → IsArgumentBetween text start unit end
+pub stands_at : (text : List ℕ) (low high start end : ℕ) → start ≡ low → end ≡ high → (unit : all_units.Unit)
+    → IsArgumentBetween text low unit high → IsArgumentBetween text start unit end
 stands_at text low high start end first last unit stands = rw (first, last) stands
 
 -- a command that comes next has a name
-pub unit_named : (unit : all_units.Unit) {is_verbatim : Bool} {text rest : List ℕ} → IsNext is_verbatim (unit_of unit) text rest → HasCommandName unit
+pub unit_named : (unit : all_units.Unit) {is_verbatim : Bool} {text rest : List ℕ}
+    → IsNext is_verbatim (unit_of unit) text rest → HasCommandName unit
 unit_named (any_unit.Shown shown) one = tt
-unit_named (any_unit.Applied name space inside) {is_verbatim} {text} {rest} one = (command_parts is_verbatim (chars name.now) (chars space.now) rest (Argument.braced (left inside)) one.fits).1
+unit_named (any_unit.Applied name space inside) {is_verbatim} {text} {rest} one =
+    (command_parts is_verbatim (chars name.now) (chars space.now) rest (Argument.braced (left inside)) one.fits).1
 unit_named (any_unit.Formula text) one = tt
 unit_named any_unit.Opening one = tt
 unit_named any_unit.Closing one = tt

@@ -66,7 +66,8 @@ prefix_run test (c ∷ cs) rest all stops =
     let parts = and_parts (test c) (list_all test cs) all in
     rw parts.0 (ap (λ xs. c ∷ xs) (prefix_run test cs rest parts.1 stops))
 
-pub after_run : (test : ℕ → Bool) (cs rest : List ℕ) → list_all test cs ≡ true → begins test rest ≡ false → following test (cs ++ rest) ≡ rest
+pub after_run : (test : ℕ → Bool) (cs rest : List ℕ) → list_all test cs ≡ true → begins test rest ≡ false
+    → following test (cs ++ rest) ≡ rest
 after_run test [] [] all stops = refl
 after_run test [] (d ∷ ds) all stops = rw stops refl
 after_run test (c ∷ cs) rest all stops =
@@ -92,7 +93,8 @@ braces_run depth (c ∷ cs) rest balanced =
 pub other_than : (test : ℕ → Bool) (c k : ℕ) → test c ≡ true → test k ≡ false → (c == k) ≡ false
 other_than test c k passes fails = ne_eqb c k (λ same. both_ways (test k) fails (rw same at passes))
 
-pub hyphens_run : (n : ℕ) (rest : List ℕ) → begins (λ c. c == 45) rest ≡ false → prefix (λ c. c == 45) (replicate n 45 ++ rest) ≡ replicate n 45
+pub hyphens_run : (n : ℕ) (rest : List ℕ) → begins (λ c. c == 45) rest ≡ false
+    → prefix (λ c. c == 45) (replicate n 45 ++ rest) ≡ replicate n 45
 hyphens_run zero rest stops = prefix_run (λ c. c == 45) [] rest refl stops
 hyphens_run (suc n) rest stops = ap (λ xs. 45 ∷ xs) (hyphens_run n rest stops)
 
@@ -115,7 +117,8 @@ argument_first takes spaced (Argument.braced text) rest right =
     rw (not-true spaced parts.0, append_assoc text (125 ∷ []) rest) (ap Argument.braced (braces_run 0 text rest parts.1))
 
 -- the white space and the argument after a command's name are found
-pub command_first : (name space rest : List ℕ) (argument : Argument) → list_all is_space space ≡ true → begins is_space (argument_spelling argument ++ rest) ≡ false
+pub command_first : (name space rest : List ℕ) (argument : Argument) → list_all is_space space ≡ true
+    → begins is_space (argument_spelling argument ++ rest) ≡ false
     → is_argument (takes_next name space) (not (is_empty space)) argument rest ≡ true
     → first_command name (space ++ (argument_spelling argument ++ rest)) ≡ ContentUnit.command name space argument
 command_first name space rest argument white stops right =
@@ -125,9 +128,16 @@ command_first name space rest argument white stops right =
     ∙ ap (ContentUnit.command name space) (argument_first (takes_next name space) (not (is_empty space)) argument rest right)
 
 -- white space differs from the characters that begin other units
-space_apart : (c : ℕ) → is_space c ≡ true → (c == 92 ≡ false) × (c == 123 ≡ false) × (c == 125 ≡ false) × (c == 36 ≡ false) × (c == 45 ≡ false)
+space_apart : (c : ℕ) → is_space c ≡ true
+    → (c == 92 ≡ false) × (c == 123 ≡ false) × (c == 125 ≡ false) × (c == 36 ≡ false) × (c == 45 ≡ false)
 unfolding is_space
-space_apart c white = (other_than is_space c 92 white refl, other_than is_space c 123 white refl, other_than is_space c 125 white refl, other_than is_space c 36 white refl, other_than is_space c 45 white refl)
+space_apart c white = (
+  other_than is_space c 92 white refl,
+  other_than is_space c 123 white refl,
+  other_than is_space c 125 white refl,
+  other_than is_space c 36 white refl,
+  other_than is_space c 45 white refl,
+)
 
 -- white space and control characters are not escaped
 blank_apart : (c : ℕ) → is_blank c ≡ true → is_escaped false c ≡ false
@@ -150,7 +160,8 @@ blank_apart c blank =
 
 -- an ordinary character differs from those that begin other units
 ordinary_apart : (is_verbatim : Bool) (c : ℕ) → is_ordinary is_verbatim c ≡ true
-    → (c == 92 ≡ false) × (c == 123 ≡ false) × (c == 125 ≡ false) × (c == 36 && not is_verbatim ≡ false) × (c == 45 ≡ false) × (is_space c ≡ false)
+    → (c == 92 ≡ false) × (c == 123 ≡ false) × (c == 125 ≡ false) × (c == 36 && not is_verbatim ≡ false)
+    × (c == 45 ≡ false) × (is_space c ≡ false)
 unfolding is_ordinary is_grouping
 ordinary_apart is_verbatim c ordinary = grind arith
 
@@ -161,7 +172,8 @@ none_any (c ∷ cs) none =
     rw parts.0 (none_any cs parts.1)
 
 -- a name that isn't a sign is found as a whole
-name_first : (c : ℕ) (cs tail : List ℕ) (u : ContentUnit) → list_all is_name_character cs ≡ true → begins is_name_character tail ≡ false → first_command (c ∷ cs) tail ≡ u
+name_first : (c : ℕ) (cs tail : List ℕ) (u : ContentUnit) → list_all is_name_character cs ≡ true
+    → begins is_name_character tail ≡ false → first_command (c ∷ cs) tail ≡ u
     → first_command (c ∷ prefix is_name_character (cs ++ tail)) (following is_name_character (cs ++ tail)) ≡ u
 name_first c cs tail u named stops found =
     ap (λ xs. first_command (c ∷ xs) (following is_name_character (cs ++ tail))) (prefix_run is_name_character cs tail named stops)
@@ -169,15 +181,19 @@ name_first c cs tail u named stops found =
     ∙ found
 
 -- a name that begins with a sign is that sign
-sign_first : (c : ℕ) (tail : List ℕ) {u : ContentUnit} (cs : List ℕ) → is_empty cs ≡ true → first_command (c ∷ cs) tail ≡ u → first_command (c ∷ []) (cs ++ tail) ≡ u
+sign_first : (c : ℕ) (tail : List ℕ) {u : ContentUnit} (cs : List ℕ) → is_empty cs ≡ true
+    → first_command (c ∷ cs) tail ≡ u → first_command (c ∷ []) (cs ++ tail) ≡ u
 sign_first c tail [] none found = found
 sign_first c tail (d ∷ ds) none found = absurd (both_ways false refl none)
 
 -- a command is found after its backslash
-pub escape_first : (c : ℕ) (cs tail : List ℕ) (u : ContentUnit) → is_name (c ∷ cs) ≡ true → is_whole_name (c ∷ cs) tail ≡ true → first_command (c ∷ cs) tail ≡ u
+pub escape_first : (c : ℕ) (cs tail : List ℕ) (u : ContentUnit) → is_name (c ∷ cs) ≡ true
+    → is_whole_name (c ∷ cs) tail ≡ true → first_command (c ∷ cs) tail ≡ u
     → first_escape false (c ∷ (cs ++ tail)) ≡ u
 escape_first c cs tail u name whole found =
-    let parts = and_parts (not (is_escaped false c) && not (is_blank c)) (if is_sign c then is_empty cs else list_all is_name_character cs) name in
+    let parts =
+    and_parts (not (is_escaped false c) && not (is_blank c))
+    (if is_sign c then is_empty cs else list_all is_name_character cs) name in
     let plain = and_parts (not (is_escaped false c)) (not (is_blank c)) parts.0 in
     rw (not-true _ plain.0, not-true _ plain.1)
     (elim (cases_Bool (is_sign c)) [
@@ -186,9 +202,12 @@ escape_first c cs tail u name whole found =
     ])
 
 -- the conditions of a command that fits
-pub command_parts : (is_verbatim : Bool) (name space rest : List ℕ) (argument : Argument) → fits is_verbatim (ContentUnit.command name space argument) rest ≡ true
-    → (is_verbatim ≡ false) × (is_name name ≡ true) × (is_whole_name name (space ++ (argument_spelling argument ++ rest)) ≡ true) × (list_all is_space space ≡ true)
-    × (begins is_space (argument_spelling argument ++ rest) ≡ false) × (is_argument (takes_next name space) (not (is_empty space)) argument rest ≡ true)
+pub command_parts : (is_verbatim : Bool) (name space rest : List ℕ) (argument : Argument)
+    → fits is_verbatim (ContentUnit.command name space argument) rest ≡ true
+    → (is_verbatim ≡ false) × (is_name name ≡ true)
+    × (is_whole_name name (space ++ (argument_spelling argument ++ rest)) ≡ true) × (list_all is_space space ≡ true)
+    × (begins is_space (argument_spelling argument ++ rest) ≡ false)
+    × (is_argument (takes_next name space) (not (is_empty space)) argument rest ≡ true)
 command_parts is_verbatim name space rest argument right =
     let a5 = and_parts _ (is_argument (takes_next name space) (not (is_empty space)) argument rest) right in
     let a4 = and_parts _ (not (begins is_space (argument_spelling argument ++ rest))) a5.0 in
@@ -198,17 +217,20 @@ command_parts is_verbatim name space rest argument right =
     (not-true is_verbatim a1.0, a1.1, a2.1, a3.1, not-true _ a4.1, a5.1)
 
 -- the unit with which a text begins is its first unit
-pub unit_first : (is_verbatim : Bool) (u : ContentUnit) (rest : List ℕ) → fits is_verbatim u rest ≡ true → first_unit is_verbatim (unit_spelling u ++ rest) ≡ u
+pub unit_first : (is_verbatim : Bool) (u : ContentUnit) (rest : List ℕ) → fits is_verbatim u rest ≡ true
+    → first_unit is_verbatim (unit_spelling u ++ rest) ≡ u
 unit_first is_verbatim (ContentUnit.hyphens zero) rest right = absurd (both_ways false refl right)
 unit_first is_verbatim (ContentUnit.hyphens (suc n)) rest right =
     let parts = and_parts (nat_lt 0 (suc n)) (not (begins (λ c. c == 45) rest)) right in
-    ap (λ xs. ContentUnit.hyphens (suc (length xs))) (hyphens_run n rest (not-true _ parts.1)) ∙ ap (λ m. ContentUnit.hyphens (suc m)) (length-replicate n 45)
+    ap (λ xs. ContentUnit.hyphens (suc (length xs))) (hyphens_run n rest (not-true _ parts.1))
+    ∙ ap (λ m. ContentUnit.hyphens (suc m)) (length-replicate n 45)
 unit_first is_verbatim (ContentUnit.spaces []) rest right = absurd (both_ways false refl right)
 unit_first is_verbatim (ContentUnit.spaces (c ∷ cs)) rest right =
     let parts = and_parts (list_all is_space (c ∷ cs)) (not (begins is_space rest)) right in
     let all = and_parts (is_space c) (list_all is_space cs) parts.0 in
     let apart = space_apart c all.0 in
-    rw (apart.0, apart.1, apart.2, apart.3, apart.4, all.0) (ap (λ xs. ContentUnit.spaces (c ∷ xs)) (prefix_run is_space cs rest all.1 (not-true _ parts.1)))
+    rw (apart.0, apart.1, apart.2, apart.3, apart.4, all.0)
+    (ap (λ xs. ContentUnit.spaces (c ∷ xs)) (prefix_run is_space cs rest all.1 (not-true _ parts.1)))
 unit_first is_verbatim ContentUnit.opening rest right = refl
 unit_first is_verbatim ContentUnit.closing rest right = refl
 unit_first is_verbatim (ContentUnit.escaped c) rest right = rw right refl
@@ -216,7 +238,8 @@ unit_first is_verbatim ContentUnit.backslash [] right = refl
 unit_first is_verbatim ContentUnit.backslash (c ∷ cs) right =
     let parts = and_parts is_verbatim (not (is_escaped true c)) right in
     rw (parts.0, not-true _ parts.1) refl
-unit_first is_verbatim (ContentUnit.copied c) [] right = absurd (both_ways false refl (and_parts (not is_verbatim && is_blank c) false right).1)
+unit_first is_verbatim (ContentUnit.copied c) [] right =
+    absurd (both_ways false refl (and_parts (not is_verbatim && is_blank c) false right).1)
 unit_first is_verbatim (ContentUnit.copied c) (d ∷ ds) right =
     let parts = and_parts (not is_verbatim && is_blank c) (d == c) right in
     let first = and_parts (not is_verbatim) (is_blank c) parts.0 in
@@ -225,12 +248,16 @@ unit_first is_verbatim (ContentUnit.formula text) rest right =
     let parts = and_parts (not is_verbatim) (not (list_any (λ c. c == 36) text)) right in
     rw (not-true is_verbatim parts.0, append_assoc text (36 ∷ []) rest)
     (ap ContentUnit.formula (prefix_run (λ d. not (d == 36)) text (36 ∷ rest) (none_any text (not-true _ parts.1)) refl))
-unit_first is_verbatim (ContentUnit.command [] space argument) rest right = absurd (both_ways false refl (command_parts is_verbatim [] space rest argument right).1)
+unit_first is_verbatim (ContentUnit.command [] space argument) rest right =
+    absurd (both_ways false refl (command_parts is_verbatim [] space rest argument right).1)
 unit_first is_verbatim (ContentUnit.command (c ∷ cs) space argument) rest right =
     let parts = command_parts is_verbatim (c ∷ cs) space rest argument right in
     let joined : cs ++ (space ++ argument_spelling argument) ++ rest ≡ cs ++ (space ++ (argument_spelling argument ++ rest)) =
-    append_assoc cs (space ++ argument_spelling argument) rest ∙ ap (λ xs. cs ++ xs) (append_assoc space (argument_spelling argument) rest) in
-    rw (parts.0, joined) (escape_first c cs (space ++ (argument_spelling argument ++ rest)) (ContentUnit.command (c ∷ cs) space argument) parts.1 parts.2 (command_first (c ∷ cs) space rest argument parts.3 parts.4 parts.5))
+    append_assoc cs (space ++ argument_spelling argument) rest
+    ∙ ap (λ xs. cs ++ xs) (append_assoc space (argument_spelling argument) rest) in
+    rw (parts.0, joined)
+    (escape_first c cs (space ++ (argument_spelling argument ++ rest)) (ContentUnit.command (c ∷ cs) space argument)
+    parts.1 parts.2 (command_first (c ∷ cs) space rest argument parts.3 parts.4 parts.5))
 unit_first is_verbatim (ContentUnit.other c) rest right =
     let apart = ordinary_apart is_verbatim c right in
     rw (apart.0, apart.1, apart.2, apart.3, apart.4) (rw (apart.5) refl)

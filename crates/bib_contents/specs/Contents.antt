@@ -19,7 +19,9 @@ use Rattle.bib_text.specs.Characters as char
 -- whether a backslash escapes a character: grouping characters in every field; reserved ones, the tilde and the
 -- circumflex outside verbatim fields; and the colon if the text is parsed, since Zotero writes a backslash before it
 unfoldable pub is_escapable : ℕ → Bool → Bool → Bool
-is_escapable c is_verbatim is_read = is_grouping c || (not is_verbatim && (is_reserved c || c == char.tilde || c == char.circumflex)) || (is_read && c == char.colon)
+is_escapable c is_verbatim is_read =
+    is_grouping c || (not is_verbatim && (is_reserved c || c == char.tilde || c == char.circumflex))
+    || (is_read && c == char.colon)
 
 -- whether a backslash and a character are parsed as the character: the escapable ones of parsed text, except the tilde
 -- and the circumflex, which name accents
@@ -40,11 +42,15 @@ is_name_character c = is_id_continue c
 
 -- the signs that name an accent: " ' ^ ~ = . U+00B4 U+0060
 unfoldable pub is_mark : ℕ → Bool
-is_mark c = c == char.quote || c == char.apostrophe || c == char.circumflex || c == char.tilde || c == char.equals || c == char.point || c == char.acute || c == char.grave
+is_mark c =
+    c == char.quote || c == char.apostrophe || c == char.circumflex || c == char.tilde || c == char.equals
+    || c == char.point || c == char.acute || c == char.grave
 
 -- the letters that name an accent: b c d H k r u v
 unfoldable pub is_accent_letter : ℕ → Bool
-is_accent_letter c = c == char.letter_b || c == char.letter_c || c == char.letter_d || c == char.upper_h || c == char.letter_k || c == char.letter_r || c == char.letter_u || c == char.letter_v
+is_accent_letter c =
+    c == char.letter_b || c == char.letter_c || c == char.letter_d || c == char.upper_h || c == char.letter_k
+    || c == char.letter_r || c == char.letter_u || c == char.letter_v
 
 -- the characters that are a command's whole name: the signs that name an accent, and the hyphen
 unfoldable pub is_sign : ℕ → Bool

@@ -36,7 +36,8 @@ text_unit_of (Other c) = contents.ContentUnit.other c
 -- a unit
 abbrev pub unit_of : Unit → contents.ContentUnit
 unit_of (Shown unit) = text_unit_of unit
-unit_of (Applied name space inside) = contents.ContentUnit.command (chars name.now) (chars space.now) (contents.Argument.braced (left inside))
+unit_of (Applied name space inside) =
+    contents.ContentUnit.command (chars name.now) (chars space.now) (contents.Argument.braced (left inside))
 unit_of (Formula text) = contents.ContentUnit.formula (chars text.now)
 unit_of Opening = contents.ContentUnit.opening
 unit_of Closing = contents.ContentUnit.closing

@@ -12,13 +12,23 @@ use Rattle.bib_conversion.specs.Conversions.{change_of, date_among, divides_date
 use Rattle.bib_conversion.specs.Tables.{change_edits, lent_names}
 use Rattle.bib_conversion.specs.declared.changes.Changes.{Changes}
 
-pub entry_edited : {A E : Type 0} (r : Result A E) (old mid new : List Edit) (dialect : Dialect) (defines : Bool) (text : List ℕ) (e : EntryReading) (kind : EntryType) (changes : Changes) (fields : List FieldReading) → kind ≡ entry_type_of e.kind.text → fields ≡ e.fields
-    → lent_names changes.names.items ≡ free_names e.fields (other_names dialect kind) → changes.divides ≡ divides_date dialect e.fields → option_map string_bytes changes.joined ≡ joined_date dialect defines text e.fields
-    → mid ≡ old ++ part_edits e.kind (other_type dialect kind) → OnOk r (new ≡ mid ++ change_edits changes text fields) → OnOk r (new ≡ old ++ edits_of_entry dialect defines text e)
-entry_edited (Err x) old mid new dialect defines text e kind changes fields kind_is fields_are names_are divides_is joined_is mid_is new_is = _
+pub entry_edited : {A E : Type 0} (r : Result A E) (old mid new : List Edit) (dialect : Dialect) (defines : Bool)
+    (text : List ℕ) (e : EntryReading) (kind : EntryType) (changes : Changes) (fields : List FieldReading)
+    → kind ≡ entry_type_of e.kind.text → fields ≡ e.fields
+    → lent_names changes.names.items ≡ free_names e.fields (other_names dialect kind)
+    → changes.divides ≡ divides_date dialect e.fields
+    → option_map string_bytes changes.joined ≡ joined_date dialect defines text e.fields
+    → mid ≡ old ++ part_edits e.kind (other_type dialect kind) → OnOk r (new ≡ mid ++ change_edits changes text fields)
+    → OnOk r (new ≡ old ++ edits_of_entry dialect defines text e)
+entry_edited (Err x) old mid new dialect defines text e kind changes fields kind_is fields_are names_are divides_is
+    joined_is mid_is new_is =
+    _
 entry_edited (Ok x) old mid new dialect defines text e kind changes fields kind_is fields_are names_are divides_is joined_is mid_is new_is =
     let type_edits : EntryType → List Edit = λ (k : EntryType). part_edits e.kind (other_type dialect k) in
-    let edits : Option (List ℕ) → List (List ℕ × List ℕ) → Bool → List Edit = λ (date : Option (List ℕ)) (names : List (List ℕ × List ℕ)) (divides : Bool). edits_of_fields (λ f. change_of (joined_among date f) (other_name names f.name.text) (date_among divides f)) text e.fields in
+    let edits : Option (List ℕ) → List (List ℕ × List ℕ) → Bool → List Edit =
+    λ (date : Option (List ℕ)) (names : List (List ℕ × List ℕ)) (divides : Bool).
+    edits_of_fields (λ f. change_of (joined_among date f) (other_name names f.name.text) (date_among divides f))
+    text e.fields in
     let date : Option (List ℕ) = joined_date dialect defines text e.fields in
     new_is ∙ ap (λ fs. mid ++ change_edits changes text fs) fields_are ∙ ap (λ m. m ++ change_edits changes text e.fields) mid_is
     ∙ append_assoc old (type_edits kind) (change_edits changes text e.fields)

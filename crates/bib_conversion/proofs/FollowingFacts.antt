@@ -11,15 +11,23 @@ module _ {A : Type 0} (view : A → FieldReading) (xs : List A) (i : ℕ) (x : A
   left = ap (map view) (drop_more xs i x within ∙ ap (λ y. y ∷ drop (i + 1) xs) (sym is))
 
   -- the edits of one more were added
-  pub edits_step : (change : FieldReading → Option FieldChange) (text : List ℕ) (following : List A) (old new all : List Edit) → following ≡ drop (i + 1) xs → new ≡ old ++ edits_of_field text (view x) (map view following) (change (view x))
-      → old ++ edits_of_fields change text (map view (drop i xs)) ≡ all → new ++ edits_of_fields change text (map view (drop (i + 1) xs)) ≡ all
+  pub edits_step : (change : FieldReading → Option FieldChange) (text : List ℕ) (following : List A)
+      (old new all : List Edit) → following ≡ drop (i + 1) xs
+      → new ≡ old ++ edits_of_field text (view x) (map view following) (change (view x))
+      → old ++ edits_of_fields change text (map view (drop i xs)) ≡ all
+      → new ++ edits_of_fields change text (map view (drop (i + 1) xs)) ≡ all
   edits_step change text following old new all are added so_far =
       let rest : List FieldReading = map view (drop (i + 1) xs) in
       let here : List A → List Edit = λ (l : List A). edits_of_field text (view x) (map view l) (change (view x)) in
-      ap (λ l. l ++ edits_of_fields change text rest) (added ∙ ap (λ l. old ++ here l) are) ∙ append_assoc old (here (drop (i + 1) xs)) (edits_of_fields change text rest) ∙ ap (λ l. old ++ edits_of_fields change text l) (sym left) ∙ so_far
+      ap (λ l. l ++ edits_of_fields change text rest) (added ∙ ap (λ l. old ++ here l) are)
+      ∙ append_assoc old (here (drop (i + 1) xs)) (edits_of_fields change text rest)
+      ∙ ap (λ l. old ++ edits_of_fields change text l) (sym left) ∙ so_far
 
   -- one more can go out, or can't
-  pub goes_step : (text : List ℕ) (following : List A) (can all : Bool) → following ≡ drop (i + 1) xs → can ≡ can_go_out text (view x) (map view following) → all ≡ can_all_go_out text (map view (drop i xs)) → all ≡ can && can_all_go_out text (map view (drop (i + 1) xs))
+  pub goes_step : (text : List ℕ) (following : List A) (can all : Bool) → following ≡ drop (i + 1) xs
+      → can ≡ can_go_out text (view x) (map view following) → all ≡ can_all_go_out text (map view (drop i xs))
+      → all ≡ can && can_all_go_out text (map view (drop (i + 1) xs))
   goes_step text following can all are is so_far =
       let rest : Bool = can_all_go_out text (map view (drop (i + 1) xs)) in
-      so_far ∙ ap (can_all_go_out text) left ∙ ap (λ l. can_go_out text (view x) (map view l) && rest) (sym are) ∙ ap (λ b. b && rest) (sym is)
+      so_far ∙ ap (can_all_go_out text) left ∙ ap (λ l. can_go_out text (view x) (map view l) && rest) (sym are)
+      ∙ ap (λ b. b && rest) (sym is)

@@ -7,11 +7,13 @@ use Rattle.bib_conversion.specs.Conversions.{FieldChange}
 use Rattle.bib_conversion.specs.Notes.{change_note, stays_note}
 
 -- nothing is to know of one that does
-pub given_way : (dialect : Dialect) (change : Option FieldChange) (other : Option (List ℕ)) (f : FieldReading) → is_some change ≡ true → None ≡ change_note dialect change other f
+pub given_way : (dialect : Dialect) (change : Option FieldChange) (other : Option (List ℕ)) (f : FieldReading)
+    → is_some change ≡ true → None ≡ change_note dialect change other f
 given_way dialect (Some change) other f is = refl
 given_way dialect None other f is = absurd (cc)
 
 -- and of one that doesn't what is to know of one that stays
-pub stayed : (dialect : Dialect) (change : Option FieldChange) (other : Option (List ℕ)) (f : FieldReading) → is_some change ≡ false → stays_note dialect other f ≡ change_note dialect change other f
+pub stayed : (dialect : Dialect) (change : Option FieldChange) (other : Option (List ℕ)) (f : FieldReading)
+    → is_some change ≡ false → stays_note dialect other f ≡ change_note dialect change other f
 stayed dialect (Some change) other f is = absurd (cc)
 stayed dialect None other f is = refl

@@ -32,7 +32,8 @@ use Rattle.bib_conversion.specs.Joined.{is_day_alone, is_month_alone, joined_tex
 -- ---- a reading of parts
 
 -- what is read of two parts, one after the other
-both_read : {A B : Type 0} (first : Reading A) (then : A → Reading B) (c : B) → (first >>= then) ≡ says c → (a : A) × (first ≡ says a) × (then a ≡ says c)
+both_read : {A B : Type 0} (first : Reading A) (then : A → Reading B) (c : B) → (first >>= then) ≡ says c
+    → (a : A) × (first ≡ says a) × (then a ≡ says c)
 both_read (says a) then c is = (a, refl, is)
 both_read (error kind) then c is = absurd (cc)
 both_read unread then c is = absurd (cc)
@@ -52,7 +53,8 @@ too_long : (n : ℕ) → (suc (suc (suc (suc (suc n)))) == 4) ≡ true → ⊥
 too_long n is = grind (arith, nat_tests)
 
 -- a year of four digits is their number
-year_is : (text : List ℕ) → are_digits 4 text ≡ true → (year_field text ≡ says (pos (digits_value 10 text))) × (digits_value 10 text < 10000)
+year_is : (text : List ℕ) → are_digits 4 text ≡ true
+    → (year_field text ≡ says (pos (digits_value 10 text))) × (digits_value 10 text < 10000)
 unfolding year_field sign with_era
 year_is [] is = absurd (cc)
 year_is (a ∷ []) is = absurd (cc)
@@ -63,11 +65,16 @@ year_is (a ∷ b ∷ c ∷ d ∷ []) is =
     let q = and_parts (is_ascii_digit b) (list_all is_ascii_digit (c ∷ d ∷ [])) p.1 in
     let r = and_parts (is_ascii_digit c) (list_all is_ascii_digit (d ∷ [])) q.1 in
     let s = and_parts (is_ascii_digit d) true r.1 in
-    let whole : trim_start (a ∷ b ∷ c ∷ d ∷ []) ≡ a ∷ b ∷ c ∷ d ∷ [] = trim_start-plain (a ∷ b ∷ c ∷ d ∷ []) (digits_plain (a ∷ b ∷ c ∷ d ∷ []) is) in
+    let whole : trim_start (a ∷ b ∷ c ∷ d ∷ []) ≡ a ∷ b ∷ c ∷ d ∷ [] =
+    trim_start-plain (a ∷ b ∷ c ∷ d ∷ []) (digits_plain (a ∷ b ∷ c ∷ d ∷ []) is) in
     let size : prefix_len is_ascii_digit (a ∷ b ∷ c ∷ d ∷ []) ≡ 4 = rw (p.0, q.0, r.0, s.0) refl in
-    let digits : AllDigits 10 (a ∷ b ∷ c ∷ d ∷ []) = subst (λ n. AllDigits 10 (take n (a ∷ b ∷ c ∷ d ∷ []))) size (run_digits (a ∷ b ∷ c ∷ d ∷ [])) in
+    let digits : AllDigits 10 (a ∷ b ∷ c ∷ d ∷ []) =
+    subst (λ n. AllDigits 10 (take n (a ∷ b ∷ c ∷ d ∷ []))) size (run_digits (a ∷ b ∷ c ∷ d ∷ [])) in
     (rw (whole, no_minus a p.0, no_plus a p.0, size, trim_start-plain [] refl) refl, four (a ∷ b ∷ c ∷ d ∷ []) digits (omega arith))
-year_is (a ∷ b ∷ c ∷ d ∷ e ∷ rest) is = absurd (too_long (length rest) (and_parts (length (a ∷ b ∷ c ∷ d ∷ e ∷ rest) == 4) (list_all is_ascii_digit (a ∷ b ∷ c ∷ d ∷ e ∷ rest)) is).0)
+year_is (a ∷ b ∷ c ∷ d ∷ e ∷ rest) is =
+    absurd
+    (too_long (length rest)
+    (and_parts (length (a ∷ b ∷ c ∷ d ∷ e ∷ rest) == 4) (list_all is_ascii_digit (a ∷ b ∷ c ∷ d ∷ e ∷ rest)) is).0)
 
 -- ---- the month
 
@@ -80,14 +87,17 @@ index_below : (rows : List (List ℕ × List ℕ)) (k m : ℕ) (word : List ℕ)
 index_below [] k m word is = absurd (cc)
 index_below (row ∷ rows) k m word is = by_case (names word row.0 row.1) (name_index rows (suc k) word) (index_below rows (suc k) m word) is
   where
-    by_case : (b : Bool) (rest : Option ℕ) → (rest ≡ Some m → m < suc k + length rows) → cond b (Some k) rest ≡ Some m → m < k + length (row ∷ rows)
+    by_case : (b : Bool) (rest : Option ℕ) → (rest ≡ Some m → m < suc k + length rows) → cond b (Some k) rest ≡ Some m
+        → m < k + length (row ∷ rows)
     by_case true rest later is = let same : k ≡ m = cc in omega arith
     by_case false rest later is = let small = later is in omega arith
 
 abbrev months : List (List ℕ × List ℕ)
 months =
-    (codes "january", codes "jan") ∷ (codes "february", codes "feb") ∷ (codes "march", codes "mar") ∷ (codes "april", codes "apr") ∷ (codes "may", codes "may") ∷ (codes "june", codes "jun")
-    ∷ (codes "july", codes "jul") ∷ (codes "august", codes "aug") ∷ (codes "september", codes "sep") ∷ (codes "october", codes "oct") ∷ (codes "november", codes "nov") ∷ (codes "december", codes "dec") ∷ []
+    (codes "january", codes "jan") ∷ (codes "february", codes "feb") ∷ (codes "march", codes "mar")
+    ∷ (codes "april", codes "apr") ∷ (codes "may", codes "may") ∷ (codes "june", codes "jun")
+    ∷ (codes "july", codes "jul") ∷ (codes "august", codes "aug") ∷ (codes "september", codes "sep")
+    ∷ (codes "october", codes "oct") ∷ (codes "november", codes "nov") ∷ (codes "december", codes "dec") ∷ []
 
 month_below : (word : List ℕ) (m : ℕ) → month_named word ≡ Some m → m < 12
 unfolding month_named
@@ -97,14 +107,16 @@ lies_below : (high n : ℕ) → lies 1 high n ≡ true → n - 1 < high
 lies_below high n is = grind (arith, nat_tests)
 
 month_case : (short fits : Bool) (n m : ℕ) (first word other rest : List ℕ) → (fits ≡ true → n - 1 < 12)
-    → cond {A = Reading (Option ℕ × List ℕ)} short (cond fits (says (Some (n - 1), first)) (error MonthOutOfRange)) (says (month_named word, other)) ≡ says (Some m, rest) → m < 12
+    → cond {A = Reading (Option ℕ × List ℕ)} short (cond fits (says (Some (n - 1), first)) (error MonthOutOfRange))
+    (says (month_named word, other)) ≡ says (Some m, rest) → m < 12
 month_case true true n m first word other rest below is =
     let given : Some (n - 1) ≡ Some m = ap (λ p. p.0) (said (Some (n - 1), first) (Some m, rest) is) in
     let same : n - 1 ≡ m = cc in
     let small = below refl in
     omega arith
 month_case true false n m first word other rest below is = absurd (cc)
-month_case false fits n m first word other rest below is = month_below word m (ap (λ p. p.0) (said (month_named word, other) (Some m, rest) is))
+month_case false fits n m first word other rest below is =
+    month_below word m (ap (λ p. p.0) (said (month_named word, other) (Some m, rest) is))
 
 month_read : (text : List ℕ) (m : ℕ) (rest : List ℕ) → month_field text ≡ says (Some m, rest) → m < 12
 unfolding month_field
@@ -112,7 +124,8 @@ month_read text m rest is =
     let here = trim_start text in
     let n = digits_value 10 (run is_ascii_digit here) in
     let following = after_run is_ascii_digit here in
-    month_case (lies 1 2 (prefix_len is_ascii_digit here)) (lies 1 12 n) n m following (run is_ascii_alphabetic following) (after_run is_ascii_alphabetic following) rest (lies_below 12 n) is
+    month_case (lies 1 2 (prefix_len is_ascii_digit here)) (lies 1 12 n) n m following
+    (run is_ascii_alphabetic following) (after_run is_ascii_alphabetic following) rest (lies_below 12 n) is
 
 -- ---- the day
 
@@ -121,9 +134,12 @@ number_case true n k below is = let same : n - 1 ≡ k = cc in let small = below
 number_case false n k below is = absurd (cc)
 
 number_below : (digits : List ℕ) (k : ℕ) → reported_day (day_number digits) ≡ says (Some k) → k < 31
-number_below digits k is = number_case (lies 1 31 (digits_value 10 digits)) (digits_value 10 digits) k (lies_below 31 (digits_value 10 digits)) is
+number_below digits k is =
+    number_case (lies 1 31 (digits_value 10 digits)) (digits_value 10 digits) k (lies_below 31 (digits_value 10 digits))
+    is
 
-after_case : (none digitless : Bool) (digits : List ℕ) (k : ℕ) → cond none (says None) (cond digitless unread (reported_day (day_number digits))) ≡ says (Some k) → k < 31
+after_case : (none digitless : Bool) (digits : List ℕ) (k : ℕ)
+    → cond none (says None) (cond digitless unread (reported_day (day_number digits))) ≡ says (Some k) → k < 31
 after_case true digitless digits k is = absurd (cc)
 after_case false true digits k is = absurd (cc)
 after_case false false digits k is = number_below digits k is
@@ -136,7 +152,9 @@ only_below : (text : List ℕ) (k : ℕ) → only_day text ≡ says (Some k) →
 unfolding only_day
 only_below text k is =
     let digits = run is_ascii_digit text in
-    only_case ((length (after_run is_ascii_digit text) == 0) && (not (prefix_len is_ascii_digit text == 0) && not (nat_lt 255 (digits_value 10 digits)))) digits k is
+    only_case
+    ((length (after_run is_ascii_digit text) == 0)
+    && (not (prefix_len is_ascii_digit text == 0) && not (nat_lt 255 (digits_value 10 digits)))) digits k is
 
 plus_case : (plus : Bool) (first second : List ℕ) (k : ℕ) → cond plus (only_day first) (only_day second) ≡ says (Some k) → k < 31
 plus_case true first second k is = only_below first k is
@@ -161,7 +179,8 @@ record IsThree (year month : List ℕ) (day : Option (List ℕ)) (d : Date) : Ty
   small_month : (m : ℕ) → month_at ≡ Some m → m < 12
   small_day : (k : ℕ) → day_at ≡ Some k → k < 31
 
-three_read : (year month : List ℕ) (day : Option (List ℕ)) (d : Date) → are_digits 4 year ≡ true → three_fields_of year (Some month) day ≡ says d → IsThree year month day d
+three_read : (year month : List ℕ) (day : Option (List ℕ)) (d : Date) → are_digits 4 year ≡ true
+    → three_fields_of year (Some month) day ≡ says d → IsThree year month day d
 unfolding three_fields_of month_with_day
 three_read year month day d digits is =
     let y = year_is year digits in
@@ -175,7 +194,9 @@ three_read year month day d digits is =
       number = digits_value 10 year;
       month_at = third.0.0;
       day_at = fourth.0;
-      is = sym (said (on_day first.0 second.0.0 second.0.1) d second.2) ∙ ap (λ p. on_day first.0 p.0 p.1) (sym parts) ∙ ap (λ n. on_day n third.0.0 fourth.0) (sym number);
+      is =
+          sym (said (on_day first.0 second.0.0 second.0.1) d second.2) ∙ ap (λ p. on_day first.0 p.0 p.1) (sym parts)
+          ∙ ap (λ n. on_day n third.0.0 fourth.0) (sym number);
       small_year = y.1;
       small_month = λ m here. month_read month m third.0.1 (third.1 ∙ ap (λ o. says (o, third.0.1)) here);
       small_day = λ k here. day_read day third.0.1 k (fourth.1 ∙ ap says here);
@@ -191,10 +212,13 @@ not_approximate b h = grind (arith, nat_tests)
 
 unmarked : (text : List ℕ) → list_all is_date_byte text ≡ true → (is_uncertain (last text) ≡ false) × (is_approximate (last text) ≡ false)
 unmarked text h =
-    let k = any_byte (λ b. is_date_byte b || b == 0) refl text (all_more is_date_byte (λ b. is_date_byte b || b == 0) (λ b q. rw q refl) text h) (length text - 1) in
+    let k =
+    any_byte (λ b. is_date_byte b || b == 0) refl text
+    (all_more is_date_byte (λ b. is_date_byte b || b == 0) (λ b q. rw q refl) text h) (length text - 1) in
     (not_uncertain (last text) k, not_approximate (last text) k)
 
-small_number_fails : (low high n : ℕ) (kind : TypeErrorKind) (xs rest : List ℕ) → lies low high n ≡ false → IsNumber 2 n xs → Ends rest → small_number low high kind (xs ++ rest) ≡ error kind
+small_number_fails : (low high n : ℕ) (kind : TypeErrorKind) (xs rest : List ℕ) → lies low high n ≡ false
+    → IsNumber 2 n xs → Ends rest → small_number low high kind (xs ++ rest) ≡ error kind
 unfolding small_number
 small_number_fails low high n kind xs rest past is ends = rw (number_reads 1 2 2 n xs rest refl is ends, past) refl
 
@@ -205,7 +229,8 @@ year_kept : (n : ℕ) → n < 10000 → IsYear (pos n)
 year_kept n small = omega (arith, ints)
 
 -- it is no side of a date
-side_fails : (n m k : ℕ) → n < 10000 → m < 12 → k < 31 → days_in_month (pos n) (m + 1) ≤ k → side (datetime_text (datetime (pos n) (Some m) (Some k) None)) ≡ error DayOutOfRange
+side_fails : (n m k : ℕ) → n < 10000 → m < 12 → k < 31 → days_in_month (pos n) (m + 1) ≤ k
+    → side (datetime_text (datetime (pos n) (Some m) (Some k) None)) ≡ error DayOutOfRange
 unfolding side after_year after_month
 side_fails n m k year month day past =
     let h = year_kept n year in
@@ -217,36 +242,51 @@ side_fails n m k year month day past =
       year_reads (pos n) (45 ∷ (padded 2 (m + 1) ++ (45 ∷ padded 2 (k + 1)))) h ends,
       trim_start-plain (45 ∷ (padded 2 (m + 1) ++ (45 ∷ padded 2 (k + 1)))) ends.plain,
       hyphens_read 2 (m + 1) (padded 2 (m + 1)) (45 ∷ padded 2 (k + 1)) (lit< tt) is tail,
-      small_number_reads 1 12 (m + 1) MonthOutOfRange (padded 2 (m + 1)) (45 ∷ padded 2 (k + 1)) (within 1 12 (m + 1) (omega arith) (omega arith)) is tail,
+      small_number_reads 1 12 (m + 1) MonthOutOfRange (padded 2 (m + 1)) (45 ∷ padded 2 (k + 1))
+          (within 1 12 (m + 1) (omega arith) (omega arith)) is tail,
       trim_start-plain (45 ∷ padded 2 (k + 1)) tail.plain,
       rw append-nil at (hyphens_read 2 (k + 1) (padded 2 (k + 1)) [] (lit< tt) last nothing),
-      rw append-nil at (small_number_fails 1 (days_in_month (pos n) (m + 1)) (k + 1) DayOutOfRange (padded 2 (k + 1)) [] (beyond 1 (days_in_month (pos n) (m + 1)) (k + 1) (omega arith)) last nothing),
+      rw append-nil at
+          (small_number_fails 1 (days_in_month (pos n) (m + 1)) (k + 1) DayOutOfRange (padded 2 (k + 1)) []
+          (beyond 1 (days_in_month (pos n) (m + 1)) (k + 1) (omega arith)) last nothing),
     ) refl
 
-text_bytes : (n m k : ℕ) → n < 10000 → m < 12 → k < 31 → list_all is_date_byte (datetime_text (datetime (pos n) (Some m) (Some k) None)) ≡ true
+text_bytes : (n m k : ℕ) → n < 10000 → m < 12 → k < 31
+    → list_all is_date_byte (datetime_text (datetime (pos n) (Some m) (Some k) None)) ≡ true
 text_bytes n m k year month day =
     let y : IsNumber 4 n (padded 4 n) = four_digits n (omega arith) in
     let is : IsNumber 2 (m + 1) (padded 2 (m + 1)) = two_digits (m + 1) (omega arith) in
     let last : IsNumber 2 (k + 1) (padded 2 (k + 1)) = two_digits (k + 1) (omega arith) in
     rw (not_negative n)
     (both is_date_byte (padded 4 n) ((45 ∷ padded 2 (m + 1)) ++ (45 ∷ padded 2 (k + 1))) (digit_bytes (padded 4 n) y.digits)
-    (both is_date_byte (padded 2 (m + 1)) (45 ∷ padded 2 (k + 1)) (digit_bytes (padded 2 (m + 1)) is.digits) (digit_bytes (padded 2 (k + 1)) last.digits)))
+    (both is_date_byte (padded 2 (m + 1)) (45 ∷ padded 2 (k + 1)) (digit_bytes (padded 2 (m + 1)) is.digits)
+    (digit_bytes (padded 2 (k + 1)) last.digits)))
 
-value_fails : (text : List ℕ) (kind : TypeErrorKind) → list_all is_date_byte text ≡ true → side text ≡ error kind → date_value text ≡ error kind
+value_fails : (text : List ℕ) (kind : TypeErrorKind) → list_all is_date_byte text ≡ true → side text ≡ error kind
+    → date_value text ≡ error kind
 unfolding date_value
-value_fails text kind bytes is = rw (any_none is_date_byte (λ b. b == 88) no_x text bytes, any_none is_date_byte (λ b. b == 47) no_slash text bytes, is) refl
+value_fails text kind bytes is =
+    rw (
+      any_none is_date_byte (λ b. b == 88) no_x text bytes,
+      any_none is_date_byte (λ b. b == 47) no_slash text bytes,
+      is,
+    ) refl
 
-marked_fails : (text : List ℕ) (kind : TypeErrorKind) → list_all is_date_byte text ≡ true → date_value text ≡ error kind → marked_date text ≡ error kind
+marked_fails : (text : List ℕ) (kind : TypeErrorKind) → list_all is_date_byte text ≡ true → date_value text ≡ error kind
+    → marked_date text ≡ error kind
 unfolding marked_date
 marked_fails text kind bytes is = let bare = unmarked text bytes in rw (bare.0, bare.1, is) refl
 
 -- and no date
-date_fails : (n m k : ℕ) → n < 10000 → m < 12 → k < 31 → days_in_month (pos n) (m + 1) ≤ k → date_of (datetime_text (datetime (pos n) (Some m) (Some k) None)) ≡ error DayOutOfRange
+date_fails : (n m k : ℕ) → n < 10000 → m < 12 → k < 31 → days_in_month (pos n) (m + 1) ≤ k
+    → date_of (datetime_text (datetime (pos n) (Some m) (Some k) None)) ≡ error DayOutOfRange
 date_fails n m k year month day past =
     let text : List ℕ = datetime_text (datetime (pos n) (Some m) (Some k) None) in
     let bytes : list_all is_date_byte text ≡ true = text_bytes n m k year month day in
     let signs : plain text ≡ true = all_more is_date_byte is_plain date_plain text bytes in
-    ap (λ t. marked_date (trim_end t)) (capitals-plain text signs) ∙ ap marked_date (trim_end-plain text signs) ∙ marked_fails text DayOutOfRange bytes (value_fails text DayOutOfRange bytes (side_fails n m k year month day past))
+    ap (λ t. marked_date (trim_end t)) (capitals-plain text signs) ∙ ap marked_date (trim_end-plain text signs)
+    ∙ marked_fails text DayOutOfRange bytes
+    (value_fails text DayOutOfRange bytes (side_fails n m k year month day past))
 
 -- ---- the date of three fields
 
@@ -258,11 +298,14 @@ pub record IsJoined (year month : List ℕ) (day : Option (List ℕ)) (text : Li
   pub is : text ≡ datetime_text date
 
 -- it can be put in
-pub joined_bytes : (year month : List ℕ) (day : Option (List ℕ)) (text : List ℕ) → IsJoined year month day text → list_all is_date_byte text ≡ true
-joined_bytes year month day text joined = subst (λ t. list_all is_date_byte t ≡ true) (sym joined.is) (is_side joined.date joined.kept).bytes
+pub joined_bytes : (year month : List ℕ) (day : Option (List ℕ)) (text : List ℕ) → IsJoined year month day text
+    → list_all is_date_byte text ≡ true
+joined_bytes year month day text joined =
+    subst (λ t. list_all is_date_byte t ≡ true) (sym joined.is) (is_side joined.date joined.kept).bytes
 
 -- and is read as the three fields are
-pub joined_same : (year month : List ℕ) (day : Option (List ℕ)) (text : List ℕ) → IsJoined year month day text → date_of text ≡ three_fields_of year (Some month) day
+pub joined_same : (year month : List ℕ) (day : Option (List ℕ)) (text : List ℕ) → IsJoined year month day text
+    → date_of text ≡ three_fields_of year (Some month) day
 joined_same year month day text joined =
     let d : Date = record { value = At joined.date; uncertain = false; approximate = false } in
     ap date_of (joined.is ∙ sym (append-nil (datetime_text joined.date))) ∙ text_survives d joined.kept ∙ sym joined.read
@@ -272,7 +315,9 @@ if_true true o a is = (refl, is)
 if_true false o a is = absurd (cc)
 
 -- the day, if there is one, is one of its month
-day_kept : (n m : ℕ) (day : Option ℕ) → n < 10000 → m < 12 → ((k : ℕ) → day ≡ Some k → k < 31) → is_some (readable_value (date_of (datetime_text (datetime (pos n) (Some m) day None)))) ≡ true → IsKeptDatetime (datetime (pos n) (Some m) day None)
+day_kept : (n m : ℕ) (day : Option ℕ) → n < 10000 → m < 12 → ((k : ℕ) → day ≡ Some k → k < 31)
+    → is_some (readable_value (date_of (datetime_text (datetime (pos n) (Some m) day None)))) ≡ true
+    → IsKeptDatetime (datetime (pos n) (Some m) day None)
 day_kept n m None year month days read = record { year = year_kept n year; day = month; time = refl }
 day_kept n m (Some k) year month days read =
     elim (cases_lt k (days_in_month (pos n) (m + 1))) [
@@ -280,19 +325,26 @@ day_kept n m (Some k) year month days read =
       | inr past ↦ absurd (let none = ap (λ r. is_some (readable_value r)) (date_fails n m k year month (days k refl) past) in cc)
     ]
 
-month_kept : (n : ℕ) (month day : Option ℕ) → n < 10000 → ((m : ℕ) → month ≡ Some m → m < 12) → ((k : ℕ) → day ≡ Some k → k < 31) → is_some month ≡ true → is_some (readable_value (date_of (datetime_text (datetime (pos n) month day None)))) ≡ true
+month_kept : (n : ℕ) (month day : Option ℕ) → n < 10000 → ((m : ℕ) → month ≡ Some m → m < 12)
+    → ((k : ℕ) → day ≡ Some k → k < 31) → is_some month ≡ true
+    → is_some (readable_value (date_of (datetime_text (datetime (pos n) month day None)))) ≡ true
     → IsKeptDatetime (datetime (pos n) month day None)
 month_kept n None day year months days some read = absurd (cc)
 month_kept n (Some m) day year months days some read = day_kept n m day year (months m refl) days read
 
-by_reading : (year month : List ℕ) (day : Option (List ℕ)) (text : List ℕ) (r : Reading Date) → are_digits 4 year ≡ true → three_fields_of year (Some month) day ≡ r → month_date_text (readable_value r) ≡ Some text → IsJoined year month day text
+by_reading : (year month : List ℕ) (day : Option (List ℕ)) (text : List ℕ) (r : Reading Date) → are_digits 4 year ≡ true
+    → three_fields_of year (Some month) day ≡ r → month_date_text (readable_value r) ≡ Some text
+    → IsJoined year month day text
 by_reading year month day text (error kind) digits is found = absurd (cc)
 by_reading year month day text unread digits is found = absurd (cc)
 by_reading year month day text (says d) digits is found =
     let three = three_read year month day d digits is in
     let at : Datetime = datetime (pos three.number) three.month_at three.day_at None in
-    let found' : month_date_text (Some (on_day (pos three.number) three.month_at three.day_at)) ≡ Some text = ap (λ x. month_date_text (Some x)) (sym three.is) ∙ found in
-    let both = if_true (is_some three.month_at && is_some (readable_value (date_of (datetime_text at)))) (Some (datetime_text at)) text found' in
+    let found' : month_date_text (Some (on_day (pos three.number) three.month_at three.day_at)) ≡ Some text =
+    ap (λ x. month_date_text (Some x)) (sym three.is) ∙ found in
+    let both =
+    if_true (is_some three.month_at && is_some (readable_value (date_of (datetime_text at))))
+    (Some (datetime_text at)) text found' in
     let tests = and_parts (is_some three.month_at) (is_some (readable_value (date_of (datetime_text at)))) both.0 in
     let given : Some (datetime_text at) ≡ Some text = both.1 in
     record {
@@ -302,7 +354,11 @@ by_reading year month day text (says d) digits is found =
       is = cc;
     }
 
-pub joined_known : (year month : List ℕ) (day : Option (List ℕ)) (text : List ℕ) → joined_text year month day ≡ Some text → IsJoined year month day text
+pub joined_known : (year month : List ℕ) (day : Option (List ℕ)) (text : List ℕ)
+    → joined_text year month day ≡ Some text → IsJoined year month day text
 joined_known year month day text found =
-    let both = if_true (are_digits 4 year && (is_month_alone month && is_day_alone day)) (month_date_text (readable_value (three_fields_of year (Some month) day))) text found in
-    by_reading year month day text (three_fields_of year (Some month) day) (and_parts (are_digits 4 year) (is_month_alone month && is_day_alone day) both.0).0 refl both.1
+    let both =
+    if_true (are_digits 4 year && (is_month_alone month && is_day_alone day))
+    (month_date_text (readable_value (three_fields_of year (Some month) day))) text found in
+    by_reading year month day text (three_fields_of year (Some month) day)
+    (and_parts (are_digits 4 year) (is_month_alone month && is_day_alone day) both.0).0 refl both.1

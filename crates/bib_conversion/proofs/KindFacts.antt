@@ -31,8 +31,11 @@ pub record IsWithin (edit : Edit) (text : List ℕ) : Type 0 where
   pub some : edit.start < edit.end
   pub within : edit.start ≤ length text
 
-pub kind_exchanged_read : (d : Document) (k : ℕ) (e : EntryReading) (name : List ℕ) → IsDocument d → slice_get d.says.entries k ≡ Some e → CanBeName name → block_kind name ≡ BlockKind.entry
-    → IsWithin (kind_stretch e name) d.text × IsDocument (entry_edited d (kind_stretch e name) k (with_kind name (moved_entry (moved_place (kind_stretch e name)) e)))
+pub kind_exchanged_read : (d : Document) (k : ℕ) (e : EntryReading) (name : List ℕ) → IsDocument d
+    → slice_get d.says.entries k ≡ Some e → CanBeName name → block_kind name ≡ BlockKind.entry
+    → IsWithin (kind_stretch e name) d.text
+    × IsDocument
+    (entry_edited d (kind_stretch e name) k (with_kind name (moved_entry (moved_place (kind_stretch e name)) e)))
 kind_exchanged_read d k e name read here can is_entry =
     let s = split_file k e read here in
     let b = s.block in
@@ -54,7 +57,9 @@ kind_exchanged_read d k e name read here can is_entry =
     let at_close = ahead_then at_end from_end in
     let start_is : edit.start ≡ h.name_start.at = ap (λ p. p.start) h.name.reading in
     let end_is : edit.end ≡ h.name_end.at = ap (λ p. p.end) h.name.reading in
-    let some : edit.start < edit.end = omega (arith, start_is, end_is, h.name.here.next, (len_utf8_bounds h.name.first).0, (ahead_run h.name.rest.run).at) in
+    let some : edit.start < edit.end =
+    omega
+    (arith, start_is, end_is, h.name.here.next, (len_utf8_bounds h.name.first).0, (ahead_run h.name.rest.run).at) in
     let closing = char_within b.closes in
     let text_size : length s.end.text ≡ length d.text = ap length at_close.text in
     let within : edit.end ≤ length d.text = omega (arith, end_is, from_end.at) in
@@ -73,15 +78,35 @@ kind_exchanged_read d k e name read here can is_entry =
     let brace_below = below_char jd b.closes in
     let comma_below = below_char jc b.comma in
     let next = run_stands h.white.run h.opens in
-    let jx : Inside frame next.next = inside z2 (next.here.same ∙ at_end.text) (omega (arith, (ahead_char next.here).at, end_is)) (omega (arith, char_within next.here, ap length next.here.same, ap length at_end.text)) in
-    let end_goes : move h.name_end.at ≡ edit.start + length name = omega (arith, moved_after edit h.name_end.at (omega (arith, end_is)), end_is) in
+    let jx : Inside frame next.next =
+    inside z2 (next.here.same ∙ at_end.text) (omega (arith, (ahead_char next.here).at, end_is))
+    (omega (arith, char_within next.here, ap length next.here.same, ap length at_end.text)) in
+    let end_goes : move h.name_end.at ≡ edit.start + length name =
+    omega (arith, moved_after edit h.name_end.at (omega (arith, end_is)), end_is) in
     let start_goes : move h.name_start.at ≡ edit.start = moved_before edit h.name_start.at (omega (arith, start_is, some)) ∙ sym start_is in
-    let ending : CharAt (place new (edit.start + length name)) next.char (goes edit d.text next.next) = subst (λ n. CharAt (place new n) next.char (goes edit d.text next.next)) end_goes (char_there z2 jn jx next.here) in
-    let i = name_stands new (drop edit.end d.text) name edit.start next.char can (new_bytes edit d.text (omega (arith, some, within))) ending (h.name.rest.stops next.char next.next next.here) in
+    let ending : CharAt (place new (edit.start + length name)) next.char (goes edit d.text next.next) =
+    subst (λ n. CharAt (place new n) next.char (goes edit d.text next.next)) end_goes
+    (char_there z2 jn jx next.here) in
+    let i =
+    name_stands new (drop edit.end d.text) name edit.start next.char can
+    (new_bytes edit d.text (omega (arith, some, within))) ending
+    (h.name.rest.stops next.char next.next next.here) in
     let fits : Fits edit d.text = record { ordered = omega (arith, some); within = within; border = inr (i.first, i.second, i.here) } in
     let z1 = zone_before edit d.text fits in
-    let iu : Inside (before_frame edit d.text) s.start = record { text = to_start.text; start = omega arith; end = omega (arith, (ahead_char h.sign).at, start_is); moved = ap (λ n. n + 0) (moved_before edit s.start.at (omega (arith, (ahead_char h.sign).at, start_is, some))) } in
-    let is : Inside (before_frame edit d.text) h.name_start = record { text = at_name.text; start = omega arith; end = omega (arith, start_is); moved = ap (λ n. n + 0) (moved_before edit h.name_start.at (omega (arith, start_is, some))) } in
+    let iu : Inside (before_frame edit d.text) s.start =
+    record {
+      text = to_start.text;
+      start = omega arith;
+      end = omega (arith, (ahead_char h.sign).at, start_is);
+      moved = ap (λ n. n + 0) (moved_before edit s.start.at (omega (arith, (ahead_char h.sign).at, start_is, some)));
+    } in
+    let is : Inside (before_frame edit d.text) h.name_start =
+    record {
+      text = at_name.text;
+      start = omega arith;
+      end = omega (arith, start_is);
+      moved = ap (λ n. n + 0) (moved_before edit h.name_start.at (omega (arith, start_is, some)));
+    } in
     let kept : move edit.start ≡ edit.start = moved_before edit edit.start some in
     let kind : Part = text_at (move edit.start) name in
     let read_name : Identifier longest (goes edit d.text h.name_start) kind (goes edit d.text h.name_end) =
@@ -122,5 +147,6 @@ kind_exchanged_read d k e name read here can is_entry =
       ends = ap move b.ends;
     } in (
       record { some = some; within = omega (arith, some, within) },
-      entry_edited_read d edit k e e' fits s (omega (arith, start_is, h.sign.next, (len_utf8_bounds 64).0)) (omega (arith, end_is, from_end.at)) (block_of block),
+      entry_edited_read d edit k e e' fits s (omega (arith, start_is, h.sign.next, (len_utf8_bounds 64).0))
+          (omega (arith, end_is, from_end.at)) (block_of block),
     )

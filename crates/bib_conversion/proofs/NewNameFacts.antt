@@ -55,17 +55,20 @@ type_plain Set = (refl, refl)
 type_plain XData = (refl, refl)
 type_plain (Unknown name) = (refl, refl)
 
-type_case : (b : Bool) (kind : EntryType) (name : List ℕ) → cond b None (Some (entry_type_name kind)) ≡ Some name → CanBeName name × (block_kind name ≡ BlockKind.entry)
+type_case : (b : Bool) (kind : EntryType) (name : List ℕ) → cond b None (Some (entry_type_name kind)) ≡ Some name
+    → CanBeName name × (block_kind name ≡ BlockKind.entry)
 type_case true kind name same = absurd (cc)
 type_case false kind name same =
     let is : entry_type_name kind ≡ name = cc in
     let plain = type_plain kind in
     subst (λ n. CanBeName n × (block_kind n ≡ BlockKind.entry)) is ((plain_can (entry_type_name kind) plain.0).0, plain.1)
 
-pub type_known : (dialect : Dialect) (e : EntryReading) (name : List ℕ) → new_type dialect e ≡ Some name → CanBeName name × (block_kind name ≡ BlockKind.entry)
+pub type_known : (dialect : Dialect) (e : EntryReading) (name : List ℕ) → new_type dialect e ≡ Some name
+    → CanBeName name × (block_kind name ≡ BlockKind.entry)
 type_known dialect e name is =
     let kind = entry_type_of e.kind.text in
-    type_case (is_unnamed_type kind || bytes_eq (entry_type_name (kind_in dialect kind)) (entry_type_name kind)) (kind_in dialect kind) name is
+    type_case (is_unnamed_type kind || bytes_eq (entry_type_name (kind_in dialect kind)) (entry_type_name kind))
+    (kind_in dialect kind) name is
 
 -- ---- names of fields
 
@@ -117,23 +120,29 @@ names_plain Biblatex kind = biblatex_plain
 names_plain Bibtex kind = bibtex_plain kind
 
 -- of some rows with one before them, which is kept or isn't
-kept_case : (b : Bool) (row : List ℕ × List ℕ) (rows : List (List ℕ × List ℕ)) → IsPlainRow row → AllByRecursion IsPlainRow rows → AllByRecursion IsPlainRow (cond b (row ∷ rows) rows)
+kept_case : (b : Bool) (row : List ℕ × List ℕ) (rows : List (List ℕ × List ℕ)) → IsPlainRow row
+    → AllByRecursion IsPlainRow rows → AllByRecursion IsPlainRow (cond b (row ∷ rows) rows)
 kept_case true row rows here all = (here, all)
 kept_case false row rows here all = all
 
-kept_plain : (test : List ℕ × List ℕ → Bool) (rows : List (List ℕ × List ℕ)) → AllByRecursion IsPlainRow rows → AllByRecursion IsPlainRow (filter test rows)
+kept_plain : (test : List ℕ × List ℕ → Bool) (rows : List (List ℕ × List ℕ)) → AllByRecursion IsPlainRow rows
+    → AllByRecursion IsPlainRow (filter test rows)
 kept_plain test [] all = tt
 kept_plain test (row ∷ rows) all = kept_case (test row) row (filter test rows) all.0 (kept_plain test rows all.1)
 
-found_case : (b : Bool) (other name : List ℕ) (rest : Option (List ℕ)) → is_plain_name other ≡ true → (rest ≡ Some name → is_plain_name name ≡ true) → cond b (Some other) rest ≡ Some name → is_plain_name name ≡ true
+found_case : (b : Bool) (other name : List ℕ) (rest : Option (List ℕ)) → is_plain_name other ≡ true
+    → (rest ≡ Some name → is_plain_name name ≡ true) → cond b (Some other) rest ≡ Some name → is_plain_name name ≡ true
 found_case true other name rest plain later same = let is : other ≡ name = cc in subst (λ n. is_plain_name n ≡ true) is plain
 found_case false other name rest plain later same = later same
 
-found_plain : (rows : List (List ℕ × List ℕ)) (text name : List ℕ) → AllByRecursion IsPlainRow rows → other_name rows text ≡ Some name → is_plain_name name ≡ true
+found_plain : (rows : List (List ℕ × List ℕ)) (text name : List ℕ) → AllByRecursion IsPlainRow rows
+    → other_name rows text ≡ Some name → is_plain_name name ≡ true
 found_plain [] text name all is = absurd (cc)
-found_plain (row ∷ rows) text name all is = found_case (is_word text row.0) row.1 name (other_name rows text) all.0 (found_plain rows text name all.1) is
+found_plain (row ∷ rows) text name all is =
+    found_case (is_word text row.0) row.1 name (other_name rows text) all.0 (found_plain rows text name all.1) is
 
-pub name_known : (dialect : Dialect) (e : EntryReading) (f : FieldReading) (name : List ℕ) → new_field_name dialect e f ≡ Some name → CanBeName name
+pub name_known : (dialect : Dialect) (e : EntryReading) (f : FieldReading) (name : List ℕ)
+    → new_field_name dialect e f ≡ Some name → CanBeName name
 name_known dialect e f name is =
     let kind = entry_type_of e.kind.text in
     let all = kept_plain (λ row. not (is_field_there e.fields row.1)) (other_names dialect kind) (names_plain dialect kind) in

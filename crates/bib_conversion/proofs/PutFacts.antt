@@ -30,7 +30,9 @@ put_at j news [] = []
 put_at zero news (x ∷ xs) = news ++ xs
 put_at (suc j) news (x ∷ xs) = x ∷ put_at j news xs
 
-pub put_is : {A B : Type 0} (view : A → B) (before following : List A) (x : A) (news : List B) (j : ℕ) → length before ≡ j → put_at j news (map view (before ++ x ∷ following)) ≡ map view before ++ (news ++ map view following)
+pub put_is : {A B : Type 0} (view : A → B) (before following : List A) (x : A) (news : List B) (j : ℕ)
+    → length before ≡ j
+    → put_at j news (map view (before ++ x ∷ following)) ≡ map view before ++ (news ++ map view following)
 put_is view [] following x news zero index = refl
 put_is view [] following x news (suc j) index = absurd (omega arith)
 put_is view (b ∷ bs) following x news zero index = absurd (omega arith)
@@ -62,8 +64,18 @@ pub record NameStarts (u : Place) : Type 0 where
   pub starts : is_id_start char ≡ true
 
 pub new_opens : {u v w : Place} {fs : List FieldReading} {f : FieldReading} → FieldsBefore u fs v → Field longest v f w → NameStarts u
-new_opens FieldsBefore.none field = record { char = field.name.first; next = field.name.second; here = field.name.here; starts = field.name.starts }
-new_opens (FieldsBefore.more field gap comma gap' others) last = record { char = field.name.first; next = field.name.second; here = field.name.here; starts = field.name.starts }
+new_opens FieldsBefore.none field = record {
+  char = field.name.first;
+  next = field.name.second;
+  here = field.name.here;
+  starts = field.name.starts;
+}
+new_opens (FieldsBefore.more field gap comma gap' others) last = record {
+  char = field.name.first;
+  next = field.name.second;
+  here = field.name.here;
+  starts = field.name.starts;
+}
 
 before_append : {u v w : Place} {fs gs : List FieldReading} → FieldsBefore u fs v → FieldsBefore v gs w → FieldsBefore u (fs ++ gs) w
 before_append FieldsBefore.none others = others
@@ -71,15 +83,26 @@ before_append (FieldsBefore.more field gap comma gap' first) others = FieldsBefo
 
 -- ---- the fields before them, in the new text
 
-gap_before : {f : Frame} {u v w x : Place} {c : ℕ} {fs : List FieldReading} → Zone f → Inside f u → Inside f v → Inside f w → CharAt w c x → (c == 10) ≡ false → Stops is_whitespace (there f w) → Stops (λ d. d == 37) (there f w)
+gap_before : {f : Frame} {u v w x : Place} {c : ℕ} {fs : List FieldReading} → Zone f → Inside f u → Inside f v
+    → Inside f w → CharAt w c x → (c == 10) ≡ false → Stops is_whitespace (there f w) → Stops (λ d. d == 37) (there f w)
     → Gap longest u v → FieldsBefore v fs w → Gap longest (there f u) (there f v)
 gap_before z iu iv iw char other white stops gap FieldsBefore.none = gap_until z iu iv char other white stops gap
 gap_before {f} z iu iv iw char other white stops gap (FieldsBefore.more field gap1 comma gap2 others) =
     let over = ahead_then (ahead_field field) (ahead_gap gap1) in
     let from_comma = ahead_then (ahead_char comma) (ahead_then (ahead_gap gap2) (ahead_fields_before others)) in
-    gap_there z iu iv (omega (arith, over.at, comma.next, (len_utf8_bounds 44).0, (ahead_gap gap2).at, (ahead_fields_before others).at, iw.end)) gap
+    gap_there z iu iv
+    (omega (
+      arith,
+      over.at,
+      comma.next,
+      (len_utf8_bounds 44).0,
+      (ahead_gap gap2).at,
+      (ahead_fields_before others).at,
+      iw.end,
+    )) gap
 
-fields_before_until : {f : Frame} {u v x : Place} {c : ℕ} {fs : List FieldReading} → Zone f → Inside f u → Inside f v → CharAt v c x → (c == 10) ≡ false → Stops is_whitespace (there f v) → Stops (λ d. d == 37) (there f v)
+fields_before_until : {f : Frame} {u v x : Place} {c : ℕ} {fs : List FieldReading} → Zone f → Inside f u → Inside f v
+    → CharAt v c x → (c == 10) ≡ false → Stops is_whitespace (there f v) → Stops (λ d. d == 37) (there f v)
     → FieldsBefore u fs v → FieldsBefore (there f u) (map (moved_field f.move) fs) (there f v)
 fields_before_until z iu iv char other white stops FieldsBefore.none = FieldsBefore.none
 fields_before_until {f} z iu iv char other white stops (FieldsBefore.more field gap comma gap' others) =
@@ -89,17 +112,25 @@ fields_before_until {f} z iu iv char other white stops (FieldsBefore.more field 
     let b = inside_between z a iv (ahead_gap gap) from_comma in
     let c = inside_between z b iv (ahead_char comma) from_gap in
     let d = inside_between z c iv (ahead_gap gap') (ahead_fields_before others) in
-    FieldsBefore.more (field_there z iu a (below_between f (ahead_gap gap) (below_char c comma)) field) (gap_there z a b (below_char c comma) gap)
-    (char_there z b c comma) (gap_before z c d iv char other white stops gap' others) (fields_before_until z d iv char other white stops others)
+    FieldsBefore.more (field_there z iu a (below_between f (ahead_gap gap) (below_char c comma)) field)
+    (gap_there z a b (below_char c comma) gap)
+    (char_there z b c comma) (gap_before z c d iv char other white stops gap' others)
+    (fields_before_until z d iv char other white stops others)
 
 -- ---- the whole
 
 -- an edit that puts fields in the place of one of an entry's
 abbrev pub fields_put : Document → Edit → ℕ → EntryReading → ℕ → List FieldReading → Document
-fields_put d edit k e j news = entry_edited d edit k (record (moved_entry (moved_place edit) e) { fields = put_at j news (map (moved_field (moved_place edit)) e.fields) })
+fields_put d edit k e j news =
+    entry_edited d edit k
+    (record (moved_entry (moved_place edit) e)
+    { fields = put_at j news (map (moved_field (moved_place edit)) e.fields) })
 
-pub fields_put_read : (d : Document) (edit : Edit) (k : ℕ) (e : EntryReading) (j : ℕ) (f : FieldReading) (news : List FieldReading) (s : EntrySplit (place d.text 0) d.says e k) (g : FieldSplit s.block.fields_start e.fields f j s.block.brace)
-    → edit.start ≡ g.start.at → edit.start < edit.end → edit.end ≤ g.end.at → NewFields (goes edit d.text g.start) news (goes edit d.text g.end) → IsDocument (fields_put d edit k e j news)
+pub fields_put_read : (d : Document) (edit : Edit) (k : ℕ) (e : EntryReading) (j : ℕ) (f : FieldReading)
+    (news : List FieldReading) (s : EntrySplit (place d.text 0) d.says e k)
+    (g : FieldSplit s.block.fields_start e.fields f j s.block.brace)
+    → edit.start ≡ g.start.at → edit.start < edit.end → edit.end ≤ g.end.at
+    → NewFields (goes edit d.text g.start) news (goes edit d.text g.end) → IsDocument (fields_put d edit k e j news)
 fields_put_read d edit k e j f news s g start_is some past n =
     let b = s.block in
     let move = moved_place edit in
@@ -120,7 +151,8 @@ fields_put_read d edit k e j f news s g start_is some past n =
     let within : edit.end ≤ length d.text = omega (arith, to_brace.at, (ahead_char b.closes).at) in
     let z2 = zone_after edit d.text (omega (arith, some)) within in
     let je : Inside (after_frame edit d.text) g.end = inside z2 at_end.text past (omega (arith, to_brace.at, (ahead_char b.closes).at)) in
-    let jd : Inside (after_frame edit d.text) s.end = inside z2 at_close.text (omega (arith, to_brace.at, (ahead_char b.closes).at)) (omega arith) in
+    let jd : Inside (after_frame edit d.text) s.end =
+    inside z2 at_close.text (omega (arith, to_brace.at, (ahead_char b.closes).at)) (omega arith) in
     let jz = inside_between z2 je jd to_brace (ahead_char b.closes) in
     let opens = new_opens n.before n.field in
     let field_goes : move g.start.at ≡ edit.start = moved_before edit g.start.at (omega (arith, start_is, some)) ∙ sym start_is in
@@ -131,8 +163,20 @@ fields_put_read d edit k e j f news s g start_is some past n =
     } in
     let z1 = zone_before edit d.text fits in
     let frame = before_frame edit d.text in
-    let iv : Inside frame g.start = record { text = at_field.text; start = omega arith; end = omega (arith, start_is); moved = ap (λ m. m + 0) (moved_before edit g.start.at (omega (arith, start_is, some))) } in
-    let iu : Inside frame s.start = record { text = to_start.text; start = omega arith; end = omega (arith, to_field.at, start_is); moved = ap (λ m. m + 0) (moved_before edit s.start.at (omega (arith, to_field.at, start_is, some))) } in
+    let iv : Inside frame g.start =
+    record {
+      text = at_field.text;
+      start = omega arith;
+      end = omega (arith, start_is);
+      moved = ap (λ m. m + 0) (moved_before edit g.start.at (omega (arith, start_is, some)));
+    } in
+    let iu : Inside frame s.start =
+    record {
+      text = to_start.text;
+      start = omega arith;
+      end = omega (arith, to_field.at, start_is);
+      moved = ap (λ m. m + 0) (moved_before edit s.start.at (omega (arith, to_field.at, start_is, some)));
+    } in
     let ia = inside_between z1 iu iv (ahead_head b.head) from_key in
     let ib = inside_between z1 ia iv (ahead_run b.key.run) from_white in
     let ic = inside_between z1 ib iv (ahead_run b.white.run) from_comma in
@@ -148,8 +192,11 @@ fields_put_read d edit k e j f news s g start_is some past n =
     let first : List FieldReading = map (moved_field move) g.before in
     let following : List FieldReading = map (moved_field move) g.following in
     let listed : (first ++ n.first) ++ n.last ∷ following ≡ put_at j news (map (moved_field move) e.fields) =
-    append_assoc first n.first (n.last ∷ following) ∙ ap (λ l. first ++ l) (sym (append_assoc n.first (n.last ∷ []) following)) ∙ ap (λ l. first ++ (l ++ following)) (sym n.are)
-    ∙ sym (put_is (moved_field move) g.before g.following f news j g.index) ∙ ap (λ fs. put_at j news (map (moved_field move) fs)) (sym g.whole) in
+    append_assoc first n.first (n.last ∷ following)
+    ∙ ap (λ l. first ++ l) (sym (append_assoc n.first (n.last ∷ []) following))
+    ∙ ap (λ l. first ++ (l ++ following)) (sym n.are)
+    ∙ sym (put_is (moved_field move) g.before g.following f news j g.index)
+    ∙ ap (λ fs. put_at j news (map (moved_field move) fs)) (sym g.whole) in
     let e' : EntryReading = record (moved_entry move e) { fields = put_at j news (map (moved_field move) e.fields) } in
     let block : EntryBlock (goes edit d.text s.start) e' (goes edit d.text s.end) = record {
       inside = goes edit d.text b.inside;
@@ -170,4 +217,16 @@ fields_put_read d edit k e j f news s g start_is some past n =
       starts = ap move b.starts;
       ends = ap move b.ends;
     } in
-    entry_edited_read d edit k e e' fits s (omega (arith, start_is, (ahead_head b.head).at, (ahead_run b.key.run).at, (ahead_run b.white.run).at, b.comma.next, (ahead_gap b.gap).at, from_fields.at, (len_utf8_bounds 44).0)) (omega (arith, past, to_brace.at, (ahead_char b.closes).at)) (block_of block)
+    entry_edited_read d edit k e e' fits s
+    (omega (
+      arith,
+      start_is,
+      (ahead_head b.head).at,
+      (ahead_run b.key.run).at,
+      (ahead_run b.white.run).at,
+      b.comma.next,
+      (ahead_gap b.gap).at,
+      from_fields.at,
+      (len_utf8_bounds 44).0,
+    ))
+    (omega (arith, past, to_brace.at, (ahead_char b.closes).at)) (block_of block)

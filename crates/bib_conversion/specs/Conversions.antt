@@ -28,7 +28,8 @@ is_unnamed_type kind = false
 -- the name of the type that a dialect has for a type, if that is another one; a type that neither has stays
 abbrev pub other_type : Dialect → EntryType → Option (List ℕ)
 other_type dialect kind =
-    if is_unnamed_type kind || bytes_eq (entry_type_name (kind_in dialect kind)) (entry_type_name kind) then None else Some (entry_type_name (kind_in dialect kind))
+    if is_unnamed_type kind || bytes_eq (entry_type_name (kind_in dialect kind)) (entry_type_name kind) then None
+    else Some (entry_type_name (kind_in dialect kind))
 
 -- the name that takes the place of that of an entry's type, if one does
 abbrev pub new_type : Dialect → EntryReading → Option (List ℕ)
@@ -97,7 +98,12 @@ other_date_names = codes "date" ∷ codes "endyear" ∷ codes "endmonth" ∷ cod
 -- whether a date's parts may be joined: there is one year, one month and at most one day, and none of the other fields
 abbrev pub has_parts_once : List FieldReading → Bool
 has_parts_once fields =
-    (times_named fields (codes "year") == 1) && ((times_named fields (codes "month") == 1) && (nat_lt (times_named fields (codes "day")) 2 && not (list_any (is_field_there fields) other_date_names)))
+    (times_named fields (codes "year") == 1)
+    &&
+    ((times_named fields (codes "month") == 1)
+    &&
+    (nat_lt (times_named fields (codes "day")) 2
+    && not (list_any (is_field_there fields) other_date_names)))
 
 -- whether no comment stands between a field and the one after it
 abbrev pub is_comment_free : List ℕ → FieldReading → List FieldReading → Bool
@@ -137,11 +143,14 @@ date_of_parts (Some year) (Some month) (Some day) = date_on_day year month (sing
 
 -- the text of the date that the parts among an entry's fields are
 abbrev pub date_of_fields : Bool → List FieldReading → Option (List ℕ)
-date_of_fields defines fields = date_of_parts (literal_of (find (has_name (codes "year")) fields)) (month_of defines (find (has_name (codes "month")) fields)) (find (has_name (codes "day")) fields)
+date_of_fields defines fields =
+    date_of_parts (literal_of (find (has_name (codes "year")) fields))
+    (month_of defines (find (has_name (codes "month")) fields)) (find (has_name (codes "day")) fields)
 
 -- the text of the date that takes the place of its parts among an entry's fields, if one does: for BibLaTeX, where they may be joined
 abbrev pub joined_date : Dialect → Bool → List ℕ → List FieldReading → Option (List ℕ)
-joined_date Biblatex defines text fields = if has_parts_once fields && can_all_go_out text fields then date_of_fields defines fields else None
+joined_date Biblatex defines text fields =
+    if has_parts_once fields && can_all_go_out text fields then date_of_fields defines fields else None
 joined_date Bibtex defines text fields = None
 
 -- whether a file defines an abbreviation of a month itself, in any ASCII case
@@ -167,7 +176,9 @@ change_of None None None = None
 
 -- what an entry's field gives way to, if it does, in a text that defines an abbreviation of a month or doesn't
 abbrev pub field_change : Dialect → Bool → List ℕ → EntryReading → FieldReading → Option FieldChange
-field_change dialect defines text e f = change_of (joined_among (joined_date dialect defines text e.fields) f) (new_field_name dialect e f) (exchanged_date dialect e f)
+field_change dialect defines text e f =
+    change_of (joined_among (joined_date dialect defines text e.fields) f) (new_field_name dialect e f)
+    (exchanged_date dialect e f)
 
 -- the edit of a part of a text that gives way to another text, if it does
 abbrev pub part_edits : Part → Option (List ℕ) → List Edit
@@ -176,7 +187,9 @@ part_edits p (Some new) = record { start = p.start; end = p.end; bytes = new } �
 
 -- the fields of a date's parts as they are written
 abbrev pub written_sides : Sides → List ℕ
-written_sides sides = new_field_text (side_year from_names sides.from) ++ more_field_texts (more_fields from_names sides.from ++ to_fields sides.to)
+written_sides sides =
+    new_field_text (side_year from_names sides.from)
+    ++ more_field_texts (more_fields from_names sides.from ++ to_fields sides.to)
 
 -- the edit of a field up to the white space after its value
 abbrev pub field_stretch : List ℕ → FieldReading → List ℕ → Edit
@@ -197,7 +210,9 @@ abbrev pub edits_of_field : List ℕ → FieldReading → List FieldReading → 
 edits_of_field text f following None = []
 edits_of_field text f following (Some (FieldChange.renamed name)) = record { start = f.name.start; end = f.name.end; bytes = name } ∷ []
 edits_of_field text f following (Some (FieldChange.divided sides)) = field_stretch text f (written_sides sides) ∷ []
-edits_of_field text f following (Some (FieldChange.joined date)) = if list_any is_date_part following then going_out f following else field_stretch text f (new_field_text (date_field date)) ∷ []
+edits_of_field text f following (Some (FieldChange.joined date)) =
+    if list_any is_date_part following then going_out f following
+    else field_stretch text f (new_field_text (date_field date)) ∷ []
 
 -- the edits of some fields one after another, by what each gives way to
 abbrev pub edits_of_fields : (FieldReading → Option FieldChange) → List ℕ → List FieldReading → List Edit
@@ -206,7 +221,8 @@ edits_of_fields change text (f ∷ fs) = edits_of_field text f fs (change f) ++ 
 
 -- the edits of an entry: of the name of its type, and of its fields
 abbrev pub edits_of_entry : Dialect → Bool → List ℕ → EntryReading → List Edit
-edits_of_entry dialect defines text e = part_edits e.kind (new_type dialect e) ++ edits_of_fields (field_change dialect defines text e) text e.fields
+edits_of_entry dialect defines text e =
+    part_edits e.kind (new_type dialect e) ++ edits_of_fields (field_change dialect defines text e) text e.fields
 
 -- the edits of some entries
 abbrev pub edits_of_file : Dialect → Bool → List ℕ → List EntryReading → List Edit
@@ -225,8 +241,11 @@ with_other_text p (Some new) = record p { text = new }
 abbrev pub field_converted : FieldReading → List FieldReading → Option FieldChange → List FieldReading
 field_converted f following None = f ∷ []
 field_converted f following (Some (FieldChange.renamed name)) = (record f { name = record f.name { text = name } }) ∷ []
-field_converted f following (Some (FieldChange.divided sides)) = field_reading (side_year from_names sides.from) ∷ map field_reading (more_fields from_names sides.from ++ to_fields sides.to)
-field_converted f following (Some (FieldChange.joined date)) = if list_any is_date_part following then [] else field_reading (date_field date) ∷ []
+field_converted f following (Some (FieldChange.divided sides)) =
+    field_reading (side_year from_names sides.from)
+    ∷ map field_reading (more_fields from_names sides.from ++ to_fields sides.to)
+field_converted f following (Some (FieldChange.joined date)) =
+    if list_any is_date_part following then [] else field_reading (date_field date) ∷ []
 
 -- what stands in the place of some fields, by what each gives way to
 abbrev pub fields_converted : (FieldReading → Option FieldChange) → List FieldReading → List FieldReading
@@ -235,11 +254,16 @@ fields_converted change (f ∷ fs) = field_converted f fs (change f) ++ fields_c
 
 -- an entry with the type and the fields that a dialect has for it
 abbrev pub entry_converted : Dialect → Bool → List ℕ → EntryReading → EntryReading
-entry_converted dialect defines text e = record e { kind = with_other_text e.kind (new_type dialect e); fields = fields_converted (field_change dialect defines text e) e.fields }
+entry_converted dialect defines text e =
+    record e {
+      kind = with_other_text e.kind (new_type dialect e);
+      fields = fields_converted (field_change dialect defines text e) e.fields;
+    }
 
 -- what a document says, with the types and the fields that a dialect has
 abbrev pub file_converted : Dialect → Document → FileReading
-file_converted dialect d = record d.says { entries = map (entry_converted dialect (defines_month d.says.abbreviations) d.text) d.says.entries }
+file_converted dialect d =
+    record d.says { entries = map (entry_converted dialect (defines_month d.says.abbreviations) d.text) d.says.entries }
 
 -- a text is a document's with the types and the fields of a dialect, and is read so
 pub record IsConverted (dialect : Dialect) (d : Document) (text : List ℕ) : Type 0 where

@@ -41,8 +41,10 @@ field_reading n = record { name = text_at 0 n.name; value = record { pieces = n.
 -- the numbers of the months, each with the abbreviation that stands for it
 abbrev pub month_abbreviations : List (List ℕ × List ℕ)
 month_abbreviations =
-    (codes "01", codes "jan") ∷ (codes "02", codes "feb") ∷ (codes "03", codes "mar") ∷ (codes "04", codes "apr") ∷ (codes "05", codes "may") ∷ (codes "06", codes "jun")
-    ∷ (codes "07", codes "jul") ∷ (codes "08", codes "aug") ∷ (codes "09", codes "sep") ∷ (codes "10", codes "oct") ∷ (codes "11", codes "nov") ∷ (codes "12", codes "dec") ∷ []
+    (codes "01", codes "jan") ∷ (codes "02", codes "feb") ∷ (codes "03", codes "mar") ∷ (codes "04", codes "apr")
+    ∷ (codes "05", codes "may") ∷ (codes "06", codes "jun")
+    ∷ (codes "07", codes "jul") ∷ (codes "08", codes "aug") ∷ (codes "09", codes "sep") ∷ (codes "10", codes "oct")
+    ∷ (codes "11", codes "nov") ∷ (codes "12", codes "dec") ∷ []
 
 -- a side of a date: its year, and if they are there the abbreviation of its month and its day
 pub record Side : Type 0 where
@@ -64,7 +66,8 @@ abbrev pub side_of : List (List ℕ) → Option Side
 side_of [] = None
 side_of (year ∷ []) = if are_digits 4 year then Some (record { year = year; month = None; day = None }) else None
 side_of (year ∷ month ∷ []) = if are_digits 4 year then month_side year (named month_abbreviations month) None else None
-side_of (year ∷ month ∷ day ∷ []) = if are_digits 4 year && are_digits 2 day then month_side year (named month_abbreviations month) (Some day) else None
+side_of (year ∷ month ∷ day ∷ []) =
+    if are_digits 4 year && are_digits 2 day then month_side year (named month_abbreviations month) (Some day) else None
 side_of (year ∷ month ∷ day ∷ other ∷ rest) = None
 
 -- the side that the parts of a text between its hyphens are

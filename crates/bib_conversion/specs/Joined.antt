@@ -30,17 +30,20 @@ is_day_alone (Some text) = is_short_number text
 abbrev pub month_date_text : Option Date → Option (List ℕ)
 month_date_text None = None
 month_date_text (Some d) =
-    if is_some (first_side d.value).month && is_some (readable_value (date_of (datetime_text (first_side d.value)))) then Some (datetime_text (first_side d.value)) else None
+    if is_some (first_side d.value).month && is_some (readable_value (date_of (datetime_text (first_side d.value))))
+    then Some (datetime_text (first_side d.value)) else None
 
 -- the text of the date that a year in four digits, a month and perhaps a day are read as
 abbrev pub joined_text : List ℕ → List ℕ → Option (List ℕ) → Option (List ℕ)
 joined_text year month day =
-    if are_digits 4 year && (is_month_alone month && is_day_alone day) then month_date_text (readable_value (three_fields_of year (Some month) day)) else None
+    if are_digits 4 year && (is_month_alone month && is_day_alone day)
+    then month_date_text (readable_value (three_fields_of year (Some month) day)) else None
 
 -- the abbreviations of months
 abbrev pub month_names : List (List ℕ)
 month_names =
-    codes "jan" ∷ codes "feb" ∷ codes "mar" ∷ codes "apr" ∷ codes "may" ∷ codes "jun" ∷ codes "jul" ∷ codes "aug" ∷ codes "sep" ∷ codes "oct" ∷ codes "nov" ∷ codes "dec" ∷ []
+    codes "jan" ∷ codes "feb" ∷ codes "mar" ∷ codes "apr" ∷ codes "may" ∷ codes "jun" ∷ codes "jul" ∷ codes "aug"
+    ∷ codes "sep" ∷ codes "oct" ∷ codes "nov" ∷ codes "dec" ∷ []
 
 -- whether a name is that of one of them, in any ASCII case
 abbrev pub is_month_name : List ℕ → Bool

@@ -12,11 +12,15 @@ use Rattle.bib_conversion.specs.Dates.{Sides, part_names}
 
 -- the name of a field gives way to none that its entry has already
 abbrev pub NamesStayApart : Type 0
-NamesStayApart = (dialect : Dialect) (e : EntryReading) (f : FieldReading) (name : List ℕ) → new_field_name dialect e f ≡ Some name → is_field_there e.fields name ≡ false
+NamesStayApart =
+    (dialect : Dialect) (e : EntryReading) (f : FieldReading) (name : List ℕ) → new_field_name dialect e f ≡ Some name
+    → is_field_there e.fields name ≡ false
 
 -- a date gives way to fields of its parts only where its entry has none of these
 abbrev pub PartsStayApart : Type 0
-PartsStayApart = (dialect : Dialect) (e : EntryReading) (f : FieldReading) (sides : Sides) → exchanged_date dialect e f ≡ Some sides → list_any (is_field_there e.fields) part_names ≡ false
+PartsStayApart =
+    (dialect : Dialect) (e : EntryReading) (f : FieldReading) (sides : Sides) → exchanged_date dialect e f ≡ Some sides
+    → list_any (is_field_there e.fields) part_names ≡ false
 
 -- a date's text is read as the date that the year, the month and perhaps the day among some fields are
 pub record IsDateOfParts (defines : Bool) (fields : List FieldReading) (date : List ℕ) : Type 0 where
@@ -28,8 +32,12 @@ pub record IsDateOfParts (defines : Bool) (fields : List FieldReading) (date : L
 
 -- the parts of a date give way to the date that they are
 abbrev pub JoinedIsTheSame : Type 0
-JoinedIsTheSame = (dialect : Dialect) (defines : Bool) (text : List ℕ) (e : EntryReading) (date : List ℕ) → joined_date dialect defines text e.fields ≡ Some date → IsDateOfParts defines e.fields date
+JoinedIsTheSame =
+    (dialect : Dialect) (defines : Bool) (text : List ℕ) (e : EntryReading) (date : List ℕ)
+    → joined_date dialect defines text e.fields ≡ Some date → IsDateOfParts defines e.fields date
 
 -- the parts of a date give way to it only where their entry has no date
 abbrev pub JoinedStaysApart : Type 0
-JoinedStaysApart = (dialect : Dialect) (defines : Bool) (text : List ℕ) (e : EntryReading) (date : List ℕ) → joined_date dialect defines text e.fields ≡ Some date → is_field_there e.fields (codes "date") ≡ false
+JoinedStaysApart =
+    (dialect : Dialect) (defines : Bool) (text : List ℕ) (e : EntryReading) (date : List ℕ)
+    → joined_date dialect defines text e.fields ≡ Some date → is_field_there e.fields (codes "date") ≡ false

@@ -16,8 +16,10 @@ use Rattle.bib_conversion.specs.declared.notes.NoteKind.TheVariants.{DateStays, 
 -- the fields that the standard styles of BibTeX read
 abbrev pub bibtex_fields : List (List ℕ)
 bibtex_fields =
-    codes "address" ∷ codes "author" ∷ codes "booktitle" ∷ codes "chapter" ∷ codes "crossref" ∷ codes "edition" ∷ codes "editor" ∷ codes "howpublished" ∷ codes "institution" ∷ codes "journal" ∷ codes "key" ∷ codes "month"
-    ∷ codes "note" ∷ codes "number" ∷ codes "organization" ∷ codes "pages" ∷ codes "publisher" ∷ codes "school" ∷ codes "series" ∷ codes "title" ∷ codes "type" ∷ codes "volume" ∷ codes "year" ∷ []
+    codes "address" ∷ codes "author" ∷ codes "booktitle" ∷ codes "chapter" ∷ codes "crossref" ∷ codes "edition"
+    ∷ codes "editor" ∷ codes "howpublished" ∷ codes "institution" ∷ codes "journal" ∷ codes "key" ∷ codes "month"
+    ∷ codes "note" ∷ codes "number" ∷ codes "organization" ∷ codes "pages" ∷ codes "publisher" ∷ codes "school"
+    ∷ codes "series" ∷ codes "title" ∷ codes "type" ∷ codes "volume" ∷ codes "year" ∷ []
 
 -- whether a name is that of one of them, in any ASCII case
 abbrev pub is_bibtex_field : List ℕ → Bool
@@ -48,7 +50,9 @@ change_note dialect None other f = stays_note dialect other f
 
 -- what is to know of an entry's field, in a text that defines an abbreviation of a month or doesn't
 abbrev pub field_note : Dialect → Bool → List ℕ → EntryReading → FieldReading → Option NoteKind
-field_note dialect defines text e f = change_note dialect (field_change dialect defines text e f) (other_name (other_names dialect (entry_type_of e.kind.text)) f.name.text) f
+field_note dialect defines text e f =
+    change_note dialect (field_change dialect defines text e f)
+    (other_name (other_names dialect (entry_type_of e.kind.text)) f.name.text) f
 
 -- what comes of each element and its index, one after another, of a list whose first element has an index
 abbrev pub indexed : {A B : Type 0} → (ℕ → A → List B) → ℕ → List A → List B

@@ -35,7 +35,9 @@ sides_as_written sides = record { from = side_as_written sides.from; to = option
 
 -- what a field gives way to, by what gives way in its entry
 abbrev pub change_by : Changes → FieldReading → Option FieldChange
-change_by changes f = change_of (joined_among (option_map string_bytes changes.joined) f) (other_name (lent_names changes.names.items) f.name.text) (date_among changes.divides f)
+change_by changes f =
+    change_of (joined_among (option_map string_bytes changes.joined) f)
+    (other_name (lent_names changes.names.items) f.name.text) (date_among changes.divides f)
 
 -- the edits of some fields, by what gives way in their entry
 abbrev pub change_edits : Changes → List ℕ → List FieldReading → List edits.Edit

@@ -11,8 +11,11 @@ decided false h = refl
 
 -- one of which they do is none of which they don't
 pub not_this : (p : ℕ → Bool) (k c : ℕ) → list_all p (encode k) ≡ false → list_all p (encode c) ≡ true → (c == k) ≡ false
-not_this p k c bad good = decided (c == k) (λ same. let is : c ≡ k = grind arith in true≢false (sym good ∙ ap (λ x. list_all p (encode x)) is ∙ bad))
+not_this p k c bad good =
+    decided (c == k)
+    (λ same. let is : c ≡ k = grind arith in true≢false (sym good ∙ ap (λ x. list_all p (encode x)) is ∙ bad))
 
 -- the first character and the others
-pub both : (p : ℕ → Bool) (c : ℕ) (cs : List ℕ) → list_all p (encodes (c ∷ cs)) ≡ true → (list_all p (encode c) ≡ true) × (list_all p (encodes cs) ≡ true)
+pub both : (p : ℕ → Bool) (c : ℕ) (cs : List ℕ) → list_all p (encodes (c ∷ cs)) ≡ true
+    → (list_all p (encode c) ≡ true) × (list_all p (encodes cs) ≡ true)
 both p c cs h = and_parts (list_all p (encode c)) (list_all p (encodes cs)) (sym (list_all-append p (encode c) (encodes cs)) ∙ h)

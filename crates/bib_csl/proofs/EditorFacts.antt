@@ -20,19 +20,23 @@ nobody uses None none = refl
 nobody uses (Some people) none = absurd (true≢false none)
 
 -- a field that isn't there lists nobody
-pub none_listed : (v : Variable) (entry : Entry) (people role : List ℕ) → is_some (field entry people) ≡ false → editors_listed v entry people role ≡ []
+pub none_listed : (v : Variable) (entry : Entry) (people role : List ℕ) → is_some (field entry people) ≡ false
+    → editors_listed v entry people role ≡ []
 unfolding editors_listed
 none_listed v entry people role none =
-    either_way (is_under v (role_of (field entry role))) (names_said (uses_prefix entry) (field entry people)) (nobody (uses_prefix entry) (field entry people) none)
+    either_way (is_under v (role_of (field entry role))) (names_said (uses_prefix entry) (field entry people))
+    (nobody (uses_prefix entry) (field entry people) none)
 
 -- nor do the four
-pub none_under : (v : Variable) (entry : Entry) → is_some (field entry (codes "editor")) ≡ false → is_some (field entry (codes "editora")) ≡ false
+pub none_under : (v : Variable) (entry : Entry) → is_some (field entry (codes "editor")) ≡ false
+    → is_some (field entry (codes "editora")) ≡ false
     → is_some (field entry (codes "editorb")) ≡ false → is_some (field entry (codes "editorc")) ≡ false → editors_under v entry ≡ []
 unfolding editors_under
 none_under v entry first second third fourth =
     ap₂ (λ a b. a ++ b) (none_listed v entry (codes "editor") (codes "editortype") first)
     (ap₂ (λ a b. a ++ b) (none_listed v entry (codes "editora") (codes "editoratype") second)
-    (ap₂ (λ a b. a ++ b) (none_listed v entry (codes "editorb") (codes "editorbtype") third) (none_listed v entry (codes "editorc") (codes "editorctype") fourth)))
+    (ap₂ (λ a b. a ++ b) (none_listed v entry (codes "editorb") (codes "editorbtype") third)
+    (none_listed v entry (codes "editorc") (codes "editorctype") fourth)))
 
 -- so that no variable of theirs is there
 nothing_given : (v : Variable) (names : List Name) → names ≡ [] → given_people v names ≡ []

@@ -45,7 +45,8 @@ index v = place (variable_name v) order
 -- variables from one place in this order up to before another
 pub data IsBetween : ℕ → ℕ → List Field → Type 0 where
   none : {lo hi : ℕ} → lo ≤ hi → IsBetween lo hi []
-  more : {lo hi : ℕ} {f : Field} {fs : List Field} → lo ≤ index f.variable → IsBetween (index f.variable + 1) hi fs → IsBetween lo hi (f ∷ fs)
+  more : {lo hi : ℕ} {f : Field} {fs : List Field} → lo ≤ index f.variable → IsBetween (index f.variable + 1) hi fs
+      → IsBetween lo hi (f ∷ fs)
 
 ascends : {lo hi : ℕ} {fs : List Field} → IsBetween lo hi fs → lo ≤ hi
 ascends (none h) = h
@@ -108,7 +109,9 @@ original_fields_in_order entry =
 volume_fields_in_order : (kind : ItemType) (entry : Entry) → IsBetween 14 20 (volume_fields kind entry)
 unfolding volume_fields
 volume_fields_in_order kind entry =
-    joins (text Volume _) (joins (text NumberOfVolumes _) (joins (text PartNumber _) (joins (text Issue _) (joins (text Number _) (text CollectionNumber _)))))
+    joins (text Volume _)
+    (joins (text NumberOfVolumes _)
+    (joins (text PartNumber _) (joins (text Issue _) (joins (text Number _) (text CollectionNumber _)))))
 
 page_fields_in_order : (entry : Entry) → IsBetween 20 25 (page_fields entry)
 unfolding page_fields
@@ -151,7 +154,8 @@ publishing_in_order entry = joins (publisher_fields_in_order entry) (joins (orig
 work_in_order : (kind : ItemType) (entry : Entry) → IsBetween 0 14 (work_fields kind entry)
 unfolding work_fields
 work_in_order kind entry =
-    joins (title_fields_in_order kind entry) (joins (container_fields_in_order kind entry) (joins (event_fields_in_order entry) (publishing_in_order entry)))
+    joins (title_fields_in_order kind entry)
+    (joins (container_fields_in_order kind entry) (joins (event_fields_in_order entry) (publishing_in_order entry)))
 
 details_in_order : (kind : ItemType) (entry : Entry) → IsBetween 14 39 (detail_fields kind entry)
 unfolding detail_fields
@@ -163,22 +167,30 @@ details_in_order kind entry =
 all_in_order : (kind : ItemType) (entry : Entry) → IsBetween 0 50 (item_fields kind entry)
 unfolding item_fields
 all_in_order kind entry =
-    joins (work_in_order kind entry) (joins (details_in_order kind entry) (joins (people_fields_in_order kind entry) (date_fields_in_order entry)))
+    joins (work_in_order kind entry)
+    (joins (details_in_order kind entry) (joins (people_fields_in_order kind entry) (date_fields_in_order entry)))
 
 -- a name that stands before these variables, or after them, keeps what it has
-kept_before : (q : List ℕ) {lo hi : ℕ} {fs : List Field} (ms : Members) → place q order < lo → IsBetween lo hi fs → get_member q (with_variables fs ms) ≡ get_member q ms
+kept_before : (q : List ℕ) {lo hi : ℕ} {fs : List Field} (ms : Members) → place q order < lo → IsBetween lo hi fs
+    → get_member q (with_variables fs ms) ≡ get_member q ms
 unfolding with_variable
 kept_before q ms h (none k) = refl
 kept_before q {lo} ms h (more {f = f} k p) =
-    let apart = λ (same : q ≡ variable_name f.variable). let e : place q order ≡ index f.variable = ap (λ n. place n order) same in absurd (omega (arith, h, k, e)) in
+    let apart =
+    λ (same : q ≡ variable_name f.variable).
+    let e : place q order ≡ index f.variable = ap (λ n. place n order) same in absurd (omega (arith, h, k, e)) in
     kept_before q _ (omega (arith, h, k)) p ∙ get_member-put_other q (variable_name f.variable) (content_json f.content) ms apart
 
-kept_after : (q : List ℕ) {lo hi : ℕ} {fs : List Field} (ms : Members) → hi ≤ place q order → IsBetween lo hi fs → get_member q (with_variables fs ms) ≡ get_member q ms
+kept_after : (q : List ℕ) {lo hi : ℕ} {fs : List Field} (ms : Members) → hi ≤ place q order → IsBetween lo hi fs
+    → get_member q (with_variables fs ms) ≡ get_member q ms
 unfolding with_variable
 kept_after q ms h (none k) = refl
 kept_after q ms h (more {f = f} k p) =
     let later = ascends p in
-    let apart = λ (same : q ≡ variable_name f.variable). let e : place q order ≡ index f.variable = ap (λ n. place n order) same in absurd (omega (arith, h, later, e)) in
+    let apart =
+    λ (same : q ≡ variable_name f.variable).
+    let e : place q order ≡ index f.variable = ap (λ n. place n order) same in
+    absurd (omega (arith, h, later, e)) in
     kept_after q _ h p ∙ get_member-put_other q (variable_name f.variable) (content_json f.content) ms apart
 
 -- each variable is found with what it holds
@@ -193,7 +205,9 @@ found ms (more {f = f} h p) = (
   found (with_variable f ms) p,
 )
 
-pub variables_found : (entry : Entry) → AllByRecursion (IsFound (with_variables (item_of_entry entry).fields (head_members (item_of_entry entry)))) (item_of_entry entry).fields
+pub variables_found : (entry : Entry)
+    → AllByRecursion (IsFound (with_variables (item_of_entry entry).fields (head_members (item_of_entry entry))))
+    (item_of_entry entry).fields
 unfolding item_of_entry
 variables_found entry = found _ (all_in_order (type_of_entry entry) entry)
 
@@ -201,14 +215,20 @@ id_is_not_type : codes "id" ≡ codes "type" → ⊥
 id_is_not_type same = let lengths : 2 ≡ 4 = ap length same in absurd (omega (arith, lengths))
 
 -- the key and the type stand after all variables in this order
-pub key_found : (entry : Entry) → get_member (codes "id") (with_variables (item_of_entry entry).fields (head_members (item_of_entry entry))) ≡ Some (string entry.key)
+pub key_found : (entry : Entry)
+    → get_member (codes "id") (with_variables (item_of_entry entry).fields (head_members (item_of_entry entry)))
+    ≡ Some (string entry.key)
 unfolding item_of_entry head_members
 key_found entry =
     let last : place (codes "id") order ≡ 50 = refl in
     kept_after (codes "id") _ (omega (arith, last)) (all_in_order (type_of_entry entry) entry)
-    ∙ get_member-put_other (codes "id") (codes "type") (string (item_type_name (type_of_entry entry))) (put (codes "id") (string entry.key) no_members) id_is_not_type ∙ get_member-put (codes "id") (string entry.key) no_members
+    ∙ get_member-put_other (codes "id") (codes "type") (string (item_type_name (type_of_entry entry)))
+    (put (codes "id") (string entry.key) no_members) id_is_not_type
+    ∙ get_member-put (codes "id") (string entry.key) no_members
 
-pub type_found : (entry : Entry) → get_member (codes "type") (with_variables (item_of_entry entry).fields (head_members (item_of_entry entry))) ≡ Some (string (item_type_name (type_of_entry entry)))
+pub type_found : (entry : Entry)
+    → get_member (codes "type") (with_variables (item_of_entry entry).fields (head_members (item_of_entry entry)))
+    ≡ Some (string (item_type_name (type_of_entry entry)))
 unfolding item_of_entry head_members
 type_found entry =
     let last : place (codes "type") order ≡ 50 = refl in

@@ -29,7 +29,9 @@ pub normal_stands : (bs : List ℕ) → IsUtf8 bs → list_all is_in_line bs ≡
 normal_stands bs utf8 h =
     let cs = chars bs in
     let spelt = encodes-chars bs utf8 in
-    let same : flowing false cs ≡ cs = ap (flowing false) (sym (append-nil cs)) ∙ flowing_run false cs [] (all_in_line cs (ap (list_all is_in_line) spelt ∙ h)) ∙ append-nil cs in
+    let same : flowing false cs ≡ cs =
+    ap (flowing false) (sym (append-nil cs))
+    ∙ flowing_run false cs [] (all_in_line cs (ap (list_all is_in_line) spelt ∙ h)) ∙ append-nil cs in
     sym (ap encodes (append-nil (flowing false cs) ∙ same) ∙ spelt)
 
 -- verbatim text

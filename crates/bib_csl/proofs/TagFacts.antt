@@ -19,7 +19,8 @@ untied_step out more total {u} {x} {c} char utf8 wrote before =
     let passed : Passed u (c ∷ []) x = passed_char char utf8 in (
       passed.same,
       passed.utf8,
-      ap (λ o. o ++ untied (chars (ahead x))) wrote ∙ append_assoc out (untie c) (untied (chars (ahead x))) ∙ ap (λ cs. out ++ untied cs) (sym passed.spelt) ∙ before,
+      ap (λ o. o ++ untied (chars (ahead x))) wrote ∙ append_assoc out (untie c) (untied (chars (ahead x)))
+          ∙ ap (λ cs. out ++ untied cs) (sym passed.spelt) ∙ before,
     )
 
 -- its end
@@ -27,24 +28,30 @@ pub untied_end : (out total : List ℕ) (u : Place) → AtEnd u → out ++ untie
 untied_end out total u end before = ap (λ cs. out ++ untied cs) (sym (chars_at_end u end)) ∙ before
 
 -- a character of a text with tags
-pub marked_step : (out more total : List ℕ) (tags next : List (List ℕ)) (name after : Option (List ℕ)) {u x : Place} {c : ℕ} → CharAt u c x → IsUtf8 (ahead u)
+pub marked_step : (out more total : List ℕ) (tags next : List (List ℕ)) (name after : Option (List ℕ)) {u x : Place}
+    {c : ℕ} → CharAt u c x → IsUtf8 (ahead u)
     → more ≡ out ++ said tags name c → next ≡ open_after tags name c → after ≡ name_after name c
-    → out ++ marked_from tags name (chars (ahead u)) ≡ total → (x.text ≡ u.text) × IsUtf8 (ahead x) × (more ++ marked_from next after (chars (ahead x)) ≡ total)
+    → out ++ marked_from tags name (chars (ahead u)) ≡ total
+    → (x.text ≡ u.text) × IsUtf8 (ahead x) × (more ++ marked_from next after (chars (ahead x)) ≡ total)
 marked_step out more total tags next name after {u} {x} {c} char utf8 wrote opened given_names before =
     let passed : Passed u (c ∷ []) x = passed_char char utf8 in
     let rest = marked_from (open_after tags name c) (name_after name c) (chars (ahead x)) in (
       passed.same,
       passed.utf8,
-      ap₂ (λ t n. more ++ marked_from t n (chars (ahead x))) opened given_names ∙ ap (λ o. o ++ rest) wrote ∙ append_assoc out (said tags name c) rest
+      ap₂ (λ t n. more ++ marked_from t n (chars (ahead x))) opened given_names ∙ ap (λ o. o ++ rest) wrote
+          ∙ append_assoc out (said tags name c) rest
           ∙ ap (λ cs. out ++ marked_from tags name cs) (sym passed.spelt) ∙ before,
     )
 
 -- its end
-pub marked_end : (out total : List ℕ) (tags : List (List ℕ)) (name : Option (List ℕ)) (u : Place) → AtEnd u → out ++ marked_from tags name (chars (ahead u)) ≡ total → out ++ said_last tags name ≡ total
+pub marked_end : (out total : List ℕ) (tags : List (List ℕ)) (name : Option (List ℕ)) (u : Place) → AtEnd u
+    → out ++ marked_from tags name (chars (ahead u)) ≡ total → out ++ said_last tags name ≡ total
 marked_end out total tags name u end before = ap (λ cs. out ++ marked_from tags name cs) (sym (chars_at_end u end)) ∙ before
 
 -- the tag of the innermost brace that is left
-pub ended_step : (out more total : List ℕ) (tag : List ℕ) (old new : List (List ℕ)) → old ≡ new ++ tag ∷ [] → more ≡ out ++ unwrap_or (closing_tag tag) [] → out ++ all_ended (reverse old) ≡ total → more ++ all_ended (reverse new) ≡ total
+pub ended_step : (out more total : List ℕ) (tag : List ℕ) (old new : List (List ℕ)) → old ≡ new ++ tag ∷ []
+    → more ≡ out ++ unwrap_or (closing_tag tag) [] → out ++ all_ended (reverse old) ≡ total
+    → more ++ all_ended (reverse new) ≡ total
 ended_step out more total tag old new is wrote before =
     ap (λ o. o ++ all_ended (reverse new)) wrote ∙ append_assoc out (unwrap_or (closing_tag tag) []) (all_ended (reverse new))
     ∙ ap (λ l. out ++ all_ended l) (sym (ap reverse is ∙ reverse-append new (tag ∷ []))) ∙ before
@@ -73,7 +80,9 @@ untie_same c good = rw (not_this is_unmarked 126 c no_tilde good) refl
 
 said_same : (c : ℕ) → list_all is_unmarked (encode c) ≡ true → said [] None c ≡ encode c
 unfolding said said_plainly shown_in is_address
-said_same c good = rw (not_this is_unmarked 92 c no_backslash good) (rw (not_this is_unmarked 125 c no_close_brace good) (untie_same c good))
+said_same c good =
+    rw (not_this is_unmarked 92 c no_backslash good)
+    (rw (not_this is_unmarked 125 c no_close_brace good) (untie_same c good))
 
 open_same : (c : ℕ) → list_all is_unmarked (encode c) ≡ true → open_after [] None c ≡ []
 unfolding open_after open_plainly

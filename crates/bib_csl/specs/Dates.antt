@@ -79,7 +79,12 @@ season_numbered n =
 -- a season of a year
 unfoldable pub season_item : ℕ → Season → ItemDate
 season_item year season =
-    record { parts = record { year = csl_year (pos year); month = None; day = None } ∷ []; season = Some season; circa = false; literal = None }
+    record {
+      parts = record { year = csl_year (pos year); month = None; day = None } ∷ [];
+      season = Some season;
+      circa = false;
+      literal = None;
+    }
 
 -- the season of a year that a text names
 unfoldable pub season_of : List ℕ → Option ItemDate

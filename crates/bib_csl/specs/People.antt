@@ -43,8 +43,20 @@ untied_name text = untied (chars text)
 
 -- the parts of a person's name, whose prefix counts as part of the family name or not
 unfoldable pub parts_with : Bool → Person → NameParts
-parts_with true p = record { family = untied_name p.name; given = untied_name p.given_name; suffix = untied_name p.suffix; dropping_particle = []; non_dropping_particle = untied_name p.prefix }
-parts_with false p = record { family = untied_name p.name; given = untied_name p.given_name; suffix = untied_name p.suffix; dropping_particle = untied_name p.prefix; non_dropping_particle = [] }
+parts_with true p = record {
+  family = untied_name p.name;
+  given = untied_name p.given_name;
+  suffix = untied_name p.suffix;
+  dropping_particle = [];
+  non_dropping_particle = untied_name p.prefix;
+}
+parts_with false p = record {
+  family = untied_name p.name;
+  given = untied_name p.given_name;
+  suffix = untied_name p.suffix;
+  dropping_particle = untied_name p.prefix;
+  non_dropping_particle = [];
+}
 
 -- the name that chunks spell; the person's own word on the prefix goes before that of the entry
 unfoldable pub name_said : Bool → Value → Name

@@ -30,7 +30,8 @@ title_of_book entry = with_subtitle entry (title_text entry (codes "booktitle"))
 -- the title of the journal
 unfoldable pub journal_title : Entry → List ℕ
 journal_title entry =
-    with_subtitle entry (marked_field true (field_or entry (codes "journaltitle") (codes "journal"))) (codes "journalsubtitle") (codes "journaltitleaddon")
+    with_subtitle entry (marked_field true (field_or entry (codes "journaltitle") (codes "journal")))
+    (codes "journalsubtitle") (codes "journaltitleaddon")
 
 -- the title of the item: of a volume of a work, that of the work
 unfoldable pub item_title : ItemType → Entry → List ℕ

@@ -36,7 +36,8 @@ part_refused (Err (Specified reason)) e (inr (other, none, is)) = inr (other, re
 part_refused (Err (Unspecified reason)) e (inl h) = inl h
 part_refused (Err (Unspecified reason)) e (inr (other, none, is)) = inr (other, refl, is)
 
-part_said : {A : Type 0} (r : Result (A × Bor (List ℕ)) ReadError) (p : A × Bor (List ℕ)) → readable_value (reading r) ≡ Some p → parsed r ≡ says (p.0, p.1.now)
+part_said : {A : Type 0} (r : Result (A × Bor (List ℕ)) ReadError) (p : A × Bor (List ℕ))
+    → readable_value (reading r) ≡ Some p → parsed r ≡ says (p.0, p.1.now)
 part_said (Ok q) p e = let x : q ≡ p = cc in ap (λ y. says (y.0, y.1.now)) x
 part_said (Err (Specified reason)) p e = cc
 part_said (Err (Unspecified reason)) p e = cc
@@ -55,21 +56,27 @@ unfolding month_with_day
 month_said text day r p is found = rw (sym is ∙ part_said r p found) refl
 
 -- an error of the day is an error of the month and the day
-pub day_refused : (text : List ℕ) (day : Option (List ℕ)) (r : Result (Option ℕ × Bor (List ℕ)) ReadError) (p : Option ℕ × Bor (List ℕ)) (read : Reading (Option ℕ)) (e : TypeError)
-    → parsed r ≡ month_field text → readable_value (reading r) ≡ Some p → read ≡ day_of day p.1.now → Refused read e → Refused (month_with_day text day) e
+pub day_refused : (text : List ℕ) (day : Option (List ℕ)) (r : Result (Option ℕ × Bor (List ℕ)) ReadError)
+    (p : Option ℕ × Bor (List ℕ)) (read : Reading (Option ℕ)) (e : TypeError)
+    → parsed r ≡ month_field text → readable_value (reading r) ≡ Some p → read ≡ day_of day p.1.now → Refused read e
+    → Refused (month_with_day text day) e
 day_refused text day r p read e is found same h =
-    subst (λ x. Refused x e) (sym (month_said text day r p is found)) (passed (day_of day p.1.now) (λ at. says (p.0, at)) e (subst (λ x. Refused x e) same h))
+    subst (λ x. Refused x e) (sym (month_said text day r p is found))
+    (passed (day_of day p.1.now) (λ at. says (p.0, at)) e (subst (λ x. Refused x e) same h))
 
 -- a parsed month and a parsed day are the month and the day
-pub month_and_day_read : (text : List ℕ) (day : Option (List ℕ)) (r : Result (Option ℕ × Bor (List ℕ)) ReadError) (p : Option ℕ × Bor (List ℕ)) (read : Reading (Option ℕ)) (d : Option ℕ)
-    → parsed r ≡ month_field text → readable_value (reading r) ≡ Some p → read ≡ day_of day p.1.now → readable_value read ≡ Some d → readable_value (month_with_day text day) ≡ Some (p.0, d)
+pub month_and_day_read : (text : List ℕ) (day : Option (List ℕ)) (r : Result (Option ℕ × Bor (List ℕ)) ReadError)
+    (p : Option ℕ × Bor (List ℕ)) (read : Reading (Option ℕ)) (d : Option ℕ)
+    → parsed r ≡ month_field text → readable_value (reading r) ≡ Some p → read ≡ day_of day p.1.now
+    → readable_value read ≡ Some d → readable_value (month_with_day text day) ≡ Some (p.0, d)
 month_and_day_read text day r p read d is found same h =
     let one : day_of day p.1.now ≡ says d = sym same ∙ said read d h in
     rw (month_said text day r p is found, one) refl
 
 -- ---- three fields
 
-pub year_refused : (year : List ℕ) (month day : Option (List ℕ)) (e : TypeError) → Refused (year_field year) e → Refused (three_fields_of year month day) e
+pub year_refused : (year : List ℕ) (month day : Option (List ℕ)) (e : TypeError) → Refused (year_field year) e
+    → Refused (three_fields_of year month day) e
 unfolding three_fields_of
 year_refused year month day e h = passed (year_field year) _ e h
 
@@ -82,7 +89,8 @@ year_said year month day y h = rw (said (year_field year) y h) refl
 pub parts_refused : (year : List ℕ) (month day : Option (List ℕ)) (y : ℤ) (e : TypeError) → readable_value (year_field year) ≡ Some y
     → Refused (month_and_day month day) e → Refused (three_fields_of year month day) e
 parts_refused year month day y e found h =
-    subst (λ x. Refused x e) (sym (year_said year month day y found)) (passed (month_and_day month day) (λ parts. says (on_day y parts.0 parts.1)) e h)
+    subst (λ x. Refused x e) (sym (year_said year month day y found))
+    (passed (month_and_day month day) (λ parts. says (on_day y parts.0 parts.1)) e h)
 
 -- a parsed year, month and day are the date of the three fields
 pub all_read : (year : List ℕ) (month day : Option (List ℕ)) (y : ℤ) (m d : Option ℕ) → readable_value (year_field year) ≡ Some y

@@ -58,7 +58,8 @@ number_bytes y (Some m) (Some d) k =
     let few = month_short y (m + 1) in
     let is : IsNumber 2 (m + 1) (padded 2 (m + 1)) = two_digits (m + 1) (omega (arith, k.0)) in
     let day : IsNumber 2 (d + 1) (padded 2 (d + 1)) = two_digits (d + 1) (omega (arith, k.1)) in
-    both is_date_byte (padded 2 (m + 1)) (45 ∷ padded 2 (d + 1)) (digit_bytes (padded 2 (m + 1)) is.digits) (digit_bytes (padded 2 (d + 1)) day.digits)
+    both is_date_byte (padded 2 (m + 1)) (45 ∷ padded 2 (d + 1)) (digit_bytes (padded 2 (m + 1)) is.digits)
+    (digit_bytes (padded 2 (d + 1)) day.digits)
 
 year_bytes : (y : ℤ) → IsYear y → (list_all is_date_byte (year_text y) ≡ true) × (4 ≤ length (year_text y))
 year_bytes (pos n) h =
@@ -109,7 +110,12 @@ some_long n h = grind (arith, nat_tests)
 closed : (d : Datetime) (text : List ℕ) → IsSide d text → is_open text ≡ false
 closed d text is =
     let h = plain_side d text is in
-    rw (trim_start-plain text h, trim_end-plain text h, some_long (length text) is.long, not_points text is.bytes (let k = is.long in omega arith)) refl
+    rw (
+      trim_start-plain text h,
+      trim_end-plain text h,
+      some_long (length text) is.long,
+      not_points text is.bytes (let k = is.long in omega arith),
+    ) refl
 
 points_open : is_open (codes "..") ≡ true
 points_open = rw (trim_start-plain (codes "..") refl, trim_end-plain (codes "..") refl) refl
@@ -119,14 +125,17 @@ prefix_run p [] rest h = omega arith
 prefix_run p (x ∷ xs) rest h = let q = and_parts (p x) (list_all p xs) h in rw (q.0, prefix_run p xs rest q.1) (omega arith)
 
 slash_at : (xs rest : List ℕ) → list_all is_date_byte xs ≡ true → position_or_len (λ b. b == 47) (xs ++ (47 ∷ rest)) ≡ length xs
-slash_at xs rest h = prefix_run (λ b. not (b == 47)) xs (47 ∷ rest) (all_more is_date_byte (λ b. not (b == 47)) passes_slash xs h) ∙ omega arith
+slash_at xs rest h =
+    prefix_run (λ b. not (b == 47)) xs (47 ∷ rest) (all_more is_date_byte (λ b. not (b == 47)) passes_slash xs h)
+    ∙ omega arith
 
 before_slash : (xs rest : List ℕ) → list_all is_date_byte xs ≡ true → before_first (λ b. b == 47) (xs ++ (47 ∷ rest)) ≡ xs
 before_slash xs rest h = take_at xs (47 ∷ rest) (position_or_len (λ b. b == 47) (xs ++ (47 ∷ rest))) (sym (slash_at xs rest h))
 
 after_slash : (xs rest : List ℕ) → list_all is_date_byte xs ≡ true → after_first (λ b. b == 47) (xs ++ (47 ∷ rest)) ≡ rest
 after_slash xs rest h =
-    let len : length (xs ++ (47 ∷ [])) ≡ position_or_len (λ b. b == 47) (xs ++ (47 ∷ rest)) + 1 = omega (arith, length-append xs (47 ∷ []), slash_at xs rest h) in
+    let len : length (xs ++ (47 ∷ [])) ≡ position_or_len (λ b. b == 47) (xs ++ (47 ∷ rest)) + 1 =
+    omega (arith, length-append xs (47 ∷ []), slash_at xs rest h) in
     ap (drop (position_or_len (λ b. b == 47) (xs ++ (47 ∷ rest)) + 1)) (sym (append_assoc xs (47 ∷ []) rest))
     ∙ drop_at (xs ++ (47 ∷ [])) rest (position_or_len (λ b. b == 47) (xs ++ (47 ∷ rest)) + 1) len
 
@@ -163,7 +172,8 @@ before_reads : (d : Datetime) (text : List ℕ) → IsSide d text → date_value
 unfolding date_value range
 before_reads d text is = rw (without_x text is.bytes, points_open, closed d text is, is.read) refl
 
-between_reads : (d e : Datetime) (text other : List ℕ) → IsSide d text → IsSide e other → date_value (text ++ (47 ∷ other)) ≡ says (Between d e)
+between_reads : (d e : Datetime) (text other : List ℕ) → IsSide d text → IsSide e other
+    → date_value (text ++ (47 ∷ other)) ≡ says (Between d e)
 unfolding date_value range
 between_reads d e text other is too = rw (
   none_of (λ b. b == 88) text (47 ∷ other) (without_x text is.bytes) (without_x other too.bytes),
@@ -205,7 +215,9 @@ is_value (Between a b) k =
     let is = is_side a k.0 in
     let too = is_side b k.1 in
     rw append-nil (record {
-      bytes = both is_value_byte (datetime_text a) (47 ∷ datetime_text b) (value_bytes a (datetime_text a) is) (value_bytes b (datetime_text b) too);
+      bytes =
+          both is_value_byte (datetime_text a) (47 ∷ datetime_text b) (value_bytes a (datetime_text a) is)
+          (value_bytes b (datetime_text b) too);
       read = between_reads a b (datetime_text a) (datetime_text b) is too;
     })
 
@@ -234,7 +246,9 @@ not_approximate b h = grind (arith, nat_tests)
 
 last_bare : (text : List ℕ) → list_all is_value_byte text ≡ true → (is_uncertain (last text) ≡ false) × (is_approximate (last text) ≡ false)
 last_bare text h =
-    let k = any_byte (λ b. is_value_byte b || b == 0) refl text (all_more is_value_byte (λ b. is_value_byte b || b == 0) (λ b q. rw q refl) text h) (length text - 1) in
+    let k =
+    any_byte (λ b. is_value_byte b || b == 0) refl text
+    (all_more is_value_byte (λ b. is_value_byte b || b == 0) (λ b q. rw q refl) text h) (length text - 1) in
     (not_uncertain (last text) k, not_approximate (last text) k)
 
 abbrev date : DateValue → Bool → Bool → Date
@@ -244,7 +258,8 @@ marked_bare : (v : DateValue) (text : List ℕ) → IsValue v text → marked_da
 unfolding marked_date
 marked_bare v text is = let bare = last_bare text is.bytes in rw (bare.0, bare.1, is.read) refl
 
-marked_by : (v : DateValue) (text : List ℕ) (c : ℕ) → IsValue v text → (is_uncertain c || is_approximate c) ≡ true → marked_date (text ++ (c ∷ [])) ≡ says (date v (is_uncertain c) (is_approximate c))
+marked_by : (v : DateValue) (text : List ℕ) (c : ℕ) → IsValue v text → (is_uncertain c || is_approximate c) ≡ true
+    → marked_date (text ++ (c ∷ [])) ≡ says (date v (is_uncertain c) (is_approximate c))
 unfolding marked_date
 marked_by v text c is h = rw (last_is text c, h, prefix_is text c, is.read) refl
 
@@ -268,7 +283,9 @@ written_is_plain d kept =
     let is = is_value d.value kept in
     let mark = mark_text d.uncertain d.approximate in
     rw (mark_after d.value mark)
-    (both is_plain (value_text d.value []) mark (all_more is_value_byte is_plain value_plain (value_text d.value []) is.bytes) (mark_plain d.uncertain d.approximate))
+    (both is_plain (value_text d.value []) mark
+    (all_more is_value_byte is_plain value_plain (value_text d.value []) is.bytes)
+    (mark_plain d.uncertain d.approximate))
 
 -- the law on texts: each kept date parses from its text
 pub text_survives : (d : Date) → IsKeptDate d → date_of (date_text d) ≡ says d
@@ -283,5 +300,6 @@ plain_simple b h = grind (arith, nat_tests)
 -- the law on chunks: each kept date parses from its chunks
 pub date_survives : (d : Date) → IsKeptDate d → date_read (date_written d) ≡ Some d
 date_survives d kept =
-    let whole : text (date_written d) ≡ date_text d = simple_text (date_text d) (all_more is_plain is_simple plain_simple (date_text d) (written_is_plain d kept)) in
+    let whole : text (date_written d) ≡ date_text d =
+    simple_text (date_text d) (all_more is_plain is_simple plain_simple (date_text d) (written_is_plain d kept)) in
     ap readable_value (ap date_of whole ∙ text_survives d kept)

@@ -20,7 +20,8 @@ is_date_kind InvalidFormat is = tt
 is_date_kind _ never = absurd never
 
 -- the kind of an error is the specified one, or one of the four
-pub promised_or_unread : {A : Type 0} (r : Reading A) (kind : TypeErrorKind) → MayRefuse r kind → (r ≡ error kind) ⊎ ((r ≡ unread) × IsUnreadKind kind)
+pub promised_or_unread : {A : Type 0} (r : Reading A) (kind : TypeErrorKind) → MayRefuse r kind
+    → (r ≡ error kind) ⊎ ((r ≡ unread) × IsUnreadKind kind)
 promised_or_unread (says a) kind never = absurd never
 promised_or_unread (error promised) kind may = inl (ap (λ k. error k) (sym may.0))
 promised_or_unread unread kind may = inr (refl, may)
@@ -72,18 +73,23 @@ fine_year text = search (fine_if, Fine.said, Fine.not_read)
 fine_minutes : (text : List ℕ) → Fine (offset_minute text)
 unfolding offset_minute
 fine_minutes [] = Fine.said
-fine_minutes (b ∷ text) = fine_then (fine_byte 58 (trim_start (b ∷ text))) (λ rest. fine_then (fine_small 0 59 InvalidNumber rest tt) (λ _. Fine.said))
+fine_minutes (b ∷ text) =
+    fine_then (fine_byte 58 (trim_start (b ∷ text)))
+    (λ rest. fine_then (fine_small 0 59 InvalidNumber rest tt) (λ _. Fine.said))
 
 fine_signed : (positive : Bool) (text : List ℕ) → Fine (signed_offset positive text)
 unfolding signed_offset
-fine_signed positive text = fine_then (fine_small 0 23 InvalidNumber text tt) (λ hours. fine_then (fine_minutes (trim_start hours.1)) (λ _. Fine.said))
+fine_signed positive text =
+    fine_then (fine_small 0 23 InvalidNumber text tt)
+    (λ hours. fine_then (fine_minutes (trim_start hours.1)) (λ _. Fine.said))
 
 fine_offset : (text : List ℕ) → Fine (offset text)
 unfolding offset
 fine_offset text =
     fine_if (length text == 0) Fine.said
     (fine_if (begins_with 90 text) Fine.said
-    (fine_if (begins_with 43 text) (fine_signed true (drop 1 text)) (fine_if (begins_with 45 text) (fine_signed false (drop 1 text)) Fine.not_read)))
+    (fine_if (begins_with 43 text) (fine_signed true (drop 1 text))
+    (fine_if (begins_with 45 text) (fine_signed false (drop 1 text)) Fine.not_read)))
 
 fine_seconds : (hour minute : ℕ) (text : List ℕ) → Fine (after_minute hour minute text)
 unfolding after_minute
@@ -103,7 +109,8 @@ fine_time : (text : List ℕ) → Fine (after_day text)
 unfolding after_day
 fine_time [] = Fine.said
 fine_time (b ∷ text) =
-    fine_then (fine_byte 84 (b ∷ text)) (λ rest. fine_then (fine_small 0 23 InvalidNumber rest tt) (λ hour. fine_hours hour.0 (trim_start hour.1)))
+    fine_then (fine_byte 84 (b ∷ text))
+    (λ rest. fine_then (fine_small 0 23 InvalidNumber rest tt) (λ hour. fine_hours hour.0 (trim_start hour.1)))
 
 -- ---- a date in one text
 
@@ -118,7 +125,8 @@ fine_month : (y : ℤ) (text : List ℕ) → Fine (after_year y text)
 unfolding after_year
 fine_month y [] = Fine.said
 fine_month y (b ∷ text) =
-    fine_then (fine_hyphens (b ∷ text)) (λ rest. fine_then (fine_small 1 12 MonthOutOfRange rest tt) (λ month. fine_day y month.0 (trim_start month.1)))
+    fine_then (fine_hyphens (b ∷ text))
+    (λ rest. fine_then (fine_small 1 12 MonthOutOfRange rest tt) (λ month. fine_day y month.0 (trim_start month.1)))
 
 fine_side : (text : List ℕ) → Fine (side text)
 unfolding side
@@ -176,14 +184,17 @@ fine_marked text = fine_then (fine_value (without_mark text)) (λ _. Fine.said)
 fine_era : (has_sign : Bool) (n : ℕ) (y : ℤ) (following : List ℕ) → Fine (of_era has_sign n y following)
 unfolding of_era
 fine_era has_sign n y following =
-    fine_if (starts_word following) Fine.not_read (fine_if has_sign (Fine.reported {kind = InvalidFormat} tt) (fine_if (n == 0) (Fine.reported {kind = YearZeroCE} tt) Fine.said))
+    fine_if (starts_word following) Fine.not_read
+    (fine_if has_sign (Fine.reported {kind = InvalidFormat} tt)
+    (fine_if (n == 0) (Fine.reported {kind = YearZeroCE} tt) Fine.said))
 
 fine_with_era : (has_sign is_minus : Bool) (n : ℕ) (text : List ℕ) → Fine (with_era has_sign is_minus n text)
 unfolding with_era
 fine_with_era has_sign is_minus n text =
     fine_if (stands (codes "AD") text) (fine_era has_sign n _ _)
     (fine_if (stands (codes "CE") text) (fine_era has_sign n _ _)
-    (fine_if (stands (codes "BCE") text) (fine_era has_sign n _ _) (fine_if (stands (codes "BC") text) (fine_era has_sign n _ _) Fine.said)))
+    (fine_if (stands (codes "BCE") text) (fine_era has_sign n _ _)
+    (fine_if (stands (codes "BC") text) (fine_era has_sign n _ _) Fine.said)))
 
 fine_year_field : (text : List ℕ) → Fine (year_field text)
 unfolding year_field
@@ -232,5 +243,6 @@ promised (error promise) kind (Fine.reported fine) is = let same : promise ≡ k
 pub promised_date : (text : List ℕ) (kind : TypeErrorKind) → date_of text ≡ error kind → IsDateKind kind
 promised_date text kind = promised (date_of text) kind (fine_marked (trim_end (str_to_ascii_uppercase text)))
 
-pub promised_three_fields : (year : List ℕ) (month day : Option (List ℕ)) (kind : TypeErrorKind) → three_fields_of year month day ≡ error kind → IsDateKind kind
+pub promised_three_fields : (year : List ℕ) (month day : Option (List ℕ)) (kind : TypeErrorKind)
+    → three_fields_of year month day ≡ error kind → IsDateKind kind
 promised_three_fields year month day kind = promised (three_fields_of year month day) kind (fine_three_fields year month day)

@@ -39,11 +39,15 @@ time_is (Some s) None h = cc
 time_is (Some s) (Some t) h = ap (λ x. Some x) ((same_time_decides s t).0 h)
 
 same_datetime_itself : (a : Datetime) → same_datetime a a ≡ true
-same_datetime_itself a = and_from _ _ (int_eq_equiv.refl a.year) (and_from _ _ (number_itself a.month) (and_from _ _ (number_itself a.day) (time_itself a.time)))
+same_datetime_itself a =
+    and_from _ _ (int_eq_equiv.refl a.year)
+    (and_from _ _ (number_itself a.month) (and_from _ _ (number_itself a.day) (time_itself a.time)))
 
 same_datetime_is : (a b : Datetime) → same_datetime a b ≡ true → a ≡ b
 same_datetime_is a b h =
-    let one = and_parts (int_eq a.year b.year) (option_eq nat_eq a.month b.month && (option_eq nat_eq a.day b.day && option_eq same_time a.time b.time)) h in
+    let one =
+    and_parts (int_eq a.year b.year)
+    (option_eq nat_eq a.month b.month && (option_eq nat_eq a.day b.day && option_eq same_time a.time b.time)) h in
     let two = and_parts (option_eq nat_eq a.month b.month) (option_eq nat_eq a.day b.day && option_eq same_time a.time b.time) one.1 in
     let three = and_parts (option_eq nat_eq a.day b.day) (option_eq same_time a.time b.time) two.1 in
     λ i. record {

@@ -49,7 +49,9 @@ pub padded_number : (width n : ℕ) → 0 < width → n < 10 ^ width → n < 2 ^
 padded_number width n some small fits =
     let numeral = decimal_is_IsNumeral n fits in
     let short : length (decimal n) ≤ width = length-decimal-le width n some small fits in record {
-      digits = list_all-append is_ascii_digit (zeros width n) (decimal n) ∙ and_from _ _ (all_zeros (width - length (decimal n))) (all_digits (decimal n) numeral.0.1);
+      digits =
+          list_all-append is_ascii_digit (zeros width n) (decimal n)
+          ∙ and_from _ _ (all_zeros (width - length (decimal n))) (all_digits (decimal n) numeral.0.1);
       size = omega (arith, length-append (zeros width n) (decimal n), length-replicate {A = ℕ} (width - length (decimal n)) 48);
       value = zeros_value (width - length (decimal n)) (decimal n) ∙ numeral.1;
     }
@@ -75,27 +77,40 @@ whole_run p (x ∷ xs) rest h = let q = and_parts (p x) (list_all p xs) h in rw 
 
 -- the number of digits at the start of a text
 run_len : (width n : ℕ) (xs rest : List ℕ) → IsNumber width n xs → Ends rest → prefix_len is_ascii_digit (xs ++ rest) ≡ width
-run_len width n xs rest is ends = let e = whole_run is_ascii_digit xs rest is.digits in let s = is.size in let z = ends.no_digit in omega arith
+run_len width n xs rest is ends =
+    let e = whole_run is_ascii_digit xs rest is.digits in let s = is.size in let z = ends.no_digit in omega arith
 
 leading_run : (width n : ℕ) (xs rest : List ℕ) → IsNumber width n xs → Ends rest → run is_ascii_digit (xs ++ rest) ≡ xs
-leading_run width n xs rest is ends = take_at xs rest (prefix_len is_ascii_digit (xs ++ rest)) (is.size ∙ sym (run_len width n xs rest is ends))
+leading_run width n xs rest is ends =
+    take_at xs rest (prefix_len is_ascii_digit (xs ++ rest)) (is.size ∙ sym (run_len width n xs rest is ends))
 
 following : (width n : ℕ) (xs rest : List ℕ) → IsNumber width n xs → Ends rest → after_run is_ascii_digit (xs ++ rest) ≡ rest
-following width n xs rest is ends = drop_at xs rest (prefix_len is_ascii_digit (xs ++ rest)) (is.size ∙ sym (run_len width n xs rest is ends))
+following width n xs rest is ends =
+    drop_at xs rest (prefix_len is_ascii_digit (xs ++ rest)) (is.size ∙ sym (run_len width n xs rest is ends))
 
 starts_plain : (width n : ℕ) (xs rest : List ℕ) → IsNumber width n xs → Ends rest → trim_start (xs ++ rest) ≡ xs ++ rest
 starts_plain width n xs rest is ends = trim_start-plain (xs ++ rest) (plain-append xs rest (digits_plain xs is.digits) ends.plain)
 
-pub number_reads : (low high width n : ℕ) (xs rest : List ℕ) → lies low high width ≡ true → IsNumber width n xs → Ends rest → number low high (xs ++ rest) ≡ says (n, rest)
+pub number_reads : (low high width n : ℕ) (xs rest : List ℕ) → lies low high width ≡ true → IsNumber width n xs
+    → Ends rest → number low high (xs ++ rest) ≡ says (n, rest)
 unfolding number
 number_reads low high width n xs rest fits is ends =
-    rw (starts_plain width n xs rest is ends, leading_run width n xs rest is ends, following width n xs rest is ends, run_len width n xs rest is ends, fits, is.value) refl
+    rw (
+      starts_plain width n xs rest is ends,
+      leading_run width n xs rest is ends,
+      following width n xs rest is ends,
+      run_len width n xs rest is ends,
+      fits,
+      is.value,
+    ) refl
 
-pub small_number_reads : (low high n : ℕ) (kind : TypeErrorKind) (xs rest : List ℕ) → lies low high n ≡ true → IsNumber 2 n xs → Ends rest → small_number low high kind (xs ++ rest) ≡ says (n, rest)
+pub small_number_reads : (low high n : ℕ) (kind : TypeErrorKind) (xs rest : List ℕ) → lies low high n ≡ true
+    → IsNumber 2 n xs → Ends rest → small_number low high kind (xs ++ rest) ≡ says (n, rest)
 unfolding small_number
 small_number_reads low high n kind xs rest fits is ends = rw (number_reads 1 2 2 n xs rest refl is ends, fits) refl
 
-not_begun : (byte : ℕ) (xs rest : List ℕ) → list_all is_ascii_digit xs ≡ true → 0 < length xs → is_ascii_digit byte ≡ false → begins_with byte (xs ++ rest) ≡ false
+not_begun : (byte : ℕ) (xs rest : List ℕ) → list_all is_ascii_digit xs ≡ true → 0 < length xs
+    → is_ascii_digit byte ≡ false → begins_with byte (xs ++ rest) ≡ false
 not_begun byte [] rest h some other = absurd (omega arith)
 not_begun byte (x ∷ xs) rest h some other =
     let p = and_parts _ _ h in
@@ -149,7 +164,8 @@ no_hyphen (x ∷ xs) rest h some =
     let p = and_parts _ _ h in
     let e : (x == 45) ≡ false = ne_eqb x 45 (λ e. let q : is_ascii_digit 45 ≡ true = ap is_ascii_digit (sym e) ∙ p.0 in cc) in rw e refl
 
-pub hyphens_read : (width n : ℕ) (xs rest : List ℕ) → 0 < width → IsNumber width n xs → Ends rest → after_hyphens (45 ∷ (xs ++ rest)) ≡ says (xs ++ rest)
+pub hyphens_read : (width n : ℕ) (xs rest : List ℕ) → 0 < width → IsNumber width n xs → Ends rest
+    → after_hyphens (45 ∷ (xs ++ rest)) ≡ says (xs ++ rest)
 unfolding after_hyphens
 hyphens_read width n xs rest some is ends =
     let whole : plain (45 ∷ (xs ++ rest)) ≡ true = plain-append xs rest (digits_plain xs is.digits) ends.plain in
@@ -173,7 +189,8 @@ one_less n = omega arith
 pub within : (low high n : ℕ) → low ≤ n → n ≤ high → lies low high n ≡ true
 within low high n h k = grind (arith, nat_tests)
 
-pub side_reads : (y : ℤ) (m d : Option ℕ) → IsYear y → IsKeptDay y m d → side (datetime_text (datetime y m d None)) ≡ says (datetime y m d None)
+pub side_reads : (y : ℤ) (m d : Option ℕ) → IsYear y → IsKeptDay y m d
+    → side (datetime_text (datetime y m d None)) ≡ says (datetime y m d None)
 unfolding side after_year after_month after_day
 side_reads y None None h k = rw (year_reads y [] h nothing, trim_start-plain [] refl) refl
 side_reads y None (Some d) h k = absurd k
@@ -185,7 +202,9 @@ side_reads y (Some m) None h k =
       year_reads y (45 ∷ padded 2 (m + 1)) h ends,
       trim_start-plain (45 ∷ padded 2 (m + 1)) ends.plain,
       rw append-nil at (hyphens_read 2 (m + 1) (padded 2 (m + 1)) [] (lit< tt) is nothing),
-      rw append-nil at (small_number_reads 1 12 (m + 1) MonthOutOfRange (padded 2 (m + 1)) [] (within 1 12 (m + 1) (omega arith) (omega arith)) is nothing),
+      rw append-nil at
+          (small_number_reads 1 12 (m + 1) MonthOutOfRange (padded 2 (m + 1)) []
+          (within 1 12 (m + 1) (omega arith) (omega arith)) is nothing),
       trim_start-plain [] refl,
       one_less m,
     ) refl
@@ -199,10 +218,13 @@ side_reads y (Some m) (Some d) h k =
       year_reads y (45 ∷ (padded 2 (m + 1) ++ (45 ∷ padded 2 (d + 1)))) h ends,
       trim_start-plain (45 ∷ (padded 2 (m + 1) ++ (45 ∷ padded 2 (d + 1)))) ends.plain,
       hyphens_read 2 (m + 1) (padded 2 (m + 1)) (45 ∷ padded 2 (d + 1)) (lit< tt) is tail,
-      small_number_reads 1 12 (m + 1) MonthOutOfRange (padded 2 (m + 1)) (45 ∷ padded 2 (d + 1)) (within 1 12 (m + 1) (omega arith) (omega (arith, k.0))) is tail,
+      small_number_reads 1 12 (m + 1) MonthOutOfRange (padded 2 (m + 1)) (45 ∷ padded 2 (d + 1))
+          (within 1 12 (m + 1) (omega arith) (omega (arith, k.0))) is tail,
       trim_start-plain (45 ∷ padded 2 (d + 1)) tail.plain,
       rw append-nil at (hyphens_read 2 (d + 1) (padded 2 (d + 1)) [] (lit< tt) day nothing),
-      rw append-nil at (small_number_reads 1 (days_in_month y (m + 1)) (d + 1) DayOutOfRange (padded 2 (d + 1)) [] (within 1 (days_in_month y (m + 1)) (d + 1) (omega arith) (omega (arith, k.1))) day nothing),
+      rw append-nil at
+          (small_number_reads 1 (days_in_month y (m + 1)) (d + 1) DayOutOfRange (padded 2 (d + 1)) []
+          (within 1 (days_in_month y (m + 1)) (d + 1) (omega arith) (omega (arith, k.1))) day nothing),
       trim_start-plain [] refl,
       one_less m,
       one_less d,

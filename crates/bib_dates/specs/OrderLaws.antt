@@ -109,11 +109,16 @@ same_maybe_is (Some a) None h = cc
 same_maybe_is (Some a) (Some b) h = ap (λ o. Some o) (same_offset_is a b h)
 
 same_time_itself : (a : Time) → same_time a a ≡ true
-same_time_itself a = and_from _ _ (nat_eq_equiv.refl a.hour) (and_from _ _ (nat_eq_equiv.refl a.minute) (and_from _ _ (nat_eq_equiv.refl a.second) (same_maybe_itself a.offset)))
+same_time_itself a =
+    and_from _ _ (nat_eq_equiv.refl a.hour)
+    (and_from _ _ (nat_eq_equiv.refl a.minute)
+    (and_from _ _ (nat_eq_equiv.refl a.second) (same_maybe_itself a.offset)))
 
 same_time_is : (a b : Time) → same_time a b ≡ true → a ≡ b
 same_time_is a b h =
-    let one = and_parts (nat_eq a.hour b.hour) (nat_eq a.minute b.minute && (nat_eq a.second b.second && option_eq same_offset a.offset b.offset)) h in
+    let one =
+    and_parts (nat_eq a.hour b.hour)
+    (nat_eq a.minute b.minute && (nat_eq a.second b.second && option_eq same_offset a.offset b.offset)) h in
     let two = and_parts (nat_eq a.minute b.minute) (nat_eq a.second b.second && option_eq same_offset a.offset b.offset) one.1 in
     let three = and_parts (nat_eq a.second b.second) (option_eq same_offset a.offset b.offset) two.1 in
     λ i. record {
@@ -133,7 +138,9 @@ absorbed true true false f g = refl
 absorbed true false false f g = refl
 absorbed false q false f g = refl
 
-same_says : (x y : Time) → (beq (is_some x.offset) (is_some y.offset) && (int_eq (utc_seconds x) (utc_seconds y) && same_time x y)) ≡ same_time x y
+same_says : (x y : Time)
+    → (beq (is_some x.offset) (is_some y.offset) && (int_eq (utc_seconds x) (utc_seconds y) && same_time x y))
+    ≡ same_time x y
 same_says x y = absorbed (beq (is_some x.offset) (is_some y.offset)) (int_eq (utc_seconds x) (utc_seconds y)) (same_time x y)
     (λ h. subst (λ z. beq (is_some x.offset) (is_some z.offset) ≡ true) (same_time_is x y h) (bool_eq_equiv.refl (is_some x.offset)))
     (λ h. subst (λ z. int_eq (utc_seconds x) (utc_seconds z) ≡ true) (same_time_is x y h) (int_eq_equiv.refl (utc_seconds x)))
@@ -141,11 +148,14 @@ same_says x y = absorbed (beq (is_some x.offset) (is_some y.offset)) (int_eq (ut
 -- a lemma: `time_cmp` is a partial order, with `Equal` exactly for equal times
 pub time_laws : IsPartialOrder same_time time_cmp
 time_laws = subst (λ E. IsPartialOrder E time_cmp) (λ i x y. same_says x y i)
-    (then_po (on_po (λ t. is_some t.offset) (alone_po beq bool_eq_equiv)) (then_po (on_po utc_seconds signed_po) (alone_po same_time (decided same_time same_time_decides))))
+    (then_po (on_po (λ t. is_some t.offset) (alone_po beq bool_eq_equiv))
+    (then_po (on_po utc_seconds signed_po) (alone_po same_time (decided same_time same_time_decides))))
 
 -- whether two dates have the same values
 abbrev pub same_datetime : Datetime → Datetime → Bool
-same_datetime a b = int_eq a.year b.year && (option_eq nat_eq a.month b.month && (option_eq nat_eq a.day b.day && option_eq same_time a.time b.time))
+same_datetime a b =
+    int_eq a.year b.year
+    && (option_eq nat_eq a.month b.month && (option_eq nat_eq a.day b.day && option_eq same_time a.time b.time))
 
 -- a lemma: `datetime_cmp` is a partial order, with `Equal` exactly for equal dates
 pub datetime_laws : IsPartialOrder same_datetime datetime_cmp

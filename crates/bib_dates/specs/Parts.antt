@@ -58,7 +58,9 @@ after_hyphens text = do
 
 -- whether a sign at the start is a minus, and the text after it; without a sign, the whole text
 unfoldable pub sign : List ℕ → Bool × List ℕ
-sign text = if begins_with char.hyphen text then (true, drop 1 text) else if begins_with char.plus text then (false, drop 1 text) else (false, text)
+sign text =
+    if begins_with char.hyphen text then (true, drop 1 text) else if begins_with char.plus text
+    then (false, drop 1 text) else (false, text)
 
 -- a number with its sign
 abbrev pub signed : Bool → ℕ → ℤ

@@ -142,7 +142,8 @@ day_place month following = record {
 -- a day that consists of digits only and is a number of at most 255
 unfoldable pub only_day : List ℕ → Reading (Option ℕ)
 only_day text =
-    if length (after_run is_ascii_digit text) == 0 && (not (prefix_len is_ascii_digit text == 0) && not (nat_lt 255 (digits_value 10 (run is_ascii_digit text))))
+    if length (after_run is_ascii_digit text) == 0
+    && (not (prefix_len is_ascii_digit text == 0) && not (nat_lt 255 (digits_value 10 (run is_ascii_digit text))))
     then reported_day (day_number (run is_ascii_digit text)) else unread
 
 -- the day field: a decimal number from 1 to 31, with an optional plus

@@ -40,16 +40,30 @@ record FieldWithin (at : ℕ) (f : FieldReading) : Type 0 where
 
 element_within : {u v : Place} {p : Piece} (at : ℕ) → Element longest u p v → v.at ≤ at → PieceWithin at p
 element_within at (element.number n) below = (omega (arith, (ahead_number n).at), below)
-element_within at (element.named none i) below = (omega (arith, ap (λ p. p.start) i.reading, (ahead_identifier i).at), omega (arith, ap (λ p. p.end) i.reading))
-element_within at (element.braced b) below =
-    (omega (arith, ap (λ p. p.start) b.reading, (ahead_parts b.parts).at, (ahead_char b.closes).at), omega (arith, ap (λ p. p.end) b.reading, (ahead_char b.closes).at))
-element_within at (element.quoted q) below =
-    (omega (arith, ap (λ p. p.start) q.reading, (ahead_quoted_parts q.parts).at, (ahead_char q.closes).at), omega (arith, ap (λ p. p.end) q.reading, (ahead_char q.closes).at))
+element_within at (element.named none i) below =
+    (omega (arith, ap (λ p. p.start) i.reading, (ahead_identifier i).at), omega (arith, ap (λ p. p.end) i.reading))
+element_within at (element.braced b) below = (
+  omega (arith, ap (λ p. p.start) b.reading, (ahead_parts b.parts).at, (ahead_char b.closes).at),
+  omega (arith, ap (λ p. p.end) b.reading, (ahead_char b.closes).at),
+)
+element_within at (element.quoted q) below = (
+  omega (arith, ap (λ p. p.start) q.reading, (ahead_quoted_parts q.parts).at, (ahead_char q.closes).at),
+  omega (arith, ap (λ p. p.end) q.reading, (ahead_char q.closes).at),
+)
 
 elements_within : {u v : Place} {ps : List Piece} (at : ℕ) → Elements longest u ps v → v.at ≤ at → PiecesWithin at ps
 elements_within at (elements.last e white ends) below = (element_within at e (omega (arith, (ahead_run white.run).at)), tt)
-elements_within at (elements.more e white sign white' rest) below =
-    (element_within at e (omega (arith, (ahead_run white.run).at, (ahead_char sign).at, (ahead_run white'.run).at, (ahead_elements rest).at)), elements_within at rest below)
+elements_within at (elements.more e white sign white' rest) below = (
+  element_within at e
+      (omega (
+        arith,
+        (ahead_run white.run).at,
+        (ahead_char sign).at,
+        (ahead_run white'.run).at,
+        (ahead_elements rest).at,
+      )),
+  elements_within at rest below,
+)
 
 field_within : {u v : Place} {f : FieldReading} → Field longest u f v → FieldWithin f.value.end f
 field_within {u} {v} {f} field =
@@ -70,29 +84,40 @@ unmoved_part move p start end =
     let build : ℕ → ℕ → Part = λ (m n : ℕ). record { text = p.text; start = m; end = n } in
     ap (λ m. build m (move p.end)) start ∙ ap (build p.start) end
 
-unmoved_pieces : (move : ℕ → ℕ) (at : ℕ) (ps : List Piece) → ((n : ℕ) → n ≤ at → move n ≡ n) → PiecesWithin at ps → map (moved_piece move) ps ≡ ps
+unmoved_pieces : (move : ℕ → ℕ) (at : ℕ) (ps : List Piece) → ((n : ℕ) → n ≤ at → move n ≡ n) → PiecesWithin at ps
+    → map (moved_piece move) ps ≡ ps
 unmoved_pieces move at [] stays within = refl
 unmoved_pieces move at (literal p ∷ ps) stays within =
-    ap (λ q. literal q ∷ map (moved_piece move) ps) (unmoved_part move p (stays p.start within.0.0) (stays p.end within.0.1)) ∙ ap (λ l. literal p ∷ l) (unmoved_pieces move at ps stays within.1)
+    ap (λ q. literal q ∷ map (moved_piece move) ps)
+    (unmoved_part move p (stays p.start within.0.0) (stays p.end within.0.1))
+    ∙ ap (λ l. literal p ∷ l) (unmoved_pieces move at ps stays within.1)
 unmoved_pieces move at (abbreviation p ∷ ps) stays within =
-    ap (λ q. abbreviation q ∷ map (moved_piece move) ps) (unmoved_part move p (stays p.start within.0.0) (stays p.end within.0.1)) ∙ ap (λ l. abbreviation p ∷ l) (unmoved_pieces move at ps stays within.1)
+    ap (λ q. abbreviation q ∷ map (moved_piece move) ps)
+    (unmoved_part move p (stays p.start within.0.0) (stays p.end within.0.1))
+    ∙ ap (λ l. abbreviation p ∷ l) (unmoved_pieces move at ps stays within.1)
 
 unmoved_field : (move : ℕ → ℕ) (at : ℕ) (f : FieldReading) → ((n : ℕ) → n ≤ at → move n ≡ n) → FieldWithin at f → moved_field move f ≡ f
 unmoved_field move at f stays within =
-    let build : Part → List Piece → ℕ → ℕ → FieldReading = λ (name : Part) (ps : List Piece) (m n : ℕ). record { name = name; value = record { pieces = ps; start = m; end = n } } in
+    let build : Part → List Piece → ℕ → ℕ → FieldReading =
+    λ (name : Part) (ps : List Piece) (m n : ℕ).
+    record { name = name; value = record { pieces = ps; start = m; end = n } } in
     let pieces = map (moved_piece move) f.value.pieces in
-    ap (λ name. build name pieces (move f.value.start) (move f.value.end)) (unmoved_part move f.name (stays f.name.start within.name_start) (stays f.name.end within.name_end))
+    ap (λ name. build name pieces (move f.value.start) (move f.value.end))
+    (unmoved_part move f.name (stays f.name.start within.name_start) (stays f.name.end within.name_end))
     ∙ ap (λ ps. build f.name ps (move f.value.start) (move f.value.end)) (unmoved_pieces move at f.value.pieces stays within.pieces)
     ∙ ap (λ m. build f.name f.value.pieces m (move f.value.end)) (stays f.value.start within.value_start)
     ∙ ap (build f.name f.value.pieces f.value.start) (stays f.value.end within.value_end)
 
 within_less : (at less : ℕ) (ps : List Piece) → at ≤ less → PiecesWithin at ps → PiecesWithin less ps
 within_less at less [] more within = tt
-within_less at less (literal p ∷ ps) more within = ((omega (arith, within.0.0), omega (arith, within.0.1)), within_less at less ps more within.1)
-within_less at less (abbreviation p ∷ ps) more within = ((omega (arith, within.0.0), omega (arith, within.0.1)), within_less at less ps more within.1)
+within_less at less (literal p ∷ ps) more within =
+    ((omega (arith, within.0.0), omega (arith, within.0.1)), within_less at less ps more within.1)
+within_less at less (abbreviation p ∷ ps) more within =
+    ((omega (arith, within.0.0), omega (arith, within.0.1)), within_less at less ps more within.1)
 
 -- a field of a document stands before its end
-pub field_stays : (d : Document) (k : ℕ) (e : EntryReading) (j : ℕ) (f : FieldReading) (move : ℕ → ℕ) (at : ℕ) → IsDocument d → slice_get d.says.entries k ≡ Some e → slice_get e.fields j ≡ Some f → f.value.end ≤ at
+pub field_stays : (d : Document) (k : ℕ) (e : EntryReading) (j : ℕ) (f : FieldReading) (move : ℕ → ℕ) (at : ℕ)
+    → IsDocument d → slice_get d.says.entries k ≡ Some e → slice_get e.fields j ≡ Some f → f.value.end ≤ at
     → ((n : ℕ) → n ≤ at → move n ≡ n) → moved_field move f ≡ f
 field_stays d k e j f move at read here there below stays =
     let s = split_file k e read here in
@@ -121,10 +146,14 @@ pub record AgreesIn (at : ℕ) (e : EntryReading) (entry : EntryReading) : Type 
 
 pub record Agrees (at : ℕ) (d after : Document) : Type 0 where
   pub text : take at after.text ≡ take at d.text
-  pub entries : (k : ℕ) (e : EntryReading) → slice_get d.says.entries k ≡ Some e → (entry : EntryReading) × (slice_get after.says.entries k ≡ Some entry) × AgreesIn at e entry
+  pub entries : (k : ℕ) (e : EntryReading) → slice_get d.says.entries k ≡ Some e
+      → (entry : EntryReading) × (slice_get after.says.entries k ≡ Some entry) × AgreesIn at e entry
 
 pub agrees_self : (at : ℕ) (d : Document) → Agrees at d d
-agrees_self at d = record { text = refl; entries = λ k e here. (e, here, record { key = λ below. refl; fields = λ j f there below. there }) }
+agrees_self at d = record {
+  text = refl;
+  entries = λ k e here. (e, here, record { key = λ below. refl; fields = λ j f there below. there });
+}
 
 -- bytes before a place
 pub same_bytes : (x y : List ℕ) (at a n : ℕ) → take at x ≡ take at y → a + n ≤ at → take n (drop a x) ≡ take n (drop a y)
@@ -134,49 +163,79 @@ pub agrees_before : (at before : ℕ) (d after : Document) → before ≤ at →
 agrees_before at before d after less a = record {
   text = same_bytes after.text d.text at 0 before a.text (omega arith);
   entries = λ k e here.
-      let found = a.entries k e here in
-      (found.0, found.1, record { key = λ below. found.2.key (omega arith); fields = λ j f there below. found.2.fields j f there (omega arith) });
+      let found = a.entries k e here in (
+        found.0,
+        found.1,
+        record {
+          key = λ below. found.2.key (omega arith);
+          fields = λ j f there below. found.2.fields j f there (omega arith);
+        },
+      );
 }
 
 -- a run of characters that both texts have
-pub same_run : {test : ℕ → Bool} {u v : Place} (x y : List ℕ) (at : ℕ) → take at y ≡ take at x → u.text ≡ x → v.at ≤ at → Run test u v → Run test (place y u.at) (place y v.at)
+pub same_run : {test : ℕ → Bool} {u v : Place} (x y : List ℕ) (at : ℕ) → take at y ≡ take at x → u.text ≡ x → v.at ≤ at
+    → Run test u v → Run test (place y u.at) (place y v.at)
 same_run x y at same text within stop = stop
 same_run {test} {u} {v} x y at same text within (step {v = w} {c = c} char passes rest) =
     let next : w.at ≡ u.at + len_utf8 c = char.next in
     let here : drop u.at x ≡ encode_utf8 c ++ drop w.at x = subst (λ t. drop u.at t ≡ encode_utf8 c ++ drop w.at t) text char.here in
-    let stands : CharAt (place y u.at) c (place y (u.at + len_utf8 c)) = copied x y (drop w.at x) u.at u.at c here (same_bytes y x at u.at (len_utf8 c) same (omega (arith, (ahead_run rest).at))) in
+    let stands : CharAt (place y u.at) c (place y (u.at + len_utf8 c)) =
+    copied x y (drop w.at x) u.at u.at c here
+    (same_bytes y x at u.at (len_utf8 c) same (omega (arith, (ahead_run rest).at))) in
     step (subst (λ n. CharAt (place y u.at) c (place y n)) (sym next) stands) passes (same_run x y at same (char.same ∙ text) within rest)
 
 -- an entry that is moved agrees with what it was
-pub moved_agrees : (d : Document) (edit : Edit) (k : ℕ) (e entry : EntryReading) → IsDocument d → edit.start < edit.end → slice_get d.says.entries k ≡ Some e → AgreesIn edit.start e entry → AgreesIn edit.start e (moved_entry (moved_place edit) entry)
+pub moved_agrees : (d : Document) (edit : Edit) (k : ℕ) (e entry : EntryReading) → IsDocument d → edit.start < edit.end
+    → slice_get d.says.entries k ≡ Some e → AgreesIn edit.start e entry
+    → AgreesIn edit.start e (moved_entry (moved_place edit) entry)
 moved_agrees d edit k e entry read some here agrees =
     let stays = λ (n : ℕ) (small : n ≤ edit.start). moved_before edit n (omega arith) in
     record {
       key = λ below.
           let ordered = (key_placed d k e read here).ordered in
-          ap (moved_part (moved_place edit)) (agrees.key below) ∙ unmoved_part (moved_place edit) e.key (stays e.key.start (omega arith)) (stays e.key.end below);
+          ap (moved_part (moved_place edit)) (agrees.key below)
+          ∙ unmoved_part (moved_place edit) e.key (stays e.key.start (omega arith)) (stays e.key.end below);
       fields = λ j f there below.
-          slice_get-map (moved_field (moved_place edit)) entry.fields j ∙ ap (option_map (moved_field (moved_place edit))) (agrees.fields j f there below)
+          slice_get-map (moved_field (moved_place edit)) entry.fields j
+          ∙ ap (option_map (moved_field (moved_place edit))) (agrees.fields j f there below)
           ∙ ap Some (field_stays d k e j f (moved_place edit) edit.start read here there below stays);
     }
 
 -- the entries of a document that agrees with another, with another entry in the place of one
-other_entries : (d after : Document) (edit : Edit) (k : ℕ) (e entry : EntryReading) → IsDocument d → Agrees edit.start d after → edit.start < edit.end → slice_get d.says.entries k ≡ Some e → AgreesIn edit.start e entry
-    → (i : ℕ) (x : EntryReading) → slice_get d.says.entries i ≡ Some x → (y : EntryReading) × (slice_get (slice_set (map (moved_entry (moved_place edit)) after.says.entries) k entry) i ≡ Some y) × AgreesIn edit.start x y
+other_entries : (d after : Document) (edit : Edit) (k : ℕ) (e entry : EntryReading) → IsDocument d
+    → Agrees edit.start d after → edit.start < edit.end → slice_get d.says.entries k ≡ Some e
+    → AgreesIn edit.start e entry
+    → (i : ℕ) (x : EntryReading) → slice_get d.says.entries i ≡ Some x
+    → (y : EntryReading)
+    × (slice_get (slice_set (map (moved_entry (moved_place edit)) after.says.entries) k entry) i ≡ Some y)
+    × AgreesIn edit.start x y
 other_entries d after edit k e entry read a some here agrees i x there =
     let all : List EntryReading = map (moved_entry (moved_place edit)) after.says.entries in
     let found = a.entries i x there in
-    let moved : slice_get all i ≡ Some (moved_entry (moved_place edit) found.0) = slice_get-map (moved_entry (moved_place edit)) after.says.entries i ∙ ap (option_map (moved_entry (moved_place edit))) found.1 in
+    let moved : slice_get all i ≡ Some (moved_entry (moved_place edit) found.0) =
+    slice_get-map (moved_entry (moved_place edit)) after.says.entries i
+    ∙ ap (option_map (moved_entry (moved_place edit))) found.1 in
     elim (eqb_tells i k) [
       | inl same ↦
           let is : Some x ≡ Some e = sym there ∙ ap (slice_get d.says.entries) same.1 ∙ here in
-          let x_is : x ≡ e = cc in
-          (entry, subst (λ n. slice_get (slice_set all n entry) i ≡ Some entry) same.1 (get_set_same all i (moved_entry (moved_place edit) found.0) entry moved), subst (λ z. AgreesIn edit.start z entry) (sym x_is) agrees)
-      | inr other ↦ (moved_entry (moved_place edit) found.0, get_set_other all k i entry other.1 ∙ moved, moved_agrees d edit i x found.0 read some there found.2)
+          let x_is : x ≡ e = cc in (
+            entry,
+            subst (λ n. slice_get (slice_set all n entry) i ≡ Some entry) same.1
+                (get_set_same all i (moved_entry (moved_place edit) found.0) entry moved),
+            subst (λ z. AgreesIn edit.start z entry) (sym x_is) agrees,
+          )
+      | inr other ↦ (
+        moved_entry (moved_place edit) found.0,
+        get_set_other all k i entry other.1 ∙ moved,
+        moved_agrees d edit i x found.0 read some there found.2,
+      )
     ]
 
 -- a document that agrees with another still does so up to where its next edit begins
-pub edited_agrees : (d after : Document) (edit : Edit) (k : ℕ) (e entry : EntryReading) → IsDocument d → Agrees edit.start d after → edit.start < edit.end → edit.start ≤ length after.text → slice_get d.says.entries k ≡ Some e
+pub edited_agrees : (d after : Document) (edit : Edit) (k : ℕ) (e entry : EntryReading) → IsDocument d
+    → Agrees edit.start d after → edit.start < edit.end → edit.start ≤ length after.text
+    → slice_get d.says.entries k ≡ Some e
     → AgreesIn edit.start e entry → Agrees edit.start d (entry_edited after edit k entry)
 edited_agrees d after edit k e entry read a some within here agrees = record {
   text = front edit.start edit.end edit.bytes after.text within ∙ a.text;

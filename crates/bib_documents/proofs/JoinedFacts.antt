@@ -36,42 +36,65 @@ same_fields (f ∷ fs) = ap (λ g. g ∷ map (moved_field (λ n. n)) fs) (same_f
 same_entries : (es : List EntryReading) → map (moved_entry (λ n. n)) es ≡ es
 same_entries [] = refl
 same_entries (e ∷ es) =
-    ap (λ fs. let x : EntryReading = record e { fields = fs } in x ∷ map (moved_entry (λ n. n)) es) (same_fields e.fields) ∙ ap (λ xs. e ∷ xs) (same_entries es)
+    ap (λ fs. let x : EntryReading = record e { fields = fs } in x ∷ map (moved_entry (λ n. n)) es)
+    (same_fields e.fields) ∙ ap (λ xs. e ∷ xs) (same_entries es)
 
 same_file : (says : FileReading) → moved_file (λ n. n) says ≡ says
 same_file says =
-    let build : List EntryReading → List FieldReading → FileReading = λ (es : List EntryReading) (fs : List FieldReading). record { preamble = says.preamble; entries = es; abbreviations = fs } in
-    ap (λ es. build es (map (moved_field (λ n. n)) says.abbreviations)) (same_entries says.entries) ∙ ap (build says.entries) (same_fields says.abbreviations)
+    let build : List EntryReading → List FieldReading → FileReading =
+    λ (es : List EntryReading) (fs : List FieldReading).
+    record { preamble = says.preamble; entries = es; abbreviations = fs } in
+    ap (λ es. build es (map (moved_field (λ n. n)) says.abbreviations)) (same_entries says.entries)
+    ∙ ap (build says.entries) (same_fields says.abbreviations)
 
 -- ---- the first text, up to the line feed
 
 abbrev first_frame : List ℕ → List ℕ → Frame
 first_frame first second = record { old = first; new = first ++ 10 ∷ second; move = λ n. n; from = 0; to = 0; end = length first }
 
-feed_stands : (first second : List ℕ) → CharAt (place (first ++ 10 ∷ second) (length first)) 10 (place (first ++ 10 ∷ second) (length first + 1))
-feed_stands first second = ascii_stands (first ++ 10 ∷ second) second (length first) 10 (omega arith) (drop_at first (10 ∷ second) (length first) refl)
+feed_stands : (first second : List ℕ)
+    → CharAt (place (first ++ 10 ∷ second) (length first)) 10 (place (first ++ 10 ∷ second) (length first + 1))
+feed_stands first second =
+    ascii_stands (first ++ 10 ∷ second) second (length first) 10 (omega arith)
+    (drop_at first (10 ∷ second) (length first) refl)
 
 zone_first : (first second : List ℕ) → Zone (first_frame first second)
 zone_first first second =
     let size : length first - 0 ≡ length first = omega arith in
-    let whole : take (length first) first ≡ take (length first) (first ++ 10 ∷ second) = take_all (length first) first (omega arith) ∙ sym (take_at first (10 ∷ second) (length first) refl) in
+    let whole : take (length first) first ≡ take (length first) (first ++ 10 ∷ second) =
+    take_all (length first) first (omega arith) ∙ sym (take_at first (10 ∷ second) (length first) refl) in
     record {
       moves = λ n from below. omega arith;
       same = ap (λ n. take n first) size ∙ whole ∙ ap (λ n. take n (first ++ 10 ∷ second)) (sym size);
-      cut = λ {u} {v} {c} same char below. omega (arith, not_over (first ++ 10 ∷ second) (length first) (inr (10, place (first ++ 10 ∷ second) (length first + 1), feed_stands first second)) same char (omega arith));
+      cut = λ {u} {v} {c} same char below.
+          omega (
+            arith,
+            not_over (first ++ 10 ∷ second) (length first)
+                (inr (10, place (first ++ 10 ∷ second) (length first + 1), feed_stands first second)) same char
+                (omega arith),
+          );
     }
 
 inside_first : (first second : List ℕ) {u : Place} → u.text ≡ first → u.at ≤ length u.text → Inside (first_frame first second) u
-inside_first first second {u} same within = record { text = same; start = omega arith; end = omega (arith, ap length same); moved = omega arith }
+inside_first first second {u} same within = record {
+  text = same;
+  start = omega arith;
+  end = omega (arith, ap length same);
+  moved = omega arith;
+}
 
-comment_first : (first second : List ℕ) {u v : Place} → Inside (first_frame first second) u → Inside (first_frame first second) v → LineComment u v → LineComment (there (first_frame first second) u) (there (first_frame first second) v)
+comment_first : (first second : List ℕ) {u v : Place} → Inside (first_frame first second) u
+    → Inside (first_frame first second) v → LineComment u v
+    → LineComment (there (first_frame first second) u) (there (first_frame first second) v)
 comment_first first second {u} {v} iu iv m =
     let z = zone_first first second in
     elim (cases_lt v.at (length first)) [
       | inl before ↦ line_comment_there z iu iv before m
       | inr past ↦
           let last : v.at ≡ length first = omega (arith, iv.end) in
-          let feed : CharAt (there (first_frame first second) v) 10 (place (first ++ 10 ∷ second) (length first + 1)) = subst (λ n. CharAt (place (first ++ 10 ∷ second) n) 10 (place (first ++ 10 ∷ second) (length first + 1))) (sym last) (feed_stands first second) in
+          let feed : CharAt (there (first_frame first second) v) 10 (place (first ++ 10 ∷ second) (length first + 1)) =
+          subst (λ n. CharAt (place (first ++ 10 ∷ second) n) 10 (place (first ++ 10 ∷ second) (length first + 1)))
+          (sym last) (feed_stands first second) in
           let a = inside_between z iu iv (ahead_char m.sign) (ahead_run m.line.run) in
           record {
             inside = there (first_frame first second) m.inside;
@@ -80,11 +103,15 @@ comment_first first second {u} {v} iu iv m =
           }
     ]
 
-file_first : (first second : List ℕ) (rest : FileReading) {u : Place} {says : FileReading} → Inside (first_frame first second) u → File longest u says → File longest (place (first ++ 10 ∷ second) (length first + 1)) rest
+file_first : (first second : List ℕ) (rest : FileReading) {u : Place} {says : FileReading}
+    → Inside (first_frame first second) u → File longest u says
+    → File longest (place (first ++ 10 ∷ second) (length first + 1)) rest
     → File longest (there (first_frame first second) u) (then says rest)
 file_first first second rest {u} iu (file.end end) x =
     let last : u.at ≡ length first = end ∙ ap length iu.text in
-    file.skipped (subst (λ n. CharAt (place (first ++ 10 ∷ second) n) 10 (place (first ++ 10 ∷ second) (length first + 1))) (sym last) (feed_stands first second)) refl x
+    file.skipped
+    (subst (λ n. CharAt (place (first ++ 10 ∷ second) n) 10 (place (first ++ 10 ∷ second) (length first + 1)))
+    (sym last) (feed_stands first second)) refl x
 file_first first second rest iu (file.skipped char passes others) x =
     let a = inside_first first second (char.same ∙ iu.text) (char_within char) in
     file.skipped (char_there (zone_first first second) iu a char) passes (file_first first second rest a others x)
@@ -93,7 +120,8 @@ file_first first second rest iu (file.line_comment m others) x =
     file.line_comment (comment_first first second iu a m) (file_first first second rest a others x)
 file_first first second rest {u} iu (file.block {first = says} {rest = tells} b others) x =
     let a = inside_first first second ((ahead_block b).text ∙ iu.text) (body_within b.body) in
-    subst (λ r. File longest (there (first_frame first second) u) r) (sym (then-then says tells rest)) (file.block (stays (block_there (zone_first first second) iu a b)) (file_first first second rest a others x))
+    subst (λ r. File longest (there (first_frame first second) u) r) (sym (then-then says tells rest))
+    (file.block (stays (block_there (zone_first first second) iu a b)) (file_first first second rest a others x))
   where
     stays : {u v : Place} {r : FileReading} → Block longest u (moved_file (λ n. n) r) v → Block longest u r v
     stays {u} {v} {r} b = subst (λ q. Block longest u q v) (same_file r) b
@@ -101,11 +129,19 @@ file_first first second rest {u} iu (file.block {first = says} {rest = tells} b 
 -- ---- the second text, after the line feed
 
 abbrev second_frame : List ℕ → List ℕ → Frame
-second_frame first second = record { old = second; new = first ++ 10 ∷ second; move = λ n. n + (length first + 1); from = 0; to = length first + 1; end = length second + 1 }
+second_frame first second = record {
+  old = second;
+  new = first ++ 10 ∷ second;
+  move = λ n. n + (length first + 1);
+  from = 0;
+  to = length first + 1;
+  end = length second + 1;
+}
 
 zone_second : (first second : List ℕ) → Zone (second_frame first second)
 zone_second first second =
-    let tail : drop (length first + 1) (first ++ 10 ∷ second) ≡ second = rest_stands (first ++ 10 ∷ second) second (length first) 10 (drop_at first (10 ∷ second) (length first) refl) in
+    let tail : drop (length first + 1) (first ++ 10 ∷ second) ≡ second =
+    rest_stands (first ++ 10 ∷ second) second (length first) 10 (drop_at first (10 ∷ second) (length first) refl) in
     record {
       moves = λ n from below. omega arith;
       same = ap (take (length second + 1 - 0)) (sym tail);
@@ -114,12 +150,19 @@ zone_second first second =
 
 pub documents_joined : (d more : Document) → IsDocument d → IsDocument more → IsDocument (joined_documents d more)
 documents_joined d more read reads =
-    let start : Inside (second_frame d.text more.text) (place more.text 0) = record { text = refl; start = omega arith; end = omega arith; moved = omega arith } in
-    let sizes : length more.text + (length d.text + 1) ≡ length (d.text ++ 10 ∷ more.text) + 0 = omega (arith, length-append d.text (10 ∷ more.text)) in
+    let start : Inside (second_frame d.text more.text) (place more.text 0) =
+    record { text = refl; start = omega arith; end = omega arith; moved = omega arith } in
+    let sizes : length more.text + (length d.text + 1) ≡ length (d.text ++ 10 ∷ more.text) + 0 =
+    omega (arith, length-append d.text (10 ∷ more.text)) in
     let second = file_there (zone_second d.text more.text) refl sizes start reads in
     let from : 0 + (length d.text + 1) ≡ length d.text + 1 = omega arith in
-    let second' = subst (λ n. File longest (place (d.text ++ 10 ∷ more.text) n) (moved_file (λ n. n + (length d.text + 1)) more.says)) from second in
-    file_first d.text more.text (moved_file (λ n. n + (length d.text + 1)) more.says) (inside_first d.text more.text refl (omega arith)) read second'
+    let second' =
+    subst
+    (λ n.
+    File longest (place (d.text ++ 10 ∷ more.text) n) (moved_file (λ n. n + (length d.text + 1)) more.says))
+    from second in
+    file_first d.text more.text (moved_file (λ n. n + (length d.text + 1)) more.says)
+    (inside_first d.text more.text refl (omega arith)) read second'
 
 -- ---- keys
 
@@ -128,8 +171,12 @@ pub all_at : {A : Type 0} (P : A → Type 0) (xs : List A) (x : A) (ys : List A)
 all_at P [] x ys all = all.0
 all_at P (y ∷ xs) x ys all = all_at P xs x ys all.1
 
-pub all_here : {A B : Type 0} (view : A → B) (P : B → Type 0) (xs : List A) (i : ℕ) (x : A) → i < length xs → x ≡ get_or xs i x → AllByRecursion P (map view xs) → P (view x)
+pub all_here : {A B : Type 0} (view : A → B) (P : B → Type 0) (xs : List A) (i : ℕ) (x : A) → i < length xs
+    → x ≡ get_or xs i x → AllByRecursion P (map view xs) → P (view x)
 all_here view P xs i x within is all =
-    let whole : xs ≡ take i xs ++ x ∷ drop (i + 1) xs = sym (take-append-drop i xs) ∙ ap (λ ys. take i xs ++ ys) (drop_more xs i x within ∙ ap (λ y. y ∷ drop (i + 1) xs) (sym is)) in
-    let cut : map view xs ≡ map view (take i xs) ++ view x ∷ map view (drop (i + 1) xs) = ap (map view) whole ∙ map-append view (take i xs) (x ∷ drop (i + 1) xs) in
+    let whole : xs ≡ take i xs ++ x ∷ drop (i + 1) xs =
+    sym (take-append-drop i xs)
+    ∙ ap (λ ys. take i xs ++ ys) (drop_more xs i x within ∙ ap (λ y. y ∷ drop (i + 1) xs) (sym is)) in
+    let cut : map view xs ≡ map view (take i xs) ++ view x ∷ map view (drop (i + 1) xs) =
+    ap (map view) whole ∙ map-append view (take i xs) (x ∷ drop (i + 1) xs) in
     all_at P (map view (take i xs)) (view x) (map view (drop (i + 1) xs)) (subst (λ l. AllByRecursion P l) cut all)

@@ -19,7 +19,8 @@ use Rattle.bib_documents.proofs.SplitFacts.{FieldsBefore, FieldsAfter, FileBefor
 
 -- ---- fields
 
-pub fields_before_there : {f : Frame} {u v : Place} {fs : List FieldReading} → Zone f → Inside f u → Inside f v → v.at < f.end → FieldsBefore u fs v
+pub fields_before_there : {f : Frame} {u v : Place} {fs : List FieldReading} → Zone f → Inside f u → Inside f v
+    → v.at < f.end → FieldsBefore u fs v
     → FieldsBefore (there f u) (map (moved_field f.move) fs) (there f v)
 fields_before_there z iu iv below FieldsBefore.none = FieldsBefore.none
 fields_before_there {f} z iu iv below (FieldsBefore.more field gap comma gap' others) =
@@ -28,10 +29,13 @@ fields_before_there {f} z iu iv below (FieldsBefore.more field gap comma gap' ot
     let b = inside_between z a iv (ahead_gap gap) from_comma in
     let c = inside_between z b iv (ahead_char comma) (ahead_then (ahead_gap gap') (ahead_fields_before others)) in
     let d = inside_between z c iv (ahead_gap gap') (ahead_fields_before others) in
-    FieldsBefore.more (field_there z iu a (below_between f (ahead_then (ahead_gap gap) from_comma) below) field) (gap_there z a b (below_char c comma) gap)
-    (char_there z b c comma) (gap_there z c d (below_between f (ahead_fields_before others) below) gap') (fields_before_there z d iv below others)
+    FieldsBefore.more (field_there z iu a (below_between f (ahead_then (ahead_gap gap) from_comma) below) field)
+    (gap_there z a b (below_char c comma) gap)
+    (char_there z b c comma) (gap_there z c d (below_between f (ahead_fields_before others) below) gap')
+    (fields_before_there z d iv below others)
 
-pub fields_after_there : {f : Frame} {u v : Place} {fs : List FieldReading} → Zone f → Inside f u → Inside f v → v.at < f.end → FieldsAfter u fs v
+pub fields_after_there : {f : Frame} {u v : Place} {fs : List FieldReading} → Zone f → Inside f u → Inside f v
+    → v.at < f.end → FieldsAfter u fs v
     → FieldsAfter (there f u) (map (moved_field f.move) fs) (there f v)
 fields_after_there z iu iv below (FieldsAfter.last gap) = FieldsAfter.last (gap_there z iu iv below gap)
 fields_after_there {f} z iu iv below (FieldsAfter.more gap comma gap' rest) =
@@ -39,11 +43,13 @@ fields_after_there {f} z iu iv below (FieldsAfter.more gap comma gap' rest) =
     let b = inside_between z iu iv (ahead_gap gap) from_comma in
     let c = inside_between z b iv (ahead_char comma) (ahead_then (ahead_gap gap') (ahead_fields rest)) in
     let d = inside_between z c iv (ahead_gap gap') (ahead_fields rest) in
-    FieldsAfter.more (gap_there z iu b (below_char c comma) gap) (char_there z b c comma) (gap_there z c d (below_between f (ahead_fields rest) below) gap') (fields_there z d iv below rest)
+    FieldsAfter.more (gap_there z iu b (below_char c comma) gap) (char_there z b c comma)
+    (gap_there z c d (below_between f (ahead_fields rest) below) gap') (fields_there z d iv below rest)
 
 -- ---- a file up to an at sign
 
-pub file_before_there : {f : Frame} {u v x : Place} {says : FileReading} → Zone f → Inside f u → Inside f v → CharAt v 64 x → FileBefore u says v → FileBefore (there f u) (moved_file f.move says) (there f v)
+pub file_before_there : {f : Frame} {u v x : Place} {says : FileReading} → Zone f → Inside f u → Inside f v
+    → CharAt v 64 x → FileBefore u says v → FileBefore (there f u) (moved_file f.move says) (there f v)
 file_before_there z iu iv sign FileBefore.none = FileBefore.none
 file_before_there z iu iv sign (FileBefore.skipped char passes others) =
     let a = inside_between z iu iv (ahead_char char) (ahead_file_before others) in
@@ -54,7 +60,8 @@ file_before_there {f} z iu iv sign (FileBefore.line_comment m others) =
     FileBefore.line_comment (line_comment_there z iu a (omega (arith, before, iv.end)) m) (file_before_there z a iv sign others)
 file_before_there {f} {u} {v} z iu iv sign (FileBefore.block {first = first} {rest = rest} b others) =
     let a = inside_between z iu iv (ahead_block b) (ahead_file_before others) in
-    subst (λ says. FileBefore (there f u) says (there f v)) (sym (moved-then f.move first rest)) (FileBefore.block (block_there z iu a b) (file_before_there z a iv sign others))
+    subst (λ says. FileBefore (there f u) says (there f v)) (sym (moved-then f.move first rest))
+    (FileBefore.block (block_there z iu a b) (file_before_there z a iv sign others))
 
 -- ---- a file to its end
 
@@ -68,7 +75,8 @@ pub run_within : {test : ℕ → Bool} {u v : Place} → Run test u v → u.at �
 run_within stop within = within
 run_within (step char passes rest) within = run_within rest (char_within char)
 
-pub body_within : {start u v : Place} {kind : Part} {k : BlockKind} {says : FileReading} → Body longest start kind k u says v → v.at ≤ length v.text
+pub body_within : {start u v : Place} {kind : Part} {k : BlockKind} {says : FileReading}
+    → Body longest start kind k u says v → v.at ≤ length v.text
 body_within (body.comment brace chars closes) = char_within closes
 body_within (body.preamble quoted white closes is_brace) = char_within closes
 body_within (body.strings fs closes) = char_within closes
@@ -81,7 +89,8 @@ inside_rest {f} {u} {v} z whole iu ahead within =
     let size : length v.text ≡ length f.old = ap length text in
     inside z text (omega (arith, iu.start, ahead.at)) (omega arith)
 
-pub file_there : {f : Frame} {u : Place} {says : FileReading} → Zone f → f.end ≡ length f.old + 1 → length f.old + f.to ≡ length f.new + f.from → Inside f u → File longest u says
+pub file_there : {f : Frame} {u : Place} {says : FileReading} → Zone f → f.end ≡ length f.old + 1
+    → length f.old + f.to ≡ length f.new + f.from → Inside f u → File longest u says
     → File longest (there f u) (moved_file f.move says)
 file_there z whole sizes iu (file.end end) = file.end (end_there iu sizes end)
 file_there {f} z whole sizes iu (file.skipped char passes x) =
@@ -94,20 +103,32 @@ file_there {f} z whole sizes iu (file.line_comment m x) =
     file.line_comment (line_comment_there z iu a (omega (arith, within, size)) m) (file_there z whole sizes a x)
 file_there {f} {u} z whole sizes iu (file.block {first = first} {rest = rest} b x) =
     let a = inside_rest z whole iu (ahead_block b) (body_within b.body) in
-    subst (λ says. File longest (there f u) says) (sym (moved-then f.move first rest)) (file.block (block_there z iu a b) (file_there z whole sizes a x))
+    subst (λ says. File longest (there f u) says) (sym (moved-then f.move first rest))
+    (file.block (block_there z iu a b) (file_there z whole sizes a x))
 
 -- ---- what the whole says
 
 -- lists with another element in the place of one
-pub exchanged : {A B : Type 0} (move : A → B) (before following : List A) (x : A) (y : B) (k : ℕ) → length before ≡ k → slice_set (map move (before ++ x ∷ following)) k y ≡ map move before ++ y ∷ map move following
+pub exchanged : {A B : Type 0} (move : A → B) (before following : List A) (x : A) (y : B) (k : ℕ) → length before ≡ k
+    → slice_set (map move (before ++ x ∷ following)) k y ≡ map move before ++ y ∷ map move following
 exchanged move before following x y k index =
-    ap (λ l. slice_set l k y) (map-append move before (x ∷ following)) ∙ set_at (map move before) (move x) (map move following) y k (length-map before move ∙ index)
+    ap (λ l. slice_set l k y) (map-append move before (x ∷ following))
+    ∙ set_at (map move before) (move x) (map move following) y k (length-map before move ∙ index)
 
 -- what is said with another entry in the place of one
 pub says_exchanged : (move : ℕ → ℕ) (before following : FileReading) (e e' : EntryReading) (k : ℕ) → length before.entries ≡ k
     → then (moved_file move before) (then (entry_alone e') (moved_file move following))
-    ≡ record (moved_file move (then before (then (entry_alone e) following))) { entries = slice_set (map (moved_entry move) (then before (then (entry_alone e) following)).entries) k e' }
+    ≡ record (moved_file move (then before (then (entry_alone e) following)))
+    { entries = slice_set (map (moved_entry move) (then before (then (entry_alone e) following)).entries) k e' }
 says_exchanged move before following e e' k index =
-    let build : List EntryReading → List FieldReading → FileReading = λ (es : List EntryReading) (fs : List FieldReading). record { preamble = (then before (then (entry_alone e) following)).preamble; entries = es; abbreviations = fs } in
-    ap (λ es. build es (map (moved_field move) before.abbreviations ++ map (moved_field move) following.abbreviations)) (sym (exchanged (moved_entry move) before.entries following.entries e e' k index))
-    ∙ ap (build (slice_set (map (moved_entry move) (before.entries ++ e ∷ following.entries)) k e')) (sym (map-append (moved_field move) before.abbreviations following.abbreviations))
+    let build : List EntryReading → List FieldReading → FileReading =
+    λ (es : List EntryReading) (fs : List FieldReading).
+    record {
+      preamble = (then before (then (entry_alone e) following)).preamble;
+      entries = es;
+      abbreviations = fs;
+    } in
+    ap (λ es. build es (map (moved_field move) before.abbreviations ++ map (moved_field move) following.abbreviations))
+    (sym (exchanged (moved_entry move) before.entries following.entries e e' k index))
+    ∙ ap (build (slice_set (map (moved_entry move) (before.entries ++ e ∷ following.entries)) k e'))
+    (sym (map-append (moved_field move) before.abbreviations following.abbreviations))

@@ -32,29 +32,40 @@ comma_known d k e read here =
       is = record {
         before = b.before_comma;
         white = subst (λ p. Longest is_whitespace p b.before_comma) key_end b.white;
-        comma = subst (λ p. CharAt b.before_comma 44 p) (same_place {u = b.after_comma} {v = place d.text b.after_comma.at} (b.comma.same ∙ to_before.text) refl) b.comma;
+        comma =
+            subst (λ p. CharAt b.before_comma 44 p)
+            (same_place {u = b.after_comma} {v = place d.text b.after_comma.at} (b.comma.same ∙ to_before.text) refl)
+            b.comma;
       };
     }
 
 -- the entry and the field that were looked up
-pub has_entry : (d : Document) (listed : List EntryReading) (key : List ℕ) (k : ℕ) (e : EntryReading) → listed ≡ d.says.entries → first_position (is_keyed key) listed ≡ Some k → slice_get listed k ≡ Some e → HasEntry d key k e
+pub has_entry : (d : Document) (listed : List EntryReading) (key : List ℕ) (k : ℕ) (e : EntryReading)
+    → listed ≡ d.says.entries → first_position (is_keyed key) listed ≡ Some k → slice_get listed k ≡ Some e
+    → HasEntry d key k e
 has_entry d listed key k e same first here = record {
   first = subst (λ es. first_position (is_keyed key) es ≡ Some k) same first;
   here = subst (λ es. slice_get es k ≡ Some e) same here;
 }
 
-pub has_field : (e : EntryReading) (listed : List FieldReading) (name : List ℕ) (j : ℕ) (f : FieldReading) → listed ≡ e.fields → last_position (has_name name) listed ≡ Some j → slice_get listed j ≡ Some f → HasField e name j f
+pub has_field : (e : EntryReading) (listed : List FieldReading) (name : List ℕ) (j : ℕ) (f : FieldReading)
+    → listed ≡ e.fields → last_position (has_name name) listed ≡ Some j → slice_get listed j ≡ Some f
+    → HasField e name j f
 has_field e listed name j f same last here = record {
   last = subst (λ fs. last_position (has_name name) fs ≡ Some j) same last;
   here = subst (λ fs. slice_get fs j ≡ Some f) same here;
 }
 
 -- a value was set
-pub value_set : {S : Type 0} (bytes : S → List ℕ) (d : Document) (key name value : List ℕ) (k j : ℕ) (e : EntryReading) (f : FieldReading) (r : Result S EditError) → IsDocument d → HasEntry d key k e → HasField e name j f
+pub value_set : {S : Type 0} (bytes : S → List ℕ) (d : Document) (key name value : List ℕ) (k j : ℕ) (e : EntryReading)
+    (f : FieldReading) (r : Result S EditError) → IsDocument d → HasEntry d key k e → HasField e name j f
     → IfOk r (λ new. is_value value f.value.pieces ≡ true → bytes new ≡ d.text)
     → IfOk r (λ new. is_value value f.value.pieces ≡ false → bytes new ≡ edited (value_edit d.text f value) d.text)
     → IfOk r (λ _. is_value value f.value.pieces ≡ false → CanStandInBraces value)
-    → IfOk r (λ _. is_value value f.value.pieces ≡ false → Run is_whitespace (place d.text (value_edit d.text f value).end) (place d.text f.value.end))
+    → IfOk r
+    (λ _.
+    is_value value f.value.pieces ≡ false
+    → Run is_whitespace (place d.text (value_edit d.text f value).end) (place d.text f.value.end))
     → IfOk r (λ new. IsEdited (FieldSet d key name value) (bytes new))
 value_set bytes d key name value k j e f (Err error) read entry field stays changes can white = _
 value_set bytes d key name value k j e f (Ok new) read entry field stays changes can white = by_case (is_value value f.value.pieces) refl
@@ -69,8 +80,12 @@ value_set bytes d key name value k j e f (Ok new) read entry field stays changes
     }
 
 -- a field was added
-pub field_set : {S : Type 0} (bytes : S → List ℕ) (d : Document) (key name value : List ℕ) (k : ℕ) (e : EntryReading) (r : Result S EditError) → IsDocument d → HasEntry d key k e → last_position (has_name name) e.fields ≡ None
-    → IfOk r (λ new. (at : ℕ) × IsAfterComma d.text e at × (bytes new ≡ edited (record { start = at; end = at; bytes = added_line name value }) d.text))
+pub field_set : {S : Type 0} (bytes : S → List ℕ) (d : Document) (key name value : List ℕ) (k : ℕ) (e : EntryReading)
+    (r : Result S EditError) → IsDocument d → HasEntry d key k e → last_position (has_name name) e.fields ≡ None
+    → IfOk r
+    (λ new.
+    (at : ℕ) × IsAfterComma d.text e at
+    × (bytes new ≡ edited (record { start = at; end = at; bytes = added_line name value }) d.text))
     → IfOk r (λ _. CanBeName name) → IfOk r (λ _. CanStandInBraces value)
     → IfOk r (λ new. IsEdited (FieldSet d key name value) (bytes new))
 field_set bytes d key name value k e (Err error) read entry none text can_name can_value = _

@@ -39,13 +39,15 @@ first_or : EntryReading → List EntryReading → EntryReading
 first_or e [] = e
 first_or e (x ∷ xs) = x
 
-entry_of_body : {start u v : Place} {kind : Part} {k : BlockKind} {says : FileReading} (e : EntryReading) → Head longest start kind u → block_kind kind.text ≡ k → Body longest start kind k u says v
+entry_of_body : {start u v : Place} {kind : Part} {k : BlockKind} {says : FileReading} (e : EntryReading)
+    → Head longest start kind u → block_kind kind.text ≡ k → Body longest start kind k u says v
     → says.entries ≡ e ∷ [] → EntryBlock start e v
 unfolding first_or
 entry_of_body e head is (body.comment brace chars closes) same = absurd (cc)
 entry_of_body e head is (body.preamble quoted white closes is_brace) same = absurd (cc)
 entry_of_body e head is (body.strings fs closes) same = absurd (cc)
-entry_of_body {start} {u} {v} {kind} e head is (body.entry {x = after_comma} {y = fields_start} {z = brace} key_end key white comma gap list closes) same =
+entry_of_body {start} {u} {v} {kind} e head is
+    (body.entry {x = after_comma} {y = fields_start} {z = brace} key_end key white comma gap list closes) same =
     subst (λ x. EntryBlock start x v) (ap (first_or e) same) (record {
       inside = u;
       key_end = key_end;
@@ -79,7 +81,8 @@ block_of {u} {v} {e} b = record {
 }
 
 -- a block says one entry or none
-pub one_entry : {start u v : Place} {kind : Part} {k : BlockKind} {says : FileReading} → Body longest start kind k u says v → (says.entries ≡ []) ⊎ ((e : EntryReading) × (says ≡ entry_alone e))
+pub one_entry : {start u v : Place} {kind : Part} {k : BlockKind} {says : FileReading}
+    → Body longest start kind k u says v → (says.entries ≡ []) ⊎ ((e : EntryReading) × (says ≡ entry_alone e))
 one_entry (body.comment brace chars closes) = inl refl
 one_entry (body.preamble quoted white closes is_brace) = inl refl
 one_entry (body.strings fs closes) = inl refl
@@ -89,12 +92,14 @@ one_entry (body.entry key_end key white comma gap list closes) = inr (_, refl)
 
 pub data FieldsBefore : Place → List FieldReading → Place → Type 0 where
   none : {u : Place} → FieldsBefore u [] u
-  more : {u v w x y z : Place} {f : FieldReading} {fs : List FieldReading} → Field longest u f v → Gap longest v w → CharAt w 44 x → Gap longest x y
+  more : {u v w x y z : Place} {f : FieldReading} {fs : List FieldReading} → Field longest u f v → Gap longest v w
+      → CharAt w 44 x → Gap longest x y
       → FieldsBefore y fs z → FieldsBefore u (f ∷ fs) z
 
 pub data FieldsAfter : Place → List FieldReading → Place → Type 0 where
   last : {u v : Place} → Gap longest u v → FieldsAfter u [] v
-  more : {u v w x y : Place} {fs : List FieldReading} → Gap longest u v → CharAt v 44 w → Gap longest w x → Fields longest x fs y → FieldsAfter u fs y
+  more : {u v w x y : Place} {fs : List FieldReading} → Gap longest u v → CharAt v 44 w → Gap longest w x
+      → Fields longest x fs y → FieldsAfter u fs y
 
 pub record FieldSplit (u : Place) (fs : List FieldReading) (f : FieldReading) (j : ℕ) (v : Place) : Type 0 where
   pub start : Place
@@ -107,15 +112,36 @@ pub record FieldSplit (u : Place) (fs : List FieldReading) (f : FieldReading) (j
   pub whole : fs ≡ before ++ f ∷ following
   pub index : length before ≡ j
 
-pub split_fields : {u v : Place} {fs : List FieldReading} (j : ℕ) (f : FieldReading) → Fields longest u fs v → slice_get fs j ≡ Some f → FieldSplit u fs f j v
+pub split_fields : {u v : Place} {fs : List FieldReading} (j : ℕ) (f : FieldReading) → Fields longest u fs v
+    → slice_get fs j ≡ Some f → FieldSplit u fs f j v
 split_fields j f (fields.none white) found = absurd (cc)
 split_fields {u} {v} zero f (fields.last {v = end} {f = g} field gap) found =
     let same : g ≡ f = cc in
-    record { start = u; end = end; before = []; following = []; first = FieldsBefore.none; field = subst (λ x. Field longest u x end) same field; rest = FieldsAfter.last gap; whole = ap (λ x. x ∷ []) same; index = refl }
+    record {
+      start = u;
+      end = end;
+      before = [];
+      following = [];
+      first = FieldsBefore.none;
+      field = subst (λ x. Field longest u x end) same field;
+      rest = FieldsAfter.last gap;
+      whole = ap (λ x. x ∷ []) same;
+      index = refl;
+    }
 split_fields (suc j) f (fields.last field gap) found = absurd (cc)
 split_fields {u} {v} zero f (fields.more {v = end} {f = g} {fs = fs} field gap comma gap' rest) found =
     let same : g ≡ f = cc in
-    record { start = u; end = end; before = []; following = fs; first = FieldsBefore.none; field = subst (λ x. Field longest u x end) same field; rest = FieldsAfter.more gap comma gap' rest; whole = ap (λ x. x ∷ fs) same; index = refl }
+    record {
+      start = u;
+      end = end;
+      before = [];
+      following = fs;
+      first = FieldsBefore.none;
+      field = subst (λ x. Field longest u x end) same field;
+      rest = FieldsAfter.more gap comma gap' rest;
+      whole = ap (λ x. x ∷ fs) same;
+      index = refl;
+    }
 split_fields {u} {v} (suc j) f (fields.more {f = g} field gap comma gap' rest) found =
     let others = split_fields j f rest found in
     record {
@@ -130,7 +156,9 @@ split_fields {u} {v} (suc j) f (fields.more {f = g} field gap comma gap' rest) f
       index = ap suc others.index;
     }
 
-pub joined_fields : {u a b v : Place} {before following : List FieldReading} {f : FieldReading} → FieldsBefore u before a → Field longest a f b → FieldsAfter b following v → Fields longest u (before ++ f ∷ following) v
+pub joined_fields : {u a b v : Place} {before following : List FieldReading} {f : FieldReading}
+    → FieldsBefore u before a → Field longest a f b → FieldsAfter b following v
+    → Fields longest u (before ++ f ∷ following) v
 joined_fields FieldsBefore.none field (FieldsAfter.last gap) = fields.last field gap
 joined_fields FieldsBefore.none field (FieldsAfter.more gap comma gap' rest) = fields.more field gap comma gap' rest
 joined_fields (FieldsBefore.more field gap comma gap' others) here rest = fields.more field gap comma gap' (joined_fields others here rest)
@@ -138,17 +166,21 @@ joined_fields (FieldsBefore.more field gap comma gap' others) here rest = fields
 pub ahead_fields_before : {u v : Place} {fs : List FieldReading} → FieldsBefore u fs v → Ahead u v
 ahead_fields_before {u} FieldsBefore.none = ahead_here u
 ahead_fields_before (FieldsBefore.more field gap comma gap' others) =
-    ahead_then (ahead_field field) (ahead_then (ahead_gap gap) (ahead_then (ahead_char comma) (ahead_then (ahead_gap gap') (ahead_fields_before others))))
+    ahead_then (ahead_field field)
+    (ahead_then (ahead_gap gap)
+    (ahead_then (ahead_char comma) (ahead_then (ahead_gap gap') (ahead_fields_before others))))
 
 pub ahead_fields_after : {u v : Place} {fs : List FieldReading} → FieldsAfter u fs v → Ahead u v
 ahead_fields_after (FieldsAfter.last gap) = ahead_gap gap
-ahead_fields_after (FieldsAfter.more gap comma gap' rest) = ahead_then (ahead_gap gap) (ahead_then (ahead_char comma) (ahead_then (ahead_gap gap') (ahead_fields rest)))
+ahead_fields_after (FieldsAfter.more gap comma gap' rest) =
+    ahead_then (ahead_gap gap) (ahead_then (ahead_char comma) (ahead_then (ahead_gap gap') (ahead_fields rest)))
 
 -- ---- a file, up to one of its entries and after it
 
 pub data FileBefore : Place → FileReading → Place → Type 0 where
   none : {u : Place} → FileBefore u empty_reading u
-  skipped : {u v w : Place} {c : ℕ} {says : FileReading} → CharAt u c v → not (c == 64) && not (c == 37) ≡ true → FileBefore v says w → FileBefore u says w
+  skipped : {u v w : Place} {c : ℕ} {says : FileReading} → CharAt u c v → not (c == 64) && not (c == 37) ≡ true
+      → FileBefore v says w → FileBefore u says w
   line_comment : {u v w : Place} {says : FileReading} → LineComment u v → FileBefore v says w → FileBefore u says w
   block : {u v w : Place} {first rest : FileReading} → Block longest u first v → FileBefore v rest w → FileBefore u (then first rest) w
 
@@ -164,7 +196,8 @@ pub record EntrySplit (u : Place) (says : FileReading) (e : EntryReading) (k : �
   pub index : length before.entries ≡ k
 
 -- after a block that says no entry, and after one that says another
-after_none : {u v : Place} {first rest : FileReading} {e : EntryReading} {k : ℕ} → Block longest u first v → first.entries ≡ [] → EntrySplit v rest e k → EntrySplit u (then first rest) e k
+after_none : {u v : Place} {first rest : FileReading} {e : EntryReading} {k : ℕ} → Block longest u first v
+    → first.entries ≡ [] → EntrySplit v rest e k → EntrySplit u (then first rest) e k
 after_none {u} {v} {first} {rest} {e} {k} b no_entry others = record {
   start = others.start;
   end = others.end;
@@ -177,7 +210,8 @@ after_none {u} {v} {first} {rest} {e} {k} b no_entry others = record {
   index = ap (λ es. length (es ++ others.before.entries)) no_entry ∙ others.index;
 }
 
-after_other : {u v : Place} {first rest : FileReading} {e other : EntryReading} {k : ℕ} → Block longest u first v → first ≡ entry_alone other → EntrySplit v rest e k → EntrySplit u (then first rest) e (suc k)
+after_other : {u v : Place} {first rest : FileReading} {e other : EntryReading} {k : ℕ} → Block longest u first v
+    → first ≡ entry_alone other → EntrySplit v rest e k → EntrySplit u (then first rest) e (suc k)
 after_other {u} {v} {first} {rest} {e} {other} {k} b one others = record {
   start = others.start;
   end = others.end;
@@ -190,7 +224,8 @@ after_other {u} {v} {first} {rest} {e} {other} {k} b one others = record {
   index = ap (λ r. length (r.entries ++ others.before.entries)) one ∙ ap suc others.index;
 }
 
-at_entry : {u v : Place} {first rest : FileReading} {e other : EntryReading} → Block longest u first v → first ≡ entry_alone other → other ≡ e → File longest v rest → EntrySplit u (then first rest) e zero
+at_entry : {u v : Place} {first rest : FileReading} {e other : EntryReading} → Block longest u first v
+    → first ≡ entry_alone other → other ≡ e → File longest v rest → EntrySplit u (then first rest) e zero
 at_entry {u} {v} {first} {rest} {e} {other} b one same file = record {
   start = u;
   end = v;
@@ -203,17 +238,39 @@ at_entry {u} {v} {first} {rest} {e} {other} b one same file = record {
   index = refl;
 }
 
-get_after : (xs ys zs : List EntryReading) (k : ℕ) (e : EntryReading) → xs ≡ zs → slice_get (xs ++ ys) k ≡ Some e → slice_get (zs ++ ys) k ≡ Some e
+get_after : (xs ys zs : List EntryReading) (k : ℕ) (e : EntryReading) → xs ≡ zs → slice_get (xs ++ ys) k ≡ Some e
+    → slice_get (zs ++ ys) k ≡ Some e
 get_after xs ys zs k e same found = subst (λ l. slice_get (l ++ ys) k ≡ Some e) same found
 
-pub split_file : {u : Place} {says : FileReading} (k : ℕ) (e : EntryReading) → File longest u says → slice_get says.entries k ≡ Some e → EntrySplit u says e k
+pub split_file : {u : Place} {says : FileReading} (k : ℕ) (e : EntryReading) → File longest u says
+    → slice_get says.entries k ≡ Some e → EntrySplit u says e k
 split_file k e (file.end end) found = absurd (cc)
 split_file k e (file.skipped char passes x) found =
     let others = split_file k e x found in
-    record { start = others.start; end = others.end; before = others.before; following = others.following; first = FileBefore.skipped char passes others.first; block = others.block; rest = others.rest; whole = others.whole; index = others.index }
+    record {
+      start = others.start;
+      end = others.end;
+      before = others.before;
+      following = others.following;
+      first = FileBefore.skipped char passes others.first;
+      block = others.block;
+      rest = others.rest;
+      whole = others.whole;
+      index = others.index;
+    }
 split_file k e (file.line_comment m x) found =
     let others = split_file k e x found in
-    record { start = others.start; end = others.end; before = others.before; following = others.following; first = FileBefore.line_comment m others.first; block = others.block; rest = others.rest; whole = others.whole; index = others.index }
+    record {
+      start = others.start;
+      end = others.end;
+      before = others.before;
+      following = others.following;
+      first = FileBefore.line_comment m others.first;
+      block = others.block;
+      rest = others.rest;
+      whole = others.whole;
+      index = others.index;
+    }
 split_file zero e (file.block {first = first} {rest = rest} b x) found =
     elim (one_entry b.body) [
       | inl no_entry ↦ after_none b no_entry (split_file zero e x (get_after first.entries rest.entries [] zero e no_entry found))
@@ -224,10 +281,13 @@ split_file zero e (file.block {first = first} {rest = rest} b x) found =
 split_file (suc k) e (file.block {first = first} {rest = rest} b x) found =
     elim (one_entry b.body) [
       | inl no_entry ↦ after_none b no_entry (split_file (suc k) e x (get_after first.entries rest.entries [] (suc k) e no_entry found))
-      | inr one ↦ after_other b one.1 (split_file k e x (get_after first.entries rest.entries (one.0 ∷ []) (suc k) e (ap (λ r. r.entries) one.1) found))
+      | inr one ↦ after_other b one.1
+          (split_file k e x
+          (get_after first.entries rest.entries (one.0 ∷ []) (suc k) e (ap (λ r. r.entries) one.1) found))
     ]
 
-pub joined_file : {u v : Place} {before rest : FileReading} → FileBefore u before v → File longest v rest → File longest u (then before rest)
+pub joined_file : {u v : Place} {before rest : FileReading} → FileBefore u before v → File longest v rest
+    → File longest u (then before rest)
 joined_file FileBefore.none x = x
 joined_file (FileBefore.skipped char passes others) x = file.skipped char passes (joined_file others x)
 joined_file (FileBefore.line_comment m others) x = file.line_comment m (joined_file others x)

@@ -18,7 +18,8 @@ cut_front text at start ordered =
     ∙ ap (λ m. take at text ++ drop at (take m text)) (sym whole) ∙ ap (λ xs. take at text ++ xs) (drop-take at n text)
 
 -- what comes of edits is the text up to a place before them, and the rest with the edits made
-pub edited_is : (edits : List Edit) (text : List ℕ) (at : ℕ) → at ≤ length text → AreEditsInOrder text at edits → edited_all edits text ≡ take at text ++ rest_edited at edits text
+pub edited_is : (edits : List Edit) (text : List ℕ) (at : ℕ) → at ≤ length text → AreEditsInOrder text at edits
+    → edited_all edits text ≡ take at text ++ rest_edited at edits text
 edited_is [] text at within order = sym (take-append-drop at text)
 edited_is (edit ∷ edits) text at within order =
     let others = edited_is edits text edit.end order.3.0 order.4 in
@@ -26,9 +27,15 @@ edited_is (edit ∷ edits) text at within order =
     let end_size : length (take edit.end text) ≡ edit.end = length-take-le edit.end text order.3.0 in
     let front_size : length (take edit.start text) ≡ edit.start = length-take-le edit.start text start_within in
     let front : take edit.start (edited_all edits text) ≡ take edit.start text =
-    ap (take edit.start) (others ∙ ap (λ xs. xs ++ rest_edited edit.end edits text) (cut_front text edit.start edit.end order.1) ∙ append_assoc (take edit.start text) (take (edit.end - edit.start) (drop edit.start text)) (rest_edited edit.end edits text))
-    ∙ take_at (take edit.start text) (take (edit.end - edit.start) (drop edit.start text) ++ rest_edited edit.end edits text) edit.start front_size in
-    let rest : drop edit.end (edited_all edits text) ≡ rest_edited edit.end edits text = ap (drop edit.end) others ∙ drop_at (take edit.end text) (rest_edited edit.end edits text) edit.end end_size in
+    ap (take edit.start)
+    (others ∙ ap (λ xs. xs ++ rest_edited edit.end edits text) (cut_front text edit.start edit.end order.1)
+    ∙ append_assoc (take edit.start text) (take (edit.end - edit.start) (drop edit.start text))
+    (rest_edited edit.end edits text))
+    ∙ take_at (take edit.start text)
+    (take (edit.end - edit.start) (drop edit.start text) ++ rest_edited edit.end edits text) edit.start front_size
+    in
+    let rest : drop edit.end (edited_all edits text) ≡ rest_edited edit.end edits text =
+    ap (drop edit.end) others ∙ drop_at (take edit.end text) (rest_edited edit.end edits text) edit.end end_size in
     ap (λ xs. xs ++ edit.bytes ++ drop edit.end (edited_all edits text)) (front ∙ cut_front text at edit.start order.0)
     ∙ ap (λ ys. (take at text ++ take (edit.start - at) (drop at text)) ++ edit.bytes ++ ys) rest
     ∙ append_assoc (take at text ++ take (edit.start - at) (drop at text)) edit.bytes (rest_edited edit.end edits text)

@@ -11,21 +11,29 @@ use Rattle.bib_text.specs.Places.Run.{stop, step}
 use Rattle.bib_text.proofs.PlaceFacts.{char_here}
 
 -- characters of white space that stand in a text
-run_spelt : (cs : List ℕ) (text rest : List ℕ) (a : ℕ) → NonePass is_not_whitespace cs → drop a text ≡ encode_utf8_all cs ++ rest → Run is_whitespace (place text a) (place text (a + length (encode_utf8_all cs)))
-run_spelt [] text rest a all here = let none : a ≡ a + 0 = omega arith in subst (λ n. Run is_whitespace (place text a) (place text n)) none stop
+run_spelt : (cs : List ℕ) (text rest : List ℕ) (a : ℕ) → NonePass is_not_whitespace cs
+    → drop a text ≡ encode_utf8_all cs ++ rest
+    → Run is_whitespace (place text a) (place text (a + length (encode_utf8_all cs)))
+run_spelt [] text rest a all here =
+    let none : a ≡ a + 0 = omega arith in subst (λ n. Run is_whitespace (place text a) (place text n)) none stop
 run_spelt (c ∷ cs) text rest a all here =
-    let first : drop a text ≡ encode_utf8 c ++ (encode_utf8_all cs ++ rest) = here ∙ append_assoc (encode_utf8 c) (encode_utf8_all cs) rest in
-    let size : length (encode_utf8_all (c ∷ cs)) ≡ len_utf8 c + length (encode_utf8_all cs) = length-append (encode_utf8 c) (encode_utf8_all cs) ∙ ap (λ n. n + length (encode_utf8_all cs)) (length-encode c) in
+    let first : drop a text ≡ encode_utf8 c ++ (encode_utf8_all cs ++ rest) =
+    here ∙ append_assoc (encode_utf8 c) (encode_utf8_all cs) rest in
+    let size : length (encode_utf8_all (c ∷ cs)) ≡ len_utf8 c + length (encode_utf8_all cs) =
+    length-append (encode_utf8 c) (encode_utf8_all cs) ∙ ap (λ n. n + length (encode_utf8_all cs)) (length-encode c) in
     let end : a + len_utf8 c + length (encode_utf8_all cs) ≡ a + length (encode_utf8_all (c ∷ cs)) = omega arith in
     let others = run_spelt cs text rest (a + len_utf8 c) all.1 (drop_past_char text (encode_utf8_all cs ++ rest) a c first) in
-    step (char_here text (encode_utf8_all cs ++ rest) a c first) (not-false (is_whitespace c) all.0) (subst (λ n. Run is_whitespace (place text (a + len_utf8 c)) (place text n)) end others)
+    step (char_here text (encode_utf8_all cs ++ rest) a c first) (not-false (is_whitespace c) all.0)
+    (subst (λ n. Run is_whitespace (place text (a + len_utf8 c)) (place text n)) end others)
 
 -- white space from some bytes of a part on to the part's end
-pub white_rest : (text part : List ℕ) (start end n : ℕ) → part ≡ take (end - start) (drop start text) → start ≤ end → end ≤ length text → n ≤ length part → NoCharPasses is_not_whitespace (drop n part)
+pub white_rest : (text part : List ℕ) (start end n : ℕ) → part ≡ take (end - start) (drop start text) → start ≤ end
+    → end ≤ length text → n ≤ length part → NoCharPasses is_not_whitespace (drop n part)
     → Run is_whitespace (place text (start + n)) (place text end)
 white_rest text part start end n is ordered within small white =
     let rest : List ℕ = drop (end - start) (drop start text) in
-    let size : length part ≡ end - start = ap length is ∙ length-take-le (end - start) (drop start text) (omega (arith, length-drop start text)) in
+    let size : length part ≡ end - start =
+    ap length is ∙ length-take-le (end - start) (drop start text) (omega (arith, length-drop start text)) in
     let whole : drop start text ≡ part ++ rest = sym (take-append-drop (end - start) (drop start text)) ∙ ap (λ xs. xs ++ rest) (sym is) in
     let here : drop (start + n) text ≡ encode_utf8_all white.0 ++ rest =
     sym (drop-drop n start text) ∙ ap (drop n) whole ∙ drop-append-le n part rest small ∙ ap (λ xs. xs ++ rest) (sym white.1) in
@@ -34,9 +42,13 @@ white_rest text part start end n is ordered within small white =
     subst (λ m. Run is_whitespace (place text (start + n)) (place text m)) last (run_spelt white.0 text rest (start + n) white.2 here)
 
 -- a text may be cut in a part of it where the part may be
-pub cut_in_part : (text part front : List ℕ) (start end n : ℕ) → IsUtf8 text → IsCharBoundary text start → part ≡ take (end - start) (drop start text) → start ≤ end → end ≤ length text
+pub cut_in_part : (text part front : List ℕ) (start end n : ℕ) → IsUtf8 text → IsCharBoundary text start
+    → part ≡ take (end - start) (drop start text) → start ≤ end → end ≤ length text
     → front ≡ take n part → n ≤ length part → IsUtf8 front → IsCharBoundary text (start + n)
 cut_in_part text part front start end n utf8 boundary is ordered within first small text_front =
-    let size : length part ≡ end - start = ap length is ∙ length-take-le (end - start) (drop start text) (omega (arith, length-drop start text)) in
+    let size : length part ≡ end - start =
+    ap length is ∙ length-take-le (end - start) (drop start text) (omega (arith, length-drop start text)) in
     let same : front ≡ take n (drop start text) = first ∙ ap (take n) is ∙ take-take n (end - start) (drop start text) (omega arith) in
-    IsCharBoundary-from_rest text start n (omega arith) (IsCharBoundary-from_take (drop start text) n (IsUtf8-drop text start utf8 boundary) (omega (arith, length-drop start text)) (subst IsUtf8 same text_front))
+    IsCharBoundary-from_rest text start n (omega arith)
+    (IsCharBoundary-from_take (drop start text) n (IsUtf8-drop text start utf8 boundary)
+    (omega (arith, length-drop start text)) (subst IsUtf8 same text_front))

@@ -5,7 +5,8 @@ use Rattle.std.proofs.lemmas.Bool.{cases_lt}
 use Rattle.std.proofs.lemmas.Str.{IsCharBoundary-end, IsCharBoundary-from_drop}
 
 -- a text may be cut where what is left of it is a text
-pub start_cut : (text rest : List ℕ) (n : ℕ) → rest ≡ drop n text → length rest ≤ length text → IsUtf8 rest → IsCharBoundary text (length text - length rest)
+pub start_cut : (text rest : List ℕ) (n : ℕ) → rest ≡ drop n text → length rest ≤ length text → IsUtf8 rest
+    → IsCharBoundary text (length text - length rest)
 start_cut text rest n is small utf8 =
     let size : length rest ≡ length text - n = ap length is ∙ length-drop n text in
     elim (cases_lt n (length text)) [

@@ -65,60 +65,75 @@ inner size k n xs fits =
     ap (λ m. take n (drop k (take m xs))) whole ∙ ap (take n) (drop-take k (size - k) xs) ∙ take-take n (size - k) (drop k xs) (omega arith)
 
 -- bytes between two places of the zone
-pub bytes_there : {f : Frame} → Zone f → (a n b : ℕ) → f.from ≤ a → a + n ≤ f.end → b + f.from ≡ a + f.to → take n (drop b f.new) ≡ take n (drop a f.old)
+pub bytes_there : {f : Frame} → Zone f → (a n b : ℕ) → f.from ≤ a → a + n ≤ f.end → b + f.from ≡ a + f.to
+    → take n (drop b f.new) ≡ take n (drop a f.old)
 bytes_there {f} z a n b start end is =
     let size : ℕ = f.end - f.from in
     let k : ℕ = a - f.from in
     let fits : k + n ≤ size = omega arith in
     let from_old : f.from + k ≡ a = omega arith in
     let from_new : f.to + k ≡ b = omega arith in
-    ap (λ m. take n (drop m f.new)) (sym from_new) ∙ ap (take n) (sym (drop-drop k f.to f.new)) ∙ sym (inner size k n (drop f.to f.new) fits)
+    ap (λ m. take n (drop m f.new)) (sym from_new) ∙ ap (take n) (sym (drop-drop k f.to f.new))
+    ∙ sym (inner size k n (drop f.to f.new) fits)
     ∙ ap (λ xs. take n (drop k xs)) (sym z.same)
     ∙ inner size k n (drop f.from f.old) fits ∙ ap (take n) (drop-drop k f.from f.old) ∙ ap (λ m. take n (drop m f.old)) from_old
 
 -- a character stands where its bytes do
-pub copied : (old new rest : List ℕ) (a b c : ℕ) → drop a old ≡ encode_utf8 c ++ rest → take (len_utf8 c) (drop b new) ≡ take (len_utf8 c) (drop a old) → CharAt (place new b) c (place new (b + len_utf8 c))
+pub copied : (old new rest : List ℕ) (a b c : ℕ) → drop a old ≡ encode_utf8 c ++ rest
+    → take (len_utf8 c) (drop b new) ≡ take (len_utf8 c) (drop a old)
+    → CharAt (place new b) c (place new (b + len_utf8 c))
 copied old new rest a b c here same =
-    let bytes : take (len_utf8 c) (drop b new) ≡ encode_utf8 c = same ∙ ap (take (len_utf8 c)) here ∙ take_at (encode_utf8 c) rest (len_utf8 c) (length-encode c) in
-    char_here new (drop (len_utf8 c) (drop b new)) b c (sym (take-append-drop (len_utf8 c) (drop b new)) ∙ ap (λ xs. xs ++ drop (len_utf8 c) (drop b new)) bytes)
+    let bytes : take (len_utf8 c) (drop b new) ≡ encode_utf8 c =
+    same ∙ ap (take (len_utf8 c)) here ∙ take_at (encode_utf8 c) rest (len_utf8 c) (length-encode c) in
+    char_here new (drop (len_utf8 c) (drop b new)) b c
+    (sym (take-append-drop (len_utf8 c) (drop b new)) ∙ ap (λ xs. xs ++ drop (len_utf8 c) (drop b new)) bytes)
 
 -- a character of the zone
 pub char_there : {f : Frame} {u v : Place} {c : ℕ} → Zone f → Inside f u → Inside f v → CharAt u c v → CharAt (there f u) c (there f v)
 char_there {f} {u} {v} {c} z iu iv char =
     let next : v.at ≡ u.at + len_utf8 c = char.next in
-    let here : drop u.at f.old ≡ encode_utf8 c ++ drop v.at f.old = subst (λ t. drop u.at t ≡ encode_utf8 c ++ drop v.at t) iu.text char.here in
+    let here : drop u.at f.old ≡ encode_utf8 c ++ drop v.at f.old =
+    subst (λ t. drop u.at t ≡ encode_utf8 c ++ drop v.at t) iu.text char.here in
     let bytes = bytes_there z u.at (len_utf8 c) (f.move u.at) iu.start (omega (arith, iv.end)) iu.moved in
-    let stands : CharAt (there f u) c (place f.new (f.move u.at + len_utf8 c)) = copied f.old f.new (drop v.at f.old) u.at (f.move u.at) c here bytes in
+    let stands : CharAt (there f u) c (place f.new (f.move u.at + len_utf8 c)) =
+    copied f.old f.new (drop v.at f.old) u.at (f.move u.at) c here bytes in
     let width : f.move u.at + len_utf8 c ≡ f.move v.at = omega (arith, iu.moved, iv.moved) in
     subst (λ n. CharAt (there f u) c (place f.new n)) width stands
 
 -- the zone's last character
-pub char_there_last : {f : Frame} {u v : Place} {c : ℕ} → Zone f → Inside f u → v.at ≤ f.end → CharAt u c v → CharAt (there f u) c (place f.new (f.move u.at + len_utf8 c))
+pub char_there_last : {f : Frame} {u v : Place} {c : ℕ} → Zone f → Inside f u → v.at ≤ f.end → CharAt u c v
+    → CharAt (there f u) c (place f.new (f.move u.at + len_utf8 c))
 char_there_last {f} {u} {v} {c} z iu end char =
     let next : v.at ≡ u.at + len_utf8 c = char.next in
-    let here : drop u.at f.old ≡ encode_utf8 c ++ drop v.at f.old = subst (λ t. drop u.at t ≡ encode_utf8 c ++ drop v.at t) iu.text char.here in
-    copied f.old f.new (drop v.at f.old) u.at (f.move u.at) c here (bytes_there z u.at (len_utf8 c) (f.move u.at) iu.start (omega arith) iu.moved)
+    let here : drop u.at f.old ≡ encode_utf8 c ++ drop v.at f.old =
+    subst (λ t. drop u.at t ≡ encode_utf8 c ++ drop v.at t) iu.text char.here in
+    copied f.old f.new (drop v.at f.old) u.at (f.move u.at) c here
+    (bytes_there z u.at (len_utf8 c) (f.move u.at) iu.start (omega arith) iu.moved)
 
 -- a character of the second text stands in the first
-pub char_back : {f : Frame} {u w : Place} {c : ℕ} → Zone f → Inside f u → u.at < f.end → CharAt (there f u) c w → CharAt u c (place u.text (u.at + len_utf8 c))
+pub char_back : {f : Frame} {u w : Place} {c : ℕ} → Zone f → Inside f u → u.at < f.end → CharAt (there f u) c w
+    → CharAt u c (place u.text (u.at + len_utf8 c))
 char_back {f} {u} {w} {c} z iu below char =
     let next : w.at ≡ f.move u.at + len_utf8 c = char.next in
     let start : f.move u.at + f.from < f.end + f.to = omega (arith, iu.moved) in
     let end : w.at + f.from ≤ f.end + f.to = z.cut {u = there f u} refl char start in
     let bytes = bytes_there z u.at (len_utf8 c) (f.move u.at) iu.start (omega (arith, iu.moved)) iu.moved in
-    let stands : CharAt (place f.old u.at) c (place f.old (u.at + len_utf8 c)) = copied f.new f.old (drop w.at f.new) (f.move u.at) u.at c char.here (sym bytes) in
+    let stands : CharAt (place f.old u.at) c (place f.old (u.at + len_utf8 c)) =
+    copied f.new f.old (drop w.at f.new) (f.move u.at) u.at c char.here (sym bytes) in
     subst (λ t. CharAt (place t u.at) c (place t (u.at + len_utf8 c))) (sym iu.text) stands
 
 pub stops_there : {f : Frame} {u : Place} (test : ℕ → Bool) → Zone f → Inside f u → u.at < f.end → Stops test u → Stops test (there f u)
 stops_there test z iu below stops c w char = stops c _ (char_back z iu below char)
 
-pub run_there : {f : Frame} {test : ℕ → Bool} {u v : Place} → Zone f → Inside f u → Inside f v → Run test u v → Run test (there f u) (there f v)
+pub run_there : {f : Frame} {test : ℕ → Bool} {u v : Place} → Zone f → Inside f u → Inside f v → Run test u v
+    → Run test (there f u) (there f v)
 run_there z iu iv stop = stop
 run_there z iu iv (step char passes rest) =
     let iw = inside_between z iu iv (ahead_char char) (ahead_run rest) in
     step (char_there z iu iw char) passes (run_there z iw iv rest)
 
-pub longest_there : {f : Frame} {u v : Place} {test : ℕ → Bool} → Zone f → Inside f u → Inside f v → v.at < f.end → Longest test u v → Longest test (there f u) (there f v)
+pub longest_there : {f : Frame} {u v : Place} {test : ℕ → Bool} → Zone f → Inside f u → Inside f v → v.at < f.end
+    → Longest test u v → Longest test (there f u) (there f v)
 longest_there {f} {u} {v} {test} z iu iv below l = record { run = run_there z iu iv l.run; stops = stops_there test z iv below l.stops }
 
 pub parts_there : {f : Frame} {u v : Place} → Zone f → Inside f u → Inside f v → Parts u v → Parts (there f u) (there f v)
@@ -131,7 +146,9 @@ parts_there z iu iv (hidden slash char rest) =
     let b = inside_between z a iv (ahead_char char) (ahead_parts rest) in
     hidden (char_there z iu a slash) (char_there z a b char) (parts_there z b iv rest)
 parts_there z iu iv (nested opens parts closes rest) =
-    let a = inside_between z iu iv (ahead_char opens) (ahead_then (ahead_parts parts) (ahead_then (ahead_char closes) (ahead_parts rest))) in
+    let a =
+    inside_between z iu iv (ahead_char opens)
+    (ahead_then (ahead_parts parts) (ahead_then (ahead_char closes) (ahead_parts rest))) in
     let b = inside_between z a iv (ahead_parts parts) (ahead_then (ahead_char closes) (ahead_parts rest)) in
     let c = inside_between z b iv (ahead_char closes) (ahead_parts rest) in
     nested (char_there z iu a opens) (parts_there z a b parts) (char_there z b c closes) (parts_there z c iv rest)
@@ -144,7 +161,8 @@ between_there {f} {u} {v} z iu iv ahead =
     ∙ bytes_there z u.at (v.at - u.at) (f.move u.at) iu.start (omega (arith, iv.end, ahead.at)) iu.moved
     ∙ ap (λ t. take (v.at - u.at) (drop u.at t)) (sym iu.text)
 
-pub part_there : {f : Frame} {u v : Place} → Zone f → Inside f u → Inside f v → Ahead u v → part (there f u) (there f v) ≡ moved_part f.move (part u v)
+pub part_there : {f : Frame} {u v : Place} → Zone f → Inside f u → Inside f v → Ahead u v
+    → part (there f u) (there f v) ≡ moved_part f.move (part u v)
 part_there {f} {u} {v} z iu iv ahead =
     let build : List ℕ → Part = λ (t : List ℕ). record { text = t; start = f.move u.at; end = f.move v.at } in
     ap build (between_there z iu iv ahead)

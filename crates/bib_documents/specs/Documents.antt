@@ -76,7 +76,11 @@ value_stretch text f = between (place text f.value.start) (place text f.value.en
 
 -- another value in the place of a field's, up to the white space after it
 abbrev pub value_edit : List ℕ → FieldReading → List ℕ → Edit
-value_edit text f value = record { start = f.value.start; end = f.value.start + length (trim_end (value_stretch text f)); bytes = in_braces value }
+value_edit text f value = record {
+  start = f.value.start;
+  end = f.value.start + length (trim_end (value_stretch text f));
+  bytes = in_braces value;
+}
 
 -- a part of a text that is this text
 abbrev pub text_at : ℕ → List ℕ → Part
@@ -96,7 +100,9 @@ entry_edited d edit k e = record {
 -- an edit in one field of an entry
 abbrev pub field_edited : Document → Edit → ℕ → EntryReading → ℕ → FieldReading → Document
 field_edited d edit k e j f =
-    entry_edited d edit k (record (moved_entry (moved_place edit) e) { fields = slice_set (map (moved_field (moved_place edit)) e.fields) j f })
+    entry_edited d edit k
+    (record (moved_entry (moved_place edit) e)
+    { fields = slice_set (map (moved_field (moved_place edit)) e.fields) j f })
 
 -- a field of an entry with another value
 abbrev pub value_changed : Document → ℕ → EntryReading → ℕ → FieldReading → List ℕ → Document
@@ -132,20 +138,28 @@ field_at at name value =
     let value_start : ℕ = name_start + length name + length (codes " = ") in
     record {
       name = text_at name_start name;
-      value = record { pieces = literal (text_at (value_start + 1) value) ∷ []; start = value_start; end = value_start + length (in_braces value) };
+      value = record {
+        pieces = literal (text_at (value_start + 1) value) ∷ [];
+        start = value_start;
+        end = value_start + length (in_braces value);
+      };
     }
 
 -- an entry with one more field, before the others, in a line of its own
 abbrev pub field_added : Document → ℕ → EntryReading → ℕ → List ℕ → List ℕ → Document
 field_added d k e at name value =
     let edit : Edit = record { start = at; end = at; bytes = added_line name value } in
-    entry_edited d edit k (record (moved_entry (moved_place edit) e) { fields = field_at at name value ∷ map (moved_field (moved_place edit)) e.fields })
+    entry_edited d edit k
+    (record (moved_entry (moved_place edit) e)
+    { fields = field_at at name value ∷ map (moved_field (moved_place edit)) e.fields })
 
 -- what comes of setting a field of an entry: nothing changes where that is its value already, else the value is exchanged,
 -- and a field that isn't there is added
 pub data FieldSet (d : Document) (key name value : List ℕ) : Document → Type 0 where
-  same : {k j : ℕ} {e : EntryReading} {f : FieldReading} → HasEntry d key k e → HasField e name j f → is_value value f.value.pieces ≡ true → FieldSet d key name value d
-  changed : {k j : ℕ} {e : EntryReading} {f : FieldReading} → HasEntry d key k e → HasField e name j f → is_value value f.value.pieces ≡ false
+  same : {k j : ℕ} {e : EntryReading} {f : FieldReading} → HasEntry d key k e → HasField e name j f
+      → is_value value f.value.pieces ≡ true → FieldSet d key name value d
+  changed : {k j : ℕ} {e : EntryReading} {f : FieldReading} → HasEntry d key k e → HasField e name j f
+      → is_value value f.value.pieces ≡ false
       → FieldSet d key name value (value_changed d k e j f value)
   added : {k at : ℕ} {e : EntryReading} → HasEntry d key k e → last_position (has_name name) e.fields ≡ None → IsAfterComma d.text e at
       → FieldSet d key name value (field_added d k e at name value)
@@ -180,7 +194,8 @@ entry_removed d k e at =
 
 -- what comes of removing an entry: it is taken out with the white space after it
 pub data EntryRemoved (d : Document) (key : List ℕ) : Document → Type 0 where
-  removed : {k at : ℕ} {e : EntryReading} → HasEntry d key k e → Longest is_whitespace (place d.text (e.end + 1)) (place d.text at) → EntryRemoved d key (entry_removed d k e at)
+  removed : {k at : ℕ} {e : EntryReading} → HasEntry d key k e
+      → Longest is_whitespace (place d.text (e.end + 1)) (place d.text at) → EntryRemoved d key (entry_removed d k e at)
 
 -- why an edit of an entry is refused that takes no other text
 abbrev pub EntryIsRefused : Document → List ℕ → EditError → Type 0
@@ -213,12 +228,14 @@ positions test index (x ∷ xs) = if test x then index ∷ positions test (suc i
 -- what comes of taking fields out of an entry, from the last to the first, so that each is where it was
 pub data FieldsRemoved (d : Document) (k : ℕ) : List ℕ → Document → Type 0 where
   none : FieldsRemoved d k [] d
-  taken : {after : Document} {rest : List ℕ} {j : ℕ} {e : EntryReading} {f : FieldReading} → FieldsRemoved d k rest after → slice_get after.says.entries k ≡ Some e → slice_get e.fields j ≡ Some f
+  taken : {after : Document} {rest : List ℕ} {j : ℕ} {e : EntryReading} {f : FieldReading}
+      → FieldsRemoved d k rest after → slice_get after.says.entries k ≡ Some e → slice_get e.fields j ≡ Some f
       → FieldsRemoved d k (j ∷ rest) (field_removed after k e j f)
 
 -- what comes of unsetting a field of an entry: each field with the name is taken out
 pub data FieldUnset (d : Document) (key name : List ℕ) : Document → Type 0 where
-  unset : {k : ℕ} {e : EntryReading} {after : Document} → HasEntry d key k e → FieldsRemoved d k (positions (has_name name) 0 e.fields) after → FieldUnset d key name after
+  unset : {k : ℕ} {e : EntryReading} {after : Document} → HasEntry d key k e
+      → FieldsRemoved d k (positions (has_name name) 0 e.fields) after → FieldUnset d key name after
 
 -- a text can be a key: some characters that a key may have
 pub record CanBeKey (text : List ℕ) : Type 0 where

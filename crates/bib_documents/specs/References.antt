@@ -79,21 +79,27 @@ key_change false e new = []
 -- the changes in entries, the first of which has an index, where the key of one of them is renamed
 abbrev pub renaming : List ℕ → List ℕ → ℕ → ℕ → List EntryReading → List Change
 renaming old new renamed index [] = []
-renaming old new renamed index (e ∷ rest) = (key_change (index == renamed) e new ++ reference_changes old new e.fields) ++ renaming old new renamed (suc index) rest
+renaming old new renamed index (e ∷ rest) =
+    (key_change (index == renamed) e new ++ reference_changes old new e.fields)
+    ++ renaming old new renamed (suc index) rest
 
 -- what comes of changes, made from the last to the first, so that each piece is where it was
 pub data Changed (d : Document) : List Change → Document → Type 0 where
   none : Changed d [] d
-  key : {after : Document} {changes : List Change} {p : Part} {new : List ℕ} {e : EntryReading} → (k : ℕ) → Changed d changes after → slice_get after.says.entries k ≡ Some e → e.key ≡ p
+  key : {after : Document} {changes : List Change} {p : Part} {new : List ℕ} {e : EntryReading} → (k : ℕ)
+      → Changed d changes after → slice_get after.says.entries k ≡ Some e → e.key ≡ p
       → Changed d (Change.key p new ∷ changes) (entry_renamed after k e new)
-  value : {after : Document} {changes : List Change} {f : FieldReading} {new : List ℕ} {e : EntryReading} → (k j : ℕ) → Changed d changes after → slice_get after.says.entries k ≡ Some e → slice_get e.fields j ≡ Some f
+  value : {after : Document} {changes : List Change} {f : FieldReading} {new : List ℕ} {e : EntryReading} → (k j : ℕ)
+      → Changed d changes after → slice_get after.says.entries k ≡ Some e → slice_get e.fields j ≡ Some f
       → Changed d (Change.value f new ∷ changes) (value_changed after k e j f new)
 
 -- what comes of renaming a key: nothing changes where it is the key already, else the entry has the new one, and so has each
 -- reference to the old
 pub data KeyRenamed (d : Document) (old new : List ℕ) : Document → Type 0 where
   same : {k : ℕ} {e : EntryReading} → HasEntry d old k e → bytes_eq old new ≡ true → KeyRenamed d old new d
-  renamed : {k : ℕ} {e : EntryReading} {after : Document} → HasEntry d old k e → first_position (is_keyed new) d.says.entries ≡ None → Changed d (renaming old new k 0 d.says.entries) after → KeyRenamed d old new after
+  renamed : {k : ℕ} {e : EntryReading} {after : Document} → HasEntry d old k e
+      → first_position (is_keyed new) d.says.entries ≡ None → Changed d (renaming old new k 0 d.says.entries) after
+      → KeyRenamed d old new after
 
 -- another entry has a key already
 pub record IsKeyOfAnother (d : Document) (old new : List ℕ) : Type 0 where

@@ -19,7 +19,9 @@ edit_of e = record { start = e.start; end = e.end; bytes = string_bytes e.text }
 -- edits whose stretches stand one after another in a text from a place on, each where it may be cut out
 abbrev pub AreEditsInOrder : List ℕ → ℕ → List edits.Edit → Type 0
 AreEditsInOrder text at [] = ⊤
-AreEditsInOrder text at (edit ∷ rest) = (at ≤ edit.start) × (edit.start ≤ edit.end) × IsCharBoundary text edit.start × IsCharBoundary text edit.end × AreEditsInOrder text edit.end rest
+AreEditsInOrder text at (edit ∷ rest) =
+    (at ≤ edit.start) × (edit.start ≤ edit.end) × IsCharBoundary text edit.start × IsCharBoundary text edit.end
+    × AreEditsInOrder text edit.end rest
 
 -- where the value of each of some fields may be cut out of a text
 abbrev pub AreValuesPlaced : List ℕ → List FieldReading → Type 0
@@ -41,12 +43,16 @@ change_end (Change.value f new) = f.value.end
 -- what is changed stands in a text, one after another, from a place on, and may be cut out
 abbrev pub AreChangesInOrder : List ℕ → ℕ → List Change → Type 0
 AreChangesInOrder text at [] = ⊤
-AreChangesInOrder text at (change ∷ rest) = (at ≤ change_start change) × (change_start change ≤ change_end change) × IsCharBoundary text (change_start change) × IsCharBoundary text (change_end change) × AreChangesInOrder text (change_end change) rest
+AreChangesInOrder text at (change ∷ rest) =
+    (at ≤ change_start change) × (change_start change ≤ change_end change) × IsCharBoundary text (change_start change)
+    × IsCharBoundary text (change_end change) × AreChangesInOrder text (change_end change) rest
 
 -- the stretch of a change ends where white space begins that goes on to the end of what it changes, and may be cut there
 abbrev pub EndsInWhite : List ℕ → Change → Type 0
 EndsInWhite text (Change.key p new) = ⊤
-EndsInWhite text (Change.value f new) = Run is_whitespace (place text (change_edit text (Change.value f new)).end) (place text f.value.end) × IsCharBoundary text (change_edit text (Change.value f new)).end
+EndsInWhite text (Change.value f new) =
+    Run is_whitespace (place text (change_edit text (Change.value f new)).end) (place text f.value.end)
+    × IsCharBoundary text (change_edit text (Change.value f new)).end
 
 -- the edit that takes a field out of an entry, if it has a name
 abbrev pub removal : List ℕ → EntryReading → ℕ → FieldReading → List edits.Edit

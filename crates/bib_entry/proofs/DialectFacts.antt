@@ -10,6 +10,8 @@ use Rattle.bib_entry.specs.declared.write.Dialect.{Dialect}
 use Rattle.bib_entry.specs.declared.write.Dialect.TheVariants.{Biblatex, Bibtex}
 
 -- the name of the type, the key and the lines of a dialect form the text of an entry
-pub entry_parts : (dialect : Dialect) (e : Entry) → entry_text (entry_type_name (kind_in dialect e.entry_type)) e.key (flat_map (written_field dialect e.entry_type) (entries e.fields)) ≡ entry_in dialect e
+pub entry_parts : (dialect : Dialect) (e : Entry)
+    → entry_text (entry_type_name (kind_in dialect e.entry_type)) e.key
+    (flat_map (written_field dialect e.entry_type) (entries e.fields)) ≡ entry_in dialect e
 entry_parts Biblatex e = refl
 entry_parts Bibtex e = refl

@@ -14,15 +14,21 @@ use Rattle.bib_typed.specs.Retrieved.{field_as}
 use Rattle.bib_typed.proofs.FieldFacts.{get_inserted}
 
 -- a field that is set to chunks is parsed from these chunks
-pub set_is_read : {M : Type 0} (reads : List (Spanned Chunk) → Option M) (fields : ByText (List (Spanned Chunk))) (name : List ℕ) (chunks : List (Spanned Chunk)) → field_as reads (by_name.get (by_name.insert fields name chunks) name) ≡ reads chunks
+pub set_is_read : {M : Type 0} (reads : List (Spanned Chunk) → Option M) (fields : ByText (List (Spanned Chunk)))
+    (name : List ℕ) (chunks : List (Spanned Chunk))
+    → field_as reads (by_name.get (by_name.insert fields name chunks) name) ≡ reads chunks
 set_is_read reads fields name chunks = ap (field_as reads) (get_inserted fields name chunks)
 
 -- `SetsValue` follows from the new map, the old map after an error, and the law of the type
-pub is_set : {V : Type 0} (type : Ghosts V) (survives : (m : type.Meaning) → type.kept m → type.reads (type.writes m) ≡ Some m) (m : type.Meaning) (name : List ℕ) (old new : Entry) (result : Result (Unit {0}) AllocError)
+pub is_set : {V : Type 0} (type : Ghosts V)
+    (survives : (m : type.Meaning) → type.kept m → type.reads (type.writes m) ≡ Some m) (m : type.Meaning)
+    (name : List ℕ) (old new : Entry) (result : Result (Unit {0}) AllocError)
     → OnOk result (new ≡ with_field old name (type.writes m)) → OnErr result (new ≡ old) → SetsValue type m name old new result
 is_set type survives m name old new (Ok u) set refused = record {
   set = set;
-  kept = λ is_kept. ap (λ entry. field_as type.reads (by_name.get entry.fields name)) set ∙ set_is_read type.reads old.fields name (type.writes m) ∙ survives m is_kept;
+  kept = λ is_kept.
+      ap (λ entry. field_as type.reads (by_name.get entry.fields name)) set
+      ∙ set_is_read type.reads old.fields name (type.writes m) ∙ survives m is_kept;
   refused = refused;
 }
 is_set type survives m name old new (Err e) set refused = record { set = set; kept = set; refused = refused }

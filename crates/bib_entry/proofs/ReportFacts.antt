@@ -30,23 +30,27 @@ use Rattle.bib_entry.specs.Verdicts.{FieldErrors, AppendsError, AppendsFieldErro
 use Rattle.bib_entry.specs.declared.entry.Entry.{Entry}
 
 -- a name that is reported or not, followed by other names
-pub only_if_first : (is_reported : Bool) (name : List ℕ) (names : Names) → only_if is_reported name ++ names ≡ cond is_reported (name ∷ names) names
+pub only_if_first : (is_reported : Bool) (name : List ℕ) (names : Names)
+    → only_if is_reported name ++ names ≡ cond is_reported (name ∷ names) names
 only_if_first true name names = refl
 only_if_first false name names = refl
 
 -- if two pairs of lists are related element by element, so are their concatenations
-pub all_zip_append : {A B : Type 0} (R : A → B → Type 0) (xs : List A) (ys : List B) (vs : List A) (ws : List B) → AllZip R xs ys → AllZip R vs ws → AllZip R (xs ++ vs) (ys ++ ws)
+pub all_zip_append : {A B : Type 0} (R : A → B → Type 0) (xs : List A) (ys : List B) (vs : List A) (ws : List B)
+    → AllZip R xs ys → AllZip R vs ws → AllZip R (xs ++ vs) (ys ++ ws)
 all_zip_append R [] [] vs ws h k = k
 all_zip_append R [] (y ∷ ys) vs ws h k = absurd h
 all_zip_append R (x ∷ xs) [] vs ws h k = absurd h
 all_zip_append R (x ∷ xs) (y ∷ ys) vs ws h k = (h.0, all_zip_append R xs ys vs ws h.1 k)
 
 -- appending the errors of some verdicts, and then of others, appends those of both
-pub adds_then : (said more : List (List ℕ × Verdict)) (old mid new : FieldErrors) → AppendsErrors said old mid → AppendsErrors more mid new → AppendsErrors (said ++ more) old new
+pub adds_then : (said more : List (List ℕ × Verdict)) (old mid new : FieldErrors) → AppendsErrors said old mid
+    → AppendsErrors more mid new → AppendsErrors (said ++ more) old new
 adds_then said more old mid new h k = (
   h.0 ++ k.0,
   k.1 ∙ ap (λ reported. reported ++ k.0) h.1 ∙ append_assoc old h.0 k.0,
-  subst (λ errors. AllZip IsErrorOfField errors (h.0 ++ k.0)) (sym (filter-append is_error said more)) (all_zip_append IsErrorOfField (filter is_error said) h.0 (filter is_error more) k.0 h.2 k.2),
+  subst (λ errors. AllZip IsErrorOfField errors (h.0 ++ k.0)) (sym (filter-append is_error said more))
+      (all_zip_append IsErrorOfField (filter is_error said) h.0 (filter is_error more) k.0 h.2 k.2),
 )
 
 -- the verdict `fine` appends nothing
@@ -58,8 +62,10 @@ lies_there : (V : Type 0) (place : Range ℕ) (e : TypeError) → e.kind ≢ Out
 lies_there V place e some h = ⊎_elim (λ no_room. absurd (some (ap (λ error. error.kind) no_room))) (λ at. at) h
 
 -- the error of chunks that are parsed, or have an error of only this kind at this span, is appended
-pub adds_read : {V M : Type 0} (meaning : V → M) (reads : Option M) (allowed : TypeErrorKind → Type 0) (reason : TypeErrorKind) → ((kind : TypeErrorKind) → allowed kind → kind ≡ reason)
-    → (place : Range ℕ) (read : Result V TypeError) (name : List ℕ) (old new : FieldErrors) → IsReadAs meaning reads allowed read → LiesAt place read → AppendsError read name old new
+pub adds_read : {V M : Type 0} (meaning : V → M) (reads : Option M) (allowed : TypeErrorKind → Type 0)
+    (reason : TypeErrorKind) → ((kind : TypeErrorKind) → allowed kind → kind ≡ reason)
+    → (place : Range ℕ) (read : Result V TypeError) (name : List ℕ) (old new : FieldErrors)
+    → IsReadAs meaning reads allowed read → LiesAt place read → AppendsError read name old new
     → AppendsErrors ((name, read_or reads reason place) ∷ []) old new
 adds_read meaning reads allowed reason is_reason place (Ok v) name old new h at same =
     subst (λ found. AppendsErrors ((name, read_or found reason place) ∷ []) old new) (sym h) (adds_nothing name old new same)
@@ -69,26 +75,37 @@ adds_read {V = V} meaning reads allowed reason is_reason place (Err e) name old 
     ((name, e) ∷ [], reported.1, ((refl, (is_reason e.kind refusal.2, lies_there V place e reported.0 at)), _))) h
 
 -- the error of a field as a value of a type with only one kind of error is appended
-pub adds_field : {V : Type 0} (type : Ghosts V) (reason : Value → TypeErrorKind) → ((chunks : Value) (kind : TypeErrorKind) → type.may_refuse chunks kind → kind ≡ reason chunks)
-    → (field : Option Value) (name : List ℕ) (old new : FieldErrors) → AppendsFieldError type field name old new → AppendsErrors ((name, verdict type.reads reason field) ∷ []) old new
+pub adds_field : {V : Type 0} (type : Ghosts V) (reason : Value → TypeErrorKind)
+    → ((chunks : Value) (kind : TypeErrorKind) → type.may_refuse chunks kind → kind ≡ reason chunks)
+    → (field : Option Value) (name : List ℕ) (old new : FieldErrors) → AppendsFieldError type field name old new
+    → AppendsErrors ((name, verdict type.reads reason field) ∷ []) old new
 adds_field type reason is_reason None name old new h = adds_nothing name old new h
 adds_field type reason is_reason (Some chunks) name old new (read, is_read, at, reported) =
-    adds_read type.meaning (type.reads chunks) (type.may_refuse chunks) (reason chunks) (is_reason chunks) (whole_span chunks) read name old new is_read at reported
+    adds_read type.meaning (type.reads chunks) (type.may_refuse chunks) (reason chunks) (is_reason chunks)
+    (whole_span chunks) read name old new is_read at reported
 
 -- the error of a pagination scheme is appended
-pub adds_pagination : (field : Option Value) (name : List ℕ) (old new : FieldErrors) → AppendsFieldError pagination.ghosts field name old new → AppendsErrors ((name, verdict pagination_read (λ _. UnknownPagination) field) ∷ []) old new
+pub adds_pagination : (field : Option Value) (name : List ℕ) (old new : FieldErrors)
+    → AppendsFieldError pagination.ghosts field name old new
+    → AppendsErrors ((name, verdict pagination_read (λ _. UnknownPagination) field) ∷ []) old new
 adds_pagination = adds_field pagination.ghosts (λ _. UnknownPagination) (λ _ _ same. same)
 
 -- the error of a gender is appended
-pub adds_gender : (field : Option Value) (name : List ℕ) (old new : FieldErrors) → AppendsFieldError gender.ghosts field name old new → AppendsErrors ((name, verdict gender_read (λ _. UnknownGender) field) ∷ []) old new
+pub adds_gender : (field : Option Value) (name : List ℕ) (old new : FieldErrors)
+    → AppendsFieldError gender.ghosts field name old new
+    → AppendsErrors ((name, verdict gender_read (λ _. UnknownGender) field) ∷ []) old new
 adds_gender = adds_field gender.ghosts (λ _. UnknownGender) (λ _ _ same. same)
 
 -- the error of a list of ranges is appended
-pub adds_ranges : (field : Option Value) (name : List ℕ) (old new : FieldErrors) → AppendsFieldError ranges.ghosts field name old new → AppendsErrors ((name, verdict ranges_read (λ _. InvalidNumber) field) ∷ []) old new
+pub adds_ranges : (field : Option Value) (name : List ℕ) (old new : FieldErrors)
+    → AppendsFieldError ranges.ghosts field name old new
+    → AppendsErrors ((name, verdict ranges_read (λ _. InvalidNumber) field) ∷ []) old new
 adds_ranges = adds_field ranges.ghosts (λ _. InvalidNumber) (λ _ _ same. same)
 
 -- the error of a number is appended
-pub adds_number : (field : Option Value) (name : List ℕ) (old new : FieldErrors) → AppendsFieldError number.ghosts field name old new → AppendsErrors ((name, verdict number_read number_error field) ∷ []) old new
+pub adds_number : (field : Option Value) (name : List ℕ) (old new : FieldErrors)
+    → AppendsFieldError number.ghosts field name old new
+    → AppendsErrors ((name, verdict number_read number_error field) ∷ []) old new
 adds_number = adds_field number.ghosts number_error (λ _ _ same. same)
 
 -- `None` is not a value
@@ -96,19 +113,25 @@ none_is_some : {A : Type 0} {a : A} → None ≡ Some a → ⊥
 none_is_some h = search rules
 
 -- the error of a date with this result of parsing is appended
-pub adds_date : (reading : Reading Date) (place : Range ℕ) (read : Result Date TypeError) (name : List ℕ) (old new : FieldErrors) → AnswersReading reading read → LiesAt place read → AppendsError read name old new
+pub adds_date : (reading : Reading Date) (place : Range ℕ) (read : Result Date TypeError) (name : List ℕ)
+    (old new : FieldErrors) → AnswersReading reading read → LiesAt place read → AppendsError read name old new
     → AppendsErrors ((name, date_verdict reading place) ∷ []) old new
 adds_date (says date) place (Ok d) name old new h at same = adds_nothing name old new same
-adds_date (says date) place (Err e) name old new h at reported = ⊎_elim (λ no_room. absurd (reported.0 (ap (λ error. error.kind) no_room))) (λ refusal. absurd refusal.2) h
+adds_date (says date) place (Err e) name old new h at reported =
+    ⊎_elim (λ no_room. absurd (reported.0 (ap (λ error. error.kind) no_room))) (λ refusal. absurd refusal.2) h
 adds_date (error kind) place (Ok d) name old new h at same = absurd (none_is_some h)
 adds_date (error kind) place (Err e) name old new h at reported =
-    ⊎_elim (λ no_room. absurd (reported.0 (ap (λ error. error.kind) no_room))) (λ refusal. ((name, e) ∷ [], reported.1, ((refl, (refusal.2.0, lies_there Date place e reported.0 at)), _))) h
+    ⊎_elim (λ no_room. absurd (reported.0 (ap (λ error. error.kind) no_room)))
+    (λ refusal. ((name, e) ∷ [], reported.1, ((refl, (refusal.2.0, lies_there Date place e reported.0 at)), _))) h
 adds_date not_read place (Ok d) name old new h at same = absurd (none_is_some h)
 adds_date not_read place (Err e) name old new h at reported =
-    ⊎_elim (λ no_room. absurd (reported.0 (ap (λ error. error.kind) no_room))) (λ refusal. ((name, e) ∷ [], reported.1, ((refl, (refusal.2, lies_there Date place e reported.0 at)), _))) h
+    ⊎_elim (λ no_room. absurd (reported.0 (ap (λ error. error.kind) no_room)))
+    (λ refusal. ((name, e) ∷ [], reported.1, ((refl, (refusal.2, lies_there Date place e reported.0 at)), _))) h
 
 -- the errors of six fields are appended one after another
-pub adds_fields : (v₁ v₂ v₃ v₄ v₅ v₆ : List ℕ × Verdict) (old t₁ t₂ t₃ t₄ t₅ new : FieldErrors) → AppendsErrors (v₁ ∷ []) old t₁ → AppendsErrors (v₂ ∷ []) t₁ t₂ → AppendsErrors (v₃ ∷ []) t₂ t₃ → AppendsErrors (v₄ ∷ []) t₃ t₄ → AppendsErrors (v₅ ∷ []) t₄ t₅ → AppendsErrors (v₆ ∷ []) t₅ new
+pub adds_fields : (v₁ v₂ v₃ v₄ v₅ v₆ : List ℕ × Verdict) (old t₁ t₂ t₃ t₄ t₅ new : FieldErrors)
+    → AppendsErrors (v₁ ∷ []) old t₁ → AppendsErrors (v₂ ∷ []) t₁ t₂ → AppendsErrors (v₃ ∷ []) t₂ t₃
+    → AppendsErrors (v₄ ∷ []) t₃ t₄ → AppendsErrors (v₅ ∷ []) t₄ t₅ → AppendsErrors (v₆ ∷ []) t₅ new
     → AppendsErrors (v₁ ∷ v₂ ∷ v₃ ∷ v₄ ∷ v₅ ∷ v₆ ∷ []) old new
 adds_fields v₁ v₂ v₃ v₄ v₅ v₆ old t₁ t₂ t₃ t₄ t₅ new a₁ a₂ a₃ a₄ a₅ a₆ =
     adds_then (v₁ ∷ []) (v₂ ∷ v₃ ∷ v₄ ∷ v₅ ∷ v₆ ∷ []) old t₁ new a₁
@@ -117,13 +140,16 @@ adds_fields v₁ v₂ v₃ v₄ v₅ v₆ old t₁ t₂ t₃ t₄ t₅ new a₁ 
     (adds_then (v₄ ∷ []) (v₅ ∷ v₆ ∷ []) t₃ t₄ new a₄ (adds_then (v₅ ∷ []) (v₆ ∷ []) t₄ t₅ new a₅ a₆))))
 
 -- the errors of four dates are appended one after another
-pub adds_dates : (v₁ v₂ v₃ v₄ : List ℕ × Verdict) (old t₁ t₂ t₃ new : FieldErrors) → AppendsErrors (v₁ ∷ []) old t₁ → AppendsErrors (v₂ ∷ []) t₁ t₂ → AppendsErrors (v₃ ∷ []) t₂ t₃ → AppendsErrors (v₄ ∷ []) t₃ new → AppendsErrors (v₁ ∷ v₂ ∷ v₃ ∷ v₄ ∷ []) old new
+pub adds_dates : (v₁ v₂ v₃ v₄ : List ℕ × Verdict) (old t₁ t₂ t₃ new : FieldErrors) → AppendsErrors (v₁ ∷ []) old t₁
+    → AppendsErrors (v₂ ∷ []) t₁ t₂ → AppendsErrors (v₃ ∷ []) t₂ t₃ → AppendsErrors (v₄ ∷ []) t₃ new
+    → AppendsErrors (v₁ ∷ v₂ ∷ v₃ ∷ v₄ ∷ []) old new
 adds_dates v₁ v₂ v₃ v₄ old t₁ t₂ t₃ new a₁ a₂ a₃ a₄ =
     adds_then (v₁ ∷ []) (v₂ ∷ v₃ ∷ v₄ ∷ []) old t₁ new a₁
     (adds_then (v₂ ∷ []) (v₃ ∷ v₄ ∷ []) t₁ t₂ new a₂ (adds_then (v₃ ∷ []) (v₄ ∷ []) t₂ t₃ new a₃ a₄))
 
 -- all errors of an entry are appended
-pub reported_all : (entry : Entry) (mid new : FieldErrors) → AppendsErrors (field_verdicts entry) [] mid → AppendsErrors (date_verdicts entry) mid new → AreMalformed entry new
+pub reported_all : (entry : Entry) (mid new : FieldErrors) → AppendsErrors (field_verdicts entry) [] mid
+    → AppendsErrors (date_verdicts entry) mid new → AreMalformed entry new
 reported_all entry mid new h k =
     let all = adds_then (field_verdicts entry) (date_verdicts entry) [] mid new h k in
     subst (λ reported. AreMalformed entry reported) (sym all.1) all.2

@@ -29,7 +29,8 @@ three_parts prefix entry year = three_fields_reading year (date_part prefix entr
 
 -- the span of an error in these three fields
 abbrev pub three_parts_place : List ℕ → Entry → Value → Range ℕ
-three_parts_place prefix entry year = three_fields_place year (date_part prefix entry (codes "month")) (date_part prefix entry (codes "day"))
+three_parts_place prefix entry year =
+    three_fields_place year (date_part prefix entry (codes "month")) (date_part prefix entry (codes "day"))
 
 -- the result is the parsed date; or a `TypeError` at this span, of a kind that `reading` allows, if the fields are no date;
 -- or out of memory
@@ -37,7 +38,8 @@ abbrev pub IsDateRead : Reading Date → Range ℕ → Result (PermissiveType Da
 IsDateRead reading place (Ok (Typed date)) = readable_value reading ≡ Some date
 IsDateRead reading place (Ok (Chunks chunks)) = ⊥
 IsDateRead reading place (Err (Missing reported)) = ⊥
-IsDateRead reading place (Err (TypeError e)) = (e.kind ≢ kind.OutOfMemory) × (readable_value reading ≡ None) × MayRefuse reading e.kind × (e.span ≡ place)
+IsDateRead reading place (Err (TypeError e)) =
+    (e.kind ≢ kind.OutOfMemory) × (readable_value reading ≡ None) × MayRefuse reading e.kind × (e.span ≡ place)
 IsDateRead reading place (Err OutOfMemory) = ⊤
 
 -- the result is the error `Missing` with the name `year`, or out of memory
@@ -50,13 +52,15 @@ IsNoYear (Err OutOfMemory) = ⊤
 -- the result of getting a date, given its field and the field of its year. If there is a date field, the result is that field
 -- as a date, or else its chunks. If there is only a year, it is the date of the three fields. Otherwise the error is
 -- `Missing` with the name `year`, for any prefix
-abbrev pub IsDateOf : Ghosts (PermissiveType Date) → List ℕ → Entry → Option Value → Option Value → Result (PermissiveType Date) RetrievalError → Type 0
+abbrev pub IsDateOf : Ghosts (PermissiveType Date) → List ℕ → Entry → Option Value → Option Value
+    → Result (PermissiveType Date) RetrievalError → Type 0
 IsDateOf type prefix entry (Some chunks) year result = IsRetrieved type (Some chunks) (prefix ++ codes "date") result
 IsDateOf type prefix entry None (Some year) result = IsDateRead (three_parts prefix entry year) (three_parts_place prefix entry year) result
 IsDateOf type prefix entry None None result = IsNoYear result
 
 -- `result` is the result of getting the date with this prefix
-pub record GetsDate (type : Ghosts (PermissiveType Date)) (prefix : List ℕ) (entry : Entry) (result : Result (PermissiveType Date) RetrievalError) : Type 0 where
+pub record GetsDate (type : Ghosts (PermissiveType Date)) (prefix : List ℕ) (entry : Entry)
+    (result : Result (PermissiveType Date) RetrievalError) : Type 0 where
   pub date : IsDateOf type prefix entry (date_part prefix entry (codes "date")) (date_part prefix entry (codes "year")) result
 
 -- an entry without the field of a part of a date
@@ -66,11 +70,14 @@ without_part prefix part entry = record entry { fields = by_name.remove entry.fi
 -- an entry with the field of a date set to these chunks, and without its year, month and day
 abbrev pub with_date : List ℕ → Entry → Value → Entry
 with_date prefix entry chunks =
-    without_part prefix (codes "day") (without_part prefix (codes "month") (without_part prefix (codes "year") (with_field entry (prefix ++ codes "date") chunks)))
+    without_part prefix (codes "day")
+    (without_part prefix (codes "month")
+    (without_part prefix (codes "year") (with_field entry (prefix ++ codes "date") chunks)))
 
 -- the date is set to the chunks that a value of this meaning is written as; its year, month and day are removed, and no other
 -- field changes. If the type keeps the value, the field parses back to that value. If memory runs out, nothing changes
-pub record SetsDate (type : Ghosts (PermissiveType Date)) (m : type.Meaning) (prefix : List ℕ) (old new : Entry) (result : Result (Unit {0}) AllocError) : Type 0 where
+pub record SetsDate (type : Ghosts (PermissiveType Date)) (m : type.Meaning) (prefix : List ℕ) (old new : Entry)
+    (result : Result (Unit {0}) AllocError) : Type 0 where
   pub set : OnOk result (new ≡ with_date prefix old (type.writes m))
   pub kept : OnOk result (type.kept m → field_as type.reads (date_part prefix new (codes "date")) ≡ Some m)
   pub refused : OnErr result (new ≡ old)

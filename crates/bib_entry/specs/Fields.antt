@@ -21,7 +21,8 @@ field_or entry name other = one_or_other entry.fields name other
 
 -- `result` is the result of parsing the field of the first name, or else of the second. If both are missing, the error
 -- contains the first name
-pub record GetsEitherValue {V : Type 0} (type : Ghosts V) (entry : Entry) (name other : List ℕ) (result : Result V RetrievalError) : Type 0 where
+pub record GetsEitherValue {V : Type 0} (type : Ghosts V) (entry : Entry) (name other : List ℕ)
+    (result : Result V RetrievalError) : Type 0 where
   pub retrieved : IsRetrieved type (field_or entry name other) name result
 
 -- `result` is the chunks of the field of this name
@@ -46,7 +47,8 @@ pub record SetsChunks (chunks : Value) (name : List ℕ) (old new : Entry) (resu
 
 -- the field of this name is set to the chunks that a value of this meaning is written as, and no other field changes. If the
 -- type keeps the value, the field parses back to that value. If memory runs out, nothing changes
-pub record SetsValue {V : Type 0} (type : Ghosts V) (m : type.Meaning) (name : List ℕ) (old new : Entry) (result : Result (Unit {0}) AllocError) : Type 0 where
+pub record SetsValue {V : Type 0} (type : Ghosts V) (m : type.Meaning) (name : List ℕ) (old new : Entry)
+    (result : Result (Unit {0}) AllocError) : Type 0 where
   pub set : OnOk result (new ≡ with_field old name (type.writes m))
   pub kept : OnOk result (type.kept m → field_as type.reads (by_name.get new.fields name) ≡ Some m)
   pub refused : OnErr result (new ≡ old)

@@ -40,7 +40,9 @@ has_chunks entry name = is_filled (by_name.get entry.fields name)
 
 -- the other name of each required field that has one
 abbrev pub other_required_names : List (List ℕ × List ℕ)
-other_required_names = (codes "journaltitle", codes "journal") ∷ (codes "location", codes "address") ∷ (codes "school", codes "institution") ∷ []
+other_required_names =
+    (codes "journaltitle", codes "journal") ∷ (codes "location", codes "address")
+    ∷ (codes "school", codes "institution") ∷ []
 
 -- whether there is another name and its field has chunks
 abbrev pub has_other : Entry → Option (List ℕ) → Bool
@@ -54,7 +56,10 @@ lacks entry name = not (has_chunks entry name || has_other entry (named other_re
 -- whether an entry has editors in any role
 abbrev pub has_editor : Entry → Bool
 has_editor entry =
-    has_field entry (codes "editor") || (has_field entry (codes "editora") || (has_field entry (codes "editorb") || has_field entry (codes "editorc")))
+    has_field entry (codes "editor")
+    ||
+    (has_field entry (codes "editora")
+    || (has_field entry (codes "editorb") || has_field entry (codes "editorc")))
 
 -- the name if it is reported, and nothing otherwise
 abbrev pub only_if : Bool → List ℕ → Names
@@ -65,7 +70,8 @@ only_if false name = []
 abbrev pub missing_people : AuthorMode → Bool → Bool → Names
 missing_people author.NoneRequired has_author has_editor = []
 missing_people author.OneRequired has_author has_editor = only_if (not (has_author || has_editor)) (codes "author")
-missing_people author.BothRequired has_author has_editor = only_if (not has_editor) (codes "editor") ++ only_if (not has_author) (codes "author")
+missing_people author.BothRequired has_author has_editor =
+    only_if (not has_editor) (codes "editor") ++ only_if (not has_author) (codes "author")
 missing_people author.AuthorRequired has_author has_editor = only_if (not has_author) (codes "author")
 missing_people author.AuthorRequiredEditorOptional has_author has_editor = only_if (not has_author) (codes "author")
 missing_people author.EditorRequiredAuthorForbidden has_author has_editor = only_if (not has_editor) (codes "editor")
@@ -78,7 +84,8 @@ missing_pages _ has_pages has_chapter = []
 
 -- the missing year: `year` if a date is required and the entry has neither `date` nor `year`
 abbrev pub missing_date : Bool → Entry → Names
-missing_date needs_date entry = only_if (needs_date && not (has_field entry (codes "date") || has_field entry (codes "year"))) (codes "year")
+missing_date needs_date entry =
+    only_if (needs_date && not (has_field entry (codes "date") || has_field entry (codes "year"))) (codes "year")
 
 -- the missing fields: those that the type requires, then authors and editors, pages, and the year
 abbrev pub missing_of : Entry → Names
@@ -95,7 +102,9 @@ superfluous_people _ entry = []
 
 -- the pages and the chapter, if a rule forbids them and the entry has them
 abbrev pub superfluous_pages : PagesChapterMode → Entry → Names
-superfluous_pages pages.BothForbidden entry = only_if (has_field entry (codes "pages")) (codes "pages") ++ only_if (has_field entry (codes "chapter")) (codes "chapter")
+superfluous_pages pages.BothForbidden entry =
+    only_if (has_field entry (codes "pages")) (codes "pages")
+    ++ only_if (has_field entry (codes "chapter")) (codes "chapter")
 superfluous_pages _ entry = []
 
 -- the superfluous fields: those that the type forbids and that have chunks, then the author, the pages and the chapter
@@ -156,7 +165,8 @@ prefix_verdict entry prefix = (
 -- the dates of an entry, each with its verdict
 abbrev pub date_verdicts : Entry → List (List ℕ × Verdict)
 date_verdicts entry =
-    prefix_verdict entry [] ∷ prefix_verdict entry (codes "url") ∷ prefix_verdict entry (codes "orig") ∷ prefix_verdict entry (codes "event") ∷ []
+    prefix_verdict entry [] ∷ prefix_verdict entry (codes "url") ∷ prefix_verdict entry (codes "orig")
+    ∷ prefix_verdict entry (codes "event") ∷ []
 
 -- whether a verdict reports an error
 abbrev pub is_error : List ℕ × Verdict → Bool

@@ -23,7 +23,8 @@ AppendsError (Err e) name old new = (e.kind ≢ OutOfMemory) × (new ≡ old ++ 
 abbrev pub AppendsFieldError : {V : Type 0} → Ghosts V → Option Value → List ℕ → FieldErrors → FieldErrors → Type 0
 AppendsFieldError type None name old new = new ≡ old
 AppendsFieldError {V} type (Some chunks) name old new =
-    (read : Result V TypeError) × IsReadAs type.meaning (type.reads chunks) (type.may_refuse chunks) read × LiesAt (whole_span chunks) read × AppendsError read name old new
+    (read : Result V TypeError) × IsReadAs type.meaning (type.reads chunks) (type.may_refuse chunks) read
+    × LiesAt (whole_span chunks) read × AppendsError read name old new
 
 -- one error is appended for each verdict that reports one, in order
 abbrev pub AppendsErrors : List (List ℕ × Verdict) → FieldErrors → FieldErrors → Type 0

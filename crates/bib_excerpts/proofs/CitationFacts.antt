@@ -14,21 +14,27 @@ use Rattle.bib_excerpts.specs.declared.citations.Collected.{Collected}
 use Rattle.bib_text.proofs.ListFacts.{begins, begins_not}
 
 -- what is left after a prefix
-pub prefix_after : (prefix text : List ℕ) (r : Option (Bor (List ℕ))) → MatchOption r (FindsTextPrefix prefix text None) (λ x. (n : ℕ) × FindsTextPrefix prefix text (Some n) × (x.now ≡ drop n text) × (length x.now + n ≡ length text))
+pub prefix_after : (prefix text : List ℕ) (r : Option (Bor (List ℕ)))
+    → MatchOption r (FindsTextPrefix prefix text None)
+    (λ x. (n : ℕ) × FindsTextPrefix prefix text (Some n) × (x.now ≡ drop n text) × (length x.now + n ≡ length text))
     → option_map (λ x. x.now) r ≡ left_after prefix text
 prefix_after prefix text None h = sym (ap (λ b. cond b (Some (drop (length prefix) text)) None) (begins_not prefix text h))
 prefix_after prefix text (Some x) h =
-    ap Some (h.2 ∙ ap (λ k. drop k text) h.1.0) ∙ sym (ap (λ b. cond b (Some (drop (length prefix) text)) None) (begins prefix text (drop h.0 text) h.1.1))
+    ap Some (h.2 ∙ ap (λ k. drop k text) h.1.0)
+    ∙ sym (ap (λ b. cond b (Some (drop (length prefix) text)) None) (begins prefix text (drop h.0 text) h.1.1))
 
 -- a key that is among those that are cited
-pub known_keys : (keys : List Citation) (c : Citation) → list_any (λ k. bytes_eq k.key c.key) keys ≡ true → fold add_citation keys (c ∷ []) ≡ keys
-known_keys keys c known = ap (λ b. cond (bytes_eq c.key (codes "*") || b) keys (keys ++ c ∷ [])) known ∙ of (bytes_eq c.key (codes "*")) where
-  of : (b : Bool) → cond (b || true) keys (keys ++ c ∷ []) ≡ keys
-  of true = refl
-  of false = refl
+pub known_keys : (keys : List Citation) (c : Citation) → list_any (λ k. bytes_eq k.key c.key) keys ≡ true
+    → fold add_citation keys (c ∷ []) ≡ keys
+known_keys keys c known =
+    ap (λ b. cond (bytes_eq c.key (codes "*") || b) keys (keys ++ c ∷ [])) known ∙ of (bytes_eq c.key (codes "*")) where
+      of : (b : Bool) → cond (b || true) keys (keys ++ c ∷ []) ≡ keys
+      of true = refl
+      of false = refl
 
 -- a key that isn't
-pub new_keys : (keys : List Citation) (c : Citation) → bytes_eq c.key (codes "*") ≡ false → list_any (λ k. bytes_eq k.key c.key) keys ≡ false → fold add_citation keys (c ∷ []) ≡ keys ++ c ∷ []
+pub new_keys : (keys : List Citation) (c : Citation) → bytes_eq c.key (codes "*") ≡ false
+    → list_any (λ k. bytes_eq k.key c.key) keys ≡ false → fold add_citation keys (c ∷ []) ≡ keys ++ c ∷ []
 new_keys keys c other new = ap₂ (λ a b. cond (a || b) keys (keys ++ c ∷ [])) other new
 
 -- not all are cited by a key
@@ -43,10 +49,13 @@ or_assoc true b c = refl
 or_assoc false b c = refl
 
 -- some and some more
-pub collected_then : (old mid new : Collected) (xs ys : List Citation) → IsCollected old xs mid → IsCollected mid ys new → IsCollected old (xs ++ ys) new
+pub collected_then : (old mid new : Collected) (xs ys : List Citation) → IsCollected old xs mid → IsCollected mid ys new
+    → IsCollected old (xs ++ ys) new
 collected_then old mid new xs ys first second = record {
   keys = second.keys ∙ ap (λ l. fold add_citation l ys) first.keys ∙ sym (fold-append add_citation old.keys.items xs ys);
-  all = second.all ∙ ap (λ b. b || cites_all ys) first.all ∙ or_assoc old.all (cites_all xs) (cites_all ys) ∙ ap (λ b. old.all || b) (sym (list_any-append (λ c. bytes_eq c.key (codes "*")) xs ys));
+  all =
+      second.all ∙ ap (λ b. b || cites_all ys) first.all ∙ or_assoc old.all (cites_all xs) (cites_all ys)
+      ∙ ap (λ b. old.all || b) (sym (list_any-append (λ c. bytes_eq c.key (codes "*")) xs ys));
   seen = second.seen;
 }
 
@@ -73,11 +82,16 @@ pub past_push : (xs : List (List ℕ)) (x : List ℕ) → past (xs ++ x ∷ []) 
 past_push [] x = omega arith
 past_push (y ∷ xs) x = omega (arith, past_push xs x)
 
-pub cites_push : (cited : List ℕ → List (List ℕ)) (at : ℕ) (xs : List (List ℕ)) (x : List ℕ) → cites_from cited at (xs ++ x ∷ []) ≡ cites_from cited at xs ++ cites_at (at + past xs) (cited x)
+pub cites_push : (cited : List ℕ → List (List ℕ)) (at : ℕ) (xs : List (List ℕ)) (x : List ℕ)
+    → cites_from cited at (xs ++ x ∷ []) ≡ cites_from cited at xs ++ cites_at (at + past xs) (cited x)
 cites_push cited at [] x = append-nil (cites_at at (cited x)) ∙ ap (λ n. cites_at n (cited x)) (omega arith)
 cites_push cited at (y ∷ xs) x =
-    ap (λ l. cites_at at (cited y) ++ l) (cites_push cited (at + (length y + 1)) xs x ∙ ap (λ n. cites_from cited (at + (length y + 1)) xs ++ cites_at n (cited x)) (omega arith))
-    ∙ sym (append_assoc (cites_at at (cited y)) (cites_from cited (at + (length y + 1)) xs) (cites_at (at + ((length y + 1) + past xs)) (cited x)))
+    ap (λ l. cites_at at (cited y) ++ l)
+    (cites_push cited (at + (length y + 1)) xs x
+    ∙ ap (λ n. cites_from cited (at + (length y + 1)) xs ++ cites_at n (cited x)) (omega arith))
+    ∙ sym
+    (append_assoc (cites_at at (cited y)) (cites_from cited (at + (length y + 1)) xs)
+    (cites_at (at + ((length y + 1) + past xs)) (cited x)))
 
 -- a cut text is as long as its parts
 onto : (x : ℕ) (parts : List (List ℕ)) → 0 < length parts → past (onto_first x parts) ≡ past parts + 1
@@ -97,7 +111,8 @@ parts_some p (x ∷ xs) = of (p x) where
 pub past_split : (p : ℕ → Bool) (xs : List ℕ) → past (slice_split p xs) ≡ length xs + 1
 past_split p [] = omega arith
 past_split p (x ∷ xs) = of (p x) (past_split p xs) where
-  of : (b : Bool) → past (slice_split p xs) ≡ length xs + 1 → past (cond b ([] ∷ slice_split p xs) (onto_first x (slice_split p xs))) ≡ suc (length xs) + 1
+  of : (b : Bool) → past (slice_split p xs) ≡ length xs + 1
+      → past (cond b ([] ∷ slice_split p xs) (onto_first x (slice_split p xs))) ≡ suc (length xs) + 1
   of true rest = omega (arith, rest)
   of false rest = omega (arith, onto x (slice_split p xs) (parts_some p xs), rest)
 
@@ -108,12 +123,16 @@ past_take (x ∷ xs) zero = omega arith
 past_take (x ∷ xs) (suc n) = omega (arith, past_take xs n)
 
 -- where a piece ends is within the text
-pub past_below : (p : ℕ → Bool) (text : List ℕ) (xs : List (List ℕ)) (x : List ℕ) (n : ℕ) → xs ++ x ∷ [] ≡ take n (slice_split p text) → past xs + length x ≤ length text
+pub past_below : (p : ℕ → Bool) (text : List ℕ) (xs : List (List ℕ)) (x : List ℕ) (n : ℕ)
+    → xs ++ x ∷ [] ≡ take n (slice_split p text) → past xs + length x ≤ length text
 past_below p text xs x n is = omega (arith, past_push xs x, ap past is, past_take (slice_split p text) n, past_split p text)
 
 -- more is collected from one more piece
-pub collected_next : (cited : List ℕ → List (List ℕ)) (old mid new : Collected) (xs : List (List ℕ)) (x : List ℕ) (at : ℕ) → at ≡ past xs → IsCollected old (cites_from cited 0 xs) mid → IsCollected mid (cites_at at (cited x)) new
+pub collected_next : (cited : List ℕ → List (List ℕ)) (old mid new : Collected) (xs : List (List ℕ)) (x : List ℕ)
+    (at : ℕ) → at ≡ past xs → IsCollected old (cites_from cited 0 xs) mid
+    → IsCollected mid (cites_at at (cited x)) new
     → IsCollected old (cites_from cited 0 (xs ++ x ∷ [])) new
 collected_next cited old mid new xs x at is first second =
-    subst (λ l. IsCollected old l new) (sym (cites_push cited 0 xs x)) (collected_then old mid new (cites_from cited 0 xs) (cites_at (0 + past xs) (cited x)) first
+    subst (λ l. IsCollected old l new) (sym (cites_push cited 0 xs x)) (collected_then old mid new
+    (cites_from cited 0 xs) (cites_at (0 + past xs) (cited x)) first
     (subst (λ n. IsCollected mid (cites_at n (cited x)) new) (omega (arith, is)) second))

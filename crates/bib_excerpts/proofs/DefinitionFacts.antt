@@ -37,8 +37,11 @@ cut_before : {u v : Place} {c : ℕ} (text : List ℕ) → u.text ≡ text → C
 cut_before {u} text same char = (same, subst (λ t. IsCharBoundary t u.at) same (char_boundary char))
 
 cut_after : {u v : Place} {c : ℕ} (text : List ℕ) → IsUtf8 text → u.text ≡ text → CharAt u c v → Cut text v
-cut_after {u} {v} text utf8 same char =
-    (char.same ∙ same, subst (λ t. IsCharBoundary t v.at) same (boundary_following (subst (λ t. IsUtf8 t) (sym same) utf8) (char_boundary char) char))
+cut_after {u} {v} text utf8 same char = (
+  char.same ∙ same,
+  subst (λ t. IsCharBoundary t v.at) same
+      (boundary_following (subst (λ t. IsUtf8 t) (sym same) utf8) (char_boundary char) char),
+)
 
 cut_run : {test : ℕ → Bool} {u v : Place} (text : List ℕ) → IsUtf8 text → Cut text u → Run test u v → Cut text v
 cut_run text utf8 cut stop = cut
@@ -73,7 +76,9 @@ pub cut_out : (text : List ℕ) (f : FieldReading) → IsUtf8 text → IsFieldIn
 cut_out text f utf8 stands =
     let field = stands.1 in
     let ahead = ahead_field field in
-    let before = (ahead_run field.white'.run).text ∙ (field.sign.same ∙ ((ahead_run field.white.run).text ∙ (cut_identifier text utf8 refl field.name).0)) in
+    let before =
+    (ahead_run field.white'.run).text
+    ∙ (field.sign.same ∙ ((ahead_run field.white.run).text ∙ (cut_identifier text utf8 refl field.name).0)) in
     record {
       ordered = omega (arith, ahead.at, field.ends);
       start = char_boundary field.name.here;
@@ -83,24 +88,33 @@ cut_out text f utf8 stands =
 -- ---- each abbreviation that is read stands in its text
 
 field_in : {u v : Place} {f : FieldReading} (text : List ℕ) → u.text ≡ text → Field longest u f v → IsFieldIn text f
-field_in {u} {v} {f} text same field = (v, subst (λ p. Field longest p f v) (same_place {u = u} {v = place text f.name.start} same (sym (ap (λ p. p.start) field.name.reading))) field)
+field_in {u} {v} {f} text same field = (
+  v,
+  subst (λ p. Field longest p f v)
+      (same_place {u = u} {v = place text f.name.start} same (sym (ap (λ p. p.start) field.name.reading))) field,
+)
 
-fields_in : {u v : Place} {fs : List FieldReading} (text : List ℕ) → u.text ≡ text → Fields longest u fs v → AllByRecursion (IsFieldIn text) fs
+fields_in : {u v : Place} {fs : List FieldReading} (text : List ℕ) → u.text ≡ text → Fields longest u fs v
+    → AllByRecursion (IsFieldIn text) fs
 fields_in text same (fields.none w) = _
 fields_in text same (fields.last f g) = (field_in text same f, _)
 fields_in text same (fields.more f g s h rest) =
     (field_in text same f, fields_in text ((ahead_gap h).text ∙ (s.same ∙ ((ahead_gap g).text ∙ ((ahead_field f).text ∙ same)))) rest)
 
-in_body : {start u v : Place} {p : Part} {k : BlockKind} {says : FileReading} (text : List ℕ) → u.text ≡ text → Body longest start p k u says v → AllByRecursion (IsFieldIn text) says.abbreviations
+in_body : {start u v : Place} {p : Part} {k : BlockKind} {says : FileReading} (text : List ℕ) → u.text ≡ text
+    → Body longest start p k u says v → AllByRecursion (IsFieldIn text) says.abbreviations
 in_body text same (body.comment v inside close) = _
 in_body text same (body.preamble quoted white close is_close) = _
 in_body text same (body.strings fs close) = fields_in text same fs
 in_body text same (body.entry v key white comma gap fs close) = _
 
-pub definitions_stand : {u : Place} {says : FileReading} {errors : List SkippedBlock} (text : List ℕ) → u.text ≡ text → Recovered u says errors → AllByRecursion (IsFieldIn text) says.abbreviations
+pub definitions_stand : {u : Place} {says : FileReading} {errors : List SkippedBlock} (text : List ℕ) → u.text ≡ text
+    → Recovered u says errors → AllByRecursion (IsFieldIn text) says.abbreviations
 definitions_stand text same (recovered.end end) = _
 definitions_stand text same (recovered.skipped char passes x) = definitions_stand text (char.same ∙ same) x
 definitions_stand text same (recovered.line_comment m x) = definitions_stand text ((ahead_line_comment m).text ∙ same) x
 definitions_stand text same (recovered.block {first = first} {rest = rest} b x) =
-    all_append (IsFieldIn text) first.abbreviations rest.abbreviations (in_body text ((ahead_head b.head).text ∙ same) b.body) (definitions_stand text ((ahead_block b).text ∙ same) x)
-definitions_stand text same (recovered.unread sign none on x) = definitions_stand text ((ahead_passed on.passed).text ∙ (sign.same ∙ same)) x
+    all_append (IsFieldIn text) first.abbreviations rest.abbreviations
+    (in_body text ((ahead_head b.head).text ∙ same) b.body) (definitions_stand text ((ahead_block b).text ∙ same) x)
+definitions_stand text same (recovered.unread sign none on x) =
+    definitions_stand text ((ahead_passed on.passed).text ∙ (sign.same ∙ same)) x

@@ -30,7 +30,8 @@ end_of : List EntryReading → ℕ
 end_of [] = 0
 end_of (e ∷ rest) = e.end
 
-closes : {start u v : Place} {name : Part} {kind : BlockKind} {says : FileReading} {e : EntryReading} → Body longest start name kind u says v
+closes : {start u v : Place} {name : Part} {kind : BlockKind} {says : FileReading} {e : EntryReading}
+    → Body longest start name kind u says v
     → says.entries ≡ e ∷ [] → ClosesAt u e
 unfolding end_of
 closes (comment v chars sign) is = absurd (cc)
@@ -41,7 +42,10 @@ closes (entry v key white comma gap fields sign) is = record {
   after = _;
   stands = sign;
   is = ap end_of is;
-  ahead = ahead_then (ahead_run key.run) (ahead_then (ahead_run white.run) (ahead_then (ahead_char comma) (ahead_then (ahead_gap gap) (ahead_fields fields))));
+  ahead =
+      ahead_then (ahead_run key.run)
+      (ahead_then (ahead_run white.run)
+      (ahead_then (ahead_char comma) (ahead_then (ahead_gap gap) (ahead_fields fields))));
 }
 
 -- the byte at which a character of ASCII stands
@@ -49,7 +53,8 @@ byte_here : {u v : Place} (c : ℕ) → c < 128 → CharAt u c v → (u.at < len
 byte_here {u} {v} c small char =
     let width : 1 ≤ len_utf8 c = (len_utf8_bounds c).0 in (
       omega (arith, char_left char, width),
-      sym (ap (λ n. get_or u.text n 0) (omega arith)) ∙ sym (get_or-drop u.at u.text 0 0) ∙ ap (λ t. get_or t 0 0) (char.here ∙ ap (λ t. t ++ drop v.at u.text) (encode_ascii c small)),
+      sym (ap (λ n. get_or u.text n 0) (omega arith)) ∙ sym (get_or-drop u.at u.text 0 0)
+          ∙ ap (λ t. get_or t 0 0) (char.here ∙ ap (λ t. t ++ drop v.at u.text) (encode_ascii c small)),
     )
 
 -- where an entry may be cut out of its text
@@ -64,13 +69,16 @@ can_be_cut text e utf8 block =
     let sign = block.1.head.sign in
     let brace = closes block.1.body refl in
     let to_name = ahead_then (ahead_identifier block.1.head.name) (ahead_run block.1.head.white.run) in
-    let to_body = ahead_then (ahead_char sign) (ahead_then to_name (ahead_then (ahead_char block.1.head.opens) (ahead_run block.1.head.white'.run))) in
+    let to_body =
+    ahead_then (ahead_char sign)
+    (ahead_then to_name (ahead_then (ahead_char block.1.head.opens) (ahead_run block.1.head.white'.run))) in
     let to_brace = ahead_then to_body brace.ahead in
     let at_sign = byte_here 64 (omega arith) sign in
     let at_brace = byte_here 125 (omega arith) brace.stands in
     let same : brace.brace.text ≡ text = to_brace.text in
     let there : e.end < length text = subst (λ t. e.end < length t) same (subst (λ n. n < length brace.brace.text) brace.is at_brace.0) in
-    let byte : get_or text e.end 0 ≡ 125 = subst (λ t. get_or t e.end 0 ≡ 125) same (subst (λ n. get_or brace.brace.text n 0 ≡ 125) brace.is at_brace.1) in
+    let byte : get_or text e.end 0 ≡ 125 =
+    subst (λ t. get_or t e.end 0 ≡ 125) same (subst (λ n. get_or brace.brace.text n 0 ≡ 125) brace.is at_brace.1) in
     record {
       ordered = omega (arith, to_brace.at, brace.is);
       within = there;

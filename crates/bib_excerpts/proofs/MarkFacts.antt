@@ -16,8 +16,10 @@ abbrev pub made_if : {Y A : Type 0} → (Y → List A) → Bool → Y → List A
 made_if f true y = f y
 made_if f false y = []
 
-made_more : {X Y A : Type 0} (v : X → Y) (f : Y → List A) (marks : List Bool) (xs : List X) (n : ℕ) (m : Bool) (x : X) → n < length marks → n < length xs → get_or marks n m ≡ m → get_or xs n x ≡ x
-    → flat_map f (marked (take (suc n) marks) (map v (take (suc n) xs))) ≡ flat_map f (marked (take n marks) (map v (take n xs))) ++ cond m (f (v x)) []
+made_more : {X Y A : Type 0} (v : X → Y) (f : Y → List A) (marks : List Bool) (xs : List X) (n : ℕ) (m : Bool) (x : X)
+    → n < length marks → n < length xs → get_or marks n m ≡ m → get_or xs n x ≡ x
+    → flat_map f (marked (take (suc n) marks) (map v (take (suc n) xs)))
+    ≡ flat_map f (marked (take n marks) (map v (take n xs))) ++ cond m (f (v x)) []
 made_more v f [] xs n m x short within mark is = absurd (omega (arith, short))
 made_more v f (b ∷ marks) [] n m x within short mark is = absurd (omega (arith, short))
 made_more v f (true ∷ marks) (y ∷ xs) zero true x short within mark is = ap (λ z. f (v z) ++ []) is ∙ append-nil (f (v x))
@@ -27,20 +29,24 @@ made_more v f (false ∷ marks) (y ∷ xs) zero false x short within mark is = r
 made_more v f (true ∷ marks) (y ∷ xs) (suc n) m x short within mark is =
     ap (λ l. f (v y) ++ l) (made_more v f marks xs n m x (omega (arith, short)) (omega (arith, within)) mark is)
     ∙ sym (append_assoc (f (v y)) (flat_map f (marked (take n marks) (map v (take n xs)))) (cond m (f (v x)) []))
-made_more v f (false ∷ marks) (y ∷ xs) (suc n) m x short within mark is = made_more v f marks xs n m x (omega (arith, short)) (omega (arith, within)) mark is
+made_more v f (false ∷ marks) (y ∷ xs) (suc n) m x short within mark is =
+    made_more v f marks xs n m x (omega (arith, short)) (omega (arith, within)) mark is
 
 -- what is made of marked things grows by what is made of one more
-pub marked_made : {X Y A : Type 0} (v : X → Y) (f : Y → List A) (marks : List Bool) (xs : List X) (n : ℕ) (m : Bool) (x : X) (start old new : List A) → n < length marks → n < length xs → get_or marks n m ≡ m → get_or xs n x ≡ x
+pub marked_made : {X Y A : Type 0} (v : X → Y) (f : Y → List A) (marks : List Bool) (xs : List X) (n : ℕ) (m : Bool)
+    (x : X) (start old new : List A) → n < length marks → n < length xs → get_or marks n m ≡ m → get_or xs n x ≡ x
     → old ≡ start ++ flat_map f (marked (take n marks) (map v (take n xs))) → new ≡ old ++ cond m (f (v x)) []
     → new ≡ start ++ flat_map f (marked (take (n + 1) marks) (map v (take (n + 1) xs)))
 marked_made v f marks xs n m x start old new short within mark is before after =
     let more = made_more v f marks xs n m x short within mark is in
     let one : n + 1 ≡ suc n = omega arith in
-    after ∙ ap (λ l. l ++ cond m (f (v x)) []) before ∙ append_assoc start (flat_map f (marked (take n marks) (map v (take n xs)))) (cond m (f (v x)) [])
+    after ∙ ap (λ l. l ++ cond m (f (v x)) []) before
+    ∙ append_assoc start (flat_map f (marked (take n marks) (map v (take n xs)))) (cond m (f (v x)) [])
     ∙ ap (λ l. start ++ l) (sym more ∙ ap (λ k. flat_map f (marked (take k marks) (map v (take k xs)))) (sym one))
 
 -- where the shorter list ends, all that are marked were made
-pub marked_all : {X Y : Type 0} (v : X → Y) (marks : List Bool) (xs : List X) (n : ℕ) → n ≡ min (length xs) (length marks) → marked (take n marks) (map v (take n xs)) ≡ marked marks (map v xs)
+pub marked_all : {X Y : Type 0} (v : X → Y) (marks : List Bool) (xs : List X) (n : ℕ)
+    → n ≡ min (length xs) (length marks) → marked (take n marks) (map v (take n xs)) ≡ marked marks (map v xs)
 marked_all v [] xs zero is = refl
 marked_all v [] [] (suc n) is = refl
 marked_all v [] (x ∷ xs) (suc n) is = refl
@@ -51,7 +57,8 @@ marked_all v (true ∷ marks) (x ∷ xs) (suc n) is = ap (λ l. v x ∷ l) (mark
 marked_all v (false ∷ marks) (x ∷ xs) (suc n) is = marked_all v marks xs n (omega (arith, is))
 
 -- what holds of each holds of one
-pub all_at : {X Y : Type 0} (P : Y → Type 0) (v : X → Y) (xs : List X) (n : ℕ) (x : X) → n < length xs → get_or xs n x ≡ x → AllByRecursion P (map v xs) → P (v x)
+pub all_at : {X Y : Type 0} (P : Y → Type 0) (v : X → Y) (xs : List X) (n : ℕ) (x : X) → n < length xs
+    → get_or xs n x ≡ x → AllByRecursion P (map v xs) → P (v x)
 all_at P v [] n x short is all = absurd (omega (arith, short))
 all_at P v (y ∷ xs) zero x short is all = subst (λ z. P (v z)) is all.0
 all_at P v (y ∷ xs) (suc n) x short is all = all_at P v xs n x (omega (arith, short)) is all.1
@@ -70,29 +77,39 @@ any_push test (y ∷ xs) x = ap (λ b. test y || b) (any_push test xs x) ∙ of 
   of false false c = refl
 
 -- a test of what is made of the first and of one more
-pub any_more : {X Y : Type 0} (v : X → Y) (test : Y → Bool) (xs : List X) (i : ℕ) (d : X) → i < length xs → list_any test (map v (take (i + 1) xs)) ≡ cond (test (v (get_or xs i d))) true (list_any test (map v (take i xs)))
+pub any_more : {X Y : Type 0} (v : X → Y) (test : Y → Bool) (xs : List X) (i : ℕ) (d : X) → i < length xs
+    → list_any test (map v (take (i + 1) xs)) ≡ cond (test (v (get_or xs i d))) true (list_any test (map v (take i xs)))
 any_more v test xs i d within =
-    ap (λ l. list_any test (map v l)) (take_more xs i d within) ∙ ap (list_any test) (map-append v (take i xs) (get_or xs i d ∷ [])) ∙ any_push test (map v (take i xs)) (v (get_or xs i d))
+    ap (λ l. list_any test (map v l)) (take_more xs i d within)
+    ∙ ap (list_any test) (map-append v (take i xs) (get_or xs i d ∷ []))
+    ∙ any_push test (map v (take i xs)) (v (get_or xs i d))
 
 -- what is made of one passes
-pub any_at : {X Y : Type 0} (v : X → Y) (test : Y → Bool) (xs : List X) (i : ℕ) (d : X) → i < length xs → test (v (get_or xs i d)) ≡ true → list_any test (map v xs) ≡ true
+pub any_at : {X Y : Type 0} (v : X → Y) (test : Y → Bool) (xs : List X) (i : ℕ) (d : X) → i < length xs
+    → test (v (get_or xs i d)) ≡ true → list_any test (map v xs) ≡ true
 any_at v test [] i d within passes = absurd (omega (arith, within))
 any_at v test (x ∷ xs) zero d within passes = ap (λ b. b || list_any test (map v xs)) passes
-any_at v test (x ∷ xs) (suc i) d within passes = ap (λ b. test (v x) || b) (any_at v test xs i d (omega (arith, within)) passes) ∙ or-true (test (v x))
+any_at v test (x ∷ xs) (suc i) d within passes =
+    ap (λ b. test (v x) || b) (any_at v test xs i d (omega (arith, within)) passes) ∙ or-true (test (v x))
 
 -- what is made of the first and of one more
-pub made_of_more : {X Y A : Type 0} (v : X → Y) (f : Y → List A) (xs : List X) (i : ℕ) (x : X) → i < length xs → get_or xs i x ≡ x → flat_map f (map v (take (i + 1) xs)) ≡ flat_map f (map v (take i xs)) ++ f (v x)
+pub made_of_more : {X Y A : Type 0} (v : X → Y) (f : Y → List A) (xs : List X) (i : ℕ) (x : X) → i < length xs
+    → get_or xs i x ≡ x → flat_map f (map v (take (i + 1) xs)) ≡ flat_map f (map v (take i xs)) ++ f (v x)
 made_of_more v f xs i x within is =
-    ap (λ l. flat_map f (map v l)) (take_more xs i x within ∙ ap (λ y. take i xs ++ y ∷ []) is) ∙ ap (flat_map f) (map-append v (take i xs) (x ∷ []))
+    ap (λ l. flat_map f (map v l)) (take_more xs i x within ∙ ap (λ y. take i xs ++ y ∷ []) is)
+    ∙ ap (flat_map f) (map-append v (take i xs) (x ∷ []))
     ∙ flat_map-append f (map v (take i xs)) (v x ∷ []) ∙ ap (λ l. flat_map f (map v (take i xs)) ++ l) (append-nil (f (v x)))
 
 -- ---- marks
 
-pub unmarked_less : (marks : List Bool) (r : ℕ) → r < length marks → get_or marks r false ≡ false → unmarked (set marks r true) + 1 ≡ unmarked marks
+pub unmarked_less : (marks : List Bool) (r : ℕ) → r < length marks → get_or marks r false ≡ false
+    → unmarked (set marks r true) + 1 ≡ unmarked marks
 unmarked_less marks r within h =
     let e = sum_by-set (λ b. cond (not b) 1 0) marks r true false within in omega (arith, e, ap (λ (b : Bool). cond {A = ℕ} (not b) 1 0) h)
 
-pub set_decides : (marks : List Bool) (index p : ℕ) → index < length marks → ((p ≡ index) × IsMarked (set marks index true) p) ⊎ ((p ≢ index) × (get_or (set marks index true) p false ≡ get_or marks p false))
+pub set_decides : (marks : List Bool) (index p : ℕ) → index < length marks
+    → ((p ≡ index) × IsMarked (set marks index true) p)
+    ⊎ ((p ≢ index) × (get_or (set marks index true) p false ≡ get_or marks p false))
 set_decides marks index p within =
     elim (eqb_tells p index) [
       | inl t ↦ inl (t.1, rw t.1 (get_or-set_same marks index true false within))
@@ -109,7 +126,9 @@ none_marked n p h = elim (cases_lt p n) [
 ]
 
 pub marked_below : (marks : List Bool) (p : ℕ) → IsMarked marks p → p < length marks
-marked_below marks p h = elim (cases_lt p (length marks)) [ inl t ↦ omega arith | inr t ↦ absurd (false≢true (sym (get_or_past marks p false t) ∙ h)) ]
+marked_below marks p h =
+    elim (cases_lt p (length marks))
+    [ inl t ↦ omega arith | inr t ↦ absurd (false≢true (sym (get_or_past marks p false t) ∙ h)) ]
 
 pub contains_none : {A : Type 0} (x : A) → Contains [] x → ⊥
 contains_none x h = omega (arith, h.1)

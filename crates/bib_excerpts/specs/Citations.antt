@@ -30,7 +30,9 @@ argument text = if has_close text then Some (before_close text) else None
 
 -- the text of the last of one or two arguments, of which the first begins here
 abbrev pub last_argument : List ℕ → Option (List ℕ)
-last_argument text = if has_close text then option_map_or argument (left_after (codes "{") (after_close text)) (Some (before_close text)) else None
+last_argument text =
+    if has_close text then option_map_or argument (left_after (codes "{") (after_close text)) (Some (before_close text))
+    else None
 
 -- what stands after a command of citation that a line begins with: LaTeX's, or BibLaTeX's
 abbrev pub after_command : List ℕ → Option (List ℕ)
@@ -46,7 +48,9 @@ aux_cited line = option_map_or comma_parts (aux_list line) []
 
 -- what stands after the tag that ends first
 abbrev pub after_tag : List ℕ → Option (List ℕ)
-after_tag text = if nat_lt (position_or_len (λ b. b == char.greater) text) (length text) then Some (after_first (λ b. b == char.greater) text) else None
+after_tag text =
+    if nat_lt (position_or_len (λ b. b == char.greater) text) (length text)
+    then Some (after_first (λ b. b == char.greater) text) else None
 
 -- what stands after the tag of an element `bcf:citekey` that has attributes, where such a tag is what stands after a `<`
 abbrev pub attributed_text : List ℕ → Option (List ℕ)
@@ -76,7 +80,9 @@ unescaped_rest text = flat_map unescaped_piece (slice_split (λ b. b == char.amp
 -- what a text stands for in XML
 abbrev pub unescaped : List ℕ → List ℕ
 unescaped text =
-    if nat_lt (position_or_len (λ b. b == char.ampersand) text) (length text) then before_first (λ b. b == char.ampersand) text ++ unescaped_rest (after_first (λ b. b == char.ampersand) text) else text
+    if nat_lt (position_or_len (λ b. b == char.ampersand) text) (length text)
+    then before_first (λ b. b == char.ampersand) text
+    ++ unescaped_rest (after_first (λ b. b == char.ampersand) text) else text
 
 -- the key that an element of a control file cites, given what stands after its `<`
 abbrev pub bcf_cited : List ℕ → List (List ℕ)

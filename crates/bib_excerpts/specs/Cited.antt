@@ -46,6 +46,8 @@ pub record IsExcerpt (names : List (List ℕ)) (all : Bool) (text : List ℕ) (s
   pub entry_marks : List Bool
   pub definition_marks : List Bool
   pub entries : AreMarks (IsCited names all (map entry_node says.entries)) (length says.entries) entry_marks
-  pub definitions : AreMarks (IsNeeded (used_in_entries (marked entry_marks says.entries)) (map definition_node says.abbreviations)) (length says.abbreviations) definition_marks
+  pub definitions : AreMarks
+      (IsNeeded (used_in_entries (marked entry_marks says.entries)) (map definition_node says.abbreviations))
+      (length says.abbreviations) definition_marks
   pub is : printed ≡ flat_map (definition_line text) (marked definition_marks says.abbreviations)
       ++ flat_map (entry_line text) (marked entry_marks says.entries)

@@ -28,7 +28,8 @@ RefersTo nodes index name = is_listed (node_at nodes index).references name ≡ 
 -- the thing at an index has a name that is asked for, or one that a needed thing refers to
 pub data IsNeeded (names : List (List ℕ)) (nodes : List Node) : ℕ → Type 0 where
   asked : {index : ℕ} (name : List ℕ) → is_listed names name ≡ true → HasName nodes index name → IsNeeded names nodes index
-  reached : {first second : ℕ} (name : List ℕ) → IsNeeded names nodes first → RefersTo nodes first name → HasName nodes second name → IsNeeded names nodes second
+  reached : {first second : ℕ} (name : List ℕ) → IsNeeded names nodes first → RefersTo nodes first name
+      → HasName nodes second name → IsNeeded names nodes second
 
 -- marks on the indices below a number of which a fact holds, and on no others
 pub record AreMarks (fact : ℕ → Type 0) (count : ℕ) (marks : List Bool) : Type 0 where

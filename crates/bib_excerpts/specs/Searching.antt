@@ -39,6 +39,9 @@ pub record Marks (is_new : ℕ → Type 0) (old : List Bool) (before : List ℕ)
   pub as_many : unmarked new + length after ≡ unmarked old + length before
 
 -- these names were looked up: what has one has a mark, and a name is left as it was or what has it has a mark
-pub record LooksUp (old : BTreeMap (Bor (List ℕ)) (Vec ℕ)) (names : List (List ℕ)) (marks : List Bool) (new : BTreeMap (Bor (List ℕ)) (Vec ℕ)) : Type 0 where
+pub record LooksUp (old : BTreeMap (Bor (List ℕ)) (Vec ℕ)) (names : List (List ℕ)) (marks : List Bool)
+    (new : BTreeMap (Bor (List ℕ)) (Vec ℕ)) : Type 0 where
   pub looked_up : (name : List ℕ) → is_listed names name ≡ true → All (IsMarked marks) (holders_in old name)
-  pub left : (name : List ℕ) → (holders_in new name ≡ holders_in old name) ⊎ ((holders_in new name ≡ []) × All (IsMarked marks) (holders_in old name))
+  pub left : (name : List ℕ)
+      → (holders_in new name ≡ holders_in old name)
+      ⊎ ((holders_in new name ≡ []) × All (IsMarked marks) (holders_in old name))

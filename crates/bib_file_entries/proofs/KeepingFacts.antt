@@ -30,7 +30,8 @@ use Rattle.bib_text.specs.declared.spanned.Spanned.{Spanned}
 use Rattle.std.specs.FinMap.{get-empty}
 
 -- the fields so far were kept or left out; the kept ones of `rest` follow them
-pub record KeptSoFar (definitions : Definitions) (said rest : List Pair) (old errors : List ParseError) (pairs : List (List ℕ × List (Spanned Chunk))) : Type 0 where
+pub record KeptSoFar (definitions : Definitions) (said rest : List Pair) (old errors : List ParseError)
+    (pairs : List (List ℕ × List (Spanned Chunk))) : Type 0 where
   pub kept : List Pair
   pub more : List ParseError
   pub onward : (fields : List FieldReading) (later : List ParseError) → FieldsKept definitions (map field_of rest) fields later
@@ -42,32 +43,46 @@ pub record KeptSoFar (definitions : Definitions) (said rest : List Pair) (old er
 pub kept_none : (definitions : Definitions) (said : List Pair) (old : List ParseError) → KeptSoFar definitions said said old old []
 kept_none definitions said old = record { kept = []; more = []; onward = λ fields later is. is; read = tt; noted = sym (append-nil old) }
 
-added_twice : (old more first : List ParseError) (errors new : List ParseError) → errors ≡ old ++ more → new ≡ errors ++ first → new ≡ old ++ (more ++ first)
+added_twice : (old more first : List ParseError) (errors new : List ParseError) → errors ≡ old ++ more
+    → new ≡ errors ++ first → new ≡ old ++ (more ++ first)
 added_twice old more first errors new is now = now ∙ ap (λ l. l ++ first) is ∙ append_assoc old more first
 
 -- one more field is kept
-pub kept_next : {definitions : Definitions} {said rest : List Pair} {f : Pair} {old errors new : List ParseError} {pairs : List (List ℕ × List (Spanned Chunk))} (pair : List ℕ × List (Spanned Chunk))
-    → KeptSoFar definitions said (f ∷ rest) old errors pairs → IsKeptField definitions f errors new pair → KeptSoFar definitions said rest old new (pairs ++ pair ∷ [])
+pub kept_next : {definitions : Definitions} {said rest : List Pair} {f : Pair} {old errors new : List ParseError}
+    {pairs : List (List ℕ × List (Spanned Chunk))} (pair : List ℕ × List (Spanned Chunk))
+    → KeptSoFar definitions said (f ∷ rest) old errors pairs → IsKeptField definitions f errors new pair
+    → KeptSoFar definitions said rest old new (pairs ++ pair ∷ [])
 kept_next {definitions} {said} {rest} {f} {old} {errors} {new} {pairs} pair so_far field =
     let can : CanBeRead definitions (mended definitions (field_of f)) = subst (CanBeRead definitions) field.is field.read.readable in
     record {
       kept = so_far.kept ++ field.kept ∷ [];
       more = so_far.more ++ unknown_names definitions (pieces_of f);
       onward = λ fields later is.
-          let listed : map field_of so_far.kept ++ (mended definitions (field_of f) ∷ fields) ≡ map field_of (so_far.kept ++ field.kept ∷ []) ++ fields =
+          let listed : map field_of so_far.kept ++ (mended definitions (field_of f) ∷ fields)
+          ≡ map field_of (so_far.kept ++ field.kept ∷ []) ++ fields =
           ap (λ g. map field_of so_far.kept ++ (g ∷ fields)) (sym field.is)
           ∙ sym (append_assoc (map field_of so_far.kept) (field_of field.kept ∷ []) fields)
           ∙ ap (λ l. l ++ fields) (sym (map-append field_of so_far.kept (field.kept ∷ []))) in
-          let told = so_far.onward (mended definitions (field_of f) ∷ fields) (unknown_names definitions (pieces_of f) ++ later) (FieldsKept.kept can is) in
-          subst (λ l. FieldsKept definitions (map field_of said) l ((so_far.more ++ unknown_names definitions (pieces_of f)) ++ later)) listed
-          (subst (FieldsKept definitions (map field_of said) (map field_of so_far.kept ++ (mended definitions (field_of f) ∷ fields))) (sym (append_assoc so_far.more (unknown_names definitions (pieces_of f)) later)) told);
+          let told =
+          so_far.onward (mended definitions (field_of f) ∷ fields)
+          (unknown_names definitions (pieces_of f) ++ later) (FieldsKept.kept can is) in
+          subst
+          (λ l.
+          FieldsKept definitions (map field_of said) l
+          ((so_far.more ++ unknown_names definitions (pieces_of f)) ++ later)) listed
+          (subst
+          (FieldsKept definitions (map field_of said)
+          (map field_of so_far.kept ++ (mended definitions (field_of f) ∷ fields)))
+          (sym (append_assoc so_far.more (unknown_names definitions (pieces_of f)) later)) told);
       read = AllZip-push (IsRead definitions) so_far.kept pairs field.kept pair so_far.read field.read;
       noted = added_twice old so_far.more (unknown_names definitions (pieces_of f)) errors new so_far.noted field.errors;
     }
 
 -- one more field is left out
-pub left_out_next : {definitions : Definitions} {said rest : List Pair} {f : Pair} {old errors new : List ParseError} {pairs : List (List ℕ × List (Spanned Chunk))}
-    → KeptSoFar definitions said (f ∷ rest) old errors pairs → IsLeftOut definitions f errors new → KeptSoFar definitions said rest old new pairs
+pub left_out_next : {definitions : Definitions} {said rest : List Pair} {f : Pair} {old errors new : List ParseError}
+    {pairs : List (List ℕ × List (Spanned Chunk))}
+    → KeptSoFar definitions said (f ∷ rest) old errors pairs → IsLeftOut definitions f errors new
+    → KeptSoFar definitions said rest old new pairs
 left_out_next {definitions} {said} {rest} {f} {old} {errors} {new} {pairs} so_far field =
     let first : List ParseError = unknown_names definitions (pieces_of f) ++ field.error ∷ [] in
     record {
@@ -75,9 +90,12 @@ left_out_next {definitions} {said} {rest} {f} {old} {errors} {new} {pairs} so_fa
       more = so_far.more ++ first;
       onward = λ fields later is.
           let listed : so_far.more ++ (unknown_names definitions (pieces_of f) ++ (field.error ∷ later)) ≡ (so_far.more ++ first) ++ later =
-          ap (λ l. so_far.more ++ l) (sym (append_assoc (unknown_names definitions (pieces_of f)) (field.error ∷ []) later)) ∙ sym (append_assoc so_far.more first later) in
+          ap (λ l. so_far.more ++ l)
+          (sym (append_assoc (unknown_names definitions (pieces_of f)) (field.error ∷ []) later))
+          ∙ sym (append_assoc so_far.more first later) in
           subst (FieldsKept definitions (map field_of said) (map field_of so_far.kept ++ fields)) listed
-          (so_far.onward fields (unknown_names definitions (pieces_of f) ++ (field.error ∷ later)) (FieldsKept.left_out field.first field.unread is));
+          (so_far.onward fields (unknown_names definitions (pieces_of f) ++ (field.error ∷ later))
+          (FieldsKept.left_out field.first field.unread is));
       read = so_far.read;
       noted = added_twice old so_far.more first errors new so_far.noted field.errors;
     }
@@ -87,20 +105,24 @@ pub rest_at : {A : Type 0} (all : List A) (i : ℕ) (x : A) → i < length all �
 rest_at all i x within is = drop_more all i x within ∙ ap (λ y. y ∷ drop (i + 1) all) (sym is)
 
 -- all fields were kept or left out
-pub kept_all : {definitions : Definitions} {said : List Pair} {old errors : List ParseError} {pairs : List (List ℕ × List (Spanned Chunk))} → KeptSoFar definitions said [] old errors pairs
+pub kept_all : {definitions : Definitions} {said : List Pair} {old errors : List ParseError}
+    {pairs : List (List ℕ × List (Spanned Chunk))} → KeptSoFar definitions said [] old errors pairs
     → AreKeptFields definitions said old errors pairs
 kept_all {definitions} {said} {old} {errors} {pairs} so_far = record {
   kept = so_far.kept;
   more = so_far.more;
   fields = subst (λ l. FieldsKept definitions (map field_of said) l so_far.more) (append-nil (map field_of so_far.kept))
-      (subst (FieldsKept definitions (map field_of said) (map field_of so_far.kept ++ [])) (append-nil so_far.more) (so_far.onward [] [] FieldsKept.none));
+      (subst (FieldsKept definitions (map field_of said) (map field_of so_far.kept ++ [])) (append-nil so_far.more)
+      (so_far.onward [] [] FieldsKept.none));
   read = so_far.read;
   errors = so_far.noted;
 }
 
 -- an entry with the key and the type of a raw entry, and the fields kept of it, is its kept entry
-pub kept_entry : {definitions : Definitions} (raw : Spanned RawEntry) {old errors : List ParseError} {pairs : List (List ℕ × List (Spanned Chunk))} (entry : Entry)
-    → AreKeptFields definitions raw.v.fields.items old errors pairs → entry.key ≡ raw.v.key.v.now → entry.entry_type ≡ entry_type_of raw.v.kind.v.now
+pub kept_entry : {definitions : Definitions} (raw : Spanned RawEntry) {old errors : List ParseError}
+    {pairs : List (List ℕ × List (Spanned Chunk))} (entry : Entry)
+    → AreKeptFields definitions raw.v.fields.items old errors pairs → entry.key ≡ raw.v.key.v.now
+    → entry.entry_type ≡ entry_type_of raw.v.kind.v.now
     → entry.fields ≡ by_name.from_entries {R = by_bytes} (reverse pairs) → IsKeptEntry definitions (entry_reading_of raw) old errors entry
 kept_entry {definitions} raw {old} {errors} {pairs} entry fields key kind is = record {
   fields = map field_of fields.kept;
@@ -110,7 +132,8 @@ kept_entry {definitions} raw {old} {errors} {pairs} entry fields key kind is = r
     key = key;
     kind = kind;
     fields = λ name. found_same definitions fields.kept name (by_name.get entry.fields name)
-        (subst (λ m. IsFound definitions name (last_field fields.kept name) (by_name.get m name)) (sym is) (found_last definitions name fields.kept pairs fields.read));
+        (subst (λ m. IsFound definitions name (last_field fields.kept name) (by_name.get m name)) (sym is)
+        (found_last definitions name fields.kept pairs fields.read));
     readable = readable_same definitions fields.kept (are_readable definitions fields.kept pairs fields.read);
   };
   errors = fields.errors;
@@ -131,20 +154,24 @@ begins_at (x ∷ all) (suc index) one rest is =
     record { there = next.there; more = next.more; within = omega (arith, next.within) }
 
 -- the entries below an index were kept or left out; the kept ones of `rest` follow them
-pub record EntriesKeptSoFar (definitions : Definitions) (said rest : List EntryReading) (found : List Entry) (names : ByText ℕ) (places : List (Range ℕ)) (origins : List ℕ) (index : ℕ) (errors : List ParseError) : Type 0 where
-  pub kept : List EntryReading
-  pub earlier : List (List ℕ)
-  pub same : (name : List ℕ) → is_some (by_name.get names name) ≡ is_claimed earlier name
-  pub onward : (more_kept : List EntryReading) (more : List Entry) (later : List ParseError) → EntriesKept definitions earlier rest more_kept more later
-      → EntriesKept definitions [] said (kept ++ more_kept) (found ++ more) (errors ++ later)
-  pub stand : places ≡ map place_of kept
-  pub ahead : drop index said ≡ rest
-  pub origin : AllZip (IsKeptFrom said) origins kept
-  pub bibliography : loaded_after empty_bibliography found ≡ record { entries = found; names = names }
-  pub below : AreIndicesBelow (length found) names
+pub record EntriesKeptSoFar (definitions : Definitions) (said rest : List EntryReading) (found : List Entry)
+    (names : ByText ℕ) (places : List (Range ℕ)) (origins : List ℕ) (index : ℕ) (errors : List ParseError) : Type 0
+  where
+    pub kept : List EntryReading
+    pub earlier : List (List ℕ)
+    pub same : (name : List ℕ) → is_some (by_name.get names name) ≡ is_claimed earlier name
+    pub onward : (more_kept : List EntryReading) (more : List Entry) (later : List ParseError)
+        → EntriesKept definitions earlier rest more_kept more later
+        → EntriesKept definitions [] said (kept ++ more_kept) (found ++ more) (errors ++ later)
+    pub stand : places ≡ map place_of kept
+    pub ahead : drop index said ≡ rest
+    pub origin : AllZip (IsKeptFrom said) origins kept
+    pub bibliography : loaded_after empty_bibliography found ≡ record { entries = found; names = names }
+    pub below : AreIndicesBelow (length found) names
 
 -- before the first entry, nothing is kept or left out
-pub entries_none : (definitions : Definitions) (said : List EntryReading) → EntriesKeptSoFar definitions said said [] by_name.empty [] [] 0 []
+pub entries_none : (definitions : Definitions) (said : List EntryReading)
+    → EntriesKeptSoFar definitions said said [] by_name.empty [] [] 0 []
 entries_none definitions said = record {
   kept = [];
   earlier = [];
@@ -162,8 +189,11 @@ ahead_next : {A : Type 0} (all rest : List A) (index : ℕ) (one : A) → drop i
 ahead_next all rest index one is = rw add-one (begins_at all index one rest is).more
 
 -- one more entry is left out, because its key was claimed before
-pub entries_duplicate : {definitions : Definitions} {said rest : List EntryReading} {one : EntryReading} {found : List Entry} {names : ByText ℕ} {places : List (Range ℕ)} {origins : List ℕ} {index : ℕ} {errors : List ParseError} (e : ParseError)
-    → EntriesKeptSoFar definitions said (one ∷ rest) found names places origins index errors → is_some (by_name.get names one.key.text) ≡ true → e ≡ duplicate_key one
+pub entries_duplicate : {definitions : Definitions} {said rest : List EntryReading} {one : EntryReading}
+    {found : List Entry} {names : ByText ℕ} {places : List (Range ℕ)} {origins : List ℕ} {index : ℕ}
+    {errors : List ParseError} (e : ParseError)
+    → EntriesKeptSoFar definitions said (one ∷ rest) found names places origins index errors
+    → is_some (by_name.get names one.key.text) ≡ true → e ≡ duplicate_key one
     → EntriesKeptSoFar definitions said rest found names places origins (index + 1) (errors ++ e ∷ [])
 entries_duplicate {definitions} {said} {rest} {one} {found} {names} {places} {origins} {index} {errors} e so_far had is = record {
   kept = so_far.kept;
@@ -181,9 +211,14 @@ entries_duplicate {definitions} {said} {rest} {one} {found} {names} {places} {or
 }
 
 -- one more entry is kept
-pub entries_next : {definitions : Definitions} {said rest : List EntryReading} {one : EntryReading} {found : List Entry} {names : ByText ℕ} {places : List (Range ℕ)} {origins : List ℕ} {index : ℕ} {errors new : List ParseError} (entry : Entry)
-    → EntriesKeptSoFar definitions said (one ∷ rest) found names places origins index errors → is_some (by_name.get names one.key.text) ≡ false → IsKeptEntry definitions one errors new entry
-    → EntriesKeptSoFar definitions said rest (found ++ entry ∷ []) (claimed names (claims_for (claims entry) (length found))) (places ++ place_of one ∷ []) (origins ++ index ∷ []) (index + 1) new
+pub entries_next : {definitions : Definitions} {said rest : List EntryReading} {one : EntryReading} {found : List Entry}
+    {names : ByText ℕ} {places : List (Range ℕ)} {origins : List ℕ} {index : ℕ} {errors new : List ParseError}
+    (entry : Entry)
+    → EntriesKeptSoFar definitions said (one ∷ rest) found names places origins index errors
+    → is_some (by_name.get names one.key.text) ≡ false → IsKeptEntry definitions one errors new entry
+    → EntriesKeptSoFar definitions said rest (found ++ entry ∷ [])
+    (claimed names (claims_for (claims entry) (length found))) (places ++ place_of one ∷ []) (origins ++ index ∷ [])
+    (index + 1) new
 entries_next {definitions} {said} {rest} {one} {found} {names} {places} {origins} {index} {errors} {new} entry so_far absent read =
     let fresh : is_claimed so_far.earlier one.key.text ≡ false = sym (so_far.same one.key.text) ∙ absent in
     record {
@@ -191,9 +226,15 @@ entries_next {definitions} {said} {rest} {one} {found} {names} {places} {origins
       earlier = so_far.earlier ++ claims entry;
       same = same_next so_far.earlier entry names (length found) so_far.same;
       onward = λ more_kept more later following.
-          let told = so_far.onward (with_fields one read.fields ∷ more_kept) (entry ∷ more) (read.more ++ later) (EntriesKept.next fresh read.kept read.read following) in
-          subst (λ l. EntriesKept definitions [] said l ((found ++ entry ∷ []) ++ more) (new ++ later)) (sym (append_assoc so_far.kept (with_fields one read.fields ∷ []) more_kept))
-          (subst (λ l. EntriesKept definitions [] said (so_far.kept ++ (with_fields one read.fields ∷ more_kept)) l (new ++ later)) (sym (append_assoc found (entry ∷ []) more))
+          let told =
+          so_far.onward (with_fields one read.fields ∷ more_kept) (entry ∷ more) (read.more ++ later)
+          (EntriesKept.next fresh read.kept read.read following) in
+          subst (λ l. EntriesKept definitions [] said l ((found ++ entry ∷ []) ++ more) (new ++ later))
+          (sym (append_assoc so_far.kept (with_fields one read.fields ∷ []) more_kept))
+          (subst
+          (λ l.
+          EntriesKept definitions [] said (so_far.kept ++ (with_fields one read.fields ∷ more_kept)) l
+          (new ++ later)) (sym (append_assoc found (entry ∷ []) more))
           (subst (EntriesKept definitions [] said (so_far.kept ++ (with_fields one read.fields ∷ more_kept)) (found ++ (entry ∷ more)))
           (sym (append_assoc errors read.more later) ∙ ap (λ l. l ++ later) (sym read.errors)) told));
       stand = ap (λ l. l ++ place_of one ∷ []) so_far.stand ∙ sym (map-append place_of so_far.kept (with_fields one read.fields ∷ []));
@@ -205,14 +246,17 @@ entries_next {definitions} {said} {rest} {one} {found} {names} {places} {origins
     }
 
 -- all entries were kept or left out
-pub entries_all : {definitions : Definitions} {said : List EntryReading} {found : List Entry} {names : ByText ℕ} {places : List (Range ℕ)} {origins : List ℕ} {index : ℕ} {errors : List ParseError}
-    → EntriesKeptSoFar definitions said [] found names places origins index errors → IsKeptSoFar definitions said found names places origins errors
+pub entries_all : {definitions : Definitions} {said : List EntryReading} {found : List Entry} {names : ByText ℕ}
+    {places : List (Range ℕ)} {origins : List ℕ} {index : ℕ} {errors : List ParseError}
+    → EntriesKeptSoFar definitions said [] found names places origins index errors
+    → IsKeptSoFar definitions said found names places origins errors
 entries_all {definitions} {said} {found} {names} {places} {origins} {index} {errors} so_far = record {
   kept = so_far.kept;
   read =
       subst (λ l. EntriesKept definitions [] said l found errors) (append-nil so_far.kept)
       (subst (λ l. EntriesKept definitions [] said (so_far.kept ++ []) l errors) (append-nil found)
-      (subst (EntriesKept definitions [] said (so_far.kept ++ []) (found ++ [])) (append-nil errors) (so_far.onward [] [] [] EntriesKept.none)));
+      (subst (EntriesKept definitions [] said (so_far.kept ++ []) (found ++ [])) (append-nil errors)
+      (so_far.onward [] [] [] EntriesKept.none)));
   stand = so_far.stand;
   origin = so_far.origin;
   bibliography = so_far.bibliography;

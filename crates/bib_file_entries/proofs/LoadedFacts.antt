@@ -32,24 +32,32 @@ aliases_found : (definitions : Definitions) (found : Option FieldReading) (one t
     → MatchOption found (two ≡ None) (λ f. (chunks : List (Spanned Chunk)) × (two ≡ Some chunks) × FieldSays definitions f chunks)
     → option_map_or (λ chunks. comma_texts (styled chunks)) one [] ≡ option_map_or (λ chunks. comma_texts (styled chunks)) two []
 aliases_found definitions None one two first second = rw (first, second) refl
-aliases_found definitions (Some f) one two first second = rw (first.1, second.1) (ap comma_texts (evaluates_same first.2.says second.2.says))
+aliases_found definitions (Some f) one two first second =
+    rw (first.1, second.1) (ap comma_texts (evaluates_same first.2.says second.2.says))
 
 -- two entries of one raw entry claim the same names
-pub claims_same : {definitions : Definitions} {said : EntryReading} (one two : Entry) → IsEntry definitions said one → IsEntry definitions said two → claims one ≡ claims two
+pub claims_same : {definitions : Definitions} {said : EntryReading} (one two : Entry) → IsEntry definitions said one
+    → IsEntry definitions said two → claims one ≡ claims two
 claims_same {definitions} {said} one two first second =
     ap (λ key. key ∷ aliases one) (first.key ∙ sym second.key)
-    ∙ ap (λ names. two.key ∷ names) (aliases_found definitions (field_in said.fields (codes "ids")) (by_name.get one.fields (codes "ids")) (by_name.get two.fields (codes "ids")) (first.fields (codes "ids")) (second.fields (codes "ids")))
+    ∙ ap (λ names. two.key ∷ names)
+    (aliases_found definitions (field_in said.fields (codes "ids")) (by_name.get one.fields (codes "ids"))
+    (by_name.get two.fields (codes "ids")) (first.fields (codes "ids")) (second.fields (codes "ids")))
 
 -- if the fields have a first error, not all can be parsed
-pub fields_unread : {definitions : Definitions} {fields : List FieldReading} {e : ParseError} → IsFirstErrorOfFields definitions fields e → AllCanBeRead definitions fields → ⊥
+pub fields_unread : {definitions : Definitions} {fields : List FieldReading} {e : ParseError}
+    → IsFirstErrorOfFields definitions fields e → AllCanBeRead definitions fields → ⊥
 fields_unread (IsFirstErrorOfFields.here error unread) all = unread all.0
 fields_unread (IsFirstErrorOfFields.following read error) all = fields_unread error all.1
 
 -- if the raw entries have a first error, they have no entries
-pub no_entries : {definitions : Definitions} {claimed : List (List ℕ)} {said : List EntryReading} {e : ParseError} {found : List Entry} → IsFirstErrorOfEntries definitions claimed said e → AreEntries definitions claimed said found → ⊥
+pub no_entries : {definitions : Definitions} {claimed : List (List ℕ)} {said : List EntryReading} {e : ParseError}
+    {found : List Entry} → IsFirstErrorOfEntries definitions claimed said e
+    → AreEntries definitions claimed said found → ⊥
 no_entries (IsFirstErrorOfEntries.duplicate was is) (AreEntries.next fresh read rest) = both_ways _ fresh was
 no_entries (IsFirstErrorOfEntries.unreadable fresh error) (AreEntries.next fresh' read rest) = fields_unread error read.readable
-no_entries {definitions} {claimed} (IsFirstErrorOfEntries.following {rest = more} {entry = one} fresh read error) (AreEntries.next {entry = two} {entries = others} fresh' read' rest) =
+no_entries {definitions} {claimed} (IsFirstErrorOfEntries.following {rest = more} {entry = one} fresh read error)
+    (AreEntries.next {entry = two} {entries = others} fresh' read' rest) =
     no_entries error (subst (λ names. AreEntries definitions (claimed ++ names) more others) (claims_same two one read' read) rest)
 
 -- a name that isn't new was claimed before, and one that is new was not
@@ -62,11 +70,13 @@ absent_by None is_new is new = refl
 absent_by (Some x) is_new is new = sym new ∙ is
 
 -- adding two lists of entries one after the other is adding their concatenation
-pub loaded_more : (bibliography : Bibliography) (first second : List Entry) → loaded_after bibliography (first ++ second) ≡ loaded_after (loaded_after bibliography first) second
+pub loaded_more : (bibliography : Bibliography) (first second : List Entry)
+    → loaded_after bibliography (first ++ second) ≡ loaded_after (loaded_after bibliography first) second
 loaded_more bibliography [] second = refl
 loaded_more bibliography (entry ∷ first) second = loaded_more (appended bibliography entry) first second
 
-one_more : (test : Bool) (index : ℕ) (had : Option ℕ) (later : Bool) → (is_some (cond test (Some index) had) || later) ≡ (is_some had || (test || later))
+one_more : (test : Bool) (index : ℕ) (had : Option ℕ) (later : Bool)
+    → (is_some (cond test (Some index) had) || later) ≡ (is_some had || (test || later))
 one_more true index None later = refl
 one_more true index (Some p) later = refl
 one_more false index had later = refl
@@ -77,7 +87,9 @@ pub names_claimed : (index : ℕ) (more : List (List ℕ)) (names : ByText ℕ) 
 names_claimed index [] names name = sym (or-false (is_some (by_name.get names name)))
 names_claimed index (one ∷ more) names name =
     names_claimed index more (by_name.insert names one index) name
-    ∙ ap (λ o. is_some o || is_claimed more name) (get-insert nat_list_cmp_total names one index name ∙ ap (λ b. cond b (Some index) (by_name.get names name)) (is_eq-slice_cmp name one))
+    ∙ ap (λ o. is_some o || is_claimed more name)
+    (get-insert nat_list_cmp_total names one index name
+    ∙ ap (λ b. cond b (Some index) (by_name.get names name)) (is_eq-slice_cmp name one))
     ∙ one_more (bytes_eq name one) index (by_name.get names name) (is_claimed more name)
 
 -- the entries so far were loaded, and claimed the names. Entries of the remaining raw entries follow them, and a first error
@@ -102,17 +114,23 @@ loaded_none definitions said = record {
 }
 
 -- the claimed names after one more entry
-pub same_next : (earlier : List (List ℕ)) (entry : Entry) (names : ByText ℕ) (index : ℕ) → ((name : List ℕ) → is_some (by_name.get names name) ≡ is_claimed earlier name)
-    → (name : List ℕ) → is_some (by_name.get (claimed names (claims_for (claims entry) index)) name) ≡ is_claimed (earlier ++ claims entry) name
+pub same_next : (earlier : List (List ℕ)) (entry : Entry) (names : ByText ℕ) (index : ℕ)
+    → ((name : List ℕ) → is_some (by_name.get names name) ≡ is_claimed earlier name)
+    → (name : List ℕ)
+    → is_some (by_name.get (claimed names (claims_for (claims entry) index)) name)
+    ≡ is_claimed (earlier ++ claims entry) name
 same_next earlier entry names index same name =
     names_claimed index (claims entry) names name
     ∙ ap (λ b. b || is_claimed (claims entry) name) (same name)
     ∙ sym (list_any-append (bytes_eq name) earlier (claims entry))
 
 -- adding an entry to a bibliography of added entries
-pub bibliography_next : (found : List Entry) (entry : Entry) (names : ByText ℕ) → loaded_after empty_bibliography found ≡ record { entries = found; names = names }
-    → loaded_after empty_bibliography (found ++ entry ∷ []) ≡ record { entries = found ++ entry ∷ []; names = claimed names (claims_for (claims entry) (length found)) }
-bibliography_next found entry names loaded = loaded_more empty_bibliography found (entry ∷ []) ∙ ap (λ bibliography. appended bibliography entry) loaded
+pub bibliography_next : (found : List Entry) (entry : Entry) (names : ByText ℕ)
+    → loaded_after empty_bibliography found ≡ record { entries = found; names = names }
+    → loaded_after empty_bibliography (found ++ entry ∷ [])
+    ≡ record { entries = found ++ entry ∷ []; names = claimed names (claims_for (claims entry) (length found)) }
+bibliography_next found entry names loaded =
+    loaded_more empty_bibliography found (entry ∷ []) ∙ ap (λ bibliography. appended bibliography entry) loaded
 
 -- each name still points to an entry when an entry is added with its claims
 pub below_next : (found : List Entry) (entry : Entry) (names : ByText ℕ) → AreIndicesBelow (length found) names
@@ -123,32 +141,43 @@ below_next found entry names below =
     (below_more (length found) (length (found ++ entry ∷ [])) names below (omega (arith, count))) (omega (arith, count))
 
 -- one more raw entry is loaded
-pub loaded_next : {definitions : Definitions} {said : List EntryReading} {one : EntryReading} {rest : List EntryReading} {found : List Entry} {names : ByText ℕ} (entry : Entry)
-    → LoadedSoFar definitions said (one ∷ rest) found names → is_some (by_name.get names one.key.text) ≡ false → IsEntry definitions one entry
+pub loaded_next : {definitions : Definitions} {said : List EntryReading} {one : EntryReading} {rest : List EntryReading}
+    {found : List Entry} {names : ByText ℕ} (entry : Entry)
+    → LoadedSoFar definitions said (one ∷ rest) found names → is_some (by_name.get names one.key.text) ≡ false
+    → IsEntry definitions one entry
     → LoadedSoFar definitions said rest (found ++ entry ∷ []) (claimed names (claims_for (claims entry) (length found)))
 loaded_next {definitions} {said} {one} {rest} {found} {names} entry loaded absent read =
     let fresh : is_claimed loaded.earlier one.key.text ≡ false = sym (loaded.same one.key.text) ∙ absent in
     record {
       earlier = loaded.earlier ++ claims entry;
       same = same_next loaded.earlier entry names (length found) loaded.same;
-      onward = λ others following. subst (AreEntries definitions [] said) (sym (append_assoc found (entry ∷ []) others)) (loaded.onward (entry ∷ others) (AreEntries.next fresh read following));
+      onward = λ others following.
+          subst (AreEntries definitions [] said) (sym (append_assoc found (entry ∷ []) others))
+          (loaded.onward (entry ∷ others) (AreEntries.next fresh read following));
       faulty = λ e error. loaded.faulty e (IsFirstErrorOfEntries.following fresh read error);
       bibliography = bibliography_next found entry names loaded.bibliography;
       below = below_next found entry names loaded.below;
     }
 
 -- all raw entries were loaded
-pub loaded_all : {definitions : Definitions} {said : List EntryReading} {found : List Entry} {names : ByText ℕ} → LoadedSoFar definitions said [] found names → AreEntries definitions [] said found
-loaded_all {definitions} {said} {found} loaded = subst (AreEntries definitions [] said) (append-nil found) (loaded.onward [] AreEntries.none)
+pub loaded_all : {definitions : Definitions} {said : List EntryReading} {found : List Entry} {names : ByText ℕ}
+    → LoadedSoFar definitions said [] found names → AreEntries definitions [] said found
+loaded_all {definitions} {said} {found} loaded =
+    subst (AreEntries definitions [] said) (append-nil found) (loaded.onward [] AreEntries.none)
 
 -- if the next key was claimed before, this is the first error
-pub error_duplicate : {definitions : Definitions} {said : List EntryReading} {one : EntryReading} {rest : List EntryReading} {found : List Entry} {names : ByText ℕ} (e : ParseError)
+pub error_duplicate : {definitions : Definitions} {said : List EntryReading} {one : EntryReading}
+    {rest : List EntryReading} {found : List Entry} {names : ByText ℕ} (e : ParseError)
     → LoadedSoFar definitions said (one ∷ rest) found names → is_some (by_name.get names one.key.text) ≡ true
-    → e ≡ record { span = record { start = one.start; end = one.end }; kind = DuplicateKey one.key.text } → IsFirstErrorOfEntries definitions [] said e
+    → e ≡ record { span = record { start = one.start; end = one.end }; kind = DuplicateKey one.key.text }
+    → IsFirstErrorOfEntries definitions [] said e
 error_duplicate {one = one} e loaded had is = loaded.faulty e (IsFirstErrorOfEntries.duplicate (sym (loaded.same one.key.text) ∙ had) is)
 
 -- otherwise the first error of the next entry's fields is the first error
-pub error_unreadable : {definitions : Definitions} {said : List EntryReading} {one : EntryReading} {rest : List EntryReading} {found : List Entry} {names : ByText ℕ} (e : ParseError)
-    → LoadedSoFar definitions said (one ∷ rest) found names → is_some (by_name.get names one.key.text) ≡ false → IsFirstErrorOfFields definitions one.fields e
+pub error_unreadable : {definitions : Definitions} {said : List EntryReading} {one : EntryReading}
+    {rest : List EntryReading} {found : List Entry} {names : ByText ℕ} (e : ParseError)
+    → LoadedSoFar definitions said (one ∷ rest) found names → is_some (by_name.get names one.key.text) ≡ false
+    → IsFirstErrorOfFields definitions one.fields e
     → IsFirstErrorOfEntries definitions [] said e
-error_unreadable {one = one} e loaded absent error = loaded.faulty e (IsFirstErrorOfEntries.unreadable (sym (loaded.same one.key.text) ∙ absent) error)
+error_unreadable {one = one} e loaded absent error =
+    loaded.faulty e (IsFirstErrorOfEntries.unreadable (sym (loaded.same one.key.text) ∙ absent) error)

@@ -27,14 +27,19 @@ pub last_definition-push : (pairs : List Pair) (p : Pair) (name : List ℕ)
     → last_definition (pairs ++ p ∷ []) name ≡ cond (bytes_eq name p.key.v.now) (Some (pieces_of p)) (last_definition pairs name)
 last_definition-push pairs p name =
     ap (λ l. option_map pieces_of (find (λ q. bytes_eq name q.key.v.now) l)) (reverse-append pairs (p ∷ []))
-    ∙ elim (bytes_eq name p.key.v.now) as (λ b. option_map pieces_of (cond b (Some p) (find (λ q. bytes_eq name q.key.v.now) (reverse pairs))) ≡ cond b (Some (pieces_of p)) (last_definition pairs name)) [ true ↦ refl | false ↦ refl ]
+    ∙ elim (bytes_eq name p.key.v.now) as
+    (λ b.
+    option_map pieces_of (cond b (Some p) (find (λ q. bytes_eq name q.key.v.now) (reverse pairs)))
+    ≡ cond b (Some (pieces_of p)) (last_definition pairs name)) [ true ↦ refl | false ↦ refl ]
 
-chosen : {A B : Type 0} (f : A → B) (b : Bool) (a : A) (o : Option A) → option_map f (cond b (Some a) o) ≡ cond b (Some (f a)) (option_map f o)
+chosen : {A B : Type 0} (f : A → B) (b : Bool) (a : A) (o : Option A)
+    → option_map f (cond b (Some a) o) ≡ cond b (Some (f a)) (option_map f o)
 chosen f true a o = refl
 chosen f false a o = refl
 
 -- inserting the next definition into the map of the definitions so far
-pub defined_more : {F : Type 0} (f : F → List Piece) (pairs : List Pair) (i : ℕ) (p : Pair) (field : F) (name : List ℕ) (before after : Option F)
+pub defined_more : {F : Type 0} (f : F → List Piece) (pairs : List Pair) (i : ℕ) (p : Pair) (field : F) (name : List ℕ)
+    (before after : Option F)
     → i < length pairs → p ≡ get_or pairs i p → f field ≡ pieces_of p → option_map f before ≡ last_definition (take i pairs) name
     → after ≡ cond (bytes_eq p.key.v.now name) (Some field) before → option_map f after ≡ last_definition (take (i + 1) pairs) name
 defined_more f pairs i p field name before after within here same so_far updated =
@@ -66,7 +71,8 @@ module _ {A B : Type 0} (R : A → B → Type 0) where
 
 module _ (definitions : Definitions) where
   -- parsed fields can be parsed
-  pub are_readable : (ps : List Pair) (pairs : List (List ℕ × List (Spanned Chunk))) → AllZip (IsRead definitions) ps pairs → AreReadable definitions ps
+  pub are_readable : (ps : List Pair) (pairs : List (List ℕ × List (Spanned Chunk)))
+      → AllZip (IsRead definitions) ps pairs → AreReadable definitions ps
   are_readable [] [] all = tt
   are_readable [] (pair ∷ pairs) all = absurd all
   are_readable (p ∷ ps) [] all = absurd all
@@ -81,28 +87,39 @@ module _ (definitions : Definitions) where
   error_after (p ∷ ps) (pair ∷ pairs) rest e all error = IsFieldsError.following all.0.readable (error_after ps pairs rest e all.1 error)
 
   -- the error of the field at an index after parsed fields is the first error
-  pub error_at_field : (fields : List Pair) (i : ℕ) (d : Pair) (pairs : List (List ℕ × List (Spanned Chunk))) (e : ParseError) → i < length fields
-      → AllZip (IsRead definitions) (take i fields) pairs → IsFieldError definitions (get_or fields i d) e → IsFieldsError definitions fields e
+  pub error_at_field : (fields : List Pair) (i : ℕ) (d : Pair) (pairs : List (List ℕ × List (Spanned Chunk)))
+      (e : ParseError) → i < length fields
+      → AllZip (IsRead definitions) (take i fields) pairs → IsFieldError definitions (get_or fields i d) e
+      → IsFieldsError definitions fields e
   error_at_field fields i d pairs e within all error =
-      subst (λ l. IsFieldsError definitions l e) (ap (λ l. take i fields ++ l) (sym (drop-cons fields i d within)) ∙ take-append-drop i fields)
+      subst (λ l. IsFieldsError definitions l e)
+      (ap (λ l. take i fields ++ l) (sym (drop-cons fields i d within)) ∙ take-append-drop i fields)
       (error_after (take i fields) pairs (get_or fields i d ∷ drop (suc i) fields) e all (IsFieldsError.here error.0 error.1))
 
   -- the same, if the error may also be out of memory
-  pub refused_at : (fields : List Pair) (i : ℕ) (p : Pair) (pairs : List (List ℕ × List (Spanned Chunk))) (e : ParseError) → i < length fields → p ≡ get_or fields i p
-      → AllZip (IsRead definitions) (take i fields) pairs → (e ≡ out_of_memory) ⊎ IsFieldError definitions p e → (e ≡ out_of_memory) ⊎ IsFieldsError definitions fields e
+  pub refused_at : (fields : List Pair) (i : ℕ) (p : Pair) (pairs : List (List ℕ × List (Spanned Chunk)))
+      (e : ParseError) → i < length fields → p ≡ get_or fields i p
+      → AllZip (IsRead definitions) (take i fields) pairs → (e ≡ out_of_memory) ⊎ IsFieldError definitions p e
+      → (e ≡ out_of_memory) ⊎ IsFieldsError definitions fields e
   refused_at fields i p pairs e within here all (inl memory) = inl memory
-  refused_at fields i p pairs e within here all (inr error) = inr (error_at_field fields i p pairs e within all (subst (λ q. IsFieldError definitions q e) here error))
+  refused_at fields i p pairs e within here all (inr error) =
+      inr (error_at_field fields i p pairs e within all (subst (λ q. IsFieldError definitions q e) here error))
 
   -- one more parsed field
-  pub read_more : (fields : List Pair) (i : ℕ) (p : Pair) (pairs more : List (List ℕ × List (Spanned Chunk))) (pair : List ℕ × List (Spanned Chunk)) → i < length fields → p ≡ get_or fields i p
-      → AllZip (IsRead definitions) (take i fields) pairs → IsRead definitions p pair → more ≡ pairs ++ pair ∷ [] → AllZip (IsRead definitions) (take (i + 1) fields) more
+  pub read_more : (fields : List Pair) (i : ℕ) (p : Pair) (pairs more : List (List ℕ × List (Spanned Chunk)))
+      (pair : List ℕ × List (Spanned Chunk)) → i < length fields → p ≡ get_or fields i p
+      → AllZip (IsRead definitions) (take i fields) pairs → IsRead definitions p pair → more ≡ pairs ++ pair ∷ []
+      → AllZip (IsRead definitions) (take (i + 1) fields) more
   read_more fields i p pairs more pair within here all read pushed =
       subst (λ l. AllZip (IsRead definitions) l more) (ap (λ q. take i fields ++ q ∷ []) here ∙ sym (take_more fields i p within))
-      (subst (AllZip (IsRead definitions) (take i fields ++ p ∷ [])) (sym pushed) (AllZip-push (IsRead definitions) (take i fields) pairs p pair all read))
+      (subst (AllZip (IsRead definitions) (take i fields ++ p ∷ [])) (sym pushed)
+      (AllZip-push (IsRead definitions) (take i fields) pairs p pair all read))
 
   -- the contents of a name, given its raw field
   abbrev pub IsFound : List ℕ → Option Pair → Option (List (Spanned Chunk)) → Type 0
-  IsFound name field value = MatchOption field (value ≡ None) (λ p. (chunks : List (Spanned Chunk)) × (value ≡ Some chunks) × IsFieldOf definitions p chunks)
+  IsFound name field value =
+      MatchOption field (value ≡ None)
+      (λ p. (chunks : List (Spanned Chunk)) × (value ≡ Some chunks) × IsFieldOf definitions p chunks)
 
   found_first : (name : List ℕ) (ps : List Pair) (pairs : List (List ℕ × List (Spanned Chunk))) → AllZip (IsRead definitions) ps pairs
       → IsFound name (find (λ p. bytes_eq name (field_name p)) ps) (by_name.find by_bytes name pairs)
@@ -110,14 +127,29 @@ module _ (definitions : Definitions) where
   found_first name [] (pair ∷ pairs) all = absurd all
   found_first name (p ∷ ps) [] all = absurd all
   found_first name (p ∷ ps) (pair ∷ pairs) all =
-      let same : bytes_eq name (field_name p) ≡ is_eq (by_bytes name pair.0) = sym (is_eq-slice_cmp name (field_name p)) ∙ ap (λ n. is_eq (by_bytes name n)) (sym all.0.name) in
-      elim (is_eq (by_bytes name pair.0)) as (λ b. bytes_eq name (field_name p) ≡ b → IsFound name (cond (bytes_eq name (field_name p)) (Some p) (find (λ q. bytes_eq name (field_name q)) ps)) (cond b (Some pair.1) (by_name.find by_bytes name pairs))) [
-        | true ↦ λ e. subst (λ b. IsFound name (cond b (Some p) (find (λ q. bytes_eq name (field_name q)) ps)) (Some pair.1)) (sym e) (pair.1, refl, all.0.value)
-        | false ↦ λ e. subst (λ b. IsFound name (cond b (Some p) (find (λ q. bytes_eq name (field_name q)) ps)) (by_name.find by_bytes name pairs)) (sym e) (found_first name ps pairs all.1)
+      let same : bytes_eq name (field_name p) ≡ is_eq (by_bytes name pair.0) =
+      sym (is_eq-slice_cmp name (field_name p)) ∙ ap (λ n. is_eq (by_bytes name n)) (sym all.0.name) in
+      elim (is_eq (by_bytes name pair.0)) as
+      (λ b.
+      bytes_eq name (field_name p) ≡ b
+      → IsFound name
+      (cond (bytes_eq name (field_name p)) (Some p) (find (λ q. bytes_eq name (field_name q)) ps))
+      (cond b (Some pair.1) (by_name.find by_bytes name pairs))) [
+        | true ↦
+            λ e.
+            subst (λ b. IsFound name (cond b (Some p) (find (λ q. bytes_eq name (field_name q)) ps)) (Some pair.1))
+            (sym e) (pair.1, refl, all.0.value)
+        | false ↦
+            λ e.
+            subst
+            (λ b.
+            IsFound name (cond b (Some p) (find (λ q. bytes_eq name (field_name q)) ps))
+            (by_name.find by_bytes name pairs)) (sym e) (found_first name ps pairs all.1)
       ] same
 
   -- each name has the contents of the last field with it
-  pub found_last : (name : List ℕ) (fields : List Pair) (pairs : List (List ℕ × List (Spanned Chunk))) → AllZip (IsRead definitions) fields pairs
+  pub found_last : (name : List ℕ) (fields : List Pair) (pairs : List (List ℕ × List (Spanned Chunk)))
+      → AllZip (IsRead definitions) fields pairs
       → IsFound name (last_field fields name) (by_name.get (by_name.from_entries {R = by_bytes} (reverse pairs)) name)
   found_last name fields pairs all =
       subst (IsFound name (last_field fields name)) (sym (get-from_entries nat_list_cmp_total (reverse pairs) name))

@@ -23,28 +23,38 @@ chosen_append true e xs ys zs is = is
 chosen_append false e xs ys zs is = ap (λ l. e ∷ l) is
 
 -- the errors of the undefined abbreviations in a concatenation are those of its two lists
-pub unknown_names-append : (definitions : Definitions) (first rest : List Piece) → unknown_names definitions (first ++ rest) ≡ unknown_names definitions first ++ unknown_names definitions rest
+pub unknown_names-append : (definitions : Definitions) (first rest : List Piece)
+    → unknown_names definitions (first ++ rest) ≡ unknown_names definitions first ++ unknown_names definitions rest
 unknown_names-append definitions [] rest = refl
 unknown_names-append definitions (literal p ∷ first) rest = unknown_names-append definitions first rest
 unknown_names-append definitions (abbreviation p ∷ first) rest =
-    chosen_append (is_known definitions p.text) (error_at p (UnknownAbbreviation p.text)) (unknown_names definitions (first ++ rest)) (unknown_names definitions first) (unknown_names definitions rest)
+    chosen_append (is_known definitions p.text) (error_at p (UnknownAbbreviation p.text))
+    (unknown_names definitions (first ++ rest)) (unknown_names definitions first) (unknown_names definitions rest)
     (unknown_names-append definitions first rest)
 
 -- pieces without undefined abbreviations are not changed
-pub known_stay : (definitions : Definitions) (pieces : List Piece) → unknown_names definitions pieces ≡ [] → map (mended_piece definitions) pieces ≡ pieces
+pub known_stay : (definitions : Definitions) (pieces : List Piece) → unknown_names definitions pieces ≡ []
+    → map (mended_piece definitions) pieces ≡ pieces
 known_stay definitions [] none = refl
 known_stay definitions (literal p ∷ rest) none = ap (λ l. literal p ∷ l) (known_stay definitions rest none)
 known_stay definitions (abbreviation p ∷ rest) none =
-    elim (is_known definitions p.text) as (λ b. cond b (unknown_names definitions rest) (error_at p (UnknownAbbreviation p.text) ∷ unknown_names definitions rest) ≡ []
+    elim (is_known definitions p.text) as (λ b. cond b (unknown_names definitions rest)
+    (error_at p (UnknownAbbreviation p.text) ∷ unknown_names definitions rest) ≡ []
     → cond b (abbreviation p) (literal p) ∷ map (mended_piece definitions) rest ≡ abbreviation p ∷ rest) [
       | true ↦ λ e. ap (λ l. abbreviation p ∷ l) (known_stay definitions rest e)
       | false ↦ λ e. cc
     ] none
 
 -- a field without undefined abbreviations is not changed
-pub field_stays : (definitions : Definitions) (p : Pair) → unknown_names definitions (pieces_of p) ≡ [] → field_of p ≡ mended definitions (field_of p)
+pub field_stays : (definitions : Definitions) (p : Pair) → unknown_names definitions (pieces_of p) ≡ []
+    → field_of p ≡ mended definitions (field_of p)
 field_stays definitions p none =
-    let build : List Piece → FieldReading = λ pieces. record { name = part_of p.key; value = record { pieces = pieces; start = p.value.span.start; end = p.value.span.end } } in
+    let build : List Piece → FieldReading =
+    λ pieces.
+    record {
+      name = part_of p.key;
+      value = record { pieces = pieces; start = p.value.span.start; end = p.value.span.end };
+    } in
     ap build (sym (known_stay definitions (pieces_of p) none))
 
 -- the value of a borrowed copy of a field, or else of the borrowed field itself
@@ -53,7 +63,8 @@ now_or None d = refl
 now_or (Some x) d = refl
 
 -- a field that can't be parsed after the replacement is left out
-pub left_out : (definitions : Definitions) (said kept : Pair) (old errors new : List ParseError) (e : ParseError) → field_of kept ≡ mended definitions (field_of said) → IsFieldError definitions kept e
+pub left_out : (definitions : Definitions) (said kept : Pair) (old errors new : List ParseError) (e : ParseError)
+    → field_of kept ≡ mended definitions (field_of said) → IsFieldError definitions kept e
     → errors ≡ old ++ unknown_names definitions (pieces_of said) → new ≡ errors ++ e ∷ [] → IsLeftOut definitions said old new
 left_out definitions said kept old errors new e is error noted pushed = record {
   error = e;
@@ -73,16 +84,19 @@ none_next definitions field i d within before here =
     ∙ ap (λ l. l ++ unknown_names definitions (piece_of (get_or field i d) ∷ [])) before ∙ here
 
 -- the undefined abbreviations in the first `i` pieces of a field were replaced
-pub record MendedSoFar (definitions : Definitions) (field : List (Spanned RawChunk)) (i : ℕ) (pieces : List (Spanned RawChunk)) (before errors : List ParseError) : Type 0 where
+pub record MendedSoFar (definitions : Definitions) (field : List (Spanned RawChunk)) (i : ℕ)
+    (pieces : List (Spanned RawChunk)) (before errors : List ParseError) : Type 0 where
   pub mended : map piece_of pieces ≡ map (mended_piece definitions) (map piece_of (take i field))
   pub noted : errors ≡ before ++ unknown_names definitions (map piece_of (take i field))
 
 -- before the first piece, nothing was replaced
-pub mended_none : (definitions : Definitions) (field : List (Spanned RawChunk)) (before : List ParseError) → MendedSoFar definitions field 0 [] before before
+pub mended_none : (definitions : Definitions) (field : List (Spanned RawChunk)) (before : List ParseError)
+    → MendedSoFar definitions field 0 [] before before
 mended_none definitions field before = record { mended = refl; noted = sym (append-nil before) }
 
 -- one more piece was copied or replaced
-pub mended_next : (definitions : Definitions) (field pieces : List (Spanned RawChunk)) (i : ℕ) (d x : Spanned RawChunk) (before errors more : List ParseError)
+pub mended_next : (definitions : Definitions) (field pieces : List (Spanned RawChunk)) (i : ℕ) (d x : Spanned RawChunk)
+    (before errors more : List ParseError)
     → i < length field → MendedSoFar definitions field i pieces before errors
     → piece_of x ≡ mended_piece definitions (piece_of (get_or field i d))
     → more ≡ errors ++ unknown_names definitions (piece_of (get_or field i d) ∷ [])
@@ -102,5 +116,7 @@ mended_next definitions field pieces i d x before errors more within so_far is a
           added
           ∙ ap (λ l. l ++ unknown_names definitions (here ∷ [])) so_far.noted
           ∙ append_assoc before (unknown_names definitions (map piece_of (take i field))) (unknown_names definitions (here ∷ []))
-          ∙ ap (λ l. before ++ l) (sym (unknown_names-append definitions (map piece_of (take i field)) (here ∷ [])) ∙ ap (unknown_names definitions) (sym taken));
+          ∙ ap (λ l. before ++ l)
+          (sym (unknown_names-append definitions (map piece_of (take i field)) (here ∷ []))
+          ∙ ap (unknown_names definitions) (sym taken));
     }

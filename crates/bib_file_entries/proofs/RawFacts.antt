@@ -46,33 +46,43 @@ definition_same pairs name =
     )
 
 -- fields that can be parsed
-pub readable_same : (definitions : Definitions) (pairs : List Pair) → AreReadable definitions pairs → AllCanBeRead definitions (map field_of pairs)
+pub readable_same : (definitions : Definitions) (pairs : List Pair) → AreReadable definitions pairs
+    → AllCanBeRead definitions (map field_of pairs)
 readable_same definitions [] all = tt
 readable_same definitions (p ∷ rest) all = (all.0, readable_same definitions rest all.1)
 
 -- the first error of fields
-pub error_same : {definitions : Definitions} {pairs : List Pair} {e : ParseError} → IsFieldsError definitions pairs e → IsFirstErrorOfFields definitions (map field_of pairs) e
+pub error_same : {definitions : Definitions} {pairs : List Pair} {e : ParseError} → IsFieldsError definitions pairs e
+    → IsFirstErrorOfFields definitions (map field_of pairs) e
 error_same (IsFieldsError.here error unread) = IsFirstErrorOfFields.here error unread
 error_same (IsFieldsError.following read error) = IsFirstErrorOfFields.following read (error_same error)
 
 field_same : (definitions : Definitions) (o : Option Pair) (at : Option (List (Spanned Chunk)))
     → MatchOption o (at ≡ None) (λ p. (chunks : List (Spanned Chunk)) × (at ≡ Some chunks) × IsFieldOf definitions p chunks)
-    → MatchOption (option_map field_of o) (at ≡ None) (λ f. (chunks : List (Spanned Chunk)) × (at ≡ Some chunks) × FieldSays definitions f chunks)
+    → MatchOption (option_map field_of o) (at ≡ None)
+    (λ f. (chunks : List (Spanned Chunk)) × (at ≡ Some chunks) × FieldSays definitions f chunks)
 field_same definitions None at found = found
 field_same definitions (Some p) at found = found
 
 -- the contents of a name among fields
 pub found_same : (definitions : Definitions) (fields : List Pair) (name : List ℕ) (at : Option (List (Spanned Chunk)))
-    → MatchOption (last_field fields name) (at ≡ None) (λ p. (chunks : List (Spanned Chunk)) × (at ≡ Some chunks) × IsFieldOf definitions p chunks)
-    → MatchOption (field_in (map field_of fields) name) (at ≡ None) (λ f. (chunks : List (Spanned Chunk)) × (at ≡ Some chunks) × FieldSays definitions f chunks)
+    → MatchOption (last_field fields name) (at ≡ None)
+    (λ p. (chunks : List (Spanned Chunk)) × (at ≡ Some chunks) × IsFieldOf definitions p chunks)
+    → MatchOption (field_in (map field_of fields) name) (at ≡ None)
+    (λ f. (chunks : List (Spanned Chunk)) × (at ≡ Some chunks) × FieldSays definitions f chunks)
 found_same definitions fields name at found =
     let same : field_in (map field_of fields) name ≡ option_map field_of (last_field fields name) =
-    ap (find (λ f. bytes_eq name (name_of f))) (reverse_map field_of fields) ∙ find_map (λ f. bytes_eq name (name_of f)) field_of (reverse fields) in
-    subst (λ o. MatchOption o (at ≡ None) (λ f. (chunks : List (Spanned Chunk)) × (at ≡ Some chunks) × FieldSays definitions f chunks)) (sym same)
+    ap (find (λ f. bytes_eq name (name_of f))) (reverse_map field_of fields)
+    ∙ find_map (λ f. bytes_eq name (name_of f)) field_of (reverse fields) in
+    subst
+    (λ o.
+    MatchOption o (at ≡ None)
+    (λ f. (chunks : List (Spanned Chunk)) × (at ≡ Some chunks) × FieldSays definitions f chunks)) (sym same)
     (field_same definitions (last_field fields name) at found)
 
 -- the entry of a raw entry
-pub entry_same : {definitions : Definitions} {raw : Spanned RawEntry} {entry : Entry} → IsEntryOf definitions raw.v entry → IsEntry definitions (entry_reading_of raw) entry
+pub entry_same : {definitions : Definitions} {raw : Spanned RawEntry} {entry : Entry}
+    → IsEntryOf definitions raw.v entry → IsEntry definitions (entry_reading_of raw) entry
 entry_same {definitions} {raw} {entry} read = record {
   key = read.key;
   kind = read.kind;

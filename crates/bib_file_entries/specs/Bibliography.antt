@@ -20,7 +20,9 @@ pub record Bibliography : Type 0 where
 -- a bibliography is stored as the pair of its fields
 abbrev pub bibliography_code : Coded Bibliography
 bibliography_code =
-    code_by (List Entry × ByText ℕ) (coded× (coded_list entry.the_row.coded) (by_name.code (coded_list coded_ℕ) coded_ℕ)) (λ l. (l.entries, l.names)) (λ p. record { entries = p.0; names = p.1 }) (λ _. refl)
+    code_by (List Entry × ByText ℕ)
+    (coded× (coded_list entry.the_row.coded) (by_name.code (coded_list coded_ℕ) coded_ℕ))
+    (λ l. (l.entries, l.names)) (λ p. record { entries = p.0; names = p.1 }) (λ _. refl)
 
 -- the other names of an entry: the items of its field `ids`, a comma-separated list
 abbrev pub aliases : Entry → List (List ℕ)

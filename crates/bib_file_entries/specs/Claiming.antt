@@ -23,7 +23,8 @@ place_of said = record { start = said.start; end = said.end }
 
 -- the entries are those kept of the raw entries, with their spans, their indices among the raw entries, and the errors. Each
 -- name points to the last entry that claims it
-pub record IsKeptSoFar (definitions : Definitions) (said : List EntryReading) (all : List Entry) (names : ByText ℕ) (places : List (Range ℕ)) (origins : List ℕ) (errors : List ParseError) : Type 0 where
+pub record IsKeptSoFar (definitions : Definitions) (said : List EntryReading) (all : List Entry) (names : ByText ℕ)
+    (places : List (Range ℕ)) (origins : List ℕ) (errors : List ParseError) : Type 0 where
   pub kept : List EntryReading
   pub read : EntriesKept definitions [] said kept all errors
   pub stand : places ≡ map place_of kept

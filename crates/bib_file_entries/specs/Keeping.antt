@@ -16,7 +16,8 @@ use Rattle.bib_syntax.specs.declared.raw.ParseError.{ParseError}
 use Rattle.bib_text.specs.declared.spanned.Spanned.{Spanned}
 
 -- a name and chunks are the parsed field, with undefined abbreviations replaced by text; an error is added for each of these
-pub record IsKeptField (definitions : Definitions) (said : Pair) (old new : List ParseError) (pair : List ℕ × List (Spanned Chunk)) : Type 0 where
+pub record IsKeptField (definitions : Definitions) (said : Pair) (old new : List ParseError)
+    (pair : List ℕ × List (Spanned Chunk)) : Type 0 where
   pub kept : Pair
   pub is : field_of kept ≡ mended definitions (field_of said)
   pub read : IsRead definitions kept pair
@@ -26,7 +27,8 @@ pub record IsKeptField (definitions : Definitions) (said : Pair) (old new : List
 -- its own error
 pub record IsLeftOut (definitions : Definitions) (said : Pair) (old new : List ParseError) : Type 0 where
   pub error : ParseError
-  pub first : IsFirstError definitions (is_verbatim_field (name_of (field_of said))) [] (mended definitions (field_of said)).value.pieces error
+  pub first : IsFirstError definitions (is_verbatim_field (name_of (field_of said))) []
+      (mended definitions (field_of said)).value.pieces error
   pub unread : CanBeRead definitions (mended definitions (field_of said)) → ⊥
   pub errors : new ≡ old ++ (unknown_names definitions (pieces_of said) ++ error ∷ [])
 
@@ -36,7 +38,8 @@ IsTried definitions said old new (Some pair) = IsKeptField definitions said old 
 IsTried definitions said old new None = IsLeftOut definitions said old new
 
 -- names and chunks are the parsed fields that are kept of the raw fields; the errors are added
-pub record AreKeptFields (definitions : Definitions) (said : List Pair) (old new : List ParseError) (pairs : List (List ℕ × List (Spanned Chunk))) : Type 0 where
+pub record AreKeptFields (definitions : Definitions) (said : List Pair) (old new : List ParseError)
+    (pairs : List (List ℕ × List (Spanned Chunk))) : Type 0 where
   pub kept : List Pair
   pub more : List ParseError
   pub fields : FieldsKept definitions (map field_of said) (map field_of kept) more

@@ -58,12 +58,15 @@ duplicate_key said = record { span = record { start = said.start; end = said.end
 
 -- the raw entries kept of a list after the earlier claims, in order, each with its kept fields; the entries that they are
 -- converted to; and the errors
-pub data EntriesKept (definitions : Definitions) : List (List ℕ) → List EntryReading → List EntryReading → List Entry → List ParseError → Type 0 where
+pub data EntriesKept (definitions : Definitions) : List (List ℕ) → List EntryReading → List EntryReading → List Entry
+    → List ParseError → Type 0 where
   none : {claimed : List (List ℕ)} → EntriesKept definitions claimed [] [] [] []
-  duplicate : {claimed : List (List ℕ)} {said : EntryReading} {rest kept : List EntryReading} {entries : List Entry} {errors : List ParseError}
+  duplicate : {claimed : List (List ℕ)} {said : EntryReading} {rest kept : List EntryReading} {entries : List Entry}
+      {errors : List ParseError}
       → is_claimed claimed said.key.text ≡ true → EntriesKept definitions claimed rest kept entries errors
       → EntriesKept definitions claimed (said ∷ rest) kept entries (duplicate_key said ∷ errors)
-  next : {claimed : List (List ℕ)} {said : EntryReading} {fields : List FieldReading} {entry : Entry} {rest kept : List EntryReading} {entries : List Entry}
+  next : {claimed : List (List ℕ)} {said : EntryReading} {fields : List FieldReading} {entry : Entry}
+      {rest kept : List EntryReading} {entries : List Entry}
       {first errors : List ParseError} → is_claimed claimed said.key.text ≡ false → FieldsKept definitions said.fields fields first
       → IsEntry definitions (with_fields said fields) entry → EntriesKept definitions (claimed ++ claims entry) rest kept entries errors
       → EntriesKept definitions claimed (said ∷ rest) (with_fields said fields ∷ kept) (entry ∷ entries) (first ++ errors)

@@ -57,7 +57,10 @@ pub record IsEntry (definitions : Definitions) (said : EntryReading) (entry : En
   pub key : entry.key ≡ said.key.text
   pub kind : entry.entry_type ≡ entry_type_of said.kind.text
   pub fields : (name : List ℕ)
-      → MatchOption (field_in said.fields name) (by_name.get entry.fields name ≡ None) (λ f. (chunks : List (Spanned Chunk)) × (by_name.get entry.fields name ≡ Some chunks) × FieldSays definitions f chunks)
+      → MatchOption (field_in said.fields name) (by_name.get entry.fields name ≡ None)
+      (λ f.
+      (chunks : List (Spanned Chunk)) × (by_name.get entry.fields name ≡ Some chunks)
+      × FieldSays definitions f chunks)
   pub readable : AllCanBeRead definitions said.fields
 
 -- whether a name was claimed
@@ -75,20 +78,25 @@ pub data AreEntries (definitions : Definitions) : List (List ℕ) → List Entry
 
 -- the error of the first field that can't be parsed
 pub data IsFirstErrorOfFields (definitions : Definitions) : List FieldReading → ParseError → Type 0 where
-  here : {f : FieldReading} {rest : List FieldReading} {e : ParseError} → IsFirstError definitions (is_verbatim_field (name_of f)) [] f.value.pieces e
+  here : {f : FieldReading} {rest : List FieldReading} {e : ParseError}
+      → IsFirstError definitions (is_verbatim_field (name_of f)) [] f.value.pieces e
       → (CanBeRead definitions f → ⊥) → IsFirstErrorOfFields definitions (f ∷ rest) e
-  following : {f : FieldReading} {rest : List FieldReading} {e : ParseError} → CanBeRead definitions f → IsFirstErrorOfFields definitions rest e
+  following : {f : FieldReading} {rest : List FieldReading} {e : ParseError} → CanBeRead definitions f
+      → IsFirstErrorOfFields definitions rest e
       → IsFirstErrorOfFields definitions (f ∷ rest) e
 
 -- the first error of raw entries in order, after the claims of earlier ones: a key that was claimed before, or a field that
 -- can't be parsed. The key of an entry is checked before its fields
 pub data IsFirstErrorOfEntries (definitions : Definitions) : List (List ℕ) → List EntryReading → ParseError → Type 0 where
-  duplicate : {claimed : List (List ℕ)} {said : EntryReading} {rest : List EntryReading} {e : ParseError} → is_claimed claimed said.key.text ≡ true
+  duplicate : {claimed : List (List ℕ)} {said : EntryReading} {rest : List EntryReading} {e : ParseError}
+      → is_claimed claimed said.key.text ≡ true
       → e ≡ record { span = record { start = said.start; end = said.end }; kind = DuplicateKey said.key.text }
       → IsFirstErrorOfEntries definitions claimed (said ∷ rest) e
-  unreadable : {claimed : List (List ℕ)} {said : EntryReading} {rest : List EntryReading} {e : ParseError} → is_claimed claimed said.key.text ≡ false
+  unreadable : {claimed : List (List ℕ)} {said : EntryReading} {rest : List EntryReading} {e : ParseError}
+      → is_claimed claimed said.key.text ≡ false
       → IsFirstErrorOfFields definitions said.fields e → IsFirstErrorOfEntries definitions claimed (said ∷ rest) e
-  following : {claimed : List (List ℕ)} {said : EntryReading} {rest : List EntryReading} {entry : Entry} {e : ParseError} → is_claimed claimed said.key.text ≡ false
+  following : {claimed : List (List ℕ)} {said : EntryReading} {rest : List EntryReading} {entry : Entry}
+      {e : ParseError} → is_claimed claimed said.key.text ≡ false
       → IsEntry definitions said entry → IsFirstErrorOfEntries definitions (claimed ++ claims entry) rest e
       → IsFirstErrorOfEntries definitions claimed (said ∷ rest) e
 

@@ -57,7 +57,10 @@ pub record IsEntryOf (definitions : Definitions) (raw : RawEntry) (entry : Entry
   pub key : entry.key ≡ raw.key.v.now
   pub kind : entry.entry_type ≡ entry_type_of raw.kind.v.now
   pub fields : (name : List ℕ)
-      → MatchOption (last_field raw.fields.items name) (by_name.get entry.fields name ≡ None) (λ p. (chunks : List (Spanned Chunk)) × (by_name.get entry.fields name ≡ Some chunks) × IsFieldOf definitions p chunks)
+      → MatchOption (last_field raw.fields.items name) (by_name.get entry.fields name ≡ None)
+      (λ p.
+      (chunks : List (Spanned Chunk)) × (by_name.get entry.fields name ≡ Some chunks)
+      × IsFieldOf definitions p chunks)
   pub readable : AreReadable definitions raw.fields.items
 
 -- the error of the first field that can't be parsed

@@ -9,4 +9,5 @@ use Rattle.bib_file_entries.specs.Loading.{IsFieldReadable, field_name, pieces_o
 
 -- a field can't be parsed, and this is its first error
 abbrev pub IsFieldError : Definitions → Pair → ParseError → Type 0
-IsFieldError definitions p e = IsFirstError definitions (is_verbatim_field (field_name p)) [] (pieces_of p) e × (IsFieldReadable definitions p → ⊥)
+IsFieldError definitions p e =
+    IsFirstError definitions (is_verbatim_field (field_name p)) [] (pieces_of p) e × (IsFieldReadable definitions p → ⊥)

@@ -18,17 +18,22 @@ spelled = map (λ p. p.now)
 from_index : (prefixes : List (Bor (List ℕ))) (index : ℕ) (prefix : Bor (List ℕ)) → index < length prefixes
     → spelled (drop index prefixes) ≡ (get_or prefixes index prefix).now ∷ spelled (drop (index + 1) prefixes)
 from_index prefixes index prefix within =
-    ap spelled (drop-cons prefixes index prefix within ∙ ap (λ n. get_or prefixes index prefix ∷ drop n prefixes) (let same : suc index ≡ index + 1 = omega arith in same))
+    ap spelled
+    (drop-cons prefixes index prefix within
+    ∙ ap (λ n. get_or prefixes index prefix ∷ drop n prefixes)
+    (let same : suc index ≡ index + 1 = omega arith in same))
 
 -- a text that begins with a prefix loses it
-pub prefix_here : (text : List ℕ) (prefixes : List (Bor (List ℕ))) (index : ℕ) (prefix : Bor (List ℕ)) (rest : List ℕ) → index < length prefixes
+pub prefix_here : (text : List ℕ) (prefixes : List (Bor (List ℕ))) (index : ℕ) (prefix : Bor (List ℕ)) (rest : List ℕ)
+    → index < length prefixes
     → without_prefixes text (spelled prefixes) ≡ without_prefixes text (spelled (drop index prefixes))
     → StripsPrefix (FindsTextPrefix (get_or prefixes index prefix).now) text rest → rest ≡ without_prefixes text (spelled prefixes)
 prefix_here text prefixes index prefix rest within before strips =
     let p : List ℕ = (get_or prefixes index prefix).now in
     let n : ℕ = strips.0 in
     let long : n ≡ length p = strips.1.0 in
-    let begins : true ≡ starts_with nat_eq text p = starts_text true p text (n, strips.1, subst (IsCharBoundary text) (sym long) strips.1.2) in
+    let begins : true ≡ starts_with nat_eq text p =
+    starts_text true p text (n, strips.1, subst (IsCharBoundary text) (sym long) strips.1.2) in
     strips.2 ∙ ap (λ k. drop k text) long
     ∙ ap (λ b. cond b (drop (length p) text) (without_prefixes text (spelled (drop (index + 1) prefixes)))) begins
     ∙ sym (ap (without_prefixes text) (from_index prefixes index prefix within)) ∙ sym before

@@ -10,13 +10,15 @@ pub more : {A : Type 0} (items : List A) (index : ℕ) (item : A) → index < le
 more items index item within is = take_more items index item within ∙ ap (λ one. take index items ++ one ∷ []) (sym is)
 
 -- what stands at an index
-pub get_there : {A : Type 0} (items : List A) (index : ℕ) (other : A) → index < length items → slice_get items index ≡ Some (get_or items index other)
+pub get_there : {A : Type 0} (items : List A) (index : ℕ) (other : A) → index < length items
+    → slice_get items index ≡ Some (get_or items index other)
 get_there [] index other within = absurd (omega arith)
 get_there (item ∷ items) zero other within = refl
 get_there (item ∷ items) (suc index) other within = get_there items index other (omega arith)
 
 -- what stands at an index of mapped items
-pub get_mapped : {A B : Type 0} (f : A → B) (items : List A) (index : ℕ) (other : A) → index < length items → slice_get (map f items) index ≡ Some (f (get_or items index other))
+pub get_mapped : {A B : Type 0} (f : A → B) (items : List A) (index : ℕ) (other : A) → index < length items
+    → slice_get (map f items) index ≡ Some (f (get_or items index other))
 get_mapped f [] index other within = absurd (omega arith)
 get_mapped f (item ∷ items) zero other within = refl
 get_mapped f (item ∷ items) (suc index) other within = get_mapped f items index other (omega arith)
@@ -30,6 +32,7 @@ given_more given (first ∷ items) item one is =
     [ None ↦ given_more given items item one is | Some here ↦ ap (λ l. here ∷ l) (given_more given items item one is) ]
 
 -- whether one of mapped items passes
-pub any_of_map : {A B : Type 0} (f : A → B) (test : B → Bool) (items : List A) → list_any test (map f items) ≡ list_any (λ item. test (f item)) items
+pub any_of_map : {A B : Type 0} (f : A → B) (test : B → Bool) (items : List A)
+    → list_any test (map f items) ≡ list_any (λ item. test (f item)) items
 any_of_map f test [] = refl
 any_of_map f test (item ∷ items) = ap (λ b. test (f item) || b) (any_of_map f test items)

@@ -47,7 +47,8 @@ before_cut (c ∷ text) rest =
     ∙ sym (take_while-cons (λ b. not (b == char.open_brace)) c text)
 
 -- an identity of a kind among others
-in_identity : (test : List ℕ → Bool) (kind text : List ℕ) → list_any test (identity kind text) ≡ true → (test (kind ++ text) ≡ true) × ((length text == 0) ≡ false)
+in_identity : (test : List ℕ → Bool) (kind text : List ℕ) → list_any test (identity kind text) ≡ true
+    → (test (kind ++ text) ≡ true) × ((length text == 0) ≡ false)
 in_identity test kind text is = by (length text == 0) refl
   where
     sole : (p : Bool) → (p || false) ≡ true → p ≡ true
@@ -96,26 +97,36 @@ hash kind text = finish (write (write initial kind) (before_brace text))
 
 marked : (kind text : List ℕ) → (length text == 0) ≡ false → list_any (nat_eq (hash kind text)) (option_to_list (mark kind text)) ≡ true
 marked kind text some =
-    ap (λ b. list_any (nat_eq (hash kind text)) (option_to_list (cond b None (Some (hash kind text))))) some ∙ or_left (nat_eq (hash kind text) (hash kind text)) false (same_number (hash kind text))
+    ap (λ b. list_any (nat_eq (hash kind text)) (option_to_list (cond b None (Some (hash kind text))))) some
+    ∙ or_left (nat_eq (hash kind text) (hash kind text)) false (same_number (hash kind text))
 
-among_three : (one : ℕ) (a b c : List ℕ) → (list_any (nat_eq one) a ≡ true) ⊎ ((list_any (nat_eq one) b ≡ true) ⊎ (list_any (nat_eq one) c ≡ true)) → list_any (nat_eq one) (a ++ (b ++ c)) ≡ true
+among_three : (one : ℕ) (a b c : List ℕ)
+    → (list_any (nat_eq one) a ≡ true) ⊎ ((list_any (nat_eq one) b ≡ true) ⊎ (list_any (nat_eq one) c ≡ true))
+    → list_any (nat_eq one) (a ++ (b ++ c)) ≡ true
 among_three one a b c here =
     list_any-append (nat_eq one) a (b ++ c) ∙ ⊎_elim (λ p. or_left (list_any (nat_eq one) a) (list_any (nat_eq one) (b ++ c)) p)
-    (λ q. or_right (list_any (nat_eq one) a) (list_any (nat_eq one) (b ++ c)) (list_any-append (nat_eq one) b c ∙ ⊎_elim (λ p. or_left (list_any (nat_eq one) b) (list_any (nat_eq one) c) p) (λ p. or_right (list_any (nat_eq one) b) (list_any (nat_eq one) c) p) q)) here
+    (λ q.
+    or_right (list_any (nat_eq one) a) (list_any (nat_eq one) (b ++ c))
+    (list_any-append (nat_eq one) b c
+    ∙ ⊎_elim (λ p. or_left (list_any (nat_eq one) b) (list_any (nat_eq one) c) p)
+    (λ p. or_right (list_any (nat_eq one) b) (list_any (nat_eq one) c) p) q)) here
 
 doi_mark : (said : EntryReading) → (length (doi_of said) == 0) ≡ false → HasMark said (hash (codes "doi ") (doi_of said))
 doi_mark said some =
-    among_three (hash (codes "doi ") (doi_of said)) (option_to_list (mark (codes "doi ") (doi_of said))) (option_to_list (mark (codes "isbn ") (isbn_of said))) (option_to_list (mark (codes "work ") (title_of said)))
+    among_three (hash (codes "doi ") (doi_of said)) (option_to_list (mark (codes "doi ") (doi_of said)))
+    (option_to_list (mark (codes "isbn ") (isbn_of said))) (option_to_list (mark (codes "work ") (title_of said)))
     (inl (marked (codes "doi ") (doi_of said) some))
 
 isbn_mark : (said : EntryReading) → (length (isbn_of said) == 0) ≡ false → HasMark said (hash (codes "isbn ") (isbn_of said))
 isbn_mark said some =
-    among_three (hash (codes "isbn ") (isbn_of said)) (option_to_list (mark (codes "doi ") (doi_of said))) (option_to_list (mark (codes "isbn ") (isbn_of said))) (option_to_list (mark (codes "work ") (title_of said)))
+    among_three (hash (codes "isbn ") (isbn_of said)) (option_to_list (mark (codes "doi ") (doi_of said)))
+    (option_to_list (mark (codes "isbn ") (isbn_of said))) (option_to_list (mark (codes "work ") (title_of said)))
     (inr (inl (marked (codes "isbn ") (isbn_of said) some)))
 
 title_mark : (said : EntryReading) → (length (title_of said) == 0) ≡ false → HasMark said (hash (codes "work ") (title_of said))
 title_mark said some =
-    among_three (hash (codes "work ") (title_of said)) (option_to_list (mark (codes "doi ") (doi_of said))) (option_to_list (mark (codes "isbn ") (isbn_of said))) (option_to_list (mark (codes "work ") (title_of said)))
+    among_three (hash (codes "work ") (title_of said)) (option_to_list (mark (codes "doi ") (doi_of said)))
+    (option_to_list (mark (codes "isbn ") (isbn_of said))) (option_to_list (mark (codes "work ") (title_of said)))
     (inr (inr (marked (codes "work ") (title_of said) some)))
 
 -- a title, a first person and a year, where none is empty
@@ -126,15 +137,36 @@ work_is title person year some = by (length title == 0) (length person == 0) (le
     whole : List ℕ
     whole = title ++ (codes "{" ++ (person ++ (codes "{" ++ year)))
 
-    by : (t p y : Bool) → (length title == 0) ≡ t → (length person == 0) ≡ p → (length year == 0) ≡ y → ((length title == 0) ≡ false) × (work_text title person year ≡ whole)
-    by false false false no_t no_p no_y = (no_t, ap (λ b. cond (b || length person == 0 || length year == 0) [] whole) no_t ∙ ap (λ b. cond (b || length year == 0) [] whole) no_p ∙ ap (λ b. cond b [] whole) no_y)
-    by true p y is_t is_p is_y = absurd (let clash : true ≡ false = sym (ap (λ b. length (cond (b || length person == 0 || length year == 0) [] whole) == 0) is_t) ∙ some in cc)
+    by : (t p y : Bool) → (length title == 0) ≡ t → (length person == 0) ≡ p → (length year == 0) ≡ y
+        → ((length title == 0) ≡ false) × (work_text title person year ≡ whole)
+    by false false false no_t no_p no_y = (
+      no_t,
+      ap (λ b. cond (b || length person == 0 || length year == 0) [] whole) no_t
+          ∙ ap (λ b. cond (b || length year == 0) [] whole) no_p ∙ ap (λ b. cond b [] whole) no_y,
+    )
+    by true p y is_t is_p is_y =
+        absurd
+        (let clash : true ≡ false =
+        sym (ap (λ b. length (cond (b || length person == 0 || length year == 0) [] whole) == 0) is_t) ∙ some in
+        cc)
     by false true y is_t is_p is_y =
-        absurd (let clash : true ≡ false = sym (ap (λ b. length (cond (b || length person == 0 || length year == 0) [] whole) == 0) is_t ∙ ap (λ b. length (cond (b || length year == 0) [] whole) == 0) is_p) ∙ some in cc)
+        absurd
+        (let clash : true ≡ false =
+        sym
+        (ap (λ b. length (cond (b || length person == 0 || length year == 0) [] whole) == 0) is_t
+        ∙ ap (λ b. length (cond (b || length year == 0) [] whole) == 0) is_p) ∙ some in
+        cc)
     by false false true is_t is_p is_y =
-        absurd (let clash : true ≡ false = sym (ap (λ b. length (cond (b || length person == 0 || length year == 0) [] whole) == 0) is_t ∙ ap (λ b. length (cond (b || length year == 0) [] whole) == 0) is_p ∙ ap (λ b. length (cond b [] whole) == 0) is_y) ∙ some in cc)
+        absurd
+        (let clash : true ≡ false =
+        sym
+        (ap (λ b. length (cond (b || length person == 0 || length year == 0) [] whole) == 0) is_t
+        ∙ ap (λ b. length (cond (b || length year == 0) [] whole) == 0) is_p
+        ∙ ap (λ b. length (cond b [] whole) == 0) is_y) ∙ some in
+        cc)
 
-title_of_work : (title person year : List ℕ) → (length (work_text title person year) == 0) ≡ false → before_brace (work_text title person year) ≡ before_brace title
+title_of_work : (title person year : List ℕ) → (length (work_text title person year) == 0) ≡ false
+    → before_brace (work_text title person year) ≡ before_brace title
 title_of_work title person year some = ap before_brace (work_is title person year some).1 ∙ before_cut title (person ++ (codes "{" ++ year))
 
 -- entries that share an identity have a mark in common
@@ -149,31 +181,76 @@ shared_with one other (is_doi has some) = by (kind_of (bytes_eq (codes "doi " ++
   where
     by : OfKind (bytes_eq (codes "doi " ++ doi_of other)) one → ShareMark one other
     by (is_doi same others) =
-        let text : doi_of other ≡ doi_of one = ap after_four ((bytes_eq-Decides (codes "doi " ++ doi_of other) (codes "doi " ++ doi_of one)).0 same) in
-        record { mark = hash (codes "doi ") (doi_of one); of_one = doi_mark one others; of_other = subst (λ t. HasMark other (hash (codes "doi ") t)) text (doi_mark other some) }
-    by (is_isbn same others) = absurd (let clash : 100 ≡ 105 = ap (λ l. get_or l 0 0) ((bytes_eq-Decides (codes "doi " ++ doi_of other) (codes "isbn " ++ isbn_of one)).0 same) in omega (arith, clash))
-    by (is_work same others) = absurd (let clash : 100 ≡ 119 = ap (λ l. get_or l 0 0) ((bytes_eq-Decides (codes "doi " ++ doi_of other) (codes "work " ++ work_of one)).0 same) in omega (arith, clash))
+        let text : doi_of other ≡ doi_of one =
+        ap after_four ((bytes_eq-Decides (codes "doi " ++ doi_of other) (codes "doi " ++ doi_of one)).0 same) in
+        record {
+          mark = hash (codes "doi ") (doi_of one);
+          of_one = doi_mark one others;
+          of_other = subst (λ t. HasMark other (hash (codes "doi ") t)) text (doi_mark other some);
+        }
+    by (is_isbn same others) =
+        absurd
+        (let clash : 100 ≡ 105 =
+        ap (λ l. get_or l 0 0)
+        ((bytes_eq-Decides (codes "doi " ++ doi_of other) (codes "isbn " ++ isbn_of one)).0 same) in
+        omega (arith, clash))
+    by (is_work same others) =
+        absurd
+        (let clash : 100 ≡ 119 =
+        ap (λ l. get_or l 0 0)
+        ((bytes_eq-Decides (codes "doi " ++ doi_of other) (codes "work " ++ work_of one)).0 same) in
+        omega (arith, clash))
 shared_with one other (is_isbn has some) = by (kind_of (bytes_eq (codes "isbn " ++ isbn_of other)) one has)
   where
     by : OfKind (bytes_eq (codes "isbn " ++ isbn_of other)) one → ShareMark one other
     by (is_isbn same others) =
-        let text : isbn_of other ≡ isbn_of one = ap after_five ((bytes_eq-Decides (codes "isbn " ++ isbn_of other) (codes "isbn " ++ isbn_of one)).0 same) in
-        record { mark = hash (codes "isbn ") (isbn_of one); of_one = isbn_mark one others; of_other = subst (λ t. HasMark other (hash (codes "isbn ") t)) text (isbn_mark other some) }
-    by (is_doi same others) = absurd (let clash : 105 ≡ 100 = ap (λ l. get_or l 0 0) ((bytes_eq-Decides (codes "isbn " ++ isbn_of other) (codes "doi " ++ doi_of one)).0 same) in omega (arith, clash))
-    by (is_work same others) = absurd (let clash : 105 ≡ 119 = ap (λ l. get_or l 0 0) ((bytes_eq-Decides (codes "isbn " ++ isbn_of other) (codes "work " ++ work_of one)).0 same) in omega (arith, clash))
+        let text : isbn_of other ≡ isbn_of one =
+        ap after_five ((bytes_eq-Decides (codes "isbn " ++ isbn_of other) (codes "isbn " ++ isbn_of one)).0 same) in
+        record {
+          mark = hash (codes "isbn ") (isbn_of one);
+          of_one = isbn_mark one others;
+          of_other = subst (λ t. HasMark other (hash (codes "isbn ") t)) text (isbn_mark other some);
+        }
+    by (is_doi same others) =
+        absurd
+        (let clash : 105 ≡ 100 =
+        ap (λ l. get_or l 0 0)
+        ((bytes_eq-Decides (codes "isbn " ++ isbn_of other) (codes "doi " ++ doi_of one)).0 same) in
+        omega (arith, clash))
+    by (is_work same others) =
+        absurd
+        (let clash : 105 ≡ 119 =
+        ap (λ l. get_or l 0 0)
+        ((bytes_eq-Decides (codes "isbn " ++ isbn_of other) (codes "work " ++ work_of one)).0 same) in
+        omega (arith, clash))
 shared_with one other (is_work has some) = by (kind_of (bytes_eq (codes "work " ++ work_of other)) one has)
   where
     by : OfKind (bytes_eq (codes "work " ++ work_of other)) one → ShareMark one other
     by (is_work same others) =
-        let text : work_of other ≡ work_of one = ap after_five ((bytes_eq-Decides (codes "work " ++ work_of other) (codes "work " ++ work_of one)).0 same) in
-        let title : before_brace (title_of other) ≡ before_brace (title_of one) = sym (title_of_work (title_of other) _ _ some) ∙ ap before_brace text ∙ title_of_work (title_of one) _ _ others in
+        let text : work_of other ≡ work_of one =
+        ap after_five ((bytes_eq-Decides (codes "work " ++ work_of other) (codes "work " ++ work_of one)).0 same) in
+        let title : before_brace (title_of other) ≡ before_brace (title_of one) =
+        sym (title_of_work (title_of other) _ _ some) ∙ ap before_brace text
+        ∙ title_of_work (title_of one) _ _ others in
         record {
           mark = hash (codes "work ") (title_of one);
           of_one = title_mark one (work_is (title_of one) _ _ others).0;
-          of_other = subst (HasMark other) (ap (λ t. finish (write (write initial (codes "work ")) t)) title) (title_mark other (work_is (title_of other) _ _ some).0);
+          of_other =
+              subst (HasMark other) (ap (λ t. finish (write (write initial (codes "work ")) t)) title)
+              (title_mark other (work_is (title_of other) _ _ some).0);
         }
-    by (is_doi same others) = absurd (let clash : 119 ≡ 100 = ap (λ l. get_or l 0 0) ((bytes_eq-Decides (codes "work " ++ work_of other) (codes "doi " ++ doi_of one)).0 same) in omega (arith, clash))
-    by (is_isbn same others) = absurd (let clash : 119 ≡ 105 = ap (λ l. get_or l 0 0) ((bytes_eq-Decides (codes "work " ++ work_of other) (codes "isbn " ++ isbn_of one)).0 same) in omega (arith, clash))
+    by (is_doi same others) =
+        absurd
+        (let clash : 119 ≡ 100 =
+        ap (λ l. get_or l 0 0)
+        ((bytes_eq-Decides (codes "work " ++ work_of other) (codes "doi " ++ doi_of one)).0 same) in
+        omega (arith, clash))
+    by (is_isbn same others) =
+        absurd
+        (let clash : 119 ≡ 105 =
+        ap (λ l. get_or l 0 0)
+        ((bytes_eq-Decides (codes "work " ++ work_of other) (codes "isbn " ++ isbn_of one)).0 same) in
+        omega (arith, clash))
 
 pub share_mark : (one other : EntryReading) → has_any (identities other) one ≡ true → ShareMark one other
 share_mark one other is = shared_with one other (kind_of (λ id. has_identity id one) other is)
@@ -183,18 +260,22 @@ count_next test one all = sum_by-cons (λ n. cond (test n) 1 0) one all
 
 count_last : (test : ℕ → Bool) (all : List ℕ) (one : ℕ) → count_by test (all ++ one ∷ []) ≡ count_by test all + cond (test one) 1 0
 count_last test all one =
-    let sum : count_by test (all ++ one ∷ []) ≡ count_by test all + (0 + cond (test one) 1 0) = sum_by-append (λ n. cond (test n) 1 0) all (one ∷ []) in
+    let sum : count_by test (all ++ one ∷ []) ≡ count_by test all + (0 + cond (test one) 1 0) =
+    sum_by-append (λ n. cond (test n) 1 0) all (one ∷ []) in
     omega (arith, sum)
 
 -- one that is there counts
 any_counts : (one : ℕ) (all : List ℕ) → list_any (nat_eq one) all ≡ true → 1 ≤ count_by (nat_eq one) all
 any_counts one [] is = absurd (let clash : false ≡ true = is in cc)
 any_counts one (first ∷ all) is =
-    let next : count_by (nat_eq one) (first ∷ all) ≡ cond (nat_eq one first) 1 0 + count_by (nat_eq one) all = count_next (nat_eq one) first all in
+    let next : count_by (nat_eq one) (first ∷ all) ≡ cond (nat_eq one first) 1 0 + count_by (nat_eq one) all =
+    count_next (nat_eq one) first all in
     let least : 1 ≤ cond (nat_eq one first) 1 0 + count_by (nat_eq one) all = by (nat_eq one first) is (any_counts one all) in
     omega (arith, next, least)
   where
-    by : (here : Bool) → (here || list_any (nat_eq one) all) ≡ true → (list_any (nat_eq one) all ≡ true → 1 ≤ count_by (nat_eq one) all) → 1 ≤ cond here 1 0 + count_by (nat_eq one) all
+    by : (here : Bool) → (here || list_any (nat_eq one) all) ≡ true
+        → (list_any (nat_eq one) all ≡ true → 1 ≤ count_by (nat_eq one) all)
+        → 1 ≤ cond here 1 0 + count_by (nat_eq one) all
     by true is rest = omega arith
     by false is rest = omega (arith, rest is)
 
@@ -211,51 +292,77 @@ twice : (one : ℕ) (before between rest : List EntryReading) (first second : En
 twice one before between rest first second here there =
     let count : List ℕ → ℕ = count_by (nat_eq one) in
     let f : EntryReading → List ℕ = λ said. listed (marks_of said) in
-    let outer : count (listed_all (before ++ first ∷ (between ++ second ∷ rest))) ≡ count (listed_all before) + (count (f first) + count (listed_all (between ++ second ∷ rest))) =
-    ap count (flat_map-append f before (first ∷ (between ++ second ∷ rest))) ∙ sum_by-append (λ n. cond (nat_eq one n) 1 0) (listed_all before) (f first ++ listed_all (between ++ second ∷ rest))
-    ∙ ap (λ n. count (listed_all before) + n) (sum_by-append (λ n. cond (nat_eq one n) 1 0) (f first) (listed_all (between ++ second ∷ rest))) in
+    let outer : count (listed_all (before ++ first ∷ (between ++ second ∷ rest)))
+    ≡ count (listed_all before) + (count (f first) + count (listed_all (between ++ second ∷ rest))) =
+    ap count (flat_map-append f before (first ∷ (between ++ second ∷ rest)))
+    ∙ sum_by-append (λ n. cond (nat_eq one n) 1 0) (listed_all before)
+    (f first ++ listed_all (between ++ second ∷ rest))
+    ∙ ap (λ n. count (listed_all before) + n)
+    (sum_by-append (λ n. cond (nat_eq one n) 1 0) (f first) (listed_all (between ++ second ∷ rest))) in
     let inner : count (listed_all (between ++ second ∷ rest)) ≡ count (listed_all between) + (count (f second) + count (listed_all rest)) =
-    ap count (flat_map-append f between (second ∷ rest)) ∙ sum_by-append (λ n. cond (nat_eq one n) 1 0) (listed_all between) (f second ++ listed_all rest)
+    ap count (flat_map-append f between (second ∷ rest))
+    ∙ sum_by-append (λ n. cond (nat_eq one n) 1 0) (listed_all between) (f second ++ listed_all rest)
     ∙ ap (λ n. count (listed_all between) + n) (sum_by-append (λ n. cond (nat_eq one n) 1 0) (f second) (listed_all rest)) in
-    let more : 1 < count (listed_all (before ++ first ∷ (between ++ second ∷ rest))) = omega (arith, outer, inner, any_counts one (f first) here, any_counts one (f second) there) in
+    let more : 1 < count (listed_all (before ++ first ∷ (between ++ second ∷ rest))) =
+    omega (arith, outer, inner, any_counts one (f first) here, any_counts one (f second) there) in
     grind (arith, nat_tests, more)
 
 -- both of two entries that share an identity are kept
-pub both_kept : (before between rest : List EntryReading) (first second : EntryReading) (all : List ℕ) → all ≡ listed_all (before ++ first ∷ (between ++ second ∷ rest))
+pub both_kept : (before between rest : List EntryReading) (first second : EntryReading) (all : List ℕ)
+    → all ≡ listed_all (before ++ first ∷ (between ++ second ∷ rest))
     → has_any (identities second) first ≡ true → (has_repeated all (marks_of first) ≡ true) × (has_repeated all (marks_of second) ≡ true)
 both_kept before between rest first second all is shares =
     let s = share_mark first second shares in
-    let repeated : is_repeated all s.mark ≡ true = ap (λ l. is_repeated l s.mark) is ∙ twice s.mark before between rest first second s.of_one s.of_other in
-    (any_passes (is_repeated all) s.mark (listed (marks_of first)) s.of_one repeated, any_passes (is_repeated all) s.mark (listed (marks_of second)) s.of_other repeated)
+    let repeated : is_repeated all s.mark ≡ true =
+    ap (λ l. is_repeated l s.mark) is ∙ twice s.mark before between rest first second s.of_one s.of_other in (
+      any_passes (is_repeated all) s.mark (listed (marks_of first)) s.of_one repeated,
+      any_passes (is_repeated all) s.mark (listed (marks_of second)) s.of_other repeated,
+    )
 
 -- of entries before another each that shares an identity with it is kept, and so is that other
 abbrev Covers : List ℕ → EntryReading → EntryReading → Type 0
-Covers all said one = has_any (identities said) one ≡ true → (has_repeated all (marks_of one) ≡ true) × (has_repeated all (marks_of said) ≡ true)
+Covers all said one =
+    has_any (identities said) one ≡ true
+    → (has_repeated all (marks_of one) ≡ true) × (has_repeated all (marks_of said) ≡ true)
 
 abbrev AreCovered : List ℕ → List EntryReading → EntryReading → Type 0
 AreCovered all earlier said = All (Covers all said) earlier
 
-covered : (before earlier rest : List EntryReading) (said : EntryReading) (all : List ℕ) → all ≡ listed_all (before ++ (earlier ++ said ∷ rest)) → AreCovered all earlier said
+covered : (before earlier rest : List EntryReading) (said : EntryReading) (all : List ℕ)
+    → all ≡ listed_all (before ++ (earlier ++ said ∷ rest)) → AreCovered all earlier said
 covered before [] rest said all is = All-nil (Covers all said)
 covered before (one ∷ earlier) rest said all is =
     All-cons (Covers all said) one earlier (both_kept before earlier rest one said all is)
-    (covered (before ++ one ∷ []) earlier rest said all (is ∙ ap listed_all (sym (append_assoc before (one ∷ []) (earlier ++ said ∷ rest)))))
+    (covered (before ++ one ∷ []) earlier rest said all
+    (is ∙ ap listed_all (sym (append_assoc before (one ∷ []) (earlier ++ said ∷ rest)))))
 
 -- the first that shares an identity, of those that are kept
-find_kept : (test keep : EntryReading → Bool) (items : List EntryReading) → All (λ one. test one ≡ true → keep one ≡ true) items → find test (filter keep items) ≡ find test items
+find_kept : (test keep : EntryReading → Bool) (items : List EntryReading)
+    → All (λ one. test one ≡ true → keep one ≡ true) items → find test (filter keep items) ≡ find test items
 find_kept test keep [] kept = refl
 find_kept test keep (item ∷ items) kept =
     by (find_kept test keep items (All-tail (λ one. test one ≡ true → keep one ≡ true) item items kept)) (keep item) (test item) refl refl
   where
-    by : find test (filter keep items) ≡ find test items → (k t : Bool) → keep item ≡ k → test item ≡ t → find test (cond (keep item) (item ∷ filter keep items) (filter keep items)) ≡ cond (test item) (Some item) (find test items)
-    by rest true t is passes = ap (λ b. find test (cond b (item ∷ filter keep items) (filter keep items))) is ∙ ap (cond (test item) (Some item)) rest
-    by rest false true is passes = absurd (let clash : false ≡ true = sym is ∙ All-head (λ one. test one ≡ true → keep one ≡ true) item items kept passes in cc)
+    by : find test (filter keep items) ≡ find test items → (k t : Bool) → keep item ≡ k → test item ≡ t
+        → find test (cond (keep item) (item ∷ filter keep items) (filter keep items))
+        ≡ cond (test item) (Some item) (find test items)
+    by rest true t is passes =
+        ap (λ b. find test (cond b (item ∷ filter keep items) (filter keep items))) is
+        ∙ ap (cond (test item) (Some item)) rest
+    by rest false true is passes =
+        absurd
+        (let clash : false ≡ true =
+        sym is ∙ All-head (λ one. test one ≡ true → keep one ≡ true) item items kept passes in
+        cc)
     by rest false false is fails =
-        ap (λ b. find test (cond b (item ∷ filter keep items) (filter keep items))) is ∙ rest ∙ ap (λ b. cond b (Some item) (find test items)) (sym fails)
+        ap (λ b. find test (cond b (item ∷ filter keep items) (filter keep items))) is ∙ rest
+        ∙ ap (λ b. cond b (Some item) (find test items)) (sym fails)
 
-find_none : (test : EntryReading → Bool) (items : List EntryReading) → All (λ one. test one ≡ true → true ≡ false) items → find test items ≡ None
+find_none : (test : EntryReading → Bool) (items : List EntryReading) → All (λ one. test one ≡ true → true ≡ false) items
+    → find test items ≡ None
 find_none test [] none = refl
-find_none test (item ∷ items) none = by (find_none test items (All-tail (λ one. test one ≡ true → true ≡ false) item items none)) (test item) refl
+find_none test (item ∷ items) none =
+    by (find_none test items (All-tail (λ one. test one ≡ true → true ≡ false) item items none)) (test item) refl
   where
     by : find test items ≡ None → (t : Bool) → test item ≡ t → cond (test item) (Some item) (find test items) ≡ None
     by rest true passes = absurd (let clash : true ≡ false = All-head (λ one. test one ≡ true → true ≡ false) item items none passes in cc)
@@ -263,39 +370,80 @@ find_none test (item ∷ items) none = by (find_none test items (All-tail (λ on
 
 weaken : {P Q : EntryReading → Type 0} → ((one : EntryReading) → P one → Q one) → (items : List EntryReading) → All P items → All Q items
 weaken {P} {Q} f [] all = All-nil Q
-weaken {P} {Q} f (item ∷ items) all = All-cons Q item items (f item (All-head P item items all)) (weaken f items (All-tail P item items all))
+weaken {P} {Q} f (item ∷ items) all =
+    All-cons Q item items (f item (All-head P item items all)) (weaken f items (All-tail P item items all))
 
-filter_append : (keep : EntryReading → Bool) (items more : List EntryReading) → filter keep (items ++ more) ≡ filter keep items ++ filter keep more
+filter_append : (keep : EntryReading → Bool) (items more : List EntryReading)
+    → filter keep (items ++ more) ≡ filter keep items ++ filter keep more
 filter_append keep [] more = refl
 filter_append keep (item ∷ items) more =
     ap (λ l. cond (keep item) (item ∷ l) l) (filter_append keep items more)
-    ∙ elim (keep item) as (λ b. cond b (item ∷ (filter keep items ++ filter keep more)) (filter keep items ++ filter keep more) ≡ cond b (item ∷ filter keep items) (filter keep items) ++ filter keep more) [ true ↦ refl | false ↦ refl ]
+    ∙ elim (keep item) as
+    (λ b.
+    cond b (item ∷ (filter keep items ++ filter keep more)) (filter keep items ++ filter keep more)
+    ≡ cond b (item ∷ filter keep items) (filter keep items) ++ filter keep more)
+    [ true ↦ refl | false ↦ refl ]
 
 -- the findings of those that are kept are the findings of all
 kept_duplicates : (all : List ℕ) (earlier rest : List EntryReading) → all ≡ listed_all (earlier ++ rest)
-    → duplicates_after (filter (λ said. has_repeated all (marks_of said)) earlier) (filter (λ said. has_repeated all (marks_of said)) rest) ≡ duplicates_after earlier rest
+    → duplicates_after (filter (λ said. has_repeated all (marks_of said)) earlier)
+    (filter (λ said. has_repeated all (marks_of said)) rest) ≡ duplicates_after earlier rest
 kept_duplicates all earlier [] is = refl
 kept_duplicates all earlier (said ∷ rest) is =
-    by (kept_duplicates all (earlier ++ said ∷ []) rest (is ∙ ap listed_all (sym (append_assoc earlier (said ∷ []) rest)))) (has_repeated all (marks_of said)) refl
+    by
+    (kept_duplicates all (earlier ++ said ∷ []) rest
+    (is ∙ ap listed_all (sym (append_assoc earlier (said ∷ []) rest)))) (has_repeated all (marks_of said)) refl
   where
     cover : AreCovered all earlier said
     cover = covered [] earlier rest said all is
 
-    by : duplicates_after (filter (λ one. has_repeated all (marks_of one)) (earlier ++ said ∷ [])) (filter (λ one. has_repeated all (marks_of one)) rest) ≡ duplicates_after (earlier ++ said ∷ []) rest
+    by : duplicates_after (filter (λ one. has_repeated all (marks_of one)) (earlier ++ said ∷ []))
+        (filter (λ one. has_repeated all (marks_of one)) rest) ≡ duplicates_after (earlier ++ said ∷ []) rest
         → (k : Bool) → has_repeated all (marks_of said) ≡ k
-        → duplicates_after (filter (λ one. has_repeated all (marks_of one)) earlier) (cond (has_repeated all (marks_of said)) (said ∷ filter (λ one. has_repeated all (marks_of one)) rest) (filter (λ one. has_repeated all (marks_of one)) rest)) ≡ duplicate_after earlier said ++ duplicates_after (earlier ++ said ∷ []) rest
+        → duplicates_after (filter (λ one. has_repeated all (marks_of one)) earlier)
+        (cond (has_repeated all (marks_of said)) (said ∷ filter (λ one. has_repeated all (marks_of one)) rest)
+        (filter (λ one. has_repeated all (marks_of one)) rest))
+        ≡ duplicate_after earlier said ++ duplicates_after (earlier ++ said ∷ []) rest
     by next true kept =
-        ap (λ b. duplicates_after (filter (λ one. has_repeated all (marks_of one)) earlier) (cond b (said ∷ filter (λ one. has_repeated all (marks_of one)) rest) (filter (λ one. has_repeated all (marks_of one)) rest))) kept
-        ∙ ap (λ o. option_map_or (λ first. duplicate_finding said first ∷ []) o [] ++ duplicates_after (filter (λ one. has_repeated all (marks_of one)) earlier ++ said ∷ []) (filter (λ one. has_repeated all (marks_of one)) rest))
-        (find_kept (has_any (identities said)) (λ one. has_repeated all (marks_of one)) earlier (weaken {P = Covers all said} {Q = λ one. has_any (identities said) one ≡ true → has_repeated all (marks_of one) ≡ true} (λ one c shares. (c shares).0) earlier cover))
-        ∙ ap (λ l. duplicate_after earlier said ++ duplicates_after l (filter (λ one. has_repeated all (marks_of one)) rest)) (sym (filter_append (λ one. has_repeated all (marks_of one)) earlier (said ∷ []) ∙ ap (λ b. filter (λ one. has_repeated all (marks_of one)) earlier ++ cond b (said ∷ []) []) kept))
+        ap
+        (λ b.
+        duplicates_after (filter (λ one. has_repeated all (marks_of one)) earlier)
+        (cond b (said ∷ filter (λ one. has_repeated all (marks_of one)) rest)
+        (filter (λ one. has_repeated all (marks_of one)) rest))) kept
+        ∙ ap
+        (λ o.
+        option_map_or (λ first. duplicate_finding said first ∷ []) o []
+        ++ duplicates_after (filter (λ one. has_repeated all (marks_of one)) earlier ++ said ∷ [])
+        (filter (λ one. has_repeated all (marks_of one)) rest))
+        (find_kept (has_any (identities said)) (λ one. has_repeated all (marks_of one)) earlier
+        (weaken {P = Covers all said}
+        {Q = λ one. has_any (identities said) one ≡ true → has_repeated all (marks_of one) ≡ true}
+        (λ one c shares. (c shares).0) earlier cover))
+        ∙ ap
+        (λ l.
+        duplicate_after earlier said
+        ++ duplicates_after l (filter (λ one. has_repeated all (marks_of one)) rest))
+        (sym
+        (filter_append (λ one. has_repeated all (marks_of one)) earlier (said ∷ [])
+        ∙ ap (λ b. filter (λ one. has_repeated all (marks_of one)) earlier ++ cond b (said ∷ []) []) kept))
         ∙ ap (λ l. duplicate_after earlier said ++ l) next
     by next false left =
-        ap (λ b. duplicates_after (filter (λ one. has_repeated all (marks_of one)) earlier) (cond b (said ∷ filter (λ one. has_repeated all (marks_of one)) rest) (filter (λ one. has_repeated all (marks_of one)) rest))) left
-        ∙ ap (λ l. duplicates_after l (filter (λ one. has_repeated all (marks_of one)) rest)) (sym (filter_append (λ one. has_repeated all (marks_of one)) earlier (said ∷ []) ∙ ap (λ b. filter (λ one. has_repeated all (marks_of one)) earlier ++ cond b (said ∷ []) []) left ∙ append-nil (filter (λ one. has_repeated all (marks_of one)) earlier)))
+        ap
+        (λ b.
+        duplicates_after (filter (λ one. has_repeated all (marks_of one)) earlier)
+        (cond b (said ∷ filter (λ one. has_repeated all (marks_of one)) rest)
+        (filter (λ one. has_repeated all (marks_of one)) rest))) left
+        ∙ ap (λ l. duplicates_after l (filter (λ one. has_repeated all (marks_of one)) rest))
+        (sym
+        (filter_append (λ one. has_repeated all (marks_of one)) earlier (said ∷ [])
+        ∙ ap (λ b. filter (λ one. has_repeated all (marks_of one)) earlier ++ cond b (said ∷ []) []) left
+        ∙ append-nil (filter (λ one. has_repeated all (marks_of one)) earlier)))
         ∙ next
         ∙ ap (λ o. option_map_or (λ first. duplicate_finding said first ∷ []) o [] ++ duplicates_after (earlier ++ said ∷ []) rest)
-        (sym (find_none (has_any (identities said)) earlier (weaken {P = Covers all said} {Q = λ one. has_any (identities said) one ≡ true → true ≡ false} (λ one c shares. sym (c shares).1 ∙ left) earlier cover)))
+        (sym
+        (find_none (has_any (identities said)) earlier
+        (weaken {P = Covers all said} {Q = λ one. has_any (identities said) one ≡ true → true ≡ false}
+        (λ one c shares. sym (c shares).1 ∙ left) earlier cover)))
 
 -- the findings of the entries that may share an identity are those of all
 pub alike : (entries : List EntryReading) → duplicates (may_share entries) ≡ duplicates entries
@@ -314,7 +462,12 @@ chosen_more all [] (other ∷ indices) one index same = absurd (omega (arith, sa
 chosen_more all (first ∷ marks) [] one index same = absurd (omega (arith, same))
 chosen_more all (first ∷ marks) (other ∷ indices) one index same =
     ap (λ l. cond (has_repeated all first) (other ∷ l) l) (chosen_more all marks indices one index (omega (arith, same)))
-    ∙ elim (has_repeated all first) as (λ b. cond b (other ∷ (chosen all marks indices ++ cond (has_repeated all one) (index ∷ []) [])) (chosen all marks indices ++ cond (has_repeated all one) (index ∷ []) []) ≡ cond b (other ∷ chosen all marks indices) (chosen all marks indices) ++ cond (has_repeated all one) (index ∷ []) [])
+    ∙ elim (has_repeated all first) as
+    (λ b.
+    cond b (other ∷ (chosen all marks indices ++ cond (has_repeated all one) (index ∷ []) []))
+    (chosen all marks indices ++ cond (has_repeated all one) (index ∷ []) [])
+    ≡ cond b (other ∷ chosen all marks indices) (chosen all marks indices)
+    ++ cond (has_repeated all one) (index ∷ []) [])
     [ true ↦ refl | false ↦ refl ]
 
 one_there : {A : Type 0} (items : List A) (index : ℕ) → index < length items → (item : A) × (slice_get items index ≡ Some item)
@@ -324,7 +477,8 @@ one_there (item ∷ items) (suc index) within = one_there items index (omega (ar
 
 -- the entries at the indices that are chosen are those that may share an identity
 pub chosen_entries : (all : List ℕ) (said : List EntryReading) (indices : List ℕ) → All (λ index. index < length said) indices
-    → entries_at said (chosen all (map marks_of (entries_at said indices)) indices) ≡ filter (λ one. has_repeated all (marks_of one)) (entries_at said indices)
+    → entries_at said (chosen all (map marks_of (entries_at said indices)) indices)
+    ≡ filter (λ one. has_repeated all (marks_of one)) (entries_at said indices)
 chosen_entries all said [] there = refl
 chosen_entries all said (index ∷ indices) there =
     let one = one_there said index (All-head (λ i. i < length said) index indices there) in
@@ -333,50 +487,74 @@ chosen_entries all said (index ∷ indices) there =
     let later : List ℕ = chosen all (map marks_of rest) indices in
     let keep : EntryReading → Bool = λ e. has_repeated all (marks_of e) in
     ap (λ o. entries_at said (chosen all (map marks_of (cons_option o rest)) (index ∷ indices))) one.1
-    ∙ elim (keep one.0) as (λ b. entries_at said (cond b (index ∷ later) later) ≡ cond b (one.0 ∷ filter keep rest) (filter keep rest))
-    [ true ↦ ap (λ o. cons_option o (entries_at said later)) one.1 ∙ ap (λ l. one.0 ∷ l) (chosen_entries all said indices later_there) | false ↦ chosen_entries all said indices later_there ]
+    ∙ elim (keep one.0) as (λ b. entries_at said (cond b (index ∷ later) later) ≡ cond b (one.0 ∷ filter keep rest) (filter keep rest)) [
+      | true ↦ ap (λ o. cons_option o (entries_at said later)) one.1
+          ∙ ap (λ l. one.0 ∷ l) (chosen_entries all said indices later_there)
+      | false ↦ chosen_entries all said indices
+          later_there
+    ]
     ∙ sym (ap (λ o. filter keep (cons_option o rest)) one.1)
 
 -- indices that are chosen are in range
-pub chosen_within : (all : List ℕ) (marks : List Marks) (count : ℕ) (indices : List ℕ) → All (λ index. index < count) indices → All (λ index. index < count) (chosen all marks indices)
+pub chosen_within : (all : List ℕ) (marks : List Marks) (count : ℕ) (indices : List ℕ)
+    → All (λ index. index < count) indices → All (λ index. index < count) (chosen all marks indices)
 chosen_within all [] count indices there = All-nil (λ i. i < count)
 chosen_within all (one ∷ marks) count [] there = All-nil (λ i. i < count)
 chosen_within all (one ∷ marks) count (index ∷ indices) there =
-    let later : All (λ i. i < count) (chosen all marks indices) = chosen_within all marks count indices (All-tail (λ i. i < count) index indices there) in
-    elim (has_repeated all one) as (λ b. All (λ i. i < count) (cond b (index ∷ chosen all marks indices) (chosen all marks indices)))
-    [ true ↦ All-cons (λ i. i < count) index (chosen all marks indices) (All-head (λ i. i < count) index indices there) later | false ↦ later ]
+    let later : All (λ i. i < count) (chosen all marks indices) =
+    chosen_within all marks count indices (All-tail (λ i. i < count) index indices there) in
+    elim (has_repeated all one) as (λ b. All (λ i. i < count) (cond b (index ∷ chosen all marks indices) (chosen all marks indices))) [
+      | true ↦ All-cons (λ i. i < count) index (chosen all marks indices) (All-head (λ i. i < count) index indices there)
+          later
+      | false ↦ later
+    ]
 
 count_none : (test : ℕ → Bool) (all : List ℕ) → list_any test all ≡ false → count_by test all ≡ 0
 count_none test [] none = refl
 count_none test (one ∷ all) none = count_next test one all ∙ by (test one) none (count_none test all)
   where
-    by : (here : Bool) → (here || list_any test all) ≡ false → (list_any test all ≡ false → count_by test all ≡ 0) → cond here 1 0 + count_by test all ≡ 0
+    by : (here : Bool) → (here || list_any test all) ≡ false → (list_any test all ≡ false → count_by test all ≡ 0)
+        → cond here 1 0 + count_by test all ≡ 0
     by true is rest = absurd (let clash : true ≡ false = is in cc)
     by false is rest = omega (arith, rest is)
 
 -- a mark is noted once more
 repeated_more : (all : List ℕ) (one : ℕ) → is_repeated (all ++ one ∷ []) one ≡ list_any (nat_eq one) all
 repeated_more all one =
-    let counts : count_by (nat_eq one) (all ++ one ∷ []) ≡ count_by (nat_eq one) all + cond (nat_eq one one) 1 0 = count_last (nat_eq one) all one in
+    let counts : count_by (nat_eq one) (all ++ one ∷ []) ≡ count_by (nat_eq one) all + cond (nat_eq one one) 1 0 =
+    count_last (nat_eq one) all one in
     let here : ◌≡◌ {A = ℕ} (cond (nat_eq one one) 1 0) 1 = ap (λ b. cond b 1 0) (same_number one) in
-    by (list_any (nat_eq one) all) refl (let one_more : count_by (nat_eq one) (all ++ one ∷ []) ≡ count_by (nat_eq one) all + 1 = omega (arith, counts, here) in one_more) (any_counts one all) (none_counts one all)
+    by (list_any (nat_eq one) all) refl
+    (let one_more : count_by (nat_eq one) (all ++ one ∷ []) ≡ count_by (nat_eq one) all + 1 =
+    omega (arith, counts, here) in
+    one_more) (any_counts one all) (none_counts one all)
   where
     none_counts : (one : ℕ) (all : List ℕ) → list_any (nat_eq one) all ≡ false → count_by (nat_eq one) all ≡ 0
     none_counts one all none = count_none (nat_eq one) all none
 
-    by : (there : Bool) → list_any (nat_eq one) all ≡ there → count_by (nat_eq one) (all ++ one ∷ []) ≡ count_by (nat_eq one) all + 1 → (list_any (nat_eq one) all ≡ true → 1 ≤ count_by (nat_eq one) all)
-        → (list_any (nat_eq one) all ≡ false → count_by (nat_eq one) all ≡ 0) → is_repeated (all ++ one ∷ []) one ≡ list_any (nat_eq one) all
-    by true is counts some none = (let more : 1 < count_by (nat_eq one) (all ++ one ∷ []) = omega (arith, counts, some is) in let r : is_repeated (all ++ one ∷ []) one ≡ true = grind (arith, nat_tests, more) in r) ∙ sym is
-    by false is counts some none = (let less : count_by (nat_eq one) (all ++ one ∷ []) ≡ 1 = omega (arith, counts, none is) in let r : is_repeated (all ++ one ∷ []) one ≡ false = grind (arith, nat_tests, less) in r) ∙ sym is
+    by : (there : Bool) → list_any (nat_eq one) all ≡ there
+        → count_by (nat_eq one) (all ++ one ∷ []) ≡ count_by (nat_eq one) all + 1
+        → (list_any (nat_eq one) all ≡ true → 1 ≤ count_by (nat_eq one) all)
+        → (list_any (nat_eq one) all ≡ false → count_by (nat_eq one) all ≡ 0)
+        → is_repeated (all ++ one ∷ []) one ≡ list_any (nat_eq one) all
+    by true is counts some none =
+        (let more : 1 < count_by (nat_eq one) (all ++ one ∷ []) = omega (arith, counts, some is) in
+        let r : is_repeated (all ++ one ∷ []) one ≡ true = grind (arith, nat_tests, more) in r) ∙ sym is
+    by false is counts some none =
+        (let less : count_by (nat_eq one) (all ++ one ∷ []) ≡ 1 = omega (arith, counts, none is) in
+        let r : is_repeated (all ++ one ∷ []) one ≡ false = grind (arith, nat_tests, less) in r) ∙ sym is
 
 is_some_times : (there repeated : Bool) → is_some (cond there (Some repeated) None) ≡ there
 is_some_times true repeated = refl
 is_some_times false repeated = refl
 
-times_here : (all : List ℕ) (one : ℕ) (is_there : Bool) → is_there ≡ list_any (nat_eq one) all → Some is_there ≡ met_mark (all ++ one ∷ []) one
+times_here : (all : List ℕ) (one : ℕ) (is_there : Bool) → is_there ≡ list_any (nat_eq one) all
+    → Some is_there ≡ met_mark (all ++ one ∷ []) one
 times_here all one is_there is =
     let there : list_any (nat_eq one) (all ++ one ∷ []) ≡ true =
-    list_any-append (nat_eq one) all (one ∷ []) ∙ or_right (list_any (nat_eq one) all) (nat_eq one one || false) (or_left (nat_eq one one) false (same_number one)) in
+    list_any-append (nat_eq one) all (one ∷ [])
+    ∙ or_right (list_any (nat_eq one) all) (nat_eq one one || false)
+    (or_left (nat_eq one one) false (same_number one)) in
     ap Some (is ∙ sym (repeated_more all one)) ∙ sym (ap (λ b. cond b (Some (is_repeated (all ++ one ∷ []) one)) None) there)
 
 or_none : (p : Bool) → (p || (false || false)) ≡ p
@@ -386,14 +564,18 @@ or_none false = refl
 times_other : (all : List ℕ) (one other : ℕ) → nat_eq other one ≡ false → met_mark (all ++ one ∷ []) other ≡ met_mark all other
 times_other all one other differs =
     let there : list_any (nat_eq other) (all ++ one ∷ []) ≡ list_any (nat_eq other) all =
-    list_any-append (nat_eq other) all (one ∷ []) ∙ ap (λ b. list_any (nat_eq other) all || (b || false)) differs ∙ or_none (list_any (nat_eq other) all) in
-    let sum : count_by (nat_eq other) (all ++ one ∷ []) ≡ count_by (nat_eq other) all + cond (nat_eq other one) 1 0 = count_last (nat_eq other) all one in
+    list_any-append (nat_eq other) all (one ∷ []) ∙ ap (λ b. list_any (nat_eq other) all || (b || false)) differs
+    ∙ or_none (list_any (nat_eq other) all) in
+    let sum : count_by (nat_eq other) (all ++ one ∷ []) ≡ count_by (nat_eq other) all + cond (nat_eq other one) 1 0 =
+    count_last (nat_eq other) all one in
     let none : ◌≡◌ {A = ℕ} (cond (nat_eq other one) 1 0) 0 = ap (λ b. cond b 1 0) differs in
     let counts : count_by (nat_eq other) (all ++ one ∷ []) ≡ count_by (nat_eq other) all = omega (arith, sum, none) in
-    ap (λ b. cond b (Some (is_repeated (all ++ one ∷ []) other)) None) there ∙ ap (λ n. cond (list_any (nat_eq other) all) (Some (nat_lt 1 n)) None) counts
+    ap (λ b. cond b (Some (is_repeated (all ++ one ∷ []) other)) None) there
+    ∙ ap (λ n. cond (list_any (nat_eq other) all) (Some (nat_lt 1 n)) None) counts
 
 -- a mark that is noted once more, where the others stay
-noted_by : (met new : BTreeMap ℕ Bool) (all : List ℕ) (one : ℕ) (is_there : Bool) → AreMetMarks met all → is_there ≡ is_some (get nat_cmp met one) → get nat_cmp new one ≡ Some is_there
+noted_by : (met new : BTreeMap ℕ Bool) (all : List ℕ) (one : ℕ) (is_there : Bool) → AreMetMarks met all
+    → is_there ≡ is_some (get nat_cmp met one) → get nat_cmp new one ≡ Some is_there
     → ((other : ℕ) → nat_eq other one ≡ false → get nat_cmp new other ≡ get nat_cmp met other) → AreMetMarks new (all ++ one ∷ [])
 noted_by met new all one is_there noted is here others other = by (nat_eq other one) refl
   where
@@ -407,21 +589,28 @@ apart : (one other : ℕ) → nat_eq other one ≡ false → is_at (nat_cmp one)
 apart one other differs = grind (arith, nat_tests, differs)
 
 -- a mark is noted that wasn't there
-pub noted_once : (met new : BTreeMap ℕ Bool) (all : List ℕ) (one : ℕ) → AreMetMarks met all → is_some (get nat_cmp met one) ≡ false → Updates nat_cmp met new one (Some false) → AreMetMarks new (all ++ one ∷ [])
-noted_once met new all one noted absent updates = noted_by met new all one false noted (sym absent) updates.1 (λ other differs. updates.2 other (apart one other differs))
+pub noted_once : (met new : BTreeMap ℕ Bool) (all : List ℕ) (one : ℕ) → AreMetMarks met all
+    → is_some (get nat_cmp met one) ≡ false → Updates nat_cmp met new one (Some false)
+    → AreMetMarks new (all ++ one ∷ [])
+noted_once met new all one noted absent updates =
+    noted_by met new all one false noted (sym absent) updates.1
+    (λ other differs. updates.2 other (apart one other differs))
 
 -- a mark is noted that was there
-pub noted_again : (met mid new : BTreeMap ℕ Bool) (all : List ℕ) (one : ℕ) → AreMetMarks met all → is_some (get nat_cmp met one) ≡ true → Updates nat_cmp met mid one (Some false)
+pub noted_again : (met mid new : BTreeMap ℕ Bool) (all : List ℕ) (one : ℕ) → AreMetMarks met all
+    → is_some (get nat_cmp met one) ≡ true → Updates nat_cmp met mid one (Some false)
     → Updates nat_cmp mid new one (Some true) → AreMetMarks new (all ++ one ∷ [])
 noted_again met mid new all one noted there first second =
-    noted_by met new all one true noted (sym there) second.1 (λ other differs. second.2 other (apart one other differs) ∙ first.2 other (apart one other differs))
+    noted_by met new all one true noted (sym there) second.1
+    (λ other differs. second.2 other (apart one other differs) ∙ first.2 other (apart one other differs))
 
 -- no mark is noted before the first
 pub none_noted : (met : BTreeMap ℕ Bool) → IsEmpty met → AreMetMarks met []
 none_noted met empty one = rw empty refl
 
 -- a mark that is looked up
-pub looked_up : (met : BTreeMap ℕ Bool) (all : List ℕ) (one : ℕ) → AreMetMarks met all → unwrap_or (get nat_cmp met one) false ≡ (is_repeated all one || false)
+pub looked_up : (met : BTreeMap ℕ Bool) (all : List ℕ) (one : ℕ) → AreMetMarks met all
+    → unwrap_or (get nat_cmp met one) false ≡ (is_repeated all one || false)
 looked_up met all one noted = ap (λ o. unwrap_or o false) (noted one) ∙ by (list_any (nat_eq one) all) refl (count_none (nat_eq one) all)
   where
     or_false : (p : Bool) → p ≡ (p || false)
@@ -434,26 +623,34 @@ looked_up met all one noted = ap (λ o. unwrap_or o false) (noted one) ∙ by (l
     by false is none = (let no : is_repeated all one ≡ false = ap (nat_lt 1) (none is) in ap (λ b. b || false) (sym no))
 
 -- three lists of marks are noted, one after another
-pub noted_all : {U E : Type 0} (r : Result U E) (met first second third : BTreeMap ℕ Bool) (a b c : List ℕ) → ((all : List ℕ) → AreMetMarks met all → AreMetMarks first (all ++ a))
-    → ((all : List ℕ) → AreMetMarks first all → AreMetMarks second (all ++ b)) → OnOk r ((all : List ℕ) → AreMetMarks second all → AreMetMarks third (all ++ c))
+pub noted_all : {U E : Type 0} (r : Result U E) (met first second third : BTreeMap ℕ Bool) (a b c : List ℕ)
+    → ((all : List ℕ) → AreMetMarks met all → AreMetMarks first (all ++ a))
+    → ((all : List ℕ) → AreMetMarks first all → AreMetMarks second (all ++ b))
+    → OnOk r ((all : List ℕ) → AreMetMarks second all → AreMetMarks third (all ++ c))
     → OnOk r ((all : List ℕ) → AreMetMarks met all → AreMetMarks third (all ++ (a ++ (b ++ c))))
 noted_all (Err e) met first second third a b c one two three = tt
 noted_all (Ok u) met first second third a b c one two three = λ all noted.
-    subst (AreMetMarks third) (append_assoc (all ++ a) b c ∙ append_assoc all a (b ++ c)) (three ((all ++ a) ++ b) (two (all ++ a) (one all noted)))
+    subst (AreMetMarks third) (append_assoc (all ++ a) b c ∙ append_assoc all a (b ++ c))
+    (three ((all ++ a) ++ b) (two (all ++ a) (one all noted)))
 
 -- the marks of one more entry
 pub noted_next : (met new : BTreeMap ℕ Bool) (all : List Marks) (index : ℕ) (other : Marks) → index < length all
-    → ((marks : List ℕ) → AreMetMarks met marks → AreMetMarks new (marks ++ listed (get_or all index other))) → AreMetMarks met (flat_map listed (take index all)) → AreMetMarks new (flat_map listed (take (index + 1) all))
+    → ((marks : List ℕ) → AreMetMarks met marks → AreMetMarks new (marks ++ listed (get_or all index other)))
+    → AreMetMarks met (flat_map listed (take index all)) → AreMetMarks new (flat_map listed (take (index + 1) all))
 noted_next met new all index other within adds noted =
-    subst (AreMetMarks new) (sym (ap (flat_map listed) (take_more all index other within) ∙ flat_map-append listed (take index all) (get_or all index other ∷ [])
-    ∙ ap (λ l. flat_map listed (take index all) ++ l) (append-nil (listed (get_or all index other))))) (adds (flat_map listed (take index all)) noted)
+    subst (AreMetMarks new) (sym (ap (flat_map listed) (take_more all index other within)
+    ∙ flat_map-append listed (take index all) (get_or all index other ∷ [])
+    ∙ ap (λ l. flat_map listed (take index all) ++ l) (append-nil (listed (get_or all index other)))))
+    (adds (flat_map listed (take index all)) noted)
 
 -- as many entries as indices
-pub as_many_entries : (said : List EntryReading) (indices : List ℕ) → All (λ index. index < length said) indices → length (entries_at said indices) ≡ length indices
+pub as_many_entries : (said : List EntryReading) (indices : List ℕ) → All (λ index. index < length said) indices
+    → length (entries_at said indices) ≡ length indices
 as_many_entries said [] there = refl
 as_many_entries said (index ∷ indices) there =
     let one = one_there said index (All-head (λ i. i < length said) index indices there) in
-    ap (λ o. length (cons_option o (entries_at said indices))) one.1 ∙ ap suc (as_many_entries said indices (All-tail (λ i. i < length said) index indices there))
+    ap (λ o. length (cons_option o (entries_at said indices))) one.1
+    ∙ ap suc (as_many_entries said indices (All-tail (λ i. i < length said) index indices there))
 
 -- what holds of a result, of which more follows
 pub on_result : {A E : Type 0} {P Q : A → Type 0} (r : Result A E) → ((a : A) → P a → Q a) → IfOk r P → IfOk r Q
@@ -461,19 +658,26 @@ on_result (Ok a) more holds = more a holds
 on_result (Err e) more holds = tt
 
 -- indices in range of readings
-pub in_range : (said : List (Spanned RawEntry)) (indices : List ℕ) → All (λ index. index < length said) indices → All (λ index. index < length (map entry_reading_of said)) indices
+pub in_range : (said : List (Spanned RawEntry)) (indices : List ℕ) → All (λ index. index < length said) indices
+    → All (λ index. index < length (map entry_reading_of said)) indices
 in_range said indices there = subst (λ n. All (λ index. index < n) indices) (sym (length-map said entry_reading_of)) there
 
 -- one more index, whether it is chosen or not
-pub chosen_next : (met : BTreeMap ℕ Bool) (all : List Marks) (indices found new : List ℕ) (index : ℕ) (other : Marks) (d : ℕ) (shared : Bool) → length all ≡ length indices → index < length indices
-    → ((listed : List ℕ) → AreMetMarks met listed → shared ≡ has_repeated listed (get_or all index other)) → new ≡ found ++ cond shared (get_or indices index d ∷ []) []
+pub chosen_next : (met : BTreeMap ℕ Bool) (all : List Marks) (indices found new : List ℕ) (index : ℕ) (other : Marks)
+    (d : ℕ) (shared : Bool) → length all ≡ length indices → index < length indices
+    → ((listed : List ℕ) → AreMetMarks met listed → shared ≡ has_repeated listed (get_or all index other))
+    → new ≡ found ++ cond shared (get_or indices index d ∷ []) []
     → ((listed : List ℕ) → AreMetMarks met listed → found ≡ chosen listed (take index all) (take index indices))
     → (listed : List ℕ) → AreMetMarks met listed → new ≡ chosen listed (take (index + 1) all) (take (index + 1) indices)
 chosen_next met all indices found new index other d shared same within says next so_far listed noted =
     next ∙ ap (λ l. l ++ cond shared (get_or indices index d ∷ []) []) (so_far listed noted)
     ∙ ap (λ b. chosen listed (take index all) (take index indices) ++ cond b (get_or indices index d ∷ []) []) (says listed noted)
-    ∙ sym (chosen_more listed (take index all) (take index indices) (get_or all index other) (get_or indices index d) (taken all index (let le : index ≤ length all = omega (arith, same, within) in le) ∙ sym (taken indices index (let le : index ≤ length indices = omega (arith, within) in le))))
-    ∙ ap (λ l. chosen listed l (take index indices ++ get_or indices index d ∷ [])) (sym (take_more all index other (let below : index < length all = omega (arith, same, within) in below)))
+    ∙ sym
+    (chosen_more listed (take index all) (take index indices) (get_or all index other) (get_or indices index d)
+    (taken all index (let le : index ≤ length all = omega (arith, same, within) in le)
+    ∙ sym (taken indices index (let le : index ≤ length indices = omega (arith, within) in le))))
+    ∙ ap (λ l. chosen listed l (take index indices ++ get_or indices index d ∷ []))
+    (sym (take_more all index other (let below : index < length all = omega (arith, same, within) in below)))
     ∙ ap (chosen listed (take (index + 1) all)) (sym (take_more indices index d within))
   where
     taken : {A : Type 0} (items : List A) (count : ℕ) → count ≤ length items → length (take count items) ≡ count

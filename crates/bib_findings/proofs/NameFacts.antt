@@ -22,14 +22,17 @@ least_edits name None = most_edits + 1
 least_edits name (Some known) = distance name known
 
 -- a name that is nearer than the nearest so far
-pub nearer_next : (seen : Names) (name known : List ℕ) (nearest : Option (List ℕ)) (least : ℕ) → IsNearest seen name nearest → least ≡ least_edits name nearest
+pub nearer_next : (seen : Names) (name known : List ℕ) (nearest : Option (List ℕ)) (least : ℕ)
+    → IsNearest seen name nearest → least ≡ least_edits name nearest
     → distance name known < least → IsNearest (seen ++ known ∷ []) name (Some known)
 nearer_next seen name known None least none is nearer = record {
   before = seen;
   after = [];
   is_there = refl;
   near = omega arith;
-  farther = All-weaker (λ other. most_edits < distance name other) (λ other. distance name known < distance name other) (λ other far. omega arith) seen none;
+  farther =
+      All-weaker (λ other. most_edits < distance name other) (λ other. distance name known < distance name other)
+      (λ other far. omega arith) seen none;
   as_far = All-nil _;
 }
 nearer_next seen name known (Some best) least first is nearer =
@@ -43,12 +46,15 @@ nearer_next seen name known (Some best) least first is nearer =
       farther = All-same P seen (first.before ++ best ∷ first.after) first.is_there
           (All-append P first.before (best ∷ first.after)
           (All-weaker (λ other. distance name best < distance name other) P (λ other far. omega arith) first.before first.farther)
-          (All-cons P best first.after here (All-weaker (λ other. distance name best ≤ distance name other) P (λ other far. omega arith) first.after first.as_far)));
+          (All-cons P best first.after here
+          (All-weaker (λ other. distance name best ≤ distance name other) P (λ other far. omega arith) first.after
+          first.as_far)));
       as_far = All-nil _;
     }
 
 -- a name that isn't nearer than the nearest so far
-pub nearest_stays : (seen : Names) (name known : List ℕ) (nearest : Option (List ℕ)) (least : ℕ) → IsNearest seen name nearest → least ≡ least_edits name nearest
+pub nearest_stays : (seen : Names) (name known : List ℕ) (nearest : Option (List ℕ)) (least : ℕ)
+    → IsNearest seen name nearest → least ≡ least_edits name nearest
     → least ≤ distance name known → IsNearest (seen ++ known ∷ []) name nearest
 nearest_stays seen name known None least none is far = All-push (λ other. most_edits < distance name other) seen known none (omega arith)
 nearest_stays seen name known (Some best) least first is far = record {
@@ -61,11 +67,13 @@ nearest_stays seen name known (Some best) least first is far = record {
 }
 
 -- what is left of one field among those whose names aren't known
-of_one : (field : FieldReading) (known : Bool) → is_known_field field.name.text ≡ known → unknown_among (field ∷ []) ≡ cond (not known) (field ∷ []) []
+of_one : (field : FieldReading) (known : Bool) → is_known_field field.name.text ≡ known
+    → unknown_among (field ∷ []) ≡ cond (not known) (field ∷ []) []
 of_one field known is = ap (λ known. cond (not known) (field ∷ []) []) is
 
 -- a finding is added for a field whose name isn't known
-pub unknown_alone : (key : List ℕ) (field : FieldReading) (old new : List Finding) (finding : Finding) → is_known_field field.name.text ≡ false → new ≡ old ++ finding ∷ [] → IsOfUnknown key field finding
+pub unknown_alone : (key : List ℕ) (field : FieldReading) (old new : List Finding) (finding : Finding)
+    → is_known_field field.name.text ≡ false → new ≡ old ++ finding ∷ [] → IsOfUnknown key field finding
     → Adds (AreUnknownOf key (field ∷ [])) old new
 unknown_alone key field old new finding unknown more found = record {
   added = finding ∷ [];
@@ -74,21 +82,24 @@ unknown_alone key field old new finding unknown more found = record {
 }
 
 -- nothing is added for a field whose name is known
-pub known_alone : (key : List ℕ) (field : FieldReading) (old : List Finding) → is_known_field field.name.text ≡ true → Adds (AreUnknownOf key (field ∷ [])) old old
+pub known_alone : (key : List ℕ) (field : FieldReading) (old : List Finding) → is_known_field field.name.text ≡ true
+    → Adds (AreUnknownOf key (field ∷ [])) old old
 known_alone key field old known = record {
   added = [];
   are = subst (λ l. AllZip (IsOfUnknown key) l []) (sym (of_one field true known)) tt;
   new_is = sym (append-nil old);
 }
 
-zip_append : {A B : Type 0} (P : A → B → Type 0) (xs more : List A) (ys others : List B) → AllZip P xs ys → AllZip P more others → AllZip P (xs ++ more) (ys ++ others)
+zip_append : {A B : Type 0} (P : A → B → Type 0) (xs more : List A) (ys others : List B) → AllZip P xs ys
+    → AllZip P more others → AllZip P (xs ++ more) (ys ++ others)
 zip_append P [] more [] others first second = second
 zip_append P [] more (y ∷ ys) others first second = absurd first
 zip_append P (x ∷ xs) more [] others first second = absurd first
 zip_append P (x ∷ xs) more (y ∷ ys) others first second = (first.0, zip_append P xs more ys others first.1 second)
 
 -- what is added for one more field
-pub fields_next : (key : List ℕ) (fields : List Pair) (index : ℕ) (field : Pair) (old mid new : List Finding) → index < length fields → field ≡ get_or fields index field
+pub fields_next : (key : List ℕ) (fields : List Pair) (index : ℕ) (field : Pair) (old mid new : List Finding)
+    → index < length fields → field ≡ get_or fields index field
     → Adds (AreUnknownOf key (map field_of (take index fields))) old mid → Adds (AreUnknownOf key (field_of field ∷ [])) mid new
     → Adds (AreUnknownOf key (map field_of (take (index + 1) fields))) old new
 fields_next key fields index field old mid new within is before more =
@@ -100,12 +111,14 @@ fields_next key fields index field old mid new within is before more =
     record {
       added = before.added ++ more.added;
       are = subst (λ l. AllZip (IsOfUnknown key) l (before.added ++ more.added)) (sym cut)
-          (zip_append (IsOfUnknown key) (unknown_among so_far) (unknown_among (field_of field ∷ [])) before.added more.added before.are more.are);
+          (zip_append (IsOfUnknown key) (unknown_among so_far) (unknown_among (field_of field ∷ [])) before.added
+          more.added before.are more.are);
       new_is = more.new_is ∙ ap (λ l. l ++ more.added) before.new_is ∙ append_assoc old before.added more.added;
     }
 
 -- one more name that was met is what was noted of it
-pub names_more : (old new : List ℕ → Option FieldName) (name : List ℕ) (is : FieldName) → AreFieldNames old → IsFieldName name is → ((other : List ℕ) → new other ≡ update bytes_eq old name (Some is) other)
+pub names_more : (old new : List ℕ → Option FieldName) (name : List ℕ) (is : FieldName) → AreFieldNames old
+    → IsFieldName name is → ((other : List ℕ) → new other ≡ update bytes_eq old name (Some is) other)
     → AreFieldNames new
 names_more old new name is before this updates other found_is found =
     of_test (bytes_eq name other) refl (sym (updates other) ∙ found)
@@ -113,7 +126,8 @@ names_more old new name is before this updates other found_is found =
     some_same : {A : Type 0} {x y : A} → Some x ≡ Some y → x ≡ y
     some_same e = cc
 
-    of_test : (test : Bool) → bytes_eq name other ≡ test → cond (bytes_eq name other) (Some is) (old other) ≡ Some found_is → IsFieldName other found_is
+    of_test : (test : Bool) → bytes_eq name other ≡ test
+        → cond (bytes_eq name other) (Some is) (old other) ≡ Some found_is → IsFieldName other found_is
     of_test true same at =
         let value : is ≡ found_is = some_same (sym (ap (λ b. cond b (Some is) (old other)) same) ∙ at) in
         let names : name ≡ other = (bytes_eq-Decides name other).0 same in

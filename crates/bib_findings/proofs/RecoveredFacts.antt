@@ -17,7 +17,8 @@ use Rattle.bib_findings.specs.Findings.{AreBetween, AreFindingsIn}
 use Rattle.bib_findings.specs.declared.finding.Finding.{Finding}
 
 -- as many entries are kept as what is kept of the file says
-kept_count : {d : Definitions} {claimed : List (List ℕ)} {said kept : List EntryReading} {entries : List Entry} {errors : List ParseError} → EntriesKept d claimed said kept entries errors → length kept ≡ length entries
+kept_count : {d : Definitions} {claimed : List (List ℕ)} {said kept : List EntryReading} {entries : List Entry}
+    {errors : List ParseError} → EntriesKept d claimed said kept entries errors → length kept ≡ length entries
 kept_count EntriesKept.none = refl
 kept_count (EntriesKept.duplicate claimed rest) = kept_count rest
 kept_count (EntriesKept.next fresh fields read rest) = ap suc (kept_count rest)
@@ -28,33 +29,43 @@ zip_count P [] (y ∷ ys) all = absurd all
 zip_count P (x ∷ xs) [] all = absurd all
 zip_count P (x ∷ xs) (y ∷ ys) all = ap suc (zip_count P xs ys all.1)
 
-indices_within : (said : List EntryReading) (origins : List ℕ) (kept : List EntryReading) → AllZip (IsKeptFrom said) origins kept → All (λ index. index < length said) origins
+indices_within : (said : List EntryReading) (origins : List ℕ) (kept : List EntryReading)
+    → AllZip (IsKeptFrom said) origins kept → All (λ index. index < length said) origins
 indices_within said [] kept all = All-nil (λ index. index < length said)
 indices_within said (index ∷ origins) [] all = absurd all
 indices_within said (index ∷ origins) (one ∷ kept) all =
-    All-cons (λ index. index < length said) index origins (slice_get_within said index all.0.one all.0.there) (indices_within said origins kept all.1)
+    All-cons (λ index. index < length said) index origins (slice_get_within said index all.0.one all.0.there)
+    (indices_within said origins kept all.1)
 
 -- of what is kept: as many places and indices as entries, and each index is below the number of the file's entries
-pub places_count : {d : Definitions} {said : List EntryReading} {own : List Entry} {names : ByText ℕ} {places : List (Range ℕ)} {origins : List ℕ} {errors : List ParseError}
+pub places_count : {d : Definitions} {said : List EntryReading} {own : List Entry} {names : ByText ℕ}
+    {places : List (Range ℕ)} {origins : List ℕ} {errors : List ParseError}
     → IsKeptSoFar d said own names places origins errors → length places ≡ length own
 places_count is = ap length is.stand ∙ length-map is.kept place_of ∙ kept_count is.read
 
-pub origins_count : {d : Definitions} {said : List EntryReading} {own : List Entry} {names : ByText ℕ} {places : List (Range ℕ)} {origins : List ℕ} {errors : List ParseError}
+pub origins_count : {d : Definitions} {said : List EntryReading} {own : List Entry} {names : ByText ℕ}
+    {places : List (Range ℕ)} {origins : List ℕ} {errors : List ParseError}
     → IsKeptSoFar d said own names places origins errors → length origins ≡ length own
 origins_count {said = said} {origins = origins} is = zip_count (IsKeptFrom said) origins is.kept is.origin ∙ kept_count is.read
 
-pub origins_within : {d : Definitions} {said : List EntryReading} {own : List Entry} {names : ByText ℕ} {places : List (Range ℕ)} {origins : List ℕ} {errors : List ParseError}
+pub origins_within : {d : Definitions} {said : List EntryReading} {own : List Entry} {names : ByText ℕ}
+    {places : List (Range ℕ)} {origins : List ℕ} {errors : List ParseError}
     → IsKeptSoFar d said own names places origins errors → All (λ index. index < length said) origins
 origins_within {said = said} {origins = origins} is = indices_within said origins is.kept is.origin
 
 -- indices below a number
-pub within_of : (said : List EntryReading) (origins indices : List ℕ) (n : ℕ) → All (λ index. index < length said) origins → indices ≡ origins → length said ≡ n → All (λ index. index < n) indices
+pub within_of : (said : List EntryReading) (origins indices : List ℕ) (n : ℕ)
+    → All (λ index. index < length said) origins → indices ≡ origins → length said ≡ n
+    → All (λ index. index < n) indices
 within_of said origins indices n within are count =
     subst (λ m. All (λ index. index < m) indices) count (subst (λ l. All (λ index. index < length said) l) (sym are) within)
 
 -- findings of equal lists
-pub findings_of : (skipped skipped' : List SkippedBlock) (errors errors' : List ParseError) (said said' : List EntryReading) (origins origins' : List ℕ) (entries entries' : List Entry) (between found : List Finding)
-    → skipped ≡ skipped' → errors ≡ errors' → said ≡ said' → origins ≡ origins' → entries ≡ entries' → AreFindingsIn skipped errors said origins entries between found
+pub findings_of : (skipped skipped' : List SkippedBlock) (errors errors' : List ParseError)
+    (said said' : List EntryReading) (origins origins' : List ℕ) (entries entries' : List Entry)
+    (between found : List Finding)
+    → skipped ≡ skipped' → errors ≡ errors' → said ≡ said' → origins ≡ origins' → entries ≡ entries'
+    → AreFindingsIn skipped errors said origins entries between found
     → AreFindingsIn skipped' errors' said' origins' entries' between found
 findings_of skipped skipped' errors errors' said said' origins origins' entries entries' between found a b c d e are =
     subst (λ x. AreFindingsIn skipped' errors' said' origins' x between found) e
@@ -64,10 +75,12 @@ findings_of skipped skipped' errors errors' said said' origins origins' entries 
     (subst (λ x. AreFindingsIn x errors said origins entries between found) a are))))
 
 -- what is wrong between entries of equal lists
-pub between_of : (names : ByText ℕ) (said said' : List EntryReading) (origins origins' : List ℕ) (own own' : List Entry) (found : List Finding) → said ≡ said' → origins ≡ origins' → own ≡ own'
+pub between_of : (names : ByText ℕ) (said said' : List EntryReading) (origins origins' : List ℕ) (own own' : List Entry)
+    (found : List Finding) → said ≡ said' → origins ≡ origins' → own ≡ own'
     → AreBetween names said origins own found → AreBetween names said' origins' own' found
 between_of names said said' origins origins' own own' found a b c are =
-    subst (λ x. AreBetween names said' origins' x found) c (subst (λ x. AreBetween names said' x own found) b (subst (λ x. AreBetween names x origins own found) a are))
+    subst (λ x. AreBetween names said' origins' x found) c
+    (subst (λ x. AreBetween names said' x own found) b (subst (λ x. AreBetween names x origins own found) a are))
 
 -- a fact of an Ok that follows from another one
 pub if_ok_more : {A E : Type 0} (P Q : A → Type 0) (r : Result A E) → ((a : A) → P a → Q a) → IfOk r P → IfOk r Q

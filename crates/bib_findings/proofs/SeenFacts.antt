@@ -35,7 +35,8 @@ lesser_assoc (Some a) (Some b) None = refl
 lesser_assoc (Some a) (Some b) (Some c) = ap Some (min_assoc a b c)
 
 -- the least index of identities, and of one more
-pub least_more : (index_of : List ℕ → Option ℕ) (ids : Names) (id : List ℕ) → least_of index_of (ids ++ id ∷ []) ≡ lesser (least_of index_of ids) (index_of id)
+pub least_more : (index_of : List ℕ → Option ℕ) (ids : Names) (id : List ℕ)
+    → least_of index_of (ids ++ id ∷ []) ≡ lesser (least_of index_of ids) (index_of id)
 least_more index_of [] id = lesser_none (index_of id)
 least_more index_of (first ∷ ids) id =
     ap (lesser (index_of first)) (least_more index_of ids id) ∙ sym (lesser_assoc (index_of first) (least_of index_of ids) (index_of id))
@@ -76,7 +77,8 @@ position_either : {A : Type 0} (p r : A → Bool) (start : ℕ) (items : List A)
 position_either p r start [] = refl
 position_either p r start (item ∷ items) =
     either_here (p item) (r item) start (position_from p (start + 1) items) (position_from r (start + 1) items)
-    (from_weaker start (position_from p (start + 1) items) (position_is_from p (start + 1) items)) (from_weaker start (position_from r (start + 1) items) (position_is_from r (start + 1) items))
+    (from_weaker start (position_from p (start + 1) items) (position_is_from p (start + 1) items))
+    (from_weaker start (position_from r (start + 1) items) (position_is_from r (start + 1) items))
     ∙ ap (cond (p item || r item) (Some start)) (position_either p r (start + 1) items)
 
 position_none : {A : Type 0} (start : ℕ) (items : List A) → position_from (λ _. false) start items ≡ None
@@ -89,7 +91,8 @@ pub least_is_first : (index_of : List ℕ → Option ℕ) (entries : List EntryR
     → least_of index_of ids ≡ position_from (has_any ids) 0 entries
 least_is_first index_of entries [] first = sym (position_none 0 entries)
 least_is_first index_of entries (id ∷ ids) first =
-    ap (λ index. lesser index (least_of index_of ids)) (first id) ∙ ap (lesser (position_from (has_identity id) 0 entries)) (least_is_first index_of entries ids first)
+    ap (λ index. lesser index (least_of index_of ids)) (first id)
+    ∙ ap (lesser (position_from (has_identity id) 0 entries)) (least_is_first index_of entries ids first)
     ∙ position_either (has_identity id) (has_any ids) 0 entries
 
 -- the first of some items that passes is that at the index of the first that passes
@@ -101,7 +104,8 @@ abbrev FoundFrom : {A : Type 0} → (A → Bool) → List A → ℕ → Option �
 FoundFrom test items start None = find test items ≡ None
 FoundFrom test items start (Some index) = (count : ℕ) × (index ≡ start + count) × IsFoundAt test items count
 
-found_later : {A : Type 0} (test : A → Bool) (item : A) (items : List A) (start : ℕ) (index : Option ℕ) → FoundFrom test items (start + 1) index
+found_later : {A : Type 0} (test : A → Bool) (item : A) (items : List A) (start : ℕ) (index : Option ℕ)
+    → FoundFrom test items (start + 1) index
     → test item ≡ false → FoundFrom test (item ∷ items) start index
 found_later test item items start None none fails = ap (λ passes. cond passes (Some item) (find test items)) fails ∙ none
 found_later test item items start (Some index) later fails = (
@@ -113,7 +117,8 @@ found_later test item items start (Some index) later fails = (
   },
 )
 
-found_here : {A : Type 0} (test : A → Bool) (item : A) (items : List A) (start : ℕ) → test item ≡ true → FoundFrom test (item ∷ items) start (Some start)
+found_here : {A : Type 0} (test : A → Bool) (item : A) (items : List A) (start : ℕ) → test item ≡ true
+    → FoundFrom test (item ∷ items) start (Some start)
 found_here test item items start passes =
     (0, omega arith, record { within = omega arith; found = ap (λ passes. cond passes (Some item) (find test items)) passes })
 
@@ -124,14 +129,17 @@ found_step test item items start false index is later = found_later test item it
 
 position_finds : {A : Type 0} (test : A → Bool) (start : ℕ) (items : List A) → FoundFrom test items start (position_from test start items)
 position_finds test start [] = refl
-position_finds test start (item ∷ items) = found_step test item items start (test item) (position_from test (start + 1) items) refl (position_finds test (start + 1) items)
+position_finds test start (item ∷ items) =
+    found_step test item items start (test item) (position_from test (start + 1) items) refl
+    (position_finds test (start + 1) items)
 
 -- where none is found
 pub none_found : {A : Type 0} (test : A → Bool) (items : List A) → position_from test 0 items ≡ None → find test items ≡ None
 none_found test items none = subst (FoundFrom test items 0) none (position_finds test 0 items)
 
 -- where one is found
-pub one_found : {A : Type 0} (test : A → Bool) (items : List A) (index : ℕ) → position_from test 0 items ≡ Some index → IsFoundAt test items index
+pub one_found : {A : Type 0} (test : A → Bool) (items : List A) (index : ℕ) → position_from test 0 items ≡ Some index
+    → IsFoundAt test items index
 one_found test items index some =
     let at : FoundFrom test items 0 (Some index) = subst (FoundFrom test items 0) some (position_finds test 0 items) in
     let same : at.0 ≡ index = omega (arith, at.1) in
@@ -139,20 +147,30 @@ one_found test items index some =
 
 -- the first that passes of items and one more
 position_more_from : {A : Type 0} (test : A → Bool) (start : ℕ) (items : List A) (item : A)
-    → position_from test start (items ++ item ∷ []) ≡ option_or (position_from test start items) (cond (test item) (Some (start + length items)) None)
+    → position_from test start (items ++ item ∷ [])
+    ≡ option_or (position_from test start items) (cond (test item) (Some (start + length items)) None)
 position_more_from test start [] item = ap (λ at. cond (test item) (Some at) None) (let same : start ≡ start + 0 = omega arith in same)
 position_more_from test start (first ∷ items) item =
     ap (cond (test first) (Some start)) (position_more_from test (start + 1) items item
-    ∙ ap (λ at. option_or (position_from test (start + 1) items) (cond (test item) (Some at) None)) (let same : start + 1 + length items ≡ start + suc (length items) = omega arith in same))
-    ∙ elim (test first) as (λ passes. cond passes (Some start) (option_or (position_from test (start + 1) items) (cond (test item) (Some (start + suc (length items))) None)) ≡ option_or (cond passes (Some start) (position_from test (start + 1) items)) (cond (test item) (Some (start + suc (length items))) None))
+    ∙ ap (λ at. option_or (position_from test (start + 1) items) (cond (test item) (Some at) None))
+    (let same : start + 1 + length items ≡ start + suc (length items) = omega arith in same))
+    ∙ elim (test first) as
+    (λ passes.
+    cond passes (Some start)
+    (option_or (position_from test (start + 1) items)
+    (cond (test item) (Some (start + suc (length items))) None))
+    ≡ option_or (cond passes (Some start) (position_from test (start + 1) items))
+    (cond (test item) (Some (start + suc (length items))) None))
     [ true ↦ refl | false ↦ refl ]
 
 -- the identities of one more entry are remembered with its index
-pub first_more : (old new : List ℕ → Option ℕ) (entries : List EntryReading) (entry : EntryReading) (index : ℕ) → HasFirst old entries → index ≡ length entries
+pub first_more : (old new : List ℕ → Option ℕ) (entries : List EntryReading) (entry : EntryReading) (index : ℕ)
+    → HasFirst old entries → index ≡ length entries
     → ((id : List ℕ) → new id ≡ remembered (identities entry) index id (old id)) → HasFirst new (entries ++ entry ∷ [])
 first_more old new entries entry index first is more id =
     more id ∙ ap (λ had. option_or had (cond (has_identity id entry) (Some index) None)) (first id)
-    ∙ ap (λ at. option_or (position_from (has_identity id) 0 entries) (cond (has_identity id entry) (Some at) None)) (is ∙ (let same : length entries ≡ 0 + length entries = omega arith in same))
+    ∙ ap (λ at. option_or (position_from (has_identity id) 0 entries) (cond (has_identity id entry) (Some at) None))
+    (is ∙ (let same : length entries ≡ 0 + length entries = omega arith in same))
     ∙ sym (position_more_from (has_identity id) 0 entries entry)
 
 -- the findings of entries and one more
@@ -162,11 +180,15 @@ duplicates_more earlier [] entry =
     append-nil (duplicate_after earlier entry) ∙ ap (λ before. duplicate_after before entry) (sym (append-nil earlier))
 duplicates_more earlier (first ∷ entries) entry =
     ap (λ l. duplicate_after earlier first ++ l) (duplicates_more (earlier ++ first ∷ []) entries entry
-    ∙ ap (λ before. duplicates_after (earlier ++ first ∷ []) entries ++ duplicate_after before entry) (append_assoc earlier (first ∷ []) entries))
-    ∙ sym (append_assoc (duplicate_after earlier first) (duplicates_after (earlier ++ first ∷ []) entries) (duplicate_after (earlier ++ first ∷ entries) entry))
+    ∙ ap (λ before. duplicates_after (earlier ++ first ∷ []) entries ++ duplicate_after before entry)
+    (append_assoc earlier (first ∷ []) entries))
+    ∙ sym
+    (append_assoc (duplicate_after earlier first) (duplicates_after (earlier ++ first ∷ []) entries)
+    (duplicate_after (earlier ++ first ∷ entries) entry))
 
 -- the least index of the identities so far, and of one more
-pub least_next : (index_of : List ℕ → Option ℕ) (ids : List (String Global)) (index : ℕ) (id : String Global) (least found new : Option ℕ) → index < length ids → id ≡ get_or ids index id
+pub least_next : (index_of : List ℕ → Option ℕ) (ids : List (String Global)) (index : ℕ) (id : String Global)
+    (least found new : Option ℕ) → index < length ids → id ≡ get_or ids index id
     → least ≡ least_of index_of (map string_bytes (take index ids)) → new ≡ lesser least found → found ≡ index_of (string_bytes id)
     → new ≡ least_of index_of (map string_bytes (take (index + 1) ids))
 least_next index_of ids index id least found new within is so_far next here =
@@ -177,9 +199,11 @@ least_next index_of ids index id least found new within is so_far next here =
 swapped : (one other : List ℕ) → bytes_eq one other ≡ bytes_eq other one
 swapped one other =
     let here = bytes_eq-Decides one other in
-    one_answer (bytes_eq one other) (bytes_eq other one) here (λ e. sym ((bytes_eq-Decides other one).0 e), λ e. (bytes_eq-Decides other one).1 (sym e))
+    one_answer (bytes_eq one other) (bytes_eq other one) here
+    (λ e. sym ((bytes_eq-Decides other one).0 e), λ e. (bytes_eq-Decides other one).1 (sym e))
 
-remembered_by : (had : Option ℕ) (index : ℕ) (before here : Bool) (seen new : Option ℕ) → seen ≡ option_or had (cond before (Some index) None) → new ≡ cond here (Some index) seen
+remembered_by : (had : Option ℕ) (index : ℕ) (before here : Bool) (seen new : Option ℕ)
+    → seen ≡ option_or had (cond before (Some index) None) → new ≡ cond here (Some index) seen
     → (here ≡ true → seen ≡ None) → new ≡ option_or had (cond (before || (here || false)) (Some index) None)
 remembered_by None index true true seen new is next none = next
 remembered_by None index false true seen new is next none = next
@@ -199,7 +223,10 @@ remembered_new old seen new done name index before none next id =
     remembered_by (old id) index (list_any (bytes_eq id) ids) (bytes_eq id (string_bytes name)) (seen id) (new id) (before id)
     (next id ∙ ap (λ b. cond b (Some index) (seen id)) same)
     (λ here. ap seen ((bytes_eq-Decides id (string_bytes name)).0 here) ∙ none)
-    ∙ ap (λ b. option_or (old id) (cond b (Some index) None)) (sym (ap (list_any (bytes_eq id)) (map-append string_bytes done (name ∷ [])) ∙ list_any-append (bytes_eq id) ids (string_bytes name ∷ [])))
+    ∙ ap (λ b. option_or (old id) (cond b (Some index) None))
+    (sym
+    (ap (list_any (bytes_eq id)) (map-append string_bytes done (name ∷ []))
+    ∙ list_any-append (bytes_eq id) ids (string_bytes name ∷ [])))
 
 had_by : (had : Option ℕ) (index : ℕ) (before here : Bool) (seen : Option ℕ) → seen ≡ option_or had (cond before (Some index) None)
     → (here ≡ true → is_some seen ≡ true) → seen ≡ option_or had (cond (before || (here || false)) (Some index) None)
@@ -216,16 +243,22 @@ remembered_same old seen done name index before some id =
     let ids : Names = map string_bytes done in
     had_by (old id) index (list_any (bytes_eq id) ids) (bytes_eq id (string_bytes name)) (seen id) (before id)
     (λ here. ap (λ at. is_some (seen at)) ((bytes_eq-Decides id (string_bytes name)).0 here) ∙ some)
-    ∙ ap (λ b. option_or (old id) (cond b (Some index) None)) (sym (ap (list_any (bytes_eq id)) (map-append string_bytes done (name ∷ [])) ∙ list_any-append (bytes_eq id) ids (string_bytes name ∷ [])))
+    ∙ ap (λ b. option_or (old id) (cond b (Some index) None))
+    (sym
+    (ap (list_any (bytes_eq id)) (map-append string_bytes done (name ∷ []))
+    ∙ list_any-append (bytes_eq id) ids (string_bytes name ∷ [])))
 
 -- one of the entries at some indices
-pub entry_there : (said : List (Spanned RawEntry)) (indices : List ℕ) (at : ℕ) (other : Spanned RawEntry) → All (λ index. index < length said) indices → at < length indices
+pub entry_there : (said : List (Spanned RawEntry)) (indices : List ℕ) (at : ℕ) (other : Spanned RawEntry)
+    → All (λ index. index < length said) indices → at < length indices
     → slice_get (entries_at (map entry_reading_of said) indices) at ≡ Some (entry_reading_of (get_or said (get_or indices at 0) other))
 entry_there said [] at other there within = absurd (omega arith)
 entry_there said (index ∷ indices) zero other there within =
-    ap (λ o. slice_get (cons_option o (entries_at (map entry_reading_of said) indices)) 0) (get_mapped entry_reading_of said index other (All-head (λ i. i < length said) index indices there))
+    ap (λ o. slice_get (cons_option o (entries_at (map entry_reading_of said) indices)) 0)
+    (get_mapped entry_reading_of said index other (All-head (λ i. i < length said) index indices there))
 entry_there said (index ∷ indices) (suc at) other there within =
-    ap (λ o. slice_get (cons_option o (entries_at (map entry_reading_of said) indices)) (suc at)) (get_mapped entry_reading_of said index other (All-head (λ i. i < length said) index indices there))
+    ap (λ o. slice_get (cons_option o (entries_at (map entry_reading_of said) indices)) (suc at))
+    (get_mapped entry_reading_of said index other (All-head (λ i. i < length said) index indices there))
     ∙ entry_there said indices at other (All-tail (λ i. i < length said) index indices there) (omega arith)
 
 -- as many entries as indices
@@ -233,50 +266,65 @@ pub as_many : (said : List (Spanned RawEntry)) (other : Spanned RawEntry) (indic
     → length (entries_at (map entry_reading_of said) indices) ≡ length indices
 as_many said other [] there = refl
 as_many said other (index ∷ indices) there =
-    ap (λ o. length (cons_option o (entries_at (map entry_reading_of said) indices))) (get_mapped entry_reading_of said index other (All-head (λ i. i < length said) index indices there))
+    ap (λ o. length (cons_option o (entries_at (map entry_reading_of said) indices)))
+    (get_mapped entry_reading_of said index other (All-head (λ i. i < length said) index indices there))
     ∙ ap suc (as_many said other indices (All-tail (λ i. i < length said) index indices there))
 
 -- the entries at some indices and one more
 pub entries_more : (said : List (Spanned RawEntry)) (indices : List ℕ) (index : ℕ) (other : Spanned RawEntry) → index < length said
-    → entries_at (map entry_reading_of said) (indices ++ index ∷ []) ≡ entries_at (map entry_reading_of said) indices ++ entry_reading_of (get_or said index other) ∷ []
+    → entries_at (map entry_reading_of said) (indices ++ index ∷ [])
+    ≡ entries_at (map entry_reading_of said) indices ++ entry_reading_of (get_or said index other) ∷ []
 entries_more said indices index other within =
-    given_more (slice_get (map entry_reading_of said)) indices index (entry_reading_of (get_or said index other)) (get_mapped entry_reading_of said index other within)
+    given_more (slice_get (map entry_reading_of said)) indices index (entry_reading_of (get_or said index other))
+    (get_mapped entry_reading_of said index other within)
 
 -- where the index of the first entry is known that has one of some identities, it is in range
-pub first_within : (index_of : List ℕ → Option ℕ) (earlier : List EntryReading) (ids : Names) (first : Option ℕ) → HasFirst index_of earlier → first ≡ least_of index_of ids
+pub first_within : (index_of : List ℕ → Option ℕ) (earlier : List EntryReading) (ids : Names) (first : Option ℕ)
+    → HasFirst index_of earlier → first ≡ least_of index_of ids
     → IfSome first (λ index. index < length earlier)
 first_within index_of earlier ids None has is = tt
-first_within index_of earlier ids (Some index) has is = (one_found (has_any ids) earlier index (sym (is ∙ least_is_first index_of earlier ids has))).within
+first_within index_of earlier ids (Some index) has is =
+    (one_found (has_any ids) earlier index (sym (is ∙ least_is_first index_of earlier ids has))).within
 
 -- and the finding is that of the first
-pub finds_first : (index_of : List ℕ → Option ℕ) (earlier : List EntryReading) (said : EntryReading) (first : Option ℕ) → HasFirst index_of earlier → first ≡ least_of index_of (identities said)
+pub finds_first : (index_of : List ℕ → Option ℕ) (earlier : List EntryReading) (said : EntryReading) (first : Option ℕ)
+    → HasFirst index_of earlier → first ≡ least_of index_of (identities said)
     → duplicate_at earlier said first ≡ duplicate_after earlier said
 finds_first index_of earlier said None has is =
-    ap (λ o. option_map_or (λ one. duplicate_finding said one ∷ []) o []) (sym (none_found (has_any (identities said)) earlier (sym (is ∙ least_is_first index_of earlier (identities said) has))))
+    ap (λ o. option_map_or (λ one. duplicate_finding said one ∷ []) o [])
+    (sym
+    (none_found (has_any (identities said)) earlier
+    (sym (is ∙ least_is_first index_of earlier (identities said) has))))
 finds_first index_of earlier said (Some index) has is =
-    ap (λ o. option_map_or (λ one. duplicate_finding said one ∷ []) o []) (sym (one_found (has_any (identities said)) earlier index (sym (is ∙ least_is_first index_of earlier (identities said) has))).found)
+    ap (λ o. option_map_or (λ one. duplicate_finding said one ∷ []) o [])
+    (sym
+    (one_found (has_any (identities said)) earlier index (sym (is ∙ least_is_first index_of earlier (identities said) has))).found)
 
 pub not_some : (contains : Bool) (had : Option ℕ) → contains ≡ is_some had → contains ≡ false → had ≡ None
 not_some contains None is none = refl
 not_some contains (Some index) is none = absurd (let clash : true ≡ false = sym is ∙ none in cc)
 
 -- the finding of an entry that is likely the same as the one at an index of earlier ones
-pub at_first : (said : List (Spanned RawEntry)) (earlier : List ℕ) (one : EntryReading) (first : Option ℕ) (index : ℕ) (item : Spanned RawEntry) → first ≡ Some index
+pub at_first : (said : List (Spanned RawEntry)) (earlier : List ℕ) (one : EntryReading) (first : Option ℕ) (index : ℕ)
+    (item : Spanned RawEntry) → first ≡ Some index
     → All (λ i. i < length said) earlier → IfSome first (λ i. i < length earlier) → item ≡ get_or said (get_or earlier index 0) item
     → duplicate_at (entries_at (map entry_reading_of said) earlier) one first ≡ duplicate_finding one (entry_reading_of item) ∷ []
 at_first said earlier one first index item some there within is =
     let below : index < length earlier = subst (λ o. IfSome o (λ i. i < length earlier)) some within in
     ap (duplicate_at (entries_at (map entry_reading_of said) earlier) one) some
-    ∙ ap (λ o. option_map_or (λ e. duplicate_finding one e ∷ []) o []) (entry_there said earlier index item there below ∙ ap (λ e. Some (entry_reading_of e)) (sym is))
+    ∙ ap (λ o. option_map_or (λ e. duplicate_finding one e ∷ []) o [])
+    (entry_there said earlier index item there below ∙ ap (λ e. Some (entry_reading_of e)) (sym is))
 
 pub on_ok : {U E : Type 0} {P : Type 0} (r : Result U E) → P → OnOk r P
 on_ok (Ok u) p = p
 on_ok (Err e) p = tt
 
 -- the entries at the indices so far, and one more
-pub entries_next : (said : List (Spanned RawEntry)) (indices : List ℕ) (index : ℕ) (item : Spanned RawEntry) → All (λ i. i < length said) indices → index < length indices
+pub entries_next : (said : List (Spanned RawEntry)) (indices : List ℕ) (index : ℕ) (item : Spanned RawEntry)
+    → All (λ i. i < length said) indices → index < length indices
     → item ≡ get_or said (get_or indices index 0) item
-    → entries_at (map entry_reading_of said) (take (index + 1) indices) ≡ entries_at (map entry_reading_of said) (take index indices) ++ entry_reading_of item ∷ []
+    → entries_at (map entry_reading_of said) (take (index + 1) indices)
+    ≡ entries_at (map entry_reading_of said) (take index indices) ++ entry_reading_of item ∷ []
 entries_next said indices index item there within is =
     let so_far : List EntryReading = entries_at (map entry_reading_of said) (take index indices) in
     ap (entries_at (map entry_reading_of said)) (take_more indices index 0 within)

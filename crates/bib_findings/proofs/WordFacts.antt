@@ -47,7 +47,12 @@ after_more word c (part ∷ parts) = ap (λ first. first ∷ parts) (sym (append
 split_some : (rest : List ℕ) → (first : List ℕ) × (parts : List (List ℕ)) × (slice_split is_whitespace rest ≡ first ∷ parts)
 split_some [] = ([], [], refl)
 split_some (c ∷ rest) =
-    elim (is_whitespace c) as (λ is. (first : List ℕ) × (parts : List (List ℕ)) × (cond is ([] ∷ slice_split is_whitespace rest) (onto_first c (slice_split is_whitespace rest)) ≡ first ∷ parts))
+    elim (is_whitespace c) as
+    (λ is.
+    (first : List ℕ) × (parts : List (List ℕ))
+    ×
+    (cond is ([] ∷ slice_split is_whitespace rest) (onto_first c (slice_split is_whitespace rest))
+    ≡ first ∷ parts))
     [ true ↦ ([], slice_split is_whitespace rest, refl) | false ↦ onto_some c (slice_split is_whitespace rest) ]
   where
     onto_some : (c : ℕ) (parts : List (List ℕ)) → (first : List ℕ) × (more : List (List ℕ)) × (onto_first c parts ≡ first ∷ more)
@@ -58,16 +63,20 @@ split_some (c ∷ rest) =
 pub none_begun : (is_first : Bool) (characters : List ℕ) → left_text is_first [] characters ≡ words_text is_first characters
 none_begun is_first characters =
     let some = split_some characters in
-    ap (λ parts. spaced_words (words_before is_first (words_among parts))) (after_none (slice_split is_whitespace characters) some.0 some.1 some.2)
+    ap (λ parts. spaced_words (words_before is_first (words_among parts)))
+    (after_none (slice_split is_whitespace characters) some.0 some.1 some.2)
 
 -- a character that is no white space goes on with the word
-pub goes_on : (is_first : Bool) (word : List ℕ) (c : ℕ) (rest : List ℕ) → is_whitespace c ≡ false → left_text is_first word (c ∷ rest) ≡ left_text is_first (word ++ c ∷ []) rest
+pub goes_on : (is_first : Bool) (word : List ℕ) (c : ℕ) (rest : List ℕ) → is_whitespace c ≡ false
+    → left_text is_first word (c ∷ rest) ≡ left_text is_first (word ++ c ∷ []) rest
 goes_on is_first word c rest isnt =
     ap (λ parts. spaced_words (words_before is_first (words_among (after_word word parts)))) (slice_split-cons_no is_whitespace c rest isnt)
     ∙ ap (λ parts. spaced_words (words_before is_first (words_among parts))) (after_more word c (slice_split is_whitespace rest))
 
 -- white space, or the end, after no word
-no_word : (is_first : Bool) (parts : List (List ℕ)) → spaced_words (words_before is_first (words_among ([] ∷ parts))) ≡ spaced_words (words_before is_first (words_among parts))
+no_word : (is_first : Bool) (parts : List (List ℕ))
+    → spaced_words (words_before is_first (words_among ([] ∷ parts)))
+    ≡ spaced_words (words_before is_first (words_among parts))
 no_word is_first parts = refl
 
 -- what is left to write of characters, of which so many are passed, follows a text and a word that is begun
@@ -84,9 +93,12 @@ words_begin is_first characters = record {
 }
 
 -- the rest, before and after one more character
-drop_next : (characters : List ℕ) (count c : ℕ) → count < length characters → c ≡ get_or characters count c → drop count characters ≡ c ∷ drop (count + 1) characters
+drop_next : (characters : List ℕ) (count c : ℕ) → count < length characters → c ≡ get_or characters count c
+    → drop count characters ≡ c ∷ drop (count + 1) characters
 drop_next characters count c within is =
-    drop-cons characters count c within ∙ ap (λ n. get_or characters count c ∷ drop n characters) (let same : suc count ≡ count + 1 = omega arith in same)
+    drop-cons characters count c within
+    ∙ ap (λ n. get_or characters count c ∷ drop n characters)
+    (let same : suc count ≡ count + 1 = omega arith in same)
     ∙ ap (λ d. d ∷ drop (count + 1) characters) (sym is)
 
 kept_next : (characters : List ℕ) (count c : ℕ) → count < length characters → c ≡ get_or characters count c
@@ -94,7 +106,8 @@ kept_next : (characters : List ℕ) (count c : ℕ) → count < length character
 kept_next characters count c within is = ap kept (drop_next characters count c within is)
 
 -- a word of people, as its bytes and as its characters
-ends_same : (is_first : Bool) (word begun : List ℕ) → IsUtf8 word → word ≡ encode_utf8_all begun → ends_before is_first word ≡ ends_before is_first begun
+ends_same : (is_first : Bool) (word begun : List ℕ) → IsUtf8 word → word ≡ encode_utf8_all begun
+    → ends_before is_first word ≡ ends_before is_first begun
 unfolding lib.Utf8.encode
 ends_same is_first word begun utf8 spelt =
     ap (λ b. is_first && b) (one_answer (bytes_eq word (codes "and")) (bytes_eq begun (codes "and")) (bytes_eq-Decides word (codes "and")) (
@@ -103,26 +116,46 @@ ends_same is_first word begun utf8 spelt =
     ))
 
 -- a brace is passed over
-pub words_brace : (is_first : Bool) (characters : List ℕ) (count c : ℕ) (text word : List ℕ) → AreWordsLeft is_first characters count text word → count < length characters → c ≡ get_or characters count c
+pub words_brace : (is_first : Bool) (characters : List ℕ) (count c : ℕ) (text word : List ℕ)
+    → AreWordsLeft is_first characters count text word → count < length characters → c ≡ get_or characters count c
     → is_brace c ≡ true → AreWordsLeft is_first characters (count + 1) text word
 words_brace is_first characters count c text word before within is brace = record {
   begun = before.begun;
   spelt = before.spelt;
-  left = before.left ∙ ap (λ rest. text ++ left_text is_first before.begun rest) (kept_next characters count c within is ∙ ap (λ b. cond (not b) (c ∷ kept (drop (count + 1) characters)) (kept (drop (count + 1) characters))) brace);
+  left =
+      before.left
+      ∙ ap (λ rest. text ++ left_text is_first before.begun rest)
+      (kept_next characters count c within is
+      ∙ ap (λ b. cond (not b) (c ∷ kept (drop (count + 1) characters)) (kept (drop (count + 1) characters)))
+      brace);
 }
 
-left_next : (is_first : Bool) (characters : List ℕ) (count c : ℕ) (text word : List ℕ) → (before : AreWordsLeft is_first characters count text word) → count < length characters → c ≡ get_or characters count c
-    → is_brace c ≡ false → words_text is_first (kept characters) ≡ text ++ left_text is_first before.begun (c ∷ kept (drop (count + 1) characters))
+left_next : (is_first : Bool) (characters : List ℕ) (count c : ℕ) (text word : List ℕ)
+    → (before : AreWordsLeft is_first characters count text word) → count < length characters
+    → c ≡ get_or characters count c
+    → is_brace c ≡ false
+    → words_text is_first (kept characters)
+    ≡ text ++ left_text is_first before.begun (c ∷ kept (drop (count + 1) characters))
 left_next is_first characters count c text word before within is none =
-    before.left ∙ ap (λ rest. text ++ left_text is_first before.begun rest) (kept_next characters count c within is ∙ ap (λ b. cond (not b) (c ∷ kept (drop (count + 1) characters)) (kept (drop (count + 1) characters))) none)
+    before.left
+    ∙ ap (λ rest. text ++ left_text is_first before.begun rest)
+    (kept_next characters count c within is
+    ∙ ap (λ b. cond (not b) (c ∷ kept (drop (count + 1) characters)) (kept (drop (count + 1) characters)))
+    none)
 
 -- a character of a word
-pub words_letter : (is_first : Bool) (characters : List ℕ) (count c : ℕ) (text word more : List ℕ) → AreWordsLeft is_first characters count text word → count < length characters → c ≡ get_or characters count c
+pub words_letter : (is_first : Bool) (characters : List ℕ) (count c : ℕ) (text word more : List ℕ)
+    → AreWordsLeft is_first characters count text word → count < length characters → c ≡ get_or characters count c
     → is_brace c ≡ false → is_whitespace c ≡ false → more ≡ word ++ encode_utf8 c → AreWordsLeft is_first characters (count + 1) text more
 words_letter is_first characters count c text word more before within is none isnt next = record {
   begun = before.begun ++ c ∷ [];
-  spelt = next ∙ ap (λ l. l ++ encode_utf8 c) before.spelt ∙ ap (λ l. encode_utf8_all before.begun ++ l) (sym (append-nil (encode_utf8 c))) ∙ sym (encodes-append before.begun (c ∷ []));
-  left = left_next is_first characters count c text word before within is none ∙ ap (λ l. text ++ l) (goes_on is_first before.begun c (kept (drop (count + 1) characters)) isnt);
+  spelt =
+      next ∙ ap (λ l. l ++ encode_utf8 c) before.spelt
+      ∙ ap (λ l. encode_utf8_all before.begun ++ l) (sym (append-nil (encode_utf8 c)))
+      ∙ sym (encodes-append before.begun (c ∷ []));
+  left =
+      left_next is_first characters count c text word before within is none
+      ∙ ap (λ l. text ++ l) (goes_on is_first before.begun c (kept (drop (count + 1) characters)) isnt);
 }
 
 some_word : (c : ℕ) (begun : List ℕ) (parts : List (List ℕ)) → words_among ((c ∷ begun) ∷ parts) ≡ (c ∷ begun) ∷ words_among parts
@@ -132,18 +165,23 @@ some_word c begun parts =
 
 not_empty : (word : List ℕ) (c : ℕ) (begun : List ℕ) → word ≡ encode_utf8_all (c ∷ begun) → (length word == 0) ≡ false
 not_empty word c begun spelt =
-    let long : length word ≡ length (encode_utf8 c) + length (encode_utf8_all begun) = ap length spelt ∙ length-append (encode_utf8 c) (encode_utf8_all begun) in
+    let long : length word ≡ length (encode_utf8 c) + length (encode_utf8_all begun) =
+    ap length spelt ∙ length-append (encode_utf8 c) (encode_utf8_all begun) in
     grind (arith, nat_tests, long, length-encode c, len_utf8_bounds c)
 
 -- a word, and what is written of the parts after it
-word_written : (is_first : Bool) (word begun : List ℕ) (parts : List (List ℕ)) → word ≡ encode_utf8_all begun → ends_before is_first begun ≡ false
-    → spaced_words (words_before is_first (words_among (begun ∷ parts))) ≡ spaced_word word ++ spaced_words (words_before is_first (words_among parts))
+word_written : (is_first : Bool) (word begun : List ℕ) (parts : List (List ℕ)) → word ≡ encode_utf8_all begun
+    → ends_before is_first begun ≡ false
+    → spaced_words (words_before is_first (words_among (begun ∷ parts)))
+    ≡ spaced_word word ++ spaced_words (words_before is_first (words_among parts))
 word_written is_first word [] parts spelt goes =
     ap (λ w. spaced_word w ++ spaced_words (words_before is_first (words_among parts))) (sym spelt)
 word_written is_first word (c ∷ begun) parts spelt goes =
     let some : (length word == 0) ≡ false = not_empty word c begun spelt in
     ap (λ l. spaced_words (words_before is_first l)) (some_word c begun parts)
-    ∙ ap spaced_words (take_while-cons (λ w. not (ends_before is_first w)) (c ∷ begun) (words_among parts) ∙ ap (λ b. cond (not b) ((c ∷ begun) ∷ words_before is_first (words_among parts)) []) goes)
+    ∙ ap spaced_words
+    (take_while-cons (λ w. not (ends_before is_first w)) (c ∷ begun) (words_among parts)
+    ∙ ap (λ b. cond (not b) ((c ∷ begun) ∷ words_before is_first (words_among parts)) []) goes)
     ∙ ap (λ w. (w ++ codes " ") ++ spaced_words (words_before is_first (words_among parts))) (sym spelt)
     ∙ ap (λ b. cond b [] (word ++ codes " ") ++ spaced_words (words_before is_first (words_among parts))) (sym some)
 
@@ -154,11 +192,15 @@ words_stopped false begun parts stops = absurd (let clash : false ≡ true = sto
 words_stopped true [] parts stops = absurd (let clash : false ≡ true = stops in cc)
 words_stopped true (c ∷ begun) parts stops =
     ap (λ l. spaced_words (words_before true l)) (some_word c begun parts)
-    ∙ ap spaced_words (take_while-cons (λ w. not (ends_before true w)) (c ∷ begun) (words_among parts) ∙ ap (λ b. cond (not b) ((c ∷ begun) ∷ words_before true (words_among parts)) []) stops)
+    ∙ ap spaced_words
+    (take_while-cons (λ w. not (ends_before true w)) (c ∷ begun) (words_among parts)
+    ∙ ap (λ b. cond (not b) ((c ∷ begun) ∷ words_before true (words_among parts)) []) stops)
 
 -- white space after a word, or after none
-pub words_space : (is_first : Bool) (characters : List ℕ) (count c : ℕ) (text word after : List ℕ) → AreWordsLeft is_first characters count text word → count < length characters → c ≡ get_or characters count c
-    → is_brace c ≡ false → is_whitespace c ≡ true → IsUtf8 word → ends_before is_first word ≡ false → after ≡ text ++ spaced_word word → AreWordsLeft is_first characters (count + 1) after []
+pub words_space : (is_first : Bool) (characters : List ℕ) (count c : ℕ) (text word after : List ℕ)
+    → AreWordsLeft is_first characters count text word → count < length characters → c ≡ get_or characters count c
+    → is_brace c ≡ false → is_whitespace c ≡ true → IsUtf8 word → ends_before is_first word ≡ false
+    → after ≡ text ++ spaced_word word → AreWordsLeft is_first characters (count + 1) after []
 words_space is_first characters count c text word after before within is none space utf8 goes next =
     let rest : List ℕ = kept (drop (count + 1) characters) in
     let parts : List (List ℕ) = slice_split is_whitespace rest in
@@ -168,44 +210,61 @@ words_space is_first characters count c text word after before within is none sp
       spelt = refl;
       left =
           left_next is_first characters count c text word before within is none
-          ∙ ap (λ l. text ++ spaced_words (words_before is_first (words_among (after_word before.begun l)))) (slice_split-cons_yes is_whitespace c rest space)
+          ∙ ap (λ l. text ++ spaced_words (words_before is_first (words_among (after_word before.begun l))))
+          (slice_split-cons_yes is_whitespace c rest space)
           ∙ ap (λ w. text ++ spaced_words (words_before is_first (words_among (w ∷ parts)))) (append-nil before.begun)
-          ∙ ap (λ l. text ++ l) (word_written is_first word before.begun parts before.spelt (sym (ends_same is_first word before.begun utf8 before.spelt) ∙ goes))
+          ∙ ap (λ l. text ++ l)
+          (word_written is_first word before.begun parts before.spelt
+          (sym (ends_same is_first word before.begun utf8 before.spelt) ∙ goes))
           ∙ sym (append_assoc text (spaced_word word) (spaced_words (words_before is_first (words_among parts))))
           ∙ ap (λ l. l ++ spaced_words (words_before is_first (words_among parts))) (sym next)
           ∙ ap (λ l. after ++ spaced_words (words_before is_first (words_among l))) (sym (after_none parts some.0 some.1 some.2));
     }
 
 -- white space after the word at which words end
-pub words_stop : (is_first : Bool) (characters : List ℕ) (count c : ℕ) (text word : List ℕ) → AreWordsLeft is_first characters count text word → count < length characters → c ≡ get_or characters count c
-    → is_brace c ≡ false → is_whitespace c ≡ true → IsUtf8 word → ends_before is_first word ≡ true → text ≡ words_text is_first (kept characters)
+pub words_stop : (is_first : Bool) (characters : List ℕ) (count c : ℕ) (text word : List ℕ)
+    → AreWordsLeft is_first characters count text word → count < length characters → c ≡ get_or characters count c
+    → is_brace c ≡ false → is_whitespace c ≡ true → IsUtf8 word → ends_before is_first word ≡ true
+    → text ≡ words_text is_first (kept characters)
 words_stop is_first characters count c text word before within is none space utf8 stops =
     let rest : List ℕ = kept (drop (count + 1) characters) in
     sym (left_next is_first characters count c text word before within is none
-    ∙ ap (λ l. text ++ spaced_words (words_before is_first (words_among (after_word before.begun l)))) (slice_split-cons_yes is_whitespace c rest space)
+    ∙ ap (λ l. text ++ spaced_words (words_before is_first (words_among (after_word before.begun l))))
+    (slice_split-cons_yes is_whitespace c rest space)
     ∙ ap (λ w. text ++ spaced_words (words_before is_first (words_among (w ∷ slice_split is_whitespace rest)))) (append-nil before.begun)
-    ∙ ap (λ l. text ++ l) (words_stopped is_first before.begun (slice_split is_whitespace rest) (sym (ends_same is_first word before.begun utf8 before.spelt) ∙ stops))
+    ∙ ap (λ l. text ++ l)
+    (words_stopped is_first before.begun (slice_split is_whitespace rest)
+    (sym (ends_same is_first word before.begun utf8 before.spelt) ∙ stops))
     ∙ append-nil text)
 
-at_end : (is_first : Bool) (characters : List ℕ) (count : ℕ) (text word : List ℕ) → (before : AreWordsLeft is_first characters count text word) → count ≡ length characters
+at_end : (is_first : Bool) (characters : List ℕ) (count : ℕ) (text word : List ℕ)
+    → (before : AreWordsLeft is_first characters count text word) → count ≡ length characters
     → words_text is_first (kept characters) ≡ text ++ spaced_words (words_before is_first (words_among (before.begun ∷ [])))
 at_end is_first characters count text word before all =
-    before.left ∙ ap (λ l. text ++ left_text is_first before.begun (kept l)) (drop_all count characters (let le : length characters ≤ count = omega (arith, all) in le))
+    before.left
+    ∙ ap (λ l. text ++ left_text is_first before.begun (kept l))
+    (drop_all count characters (let le : length characters ≤ count = omega (arith, all) in le))
     ∙ ap (λ w. text ++ spaced_words (words_before is_first (words_among (w ∷ [])))) (append-nil before.begun)
 
 -- the last word, or none
-pub words_last : (is_first : Bool) (characters : List ℕ) (count : ℕ) (text word after : List ℕ) → AreWordsLeft is_first characters count text word → count ≡ length characters
+pub words_last : (is_first : Bool) (characters : List ℕ) (count : ℕ) (text word after : List ℕ)
+    → AreWordsLeft is_first characters count text word → count ≡ length characters
     → IsUtf8 word → ends_before is_first word ≡ false → after ≡ text ++ spaced_word word → after ≡ words_text is_first (kept characters)
 words_last is_first characters count text word after before all utf8 goes next =
     next ∙ sym (at_end is_first characters count text word before all
-    ∙ ap (λ l. text ++ l) (word_written is_first word before.begun [] before.spelt (sym (ends_same is_first word before.begun utf8 before.spelt) ∙ goes) ∙ append-nil (spaced_word word)))
+    ∙ ap (λ l. text ++ l)
+    (word_written is_first word before.begun [] before.spelt
+    (sym (ends_same is_first word before.begun utf8 before.spelt) ∙ goes) ∙ append-nil (spaced_word word)))
 
 -- the word at which words end is the last
-pub words_stop_last : (is_first : Bool) (characters : List ℕ) (count : ℕ) (text word : List ℕ) → AreWordsLeft is_first characters count text word → count ≡ length characters
+pub words_stop_last : (is_first : Bool) (characters : List ℕ) (count : ℕ) (text word : List ℕ)
+    → AreWordsLeft is_first characters count text word → count ≡ length characters
     → IsUtf8 word → ends_before is_first word ≡ true → text ≡ words_text is_first (kept characters)
 words_stop_last is_first characters count text word before all utf8 stops =
     sym (at_end is_first characters count text word before all
-    ∙ ap (λ l. text ++ l) (words_stopped is_first before.begun [] (sym (ends_same is_first word before.begun utf8 before.spelt) ∙ stops)) ∙ append-nil text)
+    ∙ ap (λ l. text ++ l)
+    (words_stopped is_first before.begun [] (sym (ends_same is_first word before.begun utf8 before.spelt) ∙ stops))
+    ∙ append-nil text)
 
 -- words that don't end before any are all of them
 pub all_words : (words : List (List ℕ)) → words_before false words ≡ words
@@ -216,5 +275,8 @@ all_words (word ∷ words) = take_while-cons (λ w. not (ends_before false w)) w
 pub filter_both : {A : Type 0} (p q : A → Bool) (items : List A) → filter (λ a. p a && q a) items ≡ filter q (filter p items)
 filter_both p q [] = refl
 filter_both p q (item ∷ items) =
-    elim (p item) as (λ b. cond (b && q item) (item ∷ filter (λ a. p a && q a) items) (filter (λ a. p a && q a) items) ≡ filter q (cond b (item ∷ filter p items) (filter p items)))
+    elim (p item) as
+    (λ b.
+    cond (b && q item) (item ∷ filter (λ a. p a && q a) items) (filter (λ a. p a && q a) items)
+    ≡ filter q (cond b (item ∷ filter p items) (filter p items)))
     [ true ↦ ap (λ l. cond (q item) (item ∷ l) l) (filter_both p q items) | false ↦ filter_both p q items ]

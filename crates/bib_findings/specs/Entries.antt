@@ -52,7 +52,8 @@ field_finding said c wrong name = finding_at c (field_place said name) (field_me
 -- the finding of a field that isn't read as a value of its type, with the kind of its error
 abbrev pub malformed_finding : EntryReading → List ℕ × TypeError → Finding
 malformed_finding said e =
-    finding_at code.MalformedField (malformed_place said e.0) (field_message said.key.text (codes "malformed") (e.0 ++ (codes ": " ++ type_kind_text e.1.kind)))
+    finding_at code.MalformedField (malformed_place said e.0)
+    (field_message said.key.text (codes "malformed") (e.0 ++ (codes ": " ++ type_kind_text e.1.kind)))
 
 -- the findings of a report: of the fields that the entry lacks, of those that it must not have, and of those that aren't read
 abbrev pub report_findings : EntryReading → Entry → List (List ℕ × TypeError) → List Finding
@@ -68,7 +69,8 @@ pub record AreOfReport (said : EntryReading) (entry : Entry) (found : List Findi
   pub are : found ≡ report_findings said entry errors
 
 -- the findings of entries, one entry after another, each with its index among the entries of the file; those of each are such
-pub data AreOfEach (Are : EntryReading → Entry → List Finding → Type 0) (said : List EntryReading) : List ℕ → List Entry → List Finding → Type 0 where
+pub data AreOfEach (Are : EntryReading → Entry → List Finding → Type 0) (said : List EntryReading) : List ℕ → List Entry
+    → List Finding → Type 0 where
   none : AreOfEach Are said [] [] []
   next : {index : ℕ} {indices : List ℕ} {one : EntryReading} {entry : Entry} {entries : List Entry} {first rest : List Finding}
       → slice_get said index ≡ Some one → Are one entry first → AreOfEach Are said indices entries rest

@@ -42,14 +42,16 @@ pub record AreSortedByPlace (all found : List Finding) : Type 0 where
   pub stable : IsStableByKey (λ f. f.span.start) nat_cmp all found
 
 -- findings between entries: of the keys that they name and that none has, and then of those that are likely the same work
-pub record AreBetween (names : ByText ℕ) (said : List EntryReading) (origins : List ℕ) (own : List Entry) (found : List Finding) : Type 0 where
+pub record AreBetween (names : ByText ℕ) (said : List EntryReading) (origins : List ℕ) (own : List Entry)
+    (found : List Finding) : Type 0 where
   pub of_keys : List Finding
   pub keys : AreOfEach (AreReferences names) said origins own of_keys
   pub are : found ≡ of_keys ++ duplicates (entries_at said origins)
 
 -- all that is wrong in a file, in the order in which it starts: that of the blocks that are passed over, of the errors, of each
 -- entry that is kept, and between entries
-pub record AreFindingsIn (skipped : List SkippedBlock) (errors : List ParseError) (said : List EntryReading) (origins : List ℕ) (entries : List Entry) (between found : List Finding) : Type 0 where
+pub record AreFindingsIn (skipped : List SkippedBlock) (errors : List ParseError) (said : List EntryReading)
+    (origins : List ℕ) (entries : List Entry) (between found : List Finding) : Type 0 where
   pub of_entries : List Finding
   pub reports : AreOfEach AreOfEntry said origins entries of_entries
   pub sorted : AreSortedByPlace (map block_finding skipped ++ (map error_finding errors ++ (of_entries ++ between))) found

@@ -72,7 +72,8 @@ doi_prefixes = fields "https://doi.org/ http://doi.org/ https://dx.doi.org/ http
 -- a text without the first of these prefixes that it begins with
 abbrev pub without_prefixes : List ℕ → Names → List ℕ
 without_prefixes text [] = text
-without_prefixes text (prefix ∷ prefixes) = if starts_with nat_eq text prefix then drop (length prefix) text else without_prefixes text prefixes
+without_prefixes text (prefix ∷ prefixes) =
+    if starts_with nat_eq text prefix then drop (length prefix) text else without_prefixes text prefixes
 
 -- the DOI of an entry
 abbrev pub doi_of : EntryReading → List ℕ
@@ -109,7 +110,9 @@ identity kind text = if length text == 0 then [] else (kind ++ text) ∷ []
 
 -- the identities of an entry
 abbrev pub identities : EntryReading → Names
-identities said = identity (codes "doi ") (doi_of said) ++ (identity (codes "isbn ") (isbn_of said) ++ identity (codes "work ") (work_of said))
+identities said =
+    identity (codes "doi ") (doi_of said)
+    ++ (identity (codes "isbn ") (isbn_of said) ++ identity (codes "work ") (work_of said))
 
 -- whether an entry has this identity
 abbrev pub has_identity : List ℕ → EntryReading → Bool

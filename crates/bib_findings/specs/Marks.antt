@@ -21,7 +21,11 @@ mark kind text = if length text == 0 then None else Some (finish (write (write i
 
 -- the marks of an entry
 abbrev pub marks_of : EntryReading → Marks
-marks_of said = record { doi = mark (codes "doi ") (doi_of said); isbn = mark (codes "isbn ") (isbn_of said); title = mark (codes "work ") (title_of said) }
+marks_of said = record {
+  doi = mark (codes "doi ") (doi_of said);
+  isbn = mark (codes "isbn ") (isbn_of said);
+  title = mark (codes "work ") (title_of said);
+}
 
 -- the marks that there are
 abbrev pub listed : Marks → List ℕ

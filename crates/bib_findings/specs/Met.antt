@@ -9,7 +9,8 @@ use Rattle.bib_findings.specs.declared.names.FieldName.TheVariants.{Known, Unkno
 -- what a name is: one that BibLaTeX knows, or another, with the nearest of the known ones, if there is one
 abbrev pub IsFieldName : List ℕ → FieldName → Type 0
 IsFieldName name Known = is_known_field name ≡ true
-IsFieldName name (Unknown meant) = (is_known_field name ≡ false) × IsNearest known_fields (str_to_ascii_lowercase name) (option_copied meant)
+IsFieldName name (Unknown meant) =
+    (is_known_field name ≡ false) × IsNearest known_fields (str_to_ascii_lowercase name) (option_copied meant)
 
 -- each name that was met is what was noted of it
 abbrev pub AreFieldNames : (List ℕ → Option FieldName) → Type 0

@@ -20,12 +20,15 @@ same_longest n (f ∷ fs) [] same = absurd (cc)
 same_longest n (f ∷ fs) (g ∷ gs) same =
     let first : field_content f ≡ field_content g = cc in
     let rest : map field_content fs ≡ map field_content gs = cc in
-    ap (λ k. fold (λ width f. max (length (chars f.name.text)) width) (max k n) fs) (same_width f g first) ∙ same_longest (max (length (chars g.name.text)) n) fs gs rest
+    ap (λ k. fold (λ width f. max (length (chars f.name.text)) width) (max k n) fs) (same_width f g first)
+    ∙ same_longest (max (length (chars g.name.text)) n) fs gs rest
 
-pub same_padded : (style : Style) (fs gs : List FieldReading) → map field_content fs ≡ map field_content gs → padded_width style fs ≡ padded_width style gs
+pub same_padded : (style : Style) (fs gs : List FieldReading) → map field_content fs ≡ map field_content gs
+    → padded_width style fs ≡ padded_width style gs
 same_padded style fs gs same = ap (λ n. if style.aligned then n else 0) (same_longest 0 fs gs same)
 
-pub same_last : (style : Style) (fs gs : List FieldReading) → map field_content fs ≡ map field_content gs → last_comma style fs ≡ last_comma style gs
+pub same_last : (style : Style) (fs gs : List FieldReading) → map field_content fs ≡ map field_content gs
+    → last_comma style fs ≡ last_comma style gs
 same_last style [] [] same = refl
 same_last style [] (g ∷ gs) same = absurd (cc)
 same_last style (f ∷ fs) [] same = absurd (cc)

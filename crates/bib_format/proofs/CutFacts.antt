@@ -74,7 +74,8 @@ element_cut text same (element.braced b) =
 element_cut text same (element.quoted q) =
     subst (λ p. IsCharBoundary text p.start) (sym q.reading) (cut_stood text (q.opens.same ∙ same) (stood_quoted q.parts (stood q.closes)))
 
-elements_cut : (text : List ℕ) {u v : Place} {es : List Piece} → u.text ≡ text → Elements longest u es v → AllByRecursion (IsPieceCut text) es
+elements_cut : (text : List ℕ) {u v : Place} {es : List Piece} → u.text ≡ text → Elements longest u es v
+    → AllByRecursion (IsPieceCut text) es
 elements_cut text same (elements.last e white ends) = (element_cut text same e, _)
 elements_cut text same (elements.more e white sign white' rest) =
     let over = ahead_then (ahead_element e) (ahead_then (ahead_run white.run) (ahead_then (ahead_char sign) (ahead_run white'.run))) in
@@ -82,12 +83,15 @@ elements_cut text same (elements.more e white sign white' rest) =
 
 field_cut : (text : List ℕ) {u v : Place} {f : FieldReading} → u.text ≡ text → Field longest u f v → ArePiecesCut text f
 field_cut text same field =
-    let over = ahead_then (ahead_identifier field.name) (ahead_then (ahead_run field.white.run) (ahead_then (ahead_char field.sign) (ahead_run field.white'.run))) in
+    let over =
+    ahead_then (ahead_identifier field.name)
+    (ahead_then (ahead_run field.white.run) (ahead_then (ahead_char field.sign) (ahead_run field.white'.run))) in
     elements_cut text (over.text ∙ same) field.elements
 
 -- ---- fields
 
-pub fields_cut : (text : List ℕ) {u v : Place} {fs : List FieldReading} → u.text ≡ text → Fields longest u fs v → AllByRecursion (ArePiecesCut text) fs
+pub fields_cut : (text : List ℕ) {u v : Place} {fs : List FieldReading} → u.text ≡ text → Fields longest u fs v
+    → AllByRecursion (ArePiecesCut text) fs
 fields_cut text same (fields.none white) = _
 fields_cut text same (fields.last field g) = (field_cut text same field, _)
 fields_cut text same (fields.more field g comma g' rest) =
@@ -95,15 +99,25 @@ fields_cut text same (fields.more field g comma g' rest) =
     (field_cut text same field, fields_cut text (over.text ∙ same) rest)
 
 -- where a name begins
-name_cut : (text : List ℕ) (start : ℕ) {u v : Place} {f : FieldReading} → u.text ≡ text → start ≤ u.at → IsCharBoundary text start → Field longest u f v → CanBeCut text start f.name.start
+name_cut : (text : List ℕ) (start : ℕ) {u v : Place} {f : FieldReading} → u.text ≡ text → start ≤ u.at
+    → IsCharBoundary text start → Field longest u f v → CanBeCut text start f.name.start
 name_cut text start {u} {v} {f} same ordered cut field =
     let begins : f.name.start ≡ u.at = ap (λ p. p.start) field.name.reading in
-    record { ordered = omega (arith, begins); start_cut = cut; end_cut = subst (λ n. IsCharBoundary text n) (sym begins) (cut_stood text same (stood field.name.here)) }
+    record {
+      ordered = omega (arith, begins);
+      start_cut = cut;
+      end_cut = subst (λ n. IsCharBoundary text n) (sym begins) (cut_stood text same (stood field.name.here));
+    }
 
-pub gaps_cut : (text : List ℕ) (start end : ℕ) {u v : Place} {fs : List FieldReading} → u.text ≡ text → start ≤ u.at → IsCharBoundary text start → Fields longest u fs v → Stood v → end ≡ v.at → AreGapsCut text start fs end
+pub gaps_cut : (text : List ℕ) (start end : ℕ) {u v : Place} {fs : List FieldReading} → u.text ≡ text → start ≤ u.at
+    → IsCharBoundary text start → Fields longest u fs v → Stood v → end ≡ v.at → AreGapsCut text start fs end
 gaps_cut text start end {u} {v} same ordered cut (fields.none white) s is =
     let over = ahead_run white.run in
-    record { ordered = omega (arith, over.at); start_cut = cut; end_cut = subst (λ n. IsCharBoundary text n) (sym is) (cut_stood text (over.text ∙ same) s) }
+    record {
+      ordered = omega (arith, over.at);
+      start_cut = cut;
+      end_cut = subst (λ n. IsCharBoundary text n) (sym is) (cut_stood text (over.text ∙ same) s);
+    }
 gaps_cut text start end {u} {v} same ordered cut (fields.last {v = stop_place} {f = f} field g) s is =
     let over = ahead_field field in
     let rest = ahead_gap g in
@@ -120,12 +134,15 @@ gaps_cut text start end {u} {v} same ordered cut (fields.more {v = stop_place} {
     let past = ahead_then (ahead_gap g) (ahead_then (ahead_char comma) (ahead_gap g')) in
     let ends : f.value.end ≡ stop_place.at = field.ends in (
       name_cut text start same ordered cut field,
-      gaps_cut text f.value.end end (past.text ∙ over.text ∙ same) (omega (arith, past.at)) (subst (λ n. IsCharBoundary text n) (sym ends) (cut_stood text (over.text ∙ same) (stood_gap g (stood comma)))) rest s is,
+      gaps_cut text f.value.end end (past.text ∙ over.text ∙ same) (omega (arith, past.at))
+          (subst (λ n. IsCharBoundary text n) (sym ends) (cut_stood text (over.text ∙ same) (stood_gap g (stood comma))))
+          rest s is,
     )
 
 -- ---- entries
 
-entry_cut : (text : List ℕ) {u v : Place} {e : EntryReading} → u.text ≡ text → EntryBlock u e v → IsCharBoundary text v.at → IsEntryCut text e
+entry_cut : (text : List ℕ) {u v : Place} {e : EntryReading} → u.text ≡ text → EntryBlock u e v
+    → IsCharBoundary text v.at → IsEntryCut text e
 entry_cut text {u} {v} {e} same b after =
     let to_key = ahead_then (ahead_head b.head) (ahead_run b.key.run) in
     let to_fields = ahead_then (ahead_run b.white.run) (ahead_then (ahead_char b.comma) (ahead_gap b.gap)) in
@@ -133,7 +150,9 @@ entry_cut text {u} {v} {e} same b after =
     let next : v.at ≡ b.brace.at + 1 = b.closes.next in
     let past : v.at ≡ e.end + 1 = omega (arith, b.ends) in
     let key_end : e.key.end ≡ b.key_end.at = ap (λ p. p.end) b.key_is in
-    let key_cut : IsCharBoundary text e.key.end = subst (λ n. IsCharBoundary text n) (sym key_end) (cut_stood text (to_key.text ∙ same) (stood_run b.white.run (stood b.comma))) in
+    let key_cut : IsCharBoundary text e.key.end =
+    subst (λ n. IsCharBoundary text n) (sym key_end)
+    (cut_stood text (to_key.text ∙ same) (stood_run b.white.run (stood b.comma))) in
     let at_fields = to_fields.text ∙ to_key.text ∙ same in
     record {
       whole = record {
@@ -145,17 +164,22 @@ entry_cut text {u} {v} {e} same b after =
       pieces = fields_cut text at_fields b.fields;
     }
 
-pub entries_cut : (text : List ℕ) (at : ℕ) {u : Place} {says : FileReading} → u.text ≡ text → at ≡ u.at → IsCharBoundary text at → ByEntries u says → AreEntriesCut text at says.entries
+pub entries_cut : (text : List ℕ) (at : ℕ) {u : Place} {says : FileReading} → u.text ≡ text → at ≡ u.at
+    → IsCharBoundary text at → ByEntries u says → AreEntriesCut text at says.entries
 entries_cut text at same is cut (ByEntries.last x none) = subst (λ es. AreEntriesCut text at es) (sym none) cut
 entries_cut text at {u} same is cut (ByEntries.more {s = s} {v = v} {before = before} {rest = rest} {e = e} first none b x others) =
     let to_start = ahead_file_before first in
-    let to_end = ahead_then (ahead_then (ahead_head b.head) (ahead_run b.key.run)) (ahead_then (ahead_then (ahead_run b.white.run) (ahead_then (ahead_char b.comma) (ahead_gap b.gap))) (ahead_then (ahead_fields b.fields) (ahead_char b.closes))) in
+    let to_end =
+    ahead_then (ahead_then (ahead_head b.head) (ahead_run b.key.run))
+    (ahead_then (ahead_then (ahead_run b.white.run) (ahead_then (ahead_char b.comma) (ahead_gap b.gap)))
+    (ahead_then (ahead_fields b.fields) (ahead_char b.closes))) in
     let at_start = to_start.text ∙ same in
     let after = cut_file text (to_end.text ∙ at_start) x in
     let here = entry_cut text at_start b after in
     let next : v.at ≡ b.brace.at + 1 = b.closes.next in
     let past : e.end + 1 ≡ v.at = omega (arith, b.ends) in
-    let gap : CanBeCut text at e.start = record { ordered = omega (arith, to_start.at, b.starts); start_cut = cut; end_cut = here.whole.start_cut } in
+    let gap : CanBeCut text at e.start =
+    record { ordered = omega (arith, to_start.at, b.starts); start_cut = cut; end_cut = here.whole.start_cut } in
     subst (λ es. AreEntriesCut text at (es ++ e ∷ rest.entries)) (sym none)
     (gap, here, entries_cut text (e.end + 1) (to_end.text ∙ at_start) past here.whole.end_cut others)
 

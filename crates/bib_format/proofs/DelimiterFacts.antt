@@ -28,7 +28,10 @@ pub data Encoded (c : ℕ) : List ℕ → Type 0 where
   wide : {b : ℕ} {bs : List ℕ} → 128 ≤ c → AllByRecursion (λ x. 128 ≤ x) (b ∷ bs) → Encoded c (b ∷ bs)
 
 by_width : (x y z : Bool) (c i j k n m l : ℕ) → 128 ≤ c → (x ≡ true → ⊥)
-    → Encoded c (cond x (c ∷ []) (cond y ((192 + i) ∷ next n ∷ []) (cond z ((224 + j) ∷ next m ∷ next n ∷ []) ((240 + k) ∷ next l ∷ next m ∷ next n ∷ []))))
+    → Encoded c
+    (cond x (c ∷ [])
+    (cond y ((192 + i) ∷ next n ∷ [])
+    (cond z ((224 + j) ∷ next m ∷ next n ∷ []) ((240 + k) ∷ next l ∷ next m ∷ next n ∷ []))))
 by_width true y z c i j k n m l large other = absurd (other refl)
 by_width false true z c i j k n m l large other = Encoded.wide large (omega arith, (omega arith, _))
 by_width false false true c i j k n m l large other = Encoded.wide large (omega arith, (omega arith, (omega arith, _)))
@@ -36,7 +39,9 @@ by_width false false false c i j k n m l large other = Encoded.wide large (omega
 
 wide_encoded : (c : ℕ) → 128 ≤ c → Encoded c (encode_utf8 c)
 unfolding encode
-wide_encoded c large = by_width (ltb c 128) (ltb c 2048) (ltb c 65536) c (c / 64) (c / 4096) (c / 262144) c (c / 64) (c / 4096) large (λ is. omega (arith, ltb-true c 128 is, large))
+wide_encoded c large =
+    by_width (ltb c 128) (ltb c 2048) (ltb c 65536) c (c / 64) (c / 4096) (c / 262144) c (c / 64) (c / 4096) large
+    (λ is. omega (arith, ltb-true c 128 is, large))
 
 encoded : (c : ℕ) → Encoded c (encode_utf8 c)
 encoded c =
@@ -47,7 +52,8 @@ encoded c =
 
 -- ---- braces by bytes
 
-pub other_byte : (b depth : ℕ) (bs : List ℕ) → (b ≡ 92 → ⊥) → (b ≡ 123 → ⊥) → (b ≡ 125 → ⊥) → close_braces false depth (b ∷ bs) ≡ close_braces false depth bs
+pub other_byte : (b depth : ℕ) (bs : List ℕ) → (b ≡ 92 → ⊥) → (b ≡ 123 → ⊥) → (b ≡ 125 → ⊥)
+    → close_braces false depth (b ∷ bs) ≡ close_braces false depth bs
 other_byte b depth bs no_slash no_open no_close =
     let hidden : Bool = close_braces true depth bs in
     let opened : Bool = close_braces false (suc depth) bs in
@@ -57,12 +63,15 @@ other_byte b depth bs no_slash no_open no_close =
     ∙ ap (λ x. cond x opened (cond (b == 125) closed over)) (ne_eqb b 123 no_open)
     ∙ ap (λ x. cond x closed over) (ne_eqb b 125 no_close)
 
-high_bytes : (depth : ℕ) (bs rest : List ℕ) → AllByRecursion (λ x. 128 ≤ x) bs → close_braces false depth (bs ++ rest) ≡ close_braces false depth rest
+high_bytes : (depth : ℕ) (bs rest : List ℕ) → AllByRecursion (λ x. 128 ≤ x) bs
+    → close_braces false depth (bs ++ rest) ≡ close_braces false depth rest
 high_bytes depth [] rest all = refl
 high_bytes depth (b ∷ bs) rest all =
-    other_byte b depth (bs ++ rest) (λ same. omega (arith, same, all.0)) (λ same. omega (arith, same, all.0)) (λ same. omega (arith, same, all.0)) ∙ high_bytes depth bs rest all.1
+    other_byte b depth (bs ++ rest) (λ same. omega (arith, same, all.0)) (λ same. omega (arith, same, all.0))
+    (λ same. omega (arith, same, all.0)) ∙ high_bytes depth bs rest all.1
 
-over_other : (c depth : ℕ) (rest : List ℕ) → (c ≡ 92 → ⊥) → (c ≡ 123 → ⊥) → (c ≡ 125 → ⊥) → close_braces false depth (encode_utf8 c ++ rest) ≡ close_braces false depth rest
+over_other : (c depth : ℕ) (rest : List ℕ) → (c ≡ 92 → ⊥) → (c ≡ 123 → ⊥) → (c ≡ 125 → ⊥)
+    → close_braces false depth (encode_utf8 c ++ rest) ≡ close_braces false depth rest
 over_other c depth rest no_slash no_open no_close = by (encoded c)
   where
     by : {bytes : List ℕ} → Encoded c bytes → close_braces false depth (bytes ++ rest) ≡ close_braces false depth rest
@@ -96,11 +105,14 @@ none_to_close rest = ap (λ t. close_braces false 0 (t ++ rest)) (encode_ascii 1
 
 pub other_sign : (b : ℕ) (bs : List ℕ) → (b ≡ 92 → ⊥) → (b ≡ 34 → ⊥) → hide_quotes false (b ∷ bs) ≡ hide_quotes false bs
 other_sign b bs no_slash no_quote =
-    ap (λ x. cond x (hide_quotes true bs) (not (b == 34) && hide_quotes false bs)) (ne_eqb b 92 no_slash) ∙ ap (λ x. not x && hide_quotes false bs) (ne_eqb b 34 no_quote)
+    ap (λ x. cond x (hide_quotes true bs) (not (b == 34) && hide_quotes false bs)) (ne_eqb b 92 no_slash)
+    ∙ ap (λ x. not x && hide_quotes false bs) (ne_eqb b 34 no_quote)
 
 high_signs : (bs rest : List ℕ) → AllByRecursion (λ x. 128 ≤ x) bs → hide_quotes false (bs ++ rest) ≡ hide_quotes false rest
 high_signs [] rest all = refl
-high_signs (b ∷ bs) rest all = other_sign b (bs ++ rest) (λ same. omega (arith, same, all.0)) (λ same. omega (arith, same, all.0)) ∙ high_signs bs rest all.1
+high_signs (b ∷ bs) rest all =
+    other_sign b (bs ++ rest) (λ same. omega (arith, same, all.0)) (λ same. omega (arith, same, all.0))
+    ∙ high_signs bs rest all.1
 
 past_other : (c : ℕ) (rest : List ℕ) → (c ≡ 92 → ⊥) → (c ≡ 34 → ⊥) → hide_quotes false (encode_utf8 c ++ rest) ≡ hide_quotes false rest
 past_other c rest no_slash no_quote = by (encoded c)
@@ -130,7 +142,8 @@ plain_is d passes fails same = test_clash (is_plain d) (subst (λ x. is_plain x 
 
 is_plain_from : (c : ℕ) → (c ≡ 123 → ⊥) → (c ≡ 125 → ⊥) → (c ≡ 92 → ⊥) → is_plain c ≡ true
 is_plain_from c no_open no_close no_slash =
-    ap (λ x. not x && not (c == 125) && not (c == 92)) (ne_eqb c 123 no_open) ∙ ap (λ x. not x && not (c == 92)) (ne_eqb c 125 no_close) ∙ ap not (ne_eqb c 92 no_slash)
+    ap (λ x. not x && not (c == 125) && not (c == 92)) (ne_eqb c 123 no_open)
+    ∙ ap (λ x. not x && not (c == 92)) (ne_eqb c 125 no_close) ∙ ap not (ne_eqb c 92 no_slash)
 
 -- a character of quoted parts is neither a quote nor a backslash
 abbrev is_unquoted : ℕ → Bool
@@ -160,29 +173,43 @@ nothing_open : (depth : ℕ) (u : Place) → close_braces false depth [] ≡ tru
 nothing_open zero u is = last parts.none
 nothing_open (suc depth) u is = absurd (test_clash (suc depth == 0) is (ne_eqb (suc depth) 0 (λ same. omega (arith, same))))
 
-close_before : (depth : ℕ) {u v w : Place} → CharAt u 125 v → close_braces false depth (encode_utf8 125 ++ between v w) ≡ true → ((n : ℕ) → close_braces false n (between v w) ≡ true → ClosesOpen n v w) → ClosesOpen depth u w
-close_before zero {u} {v} {w} close is rest = absurd (test_clash (close_braces false 0 (encode_utf8 125 ++ between v w)) is (none_to_close (between v w)))
+close_before : (depth : ℕ) {u v w : Place} → CharAt u 125 v
+    → close_braces false depth (encode_utf8 125 ++ between v w) ≡ true
+    → ((n : ℕ) → close_braces false n (between v w) ≡ true → ClosesOpen n v w) → ClosesOpen depth u w
+close_before zero {u} {v} {w} close is rest =
+    absurd (test_clash (close_braces false 0 (encode_utf8 125 ++ between v w)) is (none_to_close (between v w)))
 close_before (suc n) {u} {v} {w} close is rest = level parts.none close (rest n (sym (over_close n (between v w)) ∙ is))
 
-pub closes_quoted : {u v : Place} (depth : ℕ) → QuotedParts u v → v.at ≤ length u.text → close_braces false depth (between u v) ≡ true → ClosesOpen depth u v
+pub closes_quoted : {u v : Place} (depth : ℕ) → QuotedParts u v → v.at ≤ length u.text
+    → close_braces false depth (between u v) ≡ true → ClosesOpen depth u v
 closes_quoted {u} depth quotes.none within is = nothing_open depth u (ap (close_braces false depth) (sym (none_between u)) ∙ is)
 closes_quoted {u} {v} depth (quotes.plain {v = w} {c = c} char passes rest) within is =
     let up : v.at ≤ length w.text = omega (arith, within, ap length char.same) in
-    let here : close_braces false depth (encode_utf8 c ++ between w v) ≡ true = ap (close_braces false depth) (sym (char_parted char (ahead_quoted_parts rest) within)) ∙ is in
+    let here : close_braces false depth (encode_utf8 c ++ between w v) ≡ true =
+    ap (close_braces false depth) (sym (char_parted char (ahead_quoted_parts rest) within)) ∙ is in
     let no_slash = unquoted_is 92 passes refl in
     elim (cases_eq c 123) [
       | inl opens ↦ open_before (subst (λ d. CharAt u d w) opens char)
-          (closes_quoted (suc depth) rest up (sym (over_open depth (between w v)) ∙ ap (λ d. close_braces false depth (encode_utf8 d ++ between w v)) (sym opens) ∙ here))
+          (closes_quoted (suc depth) rest up
+          (sym (over_open depth (between w v))
+          ∙ ap (λ d. close_braces false depth (encode_utf8 d ++ between w v)) (sym opens) ∙ here))
       | inr no_open ↦ elim (cases_eq c 125) [
-        | inl closes ↦ close_before depth (subst (λ d. CharAt u d w) closes char) (ap (λ d. close_braces false depth (encode_utf8 d ++ between w v)) (sym closes) ∙ here) (λ n all. closes_quoted n rest up all)
-        | inr no_close ↦ plain_before char (is_plain_from c no_open no_close no_slash) (closes_quoted depth rest up (sym (over_other c depth (between w v) no_slash no_open no_close) ∙ here))
+        | inl closes ↦ close_before depth (subst (λ d. CharAt u d w) closes char)
+            (ap (λ d. close_braces false depth (encode_utf8 d ++ between w v)) (sym closes) ∙ here)
+            (λ n all. closes_quoted n rest up all)
+        | inr no_close ↦ plain_before char (is_plain_from c no_open no_close no_slash)
+            (closes_quoted depth rest up (sym (over_other c depth (between w v) no_slash no_open no_close) ∙ here))
       ]
     ]
 closes_quoted {u} {v} depth (quotes.hidden {v = w} {w = x} {c = c} slash char rest) within is =
     let within' : v.at ≤ length w.text = omega (arith, within, ap length slash.same) in
     let up : v.at ≤ length x.text = omega (arith, within', ap length char.same) in
-    let here = ap (close_braces false depth) (sym (char_parted slash (ahead_then (ahead_char char) (ahead_quoted_parts rest)) within)) ∙ is in
-    let hidden = ap (close_braces true depth) (sym (char_parted char (ahead_quoted_parts rest) within')) ∙ sym (over_slash depth (between w v)) ∙ here in
+    let here =
+    ap (close_braces false depth)
+    (sym (char_parted slash (ahead_then (ahead_char char) (ahead_quoted_parts rest)) within)) ∙ is in
+    let hidden =
+    ap (close_braces true depth) (sym (char_parted char (ahead_quoted_parts rest) within'))
+    ∙ sym (over_slash depth (between w v)) ∙ here in
     hidden_before slash char (closes_quoted depth rest up (sym (over_hidden c depth (between x v)) ∙ hidden))
 
 pub parts_of_quoted : {u v : Place} → QuotedParts u v → v.at ≤ length u.text → close_braces false 0 (between u v) ≡ true → Parts u v
@@ -203,27 +230,44 @@ record AreQuoted (u v : Place) (rest : List ℕ) : Type 0 where
   inside : QuotedParts u v
   following : hide_quotes false rest ≡ true
 
-quoted_char : {u w : Place} {c : ℕ} (bytes : List ℕ) → CharAt u c w → (c ≡ 92 → ⊥) → hide_quotes false (encode_utf8 c ++ bytes) ≡ true → QuotedParts u w × (hide_quotes false bytes ≡ true)
+quoted_char : {u w : Place} {c : ℕ} (bytes : List ℕ) → CharAt u c w → (c ≡ 92 → ⊥)
+    → hide_quotes false (encode_utf8 c ++ bytes) ≡ true → QuotedParts u w × (hide_quotes false bytes ≡ true)
 quoted_char {u} {w} {c} bytes char no_slash is =
     elim (cases_eq c 34) [
-      | inl quote ↦ absurd (test_clash (hide_quotes false (encode_utf8 34 ++ bytes)) (ap (λ d. hide_quotes false (encode_utf8 d ++ bytes)) (sym quote) ∙ is) (stops_at_quote bytes))
-      | inr no_quote ↦ (quotes.plain char (is_unquoted_from c no_quote no_slash) quotes.none, sym (past_other c bytes no_slash no_quote) ∙ is)
+      | inl quote ↦ absurd
+          (test_clash (hide_quotes false (encode_utf8 34 ++ bytes))
+          (ap (λ d. hide_quotes false (encode_utf8 d ++ bytes)) (sym quote) ∙ is) (stops_at_quote bytes))
+      | inr no_quote ↦ (
+        quotes.plain char (is_unquoted_from c no_quote no_slash) quotes.none,
+        sym (past_other c bytes no_slash no_quote) ∙ is,
+      )
     ]
 
-quoted_braced : {u v : Place} (bytes : List ℕ) → Parts u v → v.at ≤ length u.text → hide_quotes false (between u v ++ bytes) ≡ true → AreQuoted u v bytes
-quoted_braced {u} bytes parts.none within is = record { inside = quotes.none; following = ap (λ t. hide_quotes false (t ++ bytes)) (sym (none_between u)) ∙ is }
+quoted_braced : {u v : Place} (bytes : List ℕ) → Parts u v → v.at ≤ length u.text
+    → hide_quotes false (between u v ++ bytes) ≡ true → AreQuoted u v bytes
+quoted_braced {u} bytes parts.none within is = record {
+  inside = quotes.none;
+  following = ap (λ t. hide_quotes false (t ++ bytes)) (sym (none_between u)) ∙ is;
+}
 quoted_braced {u} {v} bytes (parts.plain {v = w} {c = c} char passes rest) within is =
-    let split : between u v ++ bytes ≡ encode_utf8 c ++ (between w v ++ bytes) = ap (λ t. t ++ bytes) (char_parted char (ahead_parts rest) within) ∙ append_assoc (encode_utf8 c) (between w v) bytes in
+    let split : between u v ++ bytes ≡ encode_utf8 c ++ (between w v ++ bytes) =
+    ap (λ t. t ++ bytes) (char_parted char (ahead_parts rest) within)
+    ∙ append_assoc (encode_utf8 c) (between w v) bytes in
     let first = quoted_char (between w v ++ bytes) char (plain_is 92 passes refl) (ap (hide_quotes false) (sym split) ∙ is) in
     let others = quoted_braced bytes rest (omega (arith, within, ap length char.same)) first.1 in
     record { inside = quoted_append first.0 others.inside; following = others.following }
 quoted_braced {u} {v} bytes (parts.hidden {v = w} {w = x} {c = c} slash char rest) within is =
     let within' : v.at ≤ length w.text = omega (arith, within, ap length slash.same) in
     let split : between u v ++ bytes ≡ encode_utf8 92 ++ (between w v ++ bytes) =
-    ap (λ t. t ++ bytes) (char_parted slash (ahead_then (ahead_char char) (ahead_parts rest)) within) ∙ append_assoc (encode_utf8 92) (between w v) bytes in
-    let split' : between w v ++ bytes ≡ encode_utf8 c ++ (between x v ++ bytes) = ap (λ t. t ++ bytes) (char_parted char (ahead_parts rest) within') ∙ append_assoc (encode_utf8 c) (between x v) bytes in
+    ap (λ t. t ++ bytes) (char_parted slash (ahead_then (ahead_char char) (ahead_parts rest)) within)
+    ∙ append_assoc (encode_utf8 92) (between w v) bytes in
+    let split' : between w v ++ bytes ≡ encode_utf8 c ++ (between x v ++ bytes) =
+    ap (λ t. t ++ bytes) (char_parted char (ahead_parts rest) within')
+    ∙ append_assoc (encode_utf8 c) (between x v) bytes in
     let hidden = ap (hide_quotes true) (sym split') ∙ sym (past_slash (between w v ++ bytes)) ∙ ap (hide_quotes false) (sym split) ∙ is in
-    let others = quoted_braced bytes rest (omega (arith, within', ap length char.same)) (sym (past_hidden c (between x v ++ bytes)) ∙ hidden) in
+    let others =
+    quoted_braced bytes rest (omega (arith, within', ap length char.same))
+    (sym (past_hidden c (between x v ++ bytes)) ∙ hidden) in
     record { inside = quotes.hidden slash char others.inside; following = others.following }
 quoted_braced {u} {v} bytes (parts.nested {v = w} {w = x} {x = y} opens inner closes rest) within is =
     let from_close = ahead_then (ahead_char closes) (ahead_parts rest) in
@@ -231,33 +275,52 @@ quoted_braced {u} {v} bytes (parts.nested {v = w} {w = x} {x = y} opens inner cl
     let up : v.at ≤ length x.text = omega (arith, within', ap length (ahead_parts inner).text) in
     let inside_bytes : List ℕ = between x v ++ bytes in
     let split : between u v ++ bytes ≡ encode_utf8 123 ++ (between w v ++ bytes) =
-    ap (λ t. t ++ bytes) (char_parted opens (ahead_then (ahead_parts inner) from_close) within) ∙ append_assoc (encode_utf8 123) (between w v) bytes in
+    ap (λ t. t ++ bytes) (char_parted opens (ahead_then (ahead_parts inner) from_close) within)
+    ∙ append_assoc (encode_utf8 123) (between w v) bytes in
     let first = quoted_char (between w v ++ bytes) opens (λ clash. omega (arith, clash)) (ap (hide_quotes false) (sym split) ∙ is) in
-    let split' : between w v ++ bytes ≡ between w x ++ inside_bytes = ap (λ t. t ++ bytes) (parted (ahead_parts inner) from_close within') ∙ append_assoc (between w x) (between x v) bytes in
+    let split' : between w v ++ bytes ≡ between w x ++ inside_bytes =
+    ap (λ t. t ++ bytes) (parted (ahead_parts inner) from_close within')
+    ∙ append_assoc (between w x) (between x v) bytes in
     let within_inner : x.at ≤ length w.text = omega (arith, within', from_close.at) in
     let second = quoted_braced inside_bytes inner within_inner (ap (hide_quotes false) (sym split') ∙ first.1) in
-    let split'' : inside_bytes ≡ encode_utf8 125 ++ (between y v ++ bytes) = ap (λ t. t ++ bytes) (char_parted closes (ahead_parts rest) up) ∙ append_assoc (encode_utf8 125) (between y v) bytes in
-    let third = quoted_char (between y v ++ bytes) closes (λ clash. omega (arith, clash)) (ap (hide_quotes false) (sym split'') ∙ second.following) in
+    let split'' : inside_bytes ≡ encode_utf8 125 ++ (between y v ++ bytes) =
+    ap (λ t. t ++ bytes) (char_parted closes (ahead_parts rest) up)
+    ∙ append_assoc (encode_utf8 125) (between y v) bytes in
+    let third =
+    quoted_char (between y v ++ bytes) closes (λ clash. omega (arith, clash))
+    (ap (hide_quotes false) (sym split'') ∙ second.following) in
     let others = quoted_braced bytes rest (omega (arith, up, ap length closes.same)) third.1 in
-    record { inside = quoted_append first.0 (quoted_append second.inside (quoted_append third.0 others.inside)); following = others.following }
+    record {
+      inside = quoted_append first.0 (quoted_append second.inside (quoted_append third.0 others.inside));
+      following = others.following;
+    }
 
 pub quoted_of_parts : {u v : Place} → Parts u v → v.at ≤ length u.text → hide_quotes false (between u v) ≡ true → QuotedParts u v
 quoted_of_parts {u} {v} x within is = (quoted_braced [] x within (ap (hide_quotes false) (append-nil (between u v)) ∙ is)).inside
 
 -- ---- the tests say what the grammar does
 
-closes_parts : {u v : Place} (depth : ℕ) (bytes : List ℕ) → Parts u v → v.at ≤ length u.text → close_braces false depth (between u v ++ bytes) ≡ close_braces false depth bytes
+closes_parts : {u v : Place} (depth : ℕ) (bytes : List ℕ) → Parts u v → v.at ≤ length u.text
+    → close_braces false depth (between u v ++ bytes) ≡ close_braces false depth bytes
 closes_parts {u} depth bytes parts.none within = ap (λ t. close_braces false depth (t ++ bytes)) (none_between u)
 closes_parts {u} {v} depth bytes (parts.plain {v = w} {c = c} char passes rest) within =
-    let split : between u v ++ bytes ≡ encode_utf8 c ++ (between w v ++ bytes) = ap (λ t. t ++ bytes) (char_parted char (ahead_parts rest) within) ∙ append_assoc (encode_utf8 c) (between w v) bytes in
-    ap (close_braces false depth) split ∙ over_other c depth (between w v ++ bytes) (plain_is 92 passes refl) (plain_is 123 passes refl) (plain_is 125 passes refl)
+    let split : between u v ++ bytes ≡ encode_utf8 c ++ (between w v ++ bytes) =
+    ap (λ t. t ++ bytes) (char_parted char (ahead_parts rest) within)
+    ∙ append_assoc (encode_utf8 c) (between w v) bytes in
+    ap (close_braces false depth) split
+    ∙ over_other c depth (between w v ++ bytes) (plain_is 92 passes refl) (plain_is 123 passes refl)
+    (plain_is 125 passes refl)
     ∙ closes_parts depth bytes rest (omega (arith, within, ap length char.same))
 closes_parts {u} {v} depth bytes (parts.hidden {v = w} {w = x} {c = c} slash char rest) within =
     let within' : v.at ≤ length w.text = omega (arith, within, ap length slash.same) in
     let split : between u v ++ bytes ≡ encode_utf8 92 ++ (between w v ++ bytes) =
-    ap (λ t. t ++ bytes) (char_parted slash (ahead_then (ahead_char char) (ahead_parts rest)) within) ∙ append_assoc (encode_utf8 92) (between w v) bytes in
-    let split' : between w v ++ bytes ≡ encode_utf8 c ++ (between x v ++ bytes) = ap (λ t. t ++ bytes) (char_parted char (ahead_parts rest) within') ∙ append_assoc (encode_utf8 c) (between x v) bytes in
-    ap (close_braces false depth) split ∙ over_slash depth (between w v ++ bytes) ∙ ap (close_braces true depth) split' ∙ over_hidden c depth (between x v ++ bytes)
+    ap (λ t. t ++ bytes) (char_parted slash (ahead_then (ahead_char char) (ahead_parts rest)) within)
+    ∙ append_assoc (encode_utf8 92) (between w v) bytes in
+    let split' : between w v ++ bytes ≡ encode_utf8 c ++ (between x v ++ bytes) =
+    ap (λ t. t ++ bytes) (char_parted char (ahead_parts rest) within')
+    ∙ append_assoc (encode_utf8 c) (between x v) bytes in
+    ap (close_braces false depth) split ∙ over_slash depth (between w v ++ bytes) ∙ ap (close_braces true depth) split'
+    ∙ over_hidden c depth (between x v ++ bytes)
     ∙ closes_parts depth bytes rest (omega (arith, within', ap length char.same))
 closes_parts {u} {v} depth bytes (parts.nested {v = w} {w = x} {x = y} opens inner closes rest) within =
     let from_close = ahead_then (ahead_char closes) (ahead_parts rest) in
@@ -265,36 +328,51 @@ closes_parts {u} {v} depth bytes (parts.nested {v = w} {w = x} {x = y} opens inn
     let up : v.at ≤ length x.text = omega (arith, within', ap length (ahead_parts inner).text) in
     let within_inner : x.at ≤ length w.text = omega (arith, within', from_close.at) in
     let split : between u v ++ bytes ≡ encode_utf8 123 ++ (between w v ++ bytes) =
-    ap (λ t. t ++ bytes) (char_parted opens (ahead_then (ahead_parts inner) from_close) within) ∙ append_assoc (encode_utf8 123) (between w v) bytes in
-    let split' : between w v ++ bytes ≡ between w x ++ (between x v ++ bytes) = ap (λ t. t ++ bytes) (parted (ahead_parts inner) from_close within') ∙ append_assoc (between w x) (between x v) bytes in
-    let split'' : between x v ++ bytes ≡ encode_utf8 125 ++ (between y v ++ bytes) = ap (λ t. t ++ bytes) (char_parted closes (ahead_parts rest) up) ∙ append_assoc (encode_utf8 125) (between y v) bytes in
-    ap (close_braces false depth) split ∙ over_open depth (between w v ++ bytes) ∙ ap (close_braces false (suc depth)) split' ∙ closes_parts (suc depth) (between x v ++ bytes) inner within_inner
-    ∙ ap (close_braces false (suc depth)) split'' ∙ over_close depth (between y v ++ bytes) ∙ closes_parts depth bytes rest (omega (arith, up, ap length closes.same))
+    ap (λ t. t ++ bytes) (char_parted opens (ahead_then (ahead_parts inner) from_close) within)
+    ∙ append_assoc (encode_utf8 123) (between w v) bytes in
+    let split' : between w v ++ bytes ≡ between w x ++ (between x v ++ bytes) =
+    ap (λ t. t ++ bytes) (parted (ahead_parts inner) from_close within')
+    ∙ append_assoc (between w x) (between x v) bytes in
+    let split'' : between x v ++ bytes ≡ encode_utf8 125 ++ (between y v ++ bytes) =
+    ap (λ t. t ++ bytes) (char_parted closes (ahead_parts rest) up)
+    ∙ append_assoc (encode_utf8 125) (between y v) bytes in
+    ap (close_braces false depth) split ∙ over_open depth (between w v ++ bytes)
+    ∙ ap (close_braces false (suc depth)) split'
+    ∙ closes_parts (suc depth) (between x v ++ bytes) inner within_inner
+    ∙ ap (close_braces false (suc depth)) split'' ∙ over_close depth (between y v ++ bytes)
+    ∙ closes_parts depth bytes rest (omega (arith, up, ap length closes.same))
 
 hides_quoted : {u v : Place} → QuotedParts u v → v.at ≤ length u.text → hide_quotes false (between u v) ≡ true
 hides_quoted {u} quotes.none within = ap (hide_quotes false) (none_between u)
 hides_quoted {u} {v} (quotes.plain {v = w} {c = c} char passes rest) within =
-    ap (hide_quotes false) (char_parted char (ahead_quoted_parts rest) within) ∙ past_other c (between w v) (unquoted_is 92 passes refl) (unquoted_is 34 passes refl) ∙ hides_quoted rest (omega (arith, within, ap length char.same))
+    ap (hide_quotes false) (char_parted char (ahead_quoted_parts rest) within)
+    ∙ past_other c (between w v) (unquoted_is 92 passes refl) (unquoted_is 34 passes refl)
+    ∙ hides_quoted rest (omega (arith, within, ap length char.same))
 hides_quoted {u} {v} (quotes.hidden {v = w} {w = x} {c = c} slash char rest) within =
     let within' : v.at ≤ length w.text = omega (arith, within, ap length slash.same) in
     ap (hide_quotes false) (char_parted slash (ahead_then (ahead_char char) (ahead_quoted_parts rest)) within) ∙ past_slash (between w v)
-    ∙ ap (hide_quotes true) (char_parted char (ahead_quoted_parts rest) within') ∙ past_hidden c (between x v) ∙ hides_quoted rest (omega (arith, within', ap length char.same))
+    ∙ ap (hide_quotes true) (char_parted char (ahead_quoted_parts rest) within') ∙ past_hidden c (between x v)
+    ∙ hides_quoted rest (omega (arith, within', ap length char.same))
 
 whole_text : (text : List ℕ) → between (place text 0) (place text (length text)) ≡ text
 whole_text text =
     let end : drop (length text) text ≡ [] = ap (drop (length text)) (sym (append-nil text)) ∙ drop_at text [] (length text) refl in
-    between_stands {u = place text 0} {v = place text (length text)} text (record { same = refl; here = sym (append-nil text) ∙ ap (λ t. text ++ t) (sym end); next = omega arith })
+    between_stands {u = place text 0} {v = place text (length text)} text
+    (record { same = refl; here = sym (append-nil text) ∙ ap (λ t. text ++ t) (sym end); next = omega arith })
 
 decided : (b : Bool) {P : Type 0} → (b ≡ true → P) → (P → b ≡ true) → MatchBool b P (P → ⊥)
 decided true on back = on refl
 decided false on back = λ p. test_clash false (back p) refl
 
-pub braces_decided : (text : List ℕ) → QuotedParts (place text 0) (place text (length text)) → MatchBool (close_braces false 0 text) (IsParts text) (IsParts text → ⊥)
+pub braces_decided : (text : List ℕ) → QuotedParts (place text 0) (place text (length text))
+    → MatchBool (close_braces false 0 text) (IsParts text) (IsParts text → ⊥)
 braces_decided text x =
     decided (close_braces false 0 text) (λ is. parts_of_quoted x (omega arith) (ap (close_braces false 0) (whole_text text) ∙ is))
     (λ p. ap (close_braces false 0) (sym (append-nil text) ∙ ap (λ t. t ++ []) (sym (whole_text text))) ∙ closes_parts 0 [] p (omega arith))
 
-pub quotes_decided : (text : List ℕ) → IsParts text → MatchBool (hide_quotes false text) (QuotedParts (place text 0) (place text (length text))) (QuotedParts (place text 0) (place text (length text)) → ⊥)
+pub quotes_decided : (text : List ℕ) → IsParts text
+    → MatchBool (hide_quotes false text) (QuotedParts (place text 0) (place text (length text)))
+    (QuotedParts (place text 0) (place text (length text)) → ⊥)
 quotes_decided text x =
     decided (hide_quotes false text) (λ is. quoted_of_parts x (omega arith) (ap (hide_quotes false) (whole_text text) ∙ is))
     (λ q. ap (hide_quotes false) (sym (whole_text text)) ∙ hides_quoted q (omega arith))

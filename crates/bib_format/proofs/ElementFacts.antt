@@ -30,7 +30,8 @@ pub record Ending (v : Place) : Type 0 where
   pub no_digit : is_ascii_digit char ≡ false
   pub no_point : (char == 46) ≡ false
 
-pub identifier_until : {f : Frame} {u v : Place} {p : Part} → Zone f → Inside f u → Inside f v → Ending (there f v) → Identifier longest u p v → Identifier longest (there f u) (moved_part f.move p) (there f v)
+pub identifier_until : {f : Frame} {u v : Place} {p : Part} → Zone f → Inside f u → Inside f v → Ending (there f v)
+    → Identifier longest u p v → Identifier longest (there f u) (moved_part f.move p) (there f v)
 identifier_until {f} z iu iv ending i =
     let is = inside_between z iu iv (ahead_char i.here) (ahead_run i.rest.run) in
     record {
@@ -42,17 +43,21 @@ identifier_until {f} z iu iv ending i =
       reading = ap (moved_part f.move) i.reading ∙ sym (part_there z iu iv (ahead_identifier i));
     }
 
-pub number_until : {f : Frame} {u v : Place} → Zone f → Inside f u → Inside f v → Ending (there f v) → Number longest u v → Number longest (there f u) (there f v)
+pub number_until : {f : Frame} {u v : Place} → Zone f → Inside f u → Inside f v → Ending (there f v)
+    → Number longest u v → Number longest (there f u) (there f v)
 number_until z iu iv ending (number.whole char digit digits ends) =
     let a = inside_between z iu iv (ahead_char char) (ahead_run digits.run) in
-    number.whole (char_there z iu a char) digit (record { run = run_there z a iv digits.run; stops = stops_at is_ascii_digit ending.here ending.no_digit }) (stops_at (λ d. d == 46) ending.here ending.no_point)
+    number.whole (char_there z iu a char) digit
+    (record { run = run_there z a iv digits.run; stops = stops_at is_ascii_digit ending.here ending.no_digit })
+    (stops_at (λ d. d == 46) ending.here ending.no_point)
 number_until {f} z iu iv ending (number.broken char digit digits point others ends) =
     let to_point = ahead_then (ahead_char point) (ahead_run others.run) in
     let a = inside_between z iu iv (ahead_char char) (ahead_then (ahead_run digits.run) to_point) in
     let b = inside_between z a iv (ahead_run digits.run) to_point in
     let c = inside_between z b iv (ahead_char point) (ahead_run others.run) in
     number.broken (char_there z iu a char) digit (longest_there z a b (below_char c point) digits) (char_there z b c point)
-    (record { run = run_there z c iv others.run; stops = stops_at is_ascii_digit ending.here ending.no_digit }) (stops_at (λ d. d == 46) ending.here ending.no_point)
+    (record { run = run_there z c iv others.run; stops = stops_at is_ascii_digit ending.here ending.no_digit })
+    (stops_at (λ d. d == 46) ending.here ending.no_point)
 
 -- ---- what stands before an element
 
@@ -80,11 +85,15 @@ one_byte {u} {v} c small char = between_stands (encode_utf8 c) (stands_char char
 pub parted : {u v w : Place} → Ahead u v → Ahead v w → w.at ≤ length u.text → between u w ≡ between u v ++ between v w
 parted {u} {v} {w} first rest within =
     let size : length v.text ≡ length u.text = ap length first.text in
-    between_stands (between u v ++ between v w) (joined (between u v) (between v w) (stands_between first (omega (arith, rest.at))) (stands_between rest (omega arith)))
+    between_stands (between u v ++ between v w)
+    (joined (between u v) (between v w) (stands_between first (omega (arith, rest.at)))
+    (stands_between rest (omega arith)))
 
 -- a character, and what stands after it
 pub char_parted : {u w v : Place} {c : ℕ} → CharAt u c w → Ahead w v → v.at ≤ length u.text → between u v ≡ encode_utf8 c ++ between w v
-char_parted {u} {w} {v} {c} char ahead within = parted (ahead_char char) ahead within ∙ ap (λ t. t ++ between w v) (between_stands (encode_utf8 c) (stands_char char))
+char_parted {u} {w} {v} {c} char ahead within =
+    parted (ahead_char char) ahead within
+    ∙ ap (λ t. t ++ between w v) (between_stands (encode_utf8 c) (stands_char char))
 
 -- the text before a place after a character of ASCII
 pub before_char : {u v : Place} (c : ℕ) → c < 128 → CharAt u c v → before v ≡ before u ++ c ∷ []
@@ -98,7 +107,8 @@ before_char {u} {v} c small char =
 pub brace_before : {u v : Place} → CharAt u 123 v → ends_with eqb (before v) (codes "{") ≡ true
 brace_before {u} {v} char = ap (λ t. ends_with eqb t (codes "{")) (before_char 123 (omega arith) char) ∙ ends_last (before u) 123 123
 
-pub quote_before : {u v : Place} → CharAt u 34 v → (ends_with eqb (before v) (codes "{") ≡ false) × (ends_with eqb (before v) (codes "\"") ≡ true)
+pub quote_before : {u v : Place} → CharAt u 34 v
+    → (ends_with eqb (before v) (codes "{") ≡ false) × (ends_with eqb (before v) (codes "\"") ≡ true)
 quote_before {u} {v} char = (
   ap (λ t. ends_with eqb t (codes "{")) (before_char 34 (omega arith) char) ∙ ends_last (before u) 34 123,
   ap (λ t. ends_with eqb t (codes "\"")) (before_char 34 (omega arith) char) ∙ ends_last (before u) 34 34,

@@ -48,10 +48,14 @@ last_of style f fs = by_choice style.trailing_comma
     by_choice true = LastComma.comma
     by_choice false = LastComma.none
 
-key_read : (line_end : List ℕ) (style : Style) (width : ℕ) (text : List ℕ) {u v : Place} (fs : List FieldReading) → IsLineEnd line_end → AllByRecursion (FieldIn text) fs
-    → Stands u (flat_map (field_laid_out line_end style text width) fs ++ (last_comma style fs ++ (line_end ++ 125 ∷ []))) v → CommaRead line_end style text width fs u v
+key_read : (line_end : List ℕ) (style : Style) (width : ℕ) (text : List ℕ) {u v : Place} (fs : List FieldReading)
+    → IsLineEnd line_end → AllByRecursion (FieldIn text) fs
+    → Stands u
+    (flat_map (field_laid_out line_end style text width) fs ++ (last_comma style fs ++ (line_end ++ 125 ∷ []))) v
+    → CommaRead line_end style text width fs u v
 key_read line_end style width text [] ends stand s = none_read line_end style text width ends s
-key_read line_end style width text (f ∷ fs) ends stand s = fields_read line_end style width text (last_comma style (f ∷ fs)) f fs ends (last_of style f fs) stand.0 stand.1 s
+key_read line_end style width text (f ∷ fs) ends stand s =
+    fields_read line_end style width text (last_comma style (f ∷ fs)) f fs ends (last_of style f fs) stand.0 stand.1 s
 
 -- ---- an entry
 
@@ -72,7 +76,8 @@ stops_key (step {c = c} char passes rest) stops = stops_at is_whitespace char (k
 abbrev ordered : Style → EntryReading → EntryReading
 ordered style e = record e { fields = in_order (order_of style) e.fields }
 
-laid_out_read : (line_end : List ℕ) (style : Style) {a b u v : Place} {e : EntryReading} → IsLineEnd line_end → EntryBlock a e b → Stands u (entry_laid_out line_end style a.text e) v
+laid_out_read : (line_end : List ℕ) (style : Style) {a b u v : Place} {e : EntryReading} → IsLineEnd line_end
+    → EntryBlock a e b → Stands u (entry_laid_out line_end style a.text e) v
     → EntryRead line_end style (entry_laid_out line_end style a.text e) (ordered style e) u v
 laid_out_read line_end style {a} {b} {u} {v} {e} ends x s =
     let width = padded_width style e.fields in
@@ -81,7 +86,10 @@ laid_out_read line_end style {a} {b} {u} {v} {e} ends x s =
     let kind = str_to_ascii_lowercase e.kind.text in
     let listed = flat_map (field_laid_out line_end style a.text width) fs ++ (last_comma style e.fields ++ (line_end ++ 125 ∷ [])) in
     let from_fields = ahead_then (ahead_fields x.fields) (ahead_char x.closes) in
-    let from_key = ahead_then (ahead_run x.key.run) (ahead_then (ahead_run x.white.run) (ahead_then (ahead_char x.comma) (ahead_then (ahead_gap x.gap) from_fields))) in
+    let from_key =
+    ahead_then (ahead_run x.key.run)
+    (ahead_then (ahead_run x.white.run)
+    (ahead_then (ahead_char x.comma) (ahead_then (ahead_gap x.gap) from_fields))) in
     let from_name = ahead_then (ahead_run x.head.white.run) (ahead_then (ahead_char x.head.opens) (ahead_run x.head.white'.run)) in
     let to_start = ahead_then (ahead_char x.head.sign) (ahead_identifier x.head.name) in
     let to_inside = ahead_then to_start from_name in
@@ -100,26 +108,47 @@ laid_out_read line_end style {a} {b} {u} {v} {e} ends x s =
     let keyed = first_part e.key.text listed s3 in
     let u4 = past u3 e.key.text in
     let s4 = last_part e.key.text listed s3 in
-    let fields_text : x.fields_start.text ≡ a.text = (ahead_then (ahead_run x.key.run) (ahead_then (ahead_run x.white.run) (ahead_then (ahead_char x.comma) (ahead_gap x.gap)))).text ∙ inside_text in
-    let brace_within : x.brace.at ≤ length a.text = omega (arith, (ahead_char x.closes).at, end_within, ap length end_text, ap length inside_text) in
+    let fields_text : x.fields_start.text ≡ a.text =
+    (ahead_then (ahead_run x.key.run) (ahead_then (ahead_run x.white.run) (ahead_then (ahead_char x.comma) (ahead_gap x.gap)))).text
+    ∙ inside_text in
+    let brace_within : x.brace.at ≤ length a.text =
+    omega (arith, (ahead_char x.closes).at, end_within, ap length end_text, ap length inside_text) in
     let last : last_comma style fs ≡ last_comma style e.fields = last_ordered style names e.fields in
     let stand = in_order_all (FieldIn a.text) names e.fields (fields_in a.text fields_text x.fields brace_within) in
-    let list = key_read line_end style width a.text fs ends stand (subst (λ t. Stands u4 (flat_map (field_laid_out line_end style a.text width) fs ++ (t ++ (line_end ++ 125 ∷ []))) v) (sym last) s4) in
-    let alike : map field_content list.reading ≡ map field_content fs = zip_alike line_end style u.text a.text width list.reading fs list.each in
-    let zip = in_order_zip (IsLaidOutAlike line_end style u.text a.text width) (λ n f g are. same_named n f g are.alike) names list.reading fs list.each in
-    let again : flat_map (field_laid_out line_end style u.text width) (in_order names list.reading) ≡ flat_map (field_laid_out line_end style a.text width) fs =
-    zip_again line_end style u.text a.text width (in_order names list.reading) (in_order names fs) zip ∙ ap (flat_map (field_laid_out line_end style a.text width)) (in_order_twice names e.fields) in
-    let same_width : padded_width style list.reading ≡ width = same_padded style list.reading fs alike ∙ padded_ordered style names e.fields in
+    let list =
+    key_read line_end style width a.text fs ends stand
+    (subst
+    (λ t.
+    Stands u4
+    (flat_map (field_laid_out line_end style a.text width) fs ++ (t ++ (line_end ++ 125 ∷ []))) v)
+    (sym last) s4) in
+    let alike : map field_content list.reading ≡ map field_content fs =
+    zip_alike line_end style u.text a.text width list.reading fs list.each in
+    let zip =
+    in_order_zip (IsLaidOutAlike line_end style u.text a.text width) (λ n f g are. same_named n f g are.alike) names
+    list.reading fs list.each in
+    let again : flat_map (field_laid_out line_end style u.text width) (in_order names list.reading)
+    ≡ flat_map (field_laid_out line_end style a.text width) fs =
+    zip_again line_end style u.text a.text width (in_order names list.reading) (in_order names fs) zip
+    ∙ ap (flat_map (field_laid_out line_end style a.text width)) (in_order_twice names e.fields) in
+    let same_width : padded_width style list.reading ≡ width =
+    same_padded style list.reading fs alike ∙ padded_ordered style names e.fields in
     let same_comma : last_comma style list.reading ≡ last_comma style e.fields = same_last style list.reading fs alike ∙ last in
-    let kind_is : kind ≡ str_to_ascii_lowercase (between x.head.name_start x.head.name_end) = ap (λ p. str_to_ascii_lowercase p.text) x.head.name.reading in
+    let kind_is : kind ≡ str_to_ascii_lowercase (between x.head.name_start x.head.name_end) =
+    ap (λ p. str_to_ascii_lowercase p.text) x.head.name.reading in
     let name_within : x.head.name_end.at ≤ length x.head.name_start.text =
     omega (arith, from_name.at, from_key.at, end_within, ap length end_text, ap length inside_text, ap length x.head.sign.same) in
-    let name = name_read x.head.name name_within (subst (λ t. Stands u1 t u2) kind_is named) (record { char = 123; next = _; here = brace; no_name = refl; no_digit = refl; no_point = refl }) in
+    let name =
+    name_read x.head.name name_within (subst (λ t. Stands u1 t u2) kind_is named)
+    (record { char = 123; next = _; here = brace; no_name = refl; no_digit = refl; no_point = refl }) in
     let key_is : e.key.text ≡ between x.inside x.key_end = ap (λ p. p.text) x.key_is in
     let from_key_end = ahead_then (ahead_run x.white.run) (ahead_then (ahead_char x.comma) (ahead_then (ahead_gap x.gap) from_fields)) in
     let key_within : x.key_end.at ≤ length x.inside.text = omega (arith, from_key_end.at, end_within, ap length end_text) in
     let c = copied_before (ahead_run x.key.run) key_within (subst (λ t. Stands u3 t u4) key_is keyed) list.comma in
-    let key_run : Run is_key u3 u4 = subst (λ p. Run is_key p u4) c.goes_start (subst (λ p. Run is_key (there (copy_frame x.inside x.key_end u3) x.inside) p) c.goes_end (run_there c.zone c.start c.end x.key.run)) in
+    let key_run : Run is_key u3 u4 =
+    subst (λ p. Run is_key p u4) c.goes_start
+    (subst (λ p. Run is_key (there (copy_frame x.inside x.key_end u3) x.inside) p) c.goes_end
+    (run_there c.zone c.start c.end x.key.run)) in
     let dark : Stops is_whitespace u4 = stops_at is_whitespace list.comma refl in
     let kind_text : between u1 u2 ≡ kind = between_stands kind named in
     let key_text : between u3 u4 ≡ e.key.text = between_stands e.key.text keyed in
@@ -158,17 +187,37 @@ laid_out_read line_end style {a} {b} {u} {v} {e} ends x s =
     let write = λ (t k fields last : List ℕ). 64 ∷ (t ++ (123 ∷ (k ++ (fields ++ (last ++ (line_end ++ 125 ∷ [])))))) in
     let from = λ (n : ℕ). flat_map (field_laid_out line_end style u.text n) (in_order names list.reading) in
     let next : v.at ≡ list.brace.at + 1 = list.closes.next in
-    let build = λ (k t : List ℕ) (fs : List FieldReading). let r : EntryReading = record { key = record { text = k; start = 0; end = 0 }; kind = record { text = t; start = 0; end = 0 }; fields = fs; start = 0; end = 0 } in r in
+    let build =
+    λ (k t : List ℕ) (fs : List FieldReading).
+    let r : EntryReading =
+    record {
+      key = record { text = k; start = 0; end = 0 };
+      kind = record { text = t; start = 0; end = 0 };
+      fields = fs;
+      start = 0;
+      end = 0;
+    } in
+    r in
     record {
       reading = e';
       block = block_of block;
       alike = ap (λ k. build k (str_to_ascii_lowercase (between u1 u2)) (contents list.reading)) key_text
           ∙ ap (λ t. build e.key.text (str_to_ascii_lowercase t) (contents list.reading)) kind_text
           ∙ ap (λ t. build e.key.text t (contents list.reading)) (lower_lower e.kind.text)
-          ∙ ap (build e.key.text kind) (map-map (moved_field (λ n. 0)) field_in_lowercase list.reading ∙ alike ∙ sym (map-map (moved_field (λ n. 0)) field_in_lowercase fs));
-      again = ap (λ c. cond c (between (place u.text u.at) (place u.text (list.brace.at + 1))) (entry_laid_out line_end style u.text e')) list.clear
-          ∙ ap (λ t. write (str_to_ascii_lowercase t) (between u3 u4) (from (padded_width style list.reading)) (last_comma style list.reading)) kind_text
-          ∙ ap (λ t. write t (between u3 u4) (from (padded_width style list.reading)) (last_comma style list.reading)) (lower_lower e.kind.text)
+          ∙ ap (build e.key.text kind)
+          (map-map (moved_field (λ n. 0)) field_in_lowercase list.reading ∙ alike
+          ∙ sym (map-map (moved_field (λ n. 0)) field_in_lowercase fs));
+      again =
+          ap
+          (λ c.
+          cond c (between (place u.text u.at) (place u.text (list.brace.at + 1)))
+          (entry_laid_out line_end style u.text e')) list.clear
+          ∙ ap
+          (λ t.
+          write (str_to_ascii_lowercase t) (between u3 u4) (from (padded_width style list.reading))
+          (last_comma style list.reading)) kind_text
+          ∙ ap (λ t. write t (between u3 u4) (from (padded_width style list.reading)) (last_comma style list.reading))
+          (lower_lower e.kind.text)
           ∙ ap (λ k. write kind k (from (padded_width style list.reading)) (last_comma style list.reading)) key_text
           ∙ ap (λ n. write kind e.key.text (from n) (last_comma style list.reading)) same_width
           ∙ ap (λ t. write kind e.key.text t (last_comma style list.reading)) again
@@ -178,7 +227,8 @@ laid_out_read line_end style {a} {b} {u} {v} {e} ends x s =
     }
 
 -- whether a percent sign stands between two places of a zone
-percent_there : {f : Frame} {p q : Place} → Zone f → Inside f p → Inside f q → Ahead p q → has_percent f.new (f.move p.at) (f.move q.at) ≡ has_percent f.old p.at q.at
+percent_there : {f : Frame} {p q : Place} → Zone f → Inside f p → Inside f q → Ahead p q
+    → has_percent f.new (f.move p.at) (f.move q.at) ≡ has_percent f.old p.at q.at
 percent_there {f} {p} {q} z ip iq ahead = ap (has 37) (between_there z ip iq ahead ∙ ap (λ t. take (q.at - p.at) (drop p.at t)) ip.text)
 
 percents_there : {f : Frame} {s x y : Place} {fs : List FieldReading} → Zone f → Inside f s → Inside f y → Ahead s x → Fields longest x fs y
@@ -200,15 +250,22 @@ percents_there {f} {s} {x} {y} z is iy ahead (fields.more {v = w} {f = r} {fs = 
     let ix = inside_between z is iy ahead (ahead_then (ahead_field field) over) in
     let iw = inside_between z is iy (ahead_then ahead (ahead_field field)) over in
     let begins : r.name.start ≡ x.at = ap (λ p. p.start) field.name.reading in
-    ap (λ n. has_percent f.new (f.move s.at) (f.move n) || has_percent_between f.new (f.move r.value.end) (map (moved_field f.move) rs) (f.move y.at)) begins
-    ∙ ap (λ n. has_percent f.new (f.move s.at) (f.move x.at) || has_percent_between f.new (f.move n) (map (moved_field f.move) rs) (f.move y.at)) field.ends
+    ap
+    (λ n.
+    has_percent f.new (f.move s.at) (f.move n)
+    || has_percent_between f.new (f.move r.value.end) (map (moved_field f.move) rs) (f.move y.at)) begins
+    ∙ ap
+    (λ n.
+    has_percent f.new (f.move s.at) (f.move x.at)
+    || has_percent_between f.new (f.move n) (map (moved_field f.move) rs) (f.move y.at)) field.ends
     ∙ ap (λ c. c || has_percent_between f.new (f.move w.at) (map (moved_field f.move) rs) (f.move y.at)) (percent_there z is ix ahead)
     ∙ ap (λ c. has_percent f.old s.at x.at || c) (percents_there z iw iy past_comma rest)
     ∙ ap (λ n. has_percent f.old s.at x.at || has_percent_between f.old n rs y.at) (sym field.ends)
     ∙ ap (λ n. has_percent f.old s.at n || has_percent_between f.old r.value.end rs y.at) (sym begins)
 
 -- whether a comment stands in an entry of a zone
-comment_there : {f : Frame} {a b : Place} {e : EntryReading} → Zone f → Inside f a → Inside f b → EntryBlock a e b → has_comment f.new (moved_entry f.move e) ≡ has_comment f.old e
+comment_there : {f : Frame} {a b : Place} {e : EntryReading} → Zone f → Inside f a → Inside f b → EntryBlock a e b
+    → has_comment f.new (moved_entry f.move e) ≡ has_comment f.old e
 comment_there {f} {a} {b} {e} z ia ib x =
     let to_key = ahead_then (ahead_head x.head) (ahead_run x.key.run) in
     let to_fields = ahead_then (ahead_run x.white.run) (ahead_then (ahead_char x.comma) (ahead_gap x.gap)) in
@@ -223,10 +280,15 @@ comment_there {f} {a} {b} {e} z ia ib x =
     ∙ ap (λ n. has_percent_between f.old n e.fields e.end) (sym key_end)
 
 -- an entry that stays as it stands
-kept_read : (line_end : List ℕ) (style : Style) {a b u v : Place} {e : EntryReading} → has_comment a.text e ≡ true → EntryBlock a e b → Stands u (between a b) v → EntryRead line_end style (between a b) e u v
+kept_read : (line_end : List ℕ) (style : Style) {a b u v : Place} {e : EntryReading} → has_comment a.text e ≡ true
+    → EntryBlock a e b → Stands u (between a b) v → EntryRead line_end style (between a b) e u v
 kept_read line_end style {a} {b} {u} {v} {e} commented x s =
     let to_inside = ahead_head x.head in
-    let to_brace = ahead_then to_inside (ahead_then (ahead_run x.key.run) (ahead_then (ahead_run x.white.run) (ahead_then (ahead_char x.comma) (ahead_then (ahead_gap x.gap) (ahead_fields x.fields))))) in
+    let to_brace =
+    ahead_then to_inside
+    (ahead_then (ahead_run x.key.run)
+    (ahead_then (ahead_run x.white.run)
+    (ahead_then (ahead_char x.comma) (ahead_then (ahead_gap x.gap) (ahead_fields x.fields))))) in
     let whole = ahead_then to_brace (ahead_char x.closes) in
     let within : b.at ≤ length a.text = omega (arith, char_within x.closes, ap length whole.text) in
     let cut : between a b ≡ between a x.brace ++ 125 ∷ [] =
@@ -235,7 +297,9 @@ kept_read line_end style {a} {b} {u} {v} {e} commented x s =
     let brace = ascii 125 (omega arith) (last_part (between a x.brace) (125 ∷ []) s') in
     let m = past u (between a x.brace) in
     let next : v.at ≡ m.at + 1 = brace.next in
-    let over = λ (p q : Place) (d : ℕ) (same : p.text ≡ u.text) (char : CharAt p d q) (low : p.at < v.at). last_char m p q v same char brace low next in
+    let over =
+    λ (p q : Place) (d : ℕ) (same : p.text ≡ u.text) (char : CharAt p d q) (low : p.at < v.at).
+    last_char m p q v same char brace low next in
     let c = copied whole within s over in
     let move = λ (n : ℕ). n - a.at + u.at in
     let to_start : move e.start ≡ u.at = omega (arith, x.starts) in
@@ -245,10 +309,17 @@ kept_read line_end style {a} {b} {u} {v} {e} commented x s =
     record {
       reading = moved_entry move e;
       block = subst (λ p. Block longest p (entry_alone (moved_entry move e)) v) c.goes_start
-          (subst (λ p. Block longest (there (copy_frame a b u) a) (entry_alone (moved_entry move e)) p) c.goes_end (block_there c.zone c.start c.end (block_of x)));
+          (subst (λ p. Block longest (there (copy_frame a b u) a) (entry_alone (moved_entry move e)) p) c.goes_end
+          (block_there c.zone c.start c.end (block_of x)));
       alike = entry_placeless move e;
-      again = ap (λ c. cond c (between (place u.text (move e.start)) (place u.text (move e.end + 1))) (entry_laid_out line_end style u.text (moved_entry move e))) (comment_there c.zone c.start c.end x ∙ commented)
-          ∙ ap (λ n. between (place u.text n) (place u.text (move e.end + 1))) to_start ∙ ap (λ n. take (n - u.at) (drop u.at u.text)) to_end ∙ between_stands (between a b) s;
+      again =
+          ap
+          (λ c.
+          cond c (between (place u.text (move e.start)) (place u.text (move e.end + 1)))
+          (entry_laid_out line_end style u.text (moved_entry move e)))
+          (comment_there c.zone c.start c.end x ∙ commented)
+          ∙ ap (λ n. between (place u.text n) (place u.text (move e.end + 1))) to_start
+          ∙ ap (λ n. take (n - u.at) (drop u.at u.text)) to_end ∙ between_stands (between a b) s;
       starts = to_start;
       ends = to_end;
     }
@@ -256,7 +327,13 @@ kept_read line_end style {a} {b} {u} {v} {e} commented x s =
     last_char : (m p q v : Place) {d : ℕ} → p.text ≡ m.text → CharAt p d q → CharAt m 125 v → p.at < v.at → v.at ≡ m.at + 1 → q.at ≤ v.at
     last_char m p q v {d} same char brace low next =
         elim (cases_lt p.at m.at) [
-          | inl before ↦ omega (arith, not_over m.text m.at (inr (125, v, record { same = brace.same; here = brace.here; next = brace.next })) same char before, next)
+          | inl before ↦ omega (
+            arith,
+            not_over m.text m.at
+                (inr (125, v, record { same = brace.same; here = brace.here; next = brace.next })) same char
+                before,
+            next,
+          )
           | inr past_it ↦
               let here : p ≡ m = same_place same (omega arith) in
               let at : q ≡ v = (same_char char (subst (λ x. CharAt x 125 v) (sym here) brace)).1 in
@@ -265,25 +342,30 @@ kept_read line_end style {a} {b} {u} {v} {e} commented x s =
 
 -- ---- either
 
-pub entry_read : (line_end : List ℕ) (style : Style) (text : List ℕ) {a b u v : Place} {e : EntryReading} → IsLineEnd line_end → a.text ≡ text → EntryBlock a e b → Stands u (entry_in_style line_end style text e) v
+pub entry_read : (line_end : List ℕ) (style : Style) (text : List ℕ) {a b u v : Place} {e : EntryReading}
+    → IsLineEnd line_end → a.text ≡ text → EntryBlock a e b → Stands u (entry_in_style line_end style text e) v
     → EntryRead line_end style (entry_in_style line_end style text e) (entry_in_order style text e) u v
 entry_read line_end style text {a} {b} {u} {v} {e} ends same x s = by_comment (has_comment text e) refl
   where
-    by_comment : (c : Bool) → has_comment text e ≡ c → EntryRead line_end style (entry_in_style line_end style text e) (entry_in_order style text e) u v
+    by_comment : (c : Bool) → has_comment text e ≡ c
+        → EntryRead line_end style (entry_in_style line_end style text e) (entry_in_order style text e) u v
     by_comment true is =
         let from : e.start ≡ a.at = x.starts in
         let next : b.at ≡ x.brace.at + 1 = x.closes.next in
         let to : e.end + 1 ≡ b.at = omega (arith, x.ends) in
         let kept : entry_in_style line_end style text e ≡ between a b =
         ap (λ c. cond c (between (place text e.start) (place text (e.end + 1))) (entry_laid_out line_end style text e)) is
-        ∙ ap (λ n. between (place text n) (place text (e.end + 1))) from ∙ ap (λ n. take (n - a.at) (drop a.at text)) to ∙ ap (λ t. take (b.at - a.at) (drop a.at t)) (sym same) in
+        ∙ ap (λ n. between (place text n) (place text (e.end + 1))) from ∙ ap (λ n. take (n - a.at) (drop a.at text)) to
+        ∙ ap (λ t. take (b.at - a.at) (drop a.at t)) (sym same) in
         let commented : has_comment a.text e ≡ true = ap (λ t. has_comment t e) same ∙ is in
         let as_it_was : entry_in_order style text e ≡ e = ap (λ c. cond c e (ordered style e)) is in
         subst (λ r. EntryRead line_end style (entry_in_style line_end style text e) r u v) (sym as_it_was)
         (subst (λ t. EntryRead line_end style t e u v) (sym kept) (kept_read line_end style commented x (subst (λ t. Stands u t v) kept s)))
     by_comment false is =
         let laid_out : entry_in_style line_end style text e ≡ entry_laid_out line_end style a.text e =
-        ap (λ c. cond c (between (place text e.start) (place text (e.end + 1))) (entry_laid_out line_end style text e)) is ∙ ap (λ t. entry_laid_out line_end style t e) (sym same) in
+        ap (λ c. cond c (between (place text e.start) (place text (e.end + 1))) (entry_laid_out line_end style text e))
+        is ∙ ap (λ t. entry_laid_out line_end style t e) (sym same) in
         let in_its_order : entry_in_order style text e ≡ ordered style e = ap (λ c. cond c e (ordered style e)) is in
         subst (λ r. EntryRead line_end style (entry_in_style line_end style text e) r u v) (sym in_its_order)
-        (subst (λ t. EntryRead line_end style t (ordered style e) u v) (sym laid_out) (laid_out_read line_end style ends x (subst (λ t. Stands u t v) laid_out s)))
+        (subst (λ t. EntryRead line_end style t (ordered style e) u v) (sym laid_out)
+        (laid_out_read line_end style ends x (subst (λ t. Stands u t v) laid_out s)))

@@ -34,7 +34,8 @@ blank_both xs ys all = and_parts (are_blank xs) (are_blank ys) (sym (list_all-ap
 -- one end of a line more, at the end or at the start
 pub one_more : (line_end : List ℕ) (count : ℕ) → line_ends line_end count ++ line_end ≡ line_ends line_end (suc count)
 one_more line_end zero = sym (append-nil line_end)
-one_more line_end (suc count) = append_assoc line_end (line_ends line_end count) line_end ∙ ap (λ t. line_end ++ t) (one_more line_end count)
+one_more line_end (suc count) =
+    append_assoc line_end (line_ends line_end count) line_end ∙ ap (λ t. line_end ++ t) (one_more line_end count)
 
 pub blank_ends : (line_end : List ℕ) (count : ℕ) → are_blank line_end ≡ true → are_blank (line_ends line_end count) ≡ true
 blank_ends line_end zero all = refl
@@ -49,7 +50,9 @@ trimmed_blank (b ∷ bs) = by_test (is_ascii_whitespace b) (trimmed_blank bs)
   where
     by_test : (x : Bool) → (length (drop (prefix_len is_ascii_whitespace bs) bs) == 0) ≡ are_blank bs
         → (length (drop (cond x (1 + prefix_len is_ascii_whitespace bs) 0) (b ∷ bs)) == 0) ≡ (x && are_blank bs)
-    by_test true rest = let next : 1 + prefix_len is_ascii_whitespace bs ≡ suc (prefix_len is_ascii_whitespace bs) = omega arith in ap (λ n. length (drop n (b ∷ bs)) == 0) next ∙ rest
+    by_test true rest =
+        let next : 1 + prefix_len is_ascii_whitespace bs ≡ suc (prefix_len is_ascii_whitespace bs) = omega arith in
+        ap (λ n. length (drop n (b ∷ bs)) == 0) next ∙ rest
     by_test false rest = ne_eqb (suc (length bs)) 0 (λ same. omega (arith, same))
 
 blank_small : (b : ℕ) → is_ascii_whitespace b ≡ true → b < 128
@@ -63,7 +66,8 @@ blank_read : {u v : Place} (bytes : List ℕ) → are_blank bytes ≡ true → S
 blank_read {u} {v} [] all s = subst (λ p. FileBefore u empty_reading p) (nothing s) FileBefore.none
 blank_read {u} {v} (b ∷ bs) all s =
     let is = and_parts (is_ascii_whitespace b) (are_blank bs) all in
-    FileBefore.skipped (ascii b (blank_small b is.0) (first_part (b ∷ []) bs s)) (blank_skipped b is.0) (blank_read {u = past u (b ∷ [])} {v = v} bs is.1 (last_part (b ∷ []) bs s))
+    FileBefore.skipped (ascii b (blank_small b is.0) (first_part (b ∷ []) bs s)) (blank_skipped b is.0)
+    (blank_read {u = past u (b ∷ [])} {v = v} bs is.1 (last_part (b ∷ []) bs s))
 
 not_blank : (c : ℕ) (rest : List ℕ) → c < 128 → is_ascii_whitespace c ≡ false → are_blank (encode_utf8 c ++ rest) ≡ true → ⊥
 not_blank c rest small dark all =
@@ -72,21 +76,26 @@ not_blank c rest small dark all =
     let clash : true ≡ false = sym (and_parts (is_ascii_whitespace c) true byte).0 ∙ dark in
     absurd (cc)
 
-blank_says : {u v : Place} {says : FileReading} → FileBefore u says v → v.at ≤ length u.text → are_blank (between u v) ≡ true → says ≡ empty_reading
+blank_says : {u v : Place} {says : FileReading} → FileBefore u says v → v.at ≤ length u.text
+    → are_blank (between u v) ≡ true → says ≡ empty_reading
 blank_says FileBefore.none within all = refl
 blank_says {u} {v} (FileBefore.skipped {v = w} {c = c} char passes others) within all =
     let split = char_parted char (ahead_file_before others) within in
-    blank_says others (omega (arith, within, ap length char.same)) (blank_both (encode_utf8 c) (between w v) (sym (ap are_blank split) ∙ all)).1
+    blank_says others (omega (arith, within, ap length char.same))
+    (blank_both (encode_utf8 c) (between w v) (sym (ap are_blank split) ∙ all)).1
 blank_says {u} {v} (FileBefore.line_comment {v = w} m others) within all =
     let over = ahead_then (ahead_run m.line.run) (ahead_file_before others) in
     absurd (not_blank 37 (between m.inside v) (omega arith) refl (sym (ap are_blank (char_parted m.sign over within)) ∙ all))
 blank_says {u} {v} (FileBefore.block {v = w} b others) within all =
     absurd (block_not_blank b (ahead_file_before others) within all)
   where
-    block_not_blank : {u w v : Place} {first : FileReading} → Block longest u first w → Ahead w v → v.at ≤ length u.text → are_blank (between u v) ≡ true → ⊥
+    block_not_blank : {u w v : Place} {first : FileReading} → Block longest u first w → Ahead w v → v.at ≤ length u.text
+        → are_blank (between u v) ≡ true → ⊥
     block_not_blank {u} {w} {v} b ahead within all =
         let head = b.head in
-        let from_name = ahead_then (ahead_identifier head.name) (ahead_then (ahead_run head.white.run) (ahead_then (ahead_char head.opens) (ahead_run head.white'.run))) in
+        let from_name =
+        ahead_then (ahead_identifier head.name)
+        (ahead_then (ahead_run head.white.run) (ahead_then (ahead_char head.opens) (ahead_run head.white'.run))) in
         let over = ahead_then from_name (ahead_then (ahead_body b.body) ahead) in
         not_blank 64 (between head.name_start v) (omega arith) refl (sym (ap are_blank (char_parted head.sign over within)) ∙ all)
 
@@ -101,7 +110,9 @@ pub record GapRead (line_end : List ℕ) (blank_lines : Option ℕ) (before : Fi
   pub again : gap_in_style line_end blank_lines gap ≡ gap
 
 -- it is as it was
-kept_gap : (line_end : List ℕ) (blank_lines : Option ℕ) {a s u p w x : Place} {before : FileReading} → FileBefore a before s → before.entries ≡ [] → s.at ≤ length a.text → CharAt s 64 x → Stands u (between a s) p → CharAt p 64 w
+kept_gap : (line_end : List ℕ) (blank_lines : Option ℕ) {a s u p w x : Place} {before : FileReading}
+    → FileBefore a before s → before.entries ≡ [] → s.at ≤ length a.text → CharAt s 64 x → Stands u (between a s) p
+    → CharAt p 64 w
     → gap_in_style line_end blank_lines (between a s) ≡ between a s → GapRead line_end blank_lines before (between a s) u p
 kept_gap line_end blank_lines {a} {s} {u} {p} {before = before} first none within sign stands sign' again =
     let c = copied_before (ahead_file_before first) within stands sign' in
@@ -109,14 +120,16 @@ kept_gap line_end blank_lines {a} {s} {u} {p} {before = before} first none withi
     record {
       reading = moved_file move before;
       file = subst (λ r. FileBefore r (moved_file move before) p) c.goes_start
-          (subst (λ r. FileBefore (there (copy_frame a s u) a) (moved_file move before) r) c.goes_end (file_before_there c.zone c.start c.end sign first));
+          (subst (λ r. FileBefore (there (copy_frame a s u) a) (moved_file move before) r) c.goes_end
+          (file_before_there c.zone c.start c.end sign first));
       none = ap (map (moved_entry move)) none;
       alike = file_placeless move before;
       again = again;
     }
 
 -- it is so many blank lines
-blank_gap : (line_end : List ℕ) (count : ℕ) {a s u p : Place} {before : FileReading} → are_blank line_end ≡ true → FileBefore a before s → s.at ≤ length a.text → are_blank (between a s) ≡ true
+blank_gap : (line_end : List ℕ) (count : ℕ) {a s u p : Place} {before : FileReading} → are_blank line_end ≡ true
+    → FileBefore a before s → s.at ≤ length a.text → are_blank (between a s) ≡ true
     → Stands u (line_ends line_end (suc count)) p → GapRead line_end (Some count) before (line_ends line_end (suc count)) u p
 blank_gap line_end count {a} {s} {u} {p} {before} ends first within all stands =
     let blank : are_blank (line_ends line_end (suc count)) ≡ true = blank_ends line_end (suc count) ends in
@@ -128,16 +141,23 @@ blank_gap line_end count {a} {s} {u} {p} {before} ends first within all stands =
       again = ap (λ c. cond c (line_ends line_end (suc count)) (line_ends line_end (suc count))) blank;
     }
 
-pub gap_read : (line_end : List ℕ) (blank_lines : Option ℕ) {a s u p w x : Place} {before : FileReading} → are_blank line_end ≡ true → FileBefore a before s → before.entries ≡ [] → s.at ≤ length a.text → CharAt s 64 x
-    → Stands u (gap_in_style line_end blank_lines (between a s)) p → CharAt p 64 w → GapRead line_end blank_lines before (gap_in_style line_end blank_lines (between a s)) u p
+pub gap_read : (line_end : List ℕ) (blank_lines : Option ℕ) {a s u p w x : Place} {before : FileReading}
+    → are_blank line_end ≡ true → FileBefore a before s → before.entries ≡ [] → s.at ≤ length a.text → CharAt s 64 x
+    → Stands u (gap_in_style line_end blank_lines (between a s)) p → CharAt p 64 w
+    → GapRead line_end blank_lines before (gap_in_style line_end blank_lines (between a s)) u p
 gap_read line_end None ends first none within sign stands sign' = kept_gap line_end None first none within sign stands sign' refl
-gap_read line_end (Some count) {a} {s} {u} {p} {w} {x} {before} ends first none within sign stands sign' = by_white (are_blank (between a s)) refl
+gap_read line_end (Some count) {a} {s} {u} {p} {w} {x} {before} ends first none within sign stands sign' =
+    by_white (are_blank (between a s)) refl
   where
     new : Bool → List ℕ
     new c = cond c (line_ends line_end (suc count)) (between a s)
 
-    by_white : (c : Bool) → are_blank (between a s) ≡ c → GapRead line_end (Some count) before (gap_in_style line_end (Some count) (between a s)) u p
+    by_white : (c : Bool) → are_blank (between a s) ≡ c
+        → GapRead line_end (Some count) before (gap_in_style line_end (Some count) (between a s)) u p
     by_white true is =
-        subst (λ t. GapRead line_end (Some count) before t u p) (sym (ap new is)) (blank_gap line_end count ends first within is (subst (λ t. Stands u t p) (ap new is) stands))
+        subst (λ t. GapRead line_end (Some count) before t u p) (sym (ap new is))
+        (blank_gap line_end count ends first within is (subst (λ t. Stands u t p) (ap new is) stands))
     by_white false is =
-        subst (λ t. GapRead line_end (Some count) before t u p) (sym (ap new is)) (kept_gap line_end (Some count) first none within sign (subst (λ t. Stands u t p) (ap new is) stands) sign' (ap new is))
+        subst (λ t. GapRead line_end (Some count) before t u p) (sym (ap new is))
+        (kept_gap line_end (Some count) first none within sign (subst (λ t. Stands u t p) (ap new is) stands) sign'
+        (ap new is))

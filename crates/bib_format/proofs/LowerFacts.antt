@@ -14,7 +14,9 @@ use Rattle.bib_syntax.specs.Grammar.{BlockKind, block_kind}
 
 pub lower_lower : (xs : List ℕ) → str_to_ascii_lowercase (str_to_ascii_lowercase xs) ≡ str_to_ascii_lowercase xs
 lower_lower [] = refl
-lower_lower (x ∷ xs) = ap (λ y. y ∷ str_to_ascii_lowercase (str_to_ascii_lowercase xs)) (lowercase-lowercase x) ∙ ap (λ ys. to_ascii_lowercase x ∷ ys) (lower_lower xs)
+lower_lower (x ∷ xs) =
+    ap (λ y. y ∷ str_to_ascii_lowercase (str_to_ascii_lowercase xs)) (lowercase-lowercase x)
+    ∙ ap (λ ys. to_ascii_lowercase x ∷ ys) (lower_lower xs)
 
 pub lower_append : (xs ys : List ℕ) → str_to_ascii_lowercase (xs ++ ys) ≡ str_to_ascii_lowercase xs ++ str_to_ascii_lowercase ys
 lower_append xs ys = map-append to_ascii_lowercase xs ys
@@ -34,21 +36,34 @@ kind_lower name = ap kind_by (lower_lower name)
 high_stays : (b : ℕ) → 128 ≤ b → to_ascii_lowercase b ≡ b
 high_stays b high = (lowercase_is b).2 (omega arith)
 
-bytes_stay : (x y z : Bool) (c i j k n m l : ℕ) → (x ≡ true → ⊥) → map to_ascii_lowercase (cond x (c ∷ []) (cond y ((192 + i) ∷ next n ∷ []) (cond z ((224 + j) ∷ next m ∷ next n ∷ []) ((240 + k) ∷ next l ∷ next m ∷ next n ∷ []))))
-    ≡ cond x (c ∷ []) (cond y ((192 + i) ∷ next n ∷ []) (cond z ((224 + j) ∷ next m ∷ next n ∷ []) ((240 + k) ∷ next l ∷ next m ∷ next n ∷ [])))
+bytes_stay : (x y z : Bool) (c i j k n m l : ℕ) → (x ≡ true → ⊥)
+    → map to_ascii_lowercase
+    (cond x (c ∷ [])
+    (cond y ((192 + i) ∷ next n ∷ [])
+    (cond z ((224 + j) ∷ next m ∷ next n ∷ []) ((240 + k) ∷ next l ∷ next m ∷ next n ∷ []))))
+    ≡ cond x (c ∷ [])
+    (cond y ((192 + i) ∷ next n ∷ [])
+    (cond z ((224 + j) ∷ next m ∷ next n ∷ []) ((240 + k) ∷ next l ∷ next m ∷ next n ∷ [])))
 bytes_stay true y z c i j k n m l high = absurd (high refl)
-bytes_stay false true z c i j k n m l high = ap (λ a. a ∷ to_ascii_lowercase (next n) ∷ []) (high_stays (192 + i) (omega arith)) ∙ ap (λ a. (192 + i) ∷ a ∷ []) (high_stays (next n) (omega arith))
+bytes_stay false true z c i j k n m l high =
+    ap (λ a. a ∷ to_ascii_lowercase (next n) ∷ []) (high_stays (192 + i) (omega arith))
+    ∙ ap (λ a. (192 + i) ∷ a ∷ []) (high_stays (next n) (omega arith))
 bytes_stay false false true c i j k n m l high =
     ap (λ a. a ∷ to_ascii_lowercase (next m) ∷ to_ascii_lowercase (next n) ∷ []) (high_stays (224 + j) (omega arith))
-    ∙ ap (λ a. (224 + j) ∷ a ∷ to_ascii_lowercase (next n) ∷ []) (high_stays (next m) (omega arith)) ∙ ap (λ a. (224 + j) ∷ next m ∷ a ∷ []) (high_stays (next n) (omega arith))
+    ∙ ap (λ a. (224 + j) ∷ a ∷ to_ascii_lowercase (next n) ∷ []) (high_stays (next m) (omega arith))
+    ∙ ap (λ a. (224 + j) ∷ next m ∷ a ∷ []) (high_stays (next n) (omega arith))
 bytes_stay false false false c i j k n m l high =
-    ap (λ a. a ∷ to_ascii_lowercase (next l) ∷ to_ascii_lowercase (next m) ∷ to_ascii_lowercase (next n) ∷ []) (high_stays (240 + k) (omega arith))
+    ap (λ a. a ∷ to_ascii_lowercase (next l) ∷ to_ascii_lowercase (next m) ∷ to_ascii_lowercase (next n) ∷ [])
+    (high_stays (240 + k) (omega arith))
     ∙ ap (λ a. (240 + k) ∷ a ∷ to_ascii_lowercase (next m) ∷ to_ascii_lowercase (next n) ∷ []) (high_stays (next l) (omega arith))
-    ∙ ap (λ a. (240 + k) ∷ next l ∷ a ∷ to_ascii_lowercase (next n) ∷ []) (high_stays (next m) (omega arith)) ∙ ap (λ a. (240 + k) ∷ next l ∷ next m ∷ a ∷ []) (high_stays (next n) (omega arith))
+    ∙ ap (λ a. (240 + k) ∷ next l ∷ a ∷ to_ascii_lowercase (next n) ∷ []) (high_stays (next m) (omega arith))
+    ∙ ap (λ a. (240 + k) ∷ next l ∷ next m ∷ a ∷ []) (high_stays (next n) (omega arith))
 
 encode_stays : (c : ℕ) → 128 ≤ c → str_to_ascii_lowercase (encode_utf8 c) ≡ encode_utf8 c
 unfolding encode
-encode_stays c high = bytes_stay (ltb c 128) (ltb c 2048) (ltb c 65536) c (c / 64) (c / 4096) (c / 262144) c (c / 64) (c / 4096) (λ is. omega (arith, ltb-true c 128 is, high))
+encode_stays c high =
+    bytes_stay (ltb c 128) (ltb c 2048) (ltb c 65536) c (c / 64) (c / 4096) (c / 262144) c (c / 64) (c / 4096)
+    (λ is. omega (arith, ltb-true c 128 is, high))
 
 pub encode_lower : (c : ℕ) → str_to_ascii_lowercase (encode_utf8 c) ≡ encode_utf8 (to_ascii_lowercase c)
 encode_lower c =

@@ -17,12 +17,16 @@ pub none_between : (a : Place) → between a a ≡ []
 none_between a = let zero : a.at - a.at ≡ 0 = omega arith in ap (λ n. take n (drop a.at a.text)) zero
 
 -- a character, and what stands after it, in lowercase
-lower_parted : {a w b : Place} {c : ℕ} → CharAt a c w → Ahead w b → b.at ≤ length a.text → str_to_ascii_lowercase (between a b) ≡ encode_utf8 (to_ascii_lowercase c) ++ str_to_ascii_lowercase (between w b)
+lower_parted : {a w b : Place} {c : ℕ} → CharAt a c w → Ahead w b → b.at ≤ length a.text
+    → str_to_ascii_lowercase (between a b) ≡ encode_utf8 (to_ascii_lowercase c) ++ str_to_ascii_lowercase (between w b)
 lower_parted {a} {w} {b} {c} char ahead within =
-    ap str_to_ascii_lowercase (parted (ahead_char char) ahead within ∙ ap (λ t. t ++ between w b) (between_stands (encode_utf8 c) (stands_char char)))
+    ap str_to_ascii_lowercase
+    (parted (ahead_char char) ahead within
+    ∙ ap (λ t. t ++ between w b) (between_stands (encode_utf8 c) (stands_char char)))
     ∙ lower_append (encode_utf8 c) (between w b) ∙ ap (λ t. t ++ str_to_ascii_lowercase (between w b)) (encode_lower c)
 
-run_lower : {a b u v : Place} → Run is_id_continue a b → b.at ≤ length a.text → Stands u (str_to_ascii_lowercase (between a b)) v → Run is_id_continue u v
+run_lower : {a b u v : Place} → Run is_id_continue a b → b.at ≤ length a.text
+    → Stands u (str_to_ascii_lowercase (between a b)) v → Run is_id_continue u v
 run_lower {a} {b} {u} {v} stop within s =
     subst (λ p. Run is_id_continue u p) (nothing (subst (λ t. Stands u t v) (ap str_to_ascii_lowercase (none_between a)) s)) stop
 run_lower {a} {b} {u} {v} (step {v = w} {c = c} char passes rest) within s =
@@ -32,7 +36,8 @@ run_lower {a} {b} {u} {v} (step {v = w} {c = c} char passes rest) within s =
     step (char_stands (to_ascii_lowercase c) (first_part first others s')) (continues_lower c passes)
     (run_lower {a = w} {b = b} {u = past u first} {v = v} rest (omega (arith, within, ap length char.same)) (last_part first others s'))
 
-pub name_read : {a b u v : Place} {p : Part} → Identifier longest a p b → b.at ≤ length a.text → Stands u (str_to_ascii_lowercase (between a b)) v → Ending v → Identifier longest u (part u v) v
+pub name_read : {a b u v : Place} {p : Part} → Identifier longest a p b → b.at ≤ length a.text
+    → Stands u (str_to_ascii_lowercase (between a b)) v → Ending v → Identifier longest u (part u v) v
 name_read {a} {b} {u} {v} i within s ending =
     let first : List ℕ = encode_utf8 (to_ascii_lowercase i.first) in
     let others : List ℕ = str_to_ascii_lowercase (between i.second b) in
@@ -42,6 +47,9 @@ name_read {a} {b} {u} {v} i within s ending =
       first = to_ascii_lowercase i.first;
       here = char_stands (to_ascii_lowercase i.first) (first_part first others s');
       starts = starts_lower i.first i.starts;
-      rest = record { run = run_lower i.rest.run (omega (arith, within, ap length i.here.same)) (last_part first others s'); stops = stops_at is_id_continue ending.here ending.no_name };
+      rest = record {
+        run = run_lower i.rest.run (omega (arith, within, ap length i.here.same)) (last_part first others s');
+        stops = stops_at is_id_continue ending.here ending.no_name;
+      };
       reading = refl;
     }

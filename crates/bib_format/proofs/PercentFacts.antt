@@ -16,9 +16,12 @@ some_passes p (b ∷ bs) (suc k) within is = later (p b) (list_any p bs) (some_p
 none_passes : (c : ℕ) (bs : List ℕ) → ((k : ℕ) → k < length bs → get_or bs k 0 ≡ c → ⊥) → list_any (λ b. b == c) bs ≡ false
 none_passes c [] none = refl
 none_passes c (b ∷ bs) none =
-    ap (λ x. x || list_any (λ d. d == c) bs) (ne_eqb b c (λ same. none 0 (omega arith) same)) ∙ none_passes c bs (λ k within same. none (suc k) (omega arith) same)
+    ap (λ x. x || list_any (λ d. d == c) bs) (ne_eqb b c (λ same. none 0 (omega arith) same))
+    ∙ none_passes c bs (λ k within same. none (suc k) (omega arith) same)
 
-pub stands_among : (c : ℕ) (bs : List ℕ) (r : Bool) → (r ≡ true → (k : ℕ) × (k < length bs) × (get_or bs k 0 ≡ c)) × ((k : ℕ) → k < length bs → get_or bs k 0 ≡ c → r ≡ true) → r ≡ list_any (λ b. b == c) bs
+pub stands_among : (c : ℕ) (bs : List ℕ) (r : Bool)
+    → (r ≡ true → (k : ℕ) × (k < length bs) × (get_or bs k 0 ≡ c))
+    × ((k : ℕ) → k < length bs → get_or bs k 0 ≡ c → r ≡ true) → r ≡ list_any (λ b. b == c) bs
 stands_among c bs true found =
     let at = found.0 refl in
     sym (some_passes (λ b. b == c) bs at.0 at.1 (eq-eqb (get_or bs at.0 0) c at.2))

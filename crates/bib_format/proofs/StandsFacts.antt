@@ -65,7 +65,9 @@ spaces_white (suc n) = ((omega arith, refl), spaces_white n)
 
 pub run_white : {u v : Place} (bytes : List ℕ) → AreWhite bytes → Stands u bytes v → Run is_whitespace u v
 run_white {u} {v} [] all s = subst (λ p. Run is_whitespace u p) (nothing s) stop
-run_white {u} {v} (b ∷ bs) all s = step (ascii b all.0.0 (first_part (b ∷ []) bs s)) all.0.1 (run_white {u = past u (b ∷ [])} {v = v} bs all.1 (last_part (b ∷ []) bs s))
+run_white {u} {v} (b ∷ bs) all s =
+    step (ascii b all.0.0 (first_part (b ∷ []) bs s)) all.0.1
+    (run_white {u = past u (b ∷ [])} {v = v} bs all.1 (last_part (b ∷ []) bs s))
 
 -- ---- what stands between two places
 
@@ -83,7 +85,8 @@ stands_between {u} {v} ahead within =
       same = ahead.text;
       here = sym (take-append-drop (v.at - u.at) (drop u.at u.text)) ∙ ap (λ t. between u v ++ t) left;
       next =
-          let size : length (between u v) ≡ v.at - u.at = length-take-le (v.at - u.at) (drop u.at u.text) (omega (arith, length-drop u.at u.text)) in
+          let size : length (between u v) ≡ v.at - u.at =
+          length-take-le (v.at - u.at) (drop u.at u.text) (omega (arith, length-drop u.at u.text)) in
           omega (arith, ahead.at);
     }
 
@@ -115,7 +118,8 @@ pub record Copy (a b u v : Place) : Type 0 where
 pub copied : {a b u v : Place} → Ahead a b → b.at ≤ length a.text → Stands u (between a b) v
     → ((x y : Place) (c : ℕ) → x.text ≡ u.text → CharAt x c y → x.at < v.at → y.at ≤ v.at) → Copy a b u v
 copied {a} {b} {u} {v} ahead within s cut =
-    let size : length (between a b) ≡ b.at - a.at = length-take-le (b.at - a.at) (drop a.at a.text) (omega (arith, length-drop a.at a.text)) in
+    let size : length (between a b) ≡ b.at - a.at =
+    length-take-le (b.at - a.at) (drop a.at a.text) (omega (arith, length-drop a.at a.text)) in
     let ends : v.at ≡ u.at + (b.at - a.at) = omega (arith, s.next) in
     record {
       zone = record {
@@ -132,5 +136,11 @@ copied {a} {b} {u} {v} ahead within s cut =
 -- where a character follows
 pub copied_before : {a b u v w : Place} {c : ℕ} → Ahead a b → b.at ≤ length a.text → Stands u (between a b) v → CharAt v c w → Copy a b u v
 copied_before {a} {b} {u} {v} {w} {c} ahead within s following =
-    let border : Border (place u.text v.at) = inr (c, w, subst (λ t. CharAt (place t v.at) c w) s.same (record { same = following.same; here = following.here; next = following.next })) in
+    let border : Border (place u.text v.at) =
+    inr (
+      c,
+      w,
+      subst (λ t. CharAt (place t v.at) c w) s.same
+          (record { same = following.same; here = following.here; next = following.next }),
+    ) in
     copied ahead within s (λ x y d same char below. not_over u.text v.at border same char below)

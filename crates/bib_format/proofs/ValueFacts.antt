@@ -40,7 +40,8 @@ no_other {y} {u} {d} c small char other front is =
     let all = start_stands u within in
     let n : ℕ = length front in
     let size : u.at ≡ n + 1 = omega (arith, all.next, ap length is, length-append front (c ∷ [])) in
-    let text : drop 0 u.text ≡ front ++ (c ∷ drop u.at u.text) = all.here ∙ ap (λ t. t ++ drop u.at u.text) is ∙ append_assoc front (c ∷ []) (drop u.at u.text) in
+    let text : drop 0 u.text ≡ front ++ (c ∷ drop u.at u.text) =
+    all.here ∙ ap (λ t. t ++ drop u.at u.text) is ∙ append_assoc front (c ∷ []) (drop u.at u.text) in
     let here : drop n u.text ≡ c ∷ drop u.at u.text = ap (drop n) text ∙ drop_at front (c ∷ drop u.at u.text) n refl in
     let stands = ascii_stands u.text (drop u.at u.text) n c small here in
     let width : 1 ≤ len_utf8 d = (len_utf8_bounds d).0 in
@@ -58,7 +59,10 @@ not_ended : {y u : Place} {d : ℕ} (c : ℕ) → c < 128 → CharAt y d u → (
 not_ended {y} {u} {d} c small char other = by_value (ends_with eqb (before u) (c ∷ [])) refl
   where
     by_value : (b : Bool) → ends_with eqb (before u) (c ∷ []) ≡ b → ends_with eqb (before u) (c ∷ []) ≡ false
-    by_value true is = absurd (no_other c small char other _ ((ends_is Decides-eqb (before u) (c ∷ []) (ends_with eqb (before u) (c ∷ [])) refl).0 is))
+    by_value true is =
+        absurd
+        (no_other c small char other _
+        ((ends_is Decides-eqb (before u) (c ∷ []) (ends_with eqb (before u) (c ∷ [])) refl).0 is))
     by_value false is = is
 
 -- after a character of white space, or a space, neither a brace nor a quote stands
@@ -82,7 +86,8 @@ digit_is_dark c digit = grind (arith, nat_tests)
 
 element_dark : {u v : Place} {e : Piece} → Element longest u e v → Stops is_whitespace u
 element_dark (element.number (number.whole {c = c} char digit digits ends)) = stops_at is_whitespace char (digit_is_dark c digit)
-element_dark (element.number (number.broken {c = c} char digit digits point others ends)) = stops_at is_whitespace char (digit_is_dark c digit)
+element_dark (element.number (number.broken {c = c} char digit digits point others ends)) =
+    stops_at is_whitespace char (digit_is_dark c digit)
 element_dark (element.named none i) = stops_at is_whitespace i.here (start_not_white i.first i.starts)
 element_dark (element.braced b) = stops_at is_whitespace b.opens refl
 element_dark (element.quoted q) = stops_at is_whitespace q.opens refl
@@ -101,7 +106,15 @@ in_line = record {
   white = 32 ∷ [];
   is = refl;
   all = ((omega arith, refl), _);
-  ending = λ u v rest s. record { char = 32; next = _; here = ascii 32 (omega arith) (first_part (32 ∷ []) (35 ∷ 32 ∷ rest) s); no_name = refl; no_digit = refl; no_point = refl };
+  ending = λ u v rest s.
+      record {
+        char = 32;
+        next = _;
+        here = ascii 32 (omega arith) (first_part (32 ∷ []) (35 ∷ 32 ∷ rest) s);
+        no_name = refl;
+        no_digit = refl;
+        no_point = refl;
+      };
 }
 
 -- what stands between two elements, in a text
@@ -133,7 +146,9 @@ unsigned next (t ∷ ts) = t ++ value_laid_out next next ts
 abbrev pub written : Delimiters → List ℕ → List Piece → List (List ℕ)
 written way text es = map (piece_as_written way text) es
 
-pub signed : {u v : Place} {es : List Piece} (first next : List ℕ) (way : Delimiters) (text : List ℕ) → Elements longest u es v → value_laid_out first next (written way text es) ≡ first ++ unsigned next (written way text es)
+pub signed : {u v : Place} {es : List Piece} (first next : List ℕ) (way : Delimiters) (text : List ℕ)
+    → Elements longest u es v
+    → value_laid_out first next (written way text es) ≡ first ++ unsigned next (written way text es)
 signed first next way text (elements.last e white ends) = refl
 signed first next way text (elements.more e white hash white' rest) = refl
 
@@ -145,7 +160,9 @@ pub record ValueRead (way : Delimiters) (text : List ℕ) (es : List Piece) (u v
   pub again : written way u.text reading ≡ written way text es
   pub dark : Stops is_whitespace u
 
-pub value_read : {next : List ℕ} (way : Delimiters) {a b u v w : Place} {es : List Piece} → IsSeparator next → Elements longest a es b → NotOpened a → b.at ≤ length a.text → Stands u (unsigned next (written way a.text es)) v → NotOpened u → Ending v
+pub value_read : {next : List ℕ} (way : Delimiters) {a b u v w : Place} {es : List Piece} → IsSeparator next
+    → Elements longest a es b → NotOpened a → b.at ≤ length a.text → Stands u (unsigned next (written way a.text es)) v
+    → NotOpened u → Ending v
     → Longest is_whitespace v w → Stops (λ c. c == 35) w → ValueRead way a.text es u w
 value_read {next} way {a} {b} {u} {v} {w} sep (elements.last {v = a'} {e = e} x white ends) opened within s opened' ending over no_hash =
     let up : a'.at ≤ length a.text = omega (arith, within, (ahead_run white.run).at) in
@@ -157,27 +174,37 @@ value_read {next} way {a} {b} {u} {v} {w} sep (elements.last {v = a'} {e = e} x 
       again = ap (λ t. t ∷ []) p.again;
       dark = element_dark p.element;
     }
-value_read {next} way {a} {b} {u} {v} {w} sep (elements.more {v = a1} {w = a2} {x = a3} {y = a4} {e = e} {es = es} x white hash white' rest) opened within s opened' ending over no_hash =
+value_read {next} way {a} {b} {u} {v} {w} sep
+    (elements.more {v = a1} {w = a2} {x = a3} {y = a4} {e = e} {es = es} x white hash white' rest) opened within s
+    opened' ending over no_hash =
     let to_hash = ahead_run white.run in
     let past_hash = ahead_then (ahead_char hash) (ahead_run white'.run) in
     let to_rest = ahead_then (ahead_element x) (ahead_then to_hash past_hash) in
     let up : a1.at ≤ length a.text = omega (arith, within, to_hash.at, past_hash.at, (ahead_elements rest).at) in
     let same : a4.text ≡ a.text = to_rest.text in
     let within' : b.at ≤ length a4.text = omega (arith, within, ap length same) in
-    let opened_rest : NotOpened a4 = not_opened_run (not_opened_sign 35 (omega arith) (λ clash. omega arith) (λ clash. omega arith) hash) white'.run in
+    let opened_rest : NotOpened a4 =
+    not_opened_run (not_opened_sign 35 (omega arith) (λ clash. omega arith) (λ clash. omega arith) hash) white'.run in
     let piece : List ℕ = piece_as_written way a.text e in
     let others : List ℕ = unsigned next (written way a4.text es) in
-    let text_is : unsigned next (written way a.text (e ∷ es)) ≡ piece ++ (next ++ others) = ap (λ t. piece ++ t) (signed next next way a.text rest ∙ ap (λ t. next ++ unsigned next (written way t es)) (sym same)) in
+    let text_is : unsigned next (written way a.text (e ∷ es)) ≡ piece ++ (next ++ others) =
+    ap (λ t. piece ++ t)
+    (signed next next way a.text rest ∙ ap (λ t. next ++ unsigned next (written way t es)) (sym same)) in
     let s0 : Stands u (piece ++ (next ++ others)) v = subst (λ t. Stands u t v) text_is s in
     let s1 = last_part piece (next ++ others) s0 in
     let p1 = past u piece in
     let p2 = past p1 next in
     let between_them = separated sep (first_part next others s1) in
-    let more = value_read way sep rest opened_rest within' (last_part next others s1) (not_opened_white between_them.space refl) ending over no_hash in
+    let more =
+    value_read way sep rest opened_rest within' (last_part next others s1)
+    (not_opened_white between_them.space refl) ending over no_hash in
     let p = piece_read way x opened up (first_part piece (next ++ others) s0) opened' (sep.ending p1 v others s1) in
     record {
       reading = p.reading ∷ more.reading;
-      elements = elements.more p.element (record { run = between_them.before_space; stops = stops_at is_whitespace between_them.hash refl }) between_them.hash
+      elements =
+          elements.more p.element
+          (record { run = between_them.before_space; stops = stops_at is_whitespace between_them.hash refl })
+          between_them.hash
           (record { run = step between_them.space refl stop; stops = more.dark }) more.elements;
       alike = ap (λ q. q ∷ map (moved_piece (λ n. 0)) more.reading) p.alike ∙ ap (λ qs. moved_piece (λ n. 0) e ∷ qs) more.alike;
       again = ap (λ t. t ∷ written way u.text more.reading) p.again ∙ ap (λ ts. piece ∷ ts) (more.again ∙ ap (λ t. written way t es) same);

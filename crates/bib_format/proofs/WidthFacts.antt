@@ -13,7 +13,8 @@ same_continuation b =
       | inl below ↦ ap continuation_len ((lowercase_is b).1 below)
       | inr from ↦ elim (cases_lt 90 b) [
         | inl above ↦ ap continuation_len ((lowercase_is b).2 above)
-        | inr to ↦ ap continuation_len ((lowercase_is b).0 (from, to)) ∙ by_tests (nat_lt (b + 32) 128) (nat_lt b 128) _ _ (small (b + 32) (omega arith)) (small b (omega arith))
+        | inr to ↦ ap continuation_len ((lowercase_is b).0 (from, to))
+            ∙ by_tests (nat_lt (b + 32) 128) (nat_lt b 128) _ _ (small (b + 32) (omega arith)) (small b (omega arith))
       ]
     ]
   where

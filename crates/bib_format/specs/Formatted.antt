@@ -1,5 +1,6 @@
 -- Meaning: words of public contracts.
--- A text in one style: its entries laid out anew, and what stands between them as it is, but for white space where the style asks for blank lines.
+-- A text in one style: its entries laid out anew. The text between them is unchanged, except for white space if the style asks for
+-- blank lines.
 use Rattle.std.specs.Prelude.{◌≡◌, ◌==◌, ◌&&◌, ◌||◌, ℕ, zero, suc, ◌+◌, ◌-◌, max, Bool, false, if◌then◌else◌, List, [], ◌∷◌, ◌++◌, codes, cond, drop, fold, length, map, nat_lt, replicate, Option, None, Some}
 use Rattle.std.specs.Char.{is_ascii_whitespace}
 use Rattle.std.specs.List.{before_first, ends_with, flat_map, list_all, list_any, position_or_len}
@@ -38,7 +39,10 @@ padded_width style fields = if style.aligned then longest_name fields else 0
 -- a field's line: its name, padded, and the elements of its value, with this before each but the first
 abbrev pub line_laid_out : Style → ℕ → List ℕ → List ℕ → List (List ℕ) → List ℕ
 line_laid_out style width next name elements =
-    spaces style.indent ++ (str_to_ascii_lowercase name ++ (spaces (width - length (chars name)) ++ value_laid_out (codes " = ") next elements))
+    spaces style.indent
+    ++
+    (str_to_ascii_lowercase name
+    ++ (spaces (width - length (chars name)) ++ value_laid_out (codes " = ") next elements))
 
 -- whether a line, and a comma after it, have more characters than this
 abbrev pub is_too_long : Option ℕ → List ℕ → Bool
@@ -47,20 +51,28 @@ is_too_long (Some most) line = nat_lt most (length (chars line) + 1)
 
 -- whether each element but the first begins a new line: where all of them in one line are too long
 abbrev pub is_broken : Style → ℕ → List ℕ → List (List ℕ) → Bool
-is_broken style width name elements = nat_lt 1 (length elements) && is_too_long style.width (line_laid_out style width (codes " # ") name elements)
+is_broken style width name elements =
+    nat_lt 1 (length elements) && is_too_long style.width (line_laid_out style width (codes " # ") name elements)
 
--- the end of a line, as many spaces as characters stand before the value of a field, of which three are the equals sign and its spaces, and #
+-- the end of a line, a space for each character before the value of a field (the equals sign and its spaces are three of them),
+-- and #
 abbrev pub next_line : List ℕ → Style → ℕ → List ℕ → List ℕ
 next_line line_end style width name = line_end ++ (spaces style.indent ++ (spaces (max width (length (chars name))) ++ codes "   # "))
 
 -- what stands before each element but the first
 abbrev pub next_sign : List ℕ → Style → ℕ → List ℕ → List (List ℕ) → List ℕ
-next_sign line_end style width name elements = cond (is_broken style width name elements) (next_line line_end style width name) (codes " # ")
+next_sign line_end style width name elements =
+    cond (is_broken style width name elements) (next_line line_end style width name) (codes " # ")
 
 -- a field after a comma, in a line of its own, or in one for each element
 abbrev pub field_laid_out : List ℕ → Style → List ℕ → ℕ → FieldReading → List ℕ
 field_laid_out line_end style text width f =
-    codes "," ++ (line_end ++ line_laid_out style width (next_sign line_end style width f.name.text (elements_as_written style text f)) f.name.text (elements_as_written style text f))
+    codes ","
+    ++
+    (line_end
+    ++ line_laid_out style width
+    (next_sign line_end style width f.name.text (elements_as_written style text f)) f.name.text
+    (elements_as_written style text f))
 
 -- the comma after the last field, or after the key where there is no field
 abbrev pub last_comma : Style → List FieldReading → List ℕ
@@ -70,7 +82,17 @@ last_comma style (f ∷ fs) = if style.trailing_comma then codes "," else []
 -- an entry laid out: its type and its key, its fields in the order of the style, and its brace in a line of its own
 abbrev pub entry_laid_out : List ℕ → Style → List ℕ → EntryReading → List ℕ
 entry_laid_out line_end style text e =
-    codes "@" ++ (str_to_ascii_lowercase e.kind.text ++ (codes "{" ++ (e.key.text ++ (flat_map (field_laid_out line_end style text (padded_width style e.fields)) (in_order (order_of style) e.fields) ++ (last_comma style e.fields ++ (line_end ++ codes "}"))))))
+    codes "@"
+    ++
+    (str_to_ascii_lowercase e.kind.text
+    ++
+    (codes "{"
+    ++
+    (e.key.text
+    ++
+    (flat_map (field_laid_out line_end style text (padded_width style e.fields))
+    (in_order (order_of style) e.fields)
+    ++ (last_comma style e.fields ++ (line_end ++ codes "}"))))))
 
 -- whether a percent sign stands between two places of a text
 abbrev pub has_percent : List ℕ → ℕ → ℕ → Bool
@@ -87,7 +109,9 @@ has_comment text e = has_percent_between text e.key.end e.fields e.end
 
 -- an entry in one style: laid out, or as it stands if a comment stands in it
 abbrev pub entry_in_style : List ℕ → Style → List ℕ → EntryReading → List ℕ
-entry_in_style line_end style text e = cond (has_comment text e) (between (place text e.start) (place text (e.end + 1))) (entry_laid_out line_end style text e)
+entry_in_style line_end style text e =
+    cond (has_comment text e) (between (place text e.start) (place text (e.end + 1)))
+    (entry_laid_out line_end style text e)
 
 -- so many ends of lines
 abbrev pub line_ends : List ℕ → ℕ → List ℕ
@@ -103,12 +127,15 @@ gap_in_style line_end (Some count) gap = cond (list_all is_ascii_whitespace gap)
 abbrev pub rest_in_style : List ℕ → Style → Option ℕ → List ℕ → ℕ → List EntryReading → List ℕ
 rest_in_style line_end style blank_lines text at [] = drop at text
 rest_in_style line_end style blank_lines text at (e ∷ es) =
-    gap_in_style line_end blank_lines (between (place text at) (place text e.start)) ++ (entry_in_style line_end style text e ++ rest_in_style line_end style style.blank_lines text (e.end + 1) es)
+    gap_in_style line_end blank_lines (between (place text at) (place text e.start))
+    ++ (entry_in_style line_end style text e ++ rest_in_style line_end style style.blank_lines text (e.end + 1) es)
 
 -- how the lines of a text end: by a carriage return and a line feed if its first line does, else by a line feed
 abbrev pub line_end_of : List ℕ → List ℕ
 line_end_of text =
-    cond (nat_lt (position_or_len (λ b. eqb b char.line_feed) text) (length text) && ends_with eqb (before_first (λ b. eqb b char.line_feed) text) (codes "\r")) (codes "\r\n") (codes "\n")
+    cond
+    (nat_lt (position_or_len (λ b. eqb b char.line_feed) text) (length text)
+    && ends_with eqb (before_first (λ b. eqb b char.line_feed) text) (codes "\r")) (codes "\r\n") (codes "\n")
 
 -- a text in one style, of which this is the reading; what stands before the first entry stays
 abbrev pub text_in_style : Style → List ℕ → FileReading → List ℕ
@@ -140,7 +167,11 @@ entry_content e = moved_entry (λ at. 0) (entry_in_lowercase e)
 
 -- what a file says without places, with types of entries and names of fields in lowercase
 abbrev pub content : FileReading → FileReading
-content says = record { preamble = says.preamble; entries = map entry_content says.entries; abbreviations = map (moved_field (λ at. 0)) says.abbreviations }
+content says = record {
+  preamble = says.preamble;
+  entries = map entry_content says.entries;
+  abbreviations = map (moved_field (λ at. 0)) says.abbreviations;
+}
 
 -- a text is read as one that says this, but for places and the case of types and names
 pub record IsReadAlike (says : FileReading) (text : List ℕ) : Type 0 where

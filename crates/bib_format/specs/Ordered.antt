@@ -6,8 +6,8 @@ use Rattle.bib_syntax.specs.Reading.{FieldReading}
 use Rattle.bib_documents.specs.Documents.{has_name}
 use Rattle.bib_format.specs.declared.style.Style.{Style}
 
--- fields in an order of names, in any ASCII case: those of the first name, and after them the others in the order of the other names; fields of one name,
--- and those of none, which come last, stay in the order that they have
+-- fields in an order of names, in any ASCII case: those of the first name, and after them the others in the order of the other
+-- names. Fields of one name stay in their order, and so do fields of none of the names, which come last
 abbrev pub in_order : List (List ℕ) → List FieldReading → List FieldReading
 in_order [] fields = fields
 in_order (name ∷ names) fields = filter (has_name name) fields ++ in_order names (filter (λ f. not (has_name name f)) fields)

@@ -5,8 +5,8 @@ use Rattle.bib_format.specs.Ordered.{order_of}
 use Rattle.bib_format.specs.declared.style.Delimiters.TheVariants.{Keep}
 use Rattle.bib_format.specs.declared.style.Style.{Style}
 
--- fields are indented by two spaces, equals signs aren't put in one column, a comma stands after the last field, what stands between entries
--- stays, and so do the delimiters of literals and the order of fields, and a field stands in one line
+-- fields are indented by two spaces, equals signs aren't put in one column, the last field has a comma, and each field is on one
+-- line. The text between entries, the delimiters of literals and the order of fields stay
 pub record IsUsual (style : Style) : Type 0 where
   pub indent : style.indent ≡ 2
   pub aligned : style.aligned ≡ false

@@ -25,7 +25,8 @@ alike_back (Alike.same_name same rest) = Alike.same_name (sym same) (alike_back 
 
 -- definitions of the same names, with elements alike
 pub record AreAlikeDefinitions (one other : Definitions) : Type 0 where
-  pub some : (name : List ℕ) (definition : List Piece) → one name ≡ Some definition → (also : List Piece) × (other name ≡ Some also) × Alike definition also
+  pub some : (name : List ℕ) (definition : List Piece) → one name ≡ Some definition
+      → (also : List Piece) × (other name ≡ Some also) × Alike definition also
   pub none : (name : List ℕ) → one name ≡ None → other name ≡ None
 
 -- definitions that are alike in both directions
@@ -38,7 +39,8 @@ define_back both = record { onward = both.back; back = both.onward }
 
 module _ {one other : Definitions} (are : AreAlikeDefinitions one other) where
   -- what elements say, those alike say
-  pub evaluates_alike : {is_verbatim : Bool} {ps qs : List Piece} {atoms : List Atom} → Alike ps qs → Evaluates one is_verbatim ps atoms → Evaluates other is_verbatim qs atoms
+  pub evaluates_alike : {is_verbatim : Bool} {ps qs : List Piece} {atoms : List Atom} → Alike ps qs
+      → Evaluates one is_verbatim ps atoms → Evaluates other is_verbatim qs atoms
   evaluates_alike Alike.ends evaluates.none = evaluates.none
   evaluates_alike {is_verbatim} (Alike.same_text same rest) (evaluates.text {first = first} x more) =
       evaluates.text (subst (λ t. IsContent is_verbatim (chars t) first) same x) (evaluates_alike rest more)
@@ -61,14 +63,16 @@ holds_text text (Alike.same_text same rest) (inl is) = inl (sym same ∙ is)
 holds_text text (Alike.same_text same rest) (inr held) = inr (holds_text text rest held)
 holds_text text (Alike.same_name same rest) held = holds_text text rest held
 
-reaches_alike : {one other : Definitions} {ps qs : List Piece} {name : List ℕ} → AreAlikeDefinitions one other → Alike ps qs → Reaches one ps name → Reaches other qs name
+reaches_alike : {one other : Definitions} {ps qs : List Piece} {name : List ℕ} → AreAlikeDefinitions one other
+    → Alike ps qs → Reaches one ps name → Reaches other qs name
 reaches_alike are alike (reaches.held {name = name} held) = reaches.held (holds_name name alike held)
 reaches_alike are alike (reaches.through {name = name} {next = next} {definition = definition} before d held) =
     let also = are.some name definition d in
     reaches.through (reaches_alike are alike before) also.1 (holds_name next also.2 held)
 
 -- where elements can be read, those alike can
-pub readable_alike : {one other : Definitions} {is_verbatim : Bool} {ps qs : List Piece} → DefineAlike one other → Alike ps qs → IsReadable one is_verbatim ps → IsReadable other is_verbatim qs
+pub readable_alike : {one other : Definitions} {is_verbatim : Bool} {ps qs : List Piece} → DefineAlike one other
+    → Alike ps qs → IsReadable one is_verbatim ps → IsReadable other is_verbatim qs
 readable_alike {one} {other} {is_verbatim} {ps} {qs} both alike read = record {
   known = λ name there. by_known name (read.known name (reaches_alike both.back (alike_back alike) there));
   no_cycle = λ name definition there is again.
@@ -99,36 +103,50 @@ pub data FoundAlike {A : Type 0} (R : A → A → Type 0) : Option A → Option 
   in_neither : FoundAlike R None None
   in_each : {x y : A} → R x y → FoundAlike R (Some x) (Some y)
 
-found_first : {A : Type 0} {R : A → A → Type 0} (x y : A) {found also : Option A} (b c : Bool) → b ≡ c → R x y → FoundAlike R found also → FoundAlike R (cond b (Some x) found) (cond c (Some y) also)
+found_first : {A : Type 0} {R : A → A → Type 0} (x y : A) {found also : Option A} (b c : Bool) → b ≡ c → R x y
+    → FoundAlike R found also → FoundAlike R (cond b (Some x) found) (cond c (Some y) also)
 found_first x y true true is here rest = FoundAlike.in_each here
 found_first x y true false is here rest = cc
 found_first x y false true is here rest = cc
 found_first x y false false is here rest = rest
 
-pub find_alike : {A : Type 0} (R : A → A → Type 0) (test : A → Bool) (xs ys : List A) → ((x y : A) → R x y → test x ≡ test y) → AllZip R xs ys → FoundAlike R (find test xs) (find test ys)
+pub find_alike : {A : Type 0} (R : A → A → Type 0) (test : A → Bool) (xs ys : List A)
+    → ((x y : A) → R x y → test x ≡ test y) → AllZip R xs ys → FoundAlike R (find test xs) (find test ys)
 find_alike R test [] [] same all = FoundAlike.in_neither
 find_alike R test [] (y ∷ ys) same all = absurd all
 find_alike R test (x ∷ xs) [] same all = absurd all
 find_alike R test (x ∷ xs) (y ∷ ys) same all = found_first x y (test x) (test y) (same x y all.0) all.0 (find_alike R test xs ys same all.1)
 
 -- the fields of a name among fields that are alike
-pub field_alike : (one other : List FieldReading) (name : List ℕ) → AllZip AreAlikeFields one other → FoundAlike AreAlikeFields (field_in one name) (field_in other name)
+pub field_alike : (one other : List FieldReading) (name : List ℕ) → AllZip AreAlikeFields one other
+    → FoundAlike AreAlikeFields (field_in one name) (field_in other name)
 field_alike one other name all =
-    find_alike AreAlikeFields (λ f. bytes_eq name (name_of f)) (reverse one) (reverse other) (λ f g are. ap (bytes_eq name) are.name) (AllZip-reverse AreAlikeFields one other all)
+    find_alike AreAlikeFields (λ f. bytes_eq name (name_of f)) (reverse one) (reverse other)
+    (λ f g are. ap (bytes_eq name) are.name) (AllZip-reverse AreAlikeFields one other all)
 
 -- the definitions of abbreviations that are alike
-defined_alike : (one other : List FieldReading) → AllZip AreAlikeAbbreviations one other → AreAlikeDefinitions (definition_in one) (definition_in other)
+defined_alike : (one other : List FieldReading) → AllZip AreAlikeAbbreviations one other
+    → AreAlikeDefinitions (definition_in one) (definition_in other)
 defined_alike one other all = record {
-  some = λ name definition is. some (find_alike AreAlikeAbbreviations (λ f. bytes_eq name f.name.text) (reverse one) (reverse other) (λ f g are. ap (bytes_eq name) are.name) (AllZip-reverse AreAlikeAbbreviations one other all)) is;
-  none = λ name is. none (find_alike AreAlikeAbbreviations (λ f. bytes_eq name f.name.text) (reverse one) (reverse other) (λ f g are. ap (bytes_eq name) are.name) (AllZip-reverse AreAlikeAbbreviations one other all)) is;
+  some = λ name definition is.
+      some
+      (find_alike AreAlikeAbbreviations (λ f. bytes_eq name f.name.text) (reverse one) (reverse other)
+      (λ f g are. ap (bytes_eq name) are.name) (AllZip-reverse AreAlikeAbbreviations one other all)) is;
+  none = λ name is.
+      none
+      (find_alike AreAlikeAbbreviations (λ f. bytes_eq name f.name.text) (reverse one) (reverse other)
+      (λ f g are. ap (bytes_eq name) are.name) (AllZip-reverse AreAlikeAbbreviations one other all)) is;
 }
   where
-    some : {o p : Option FieldReading} {definition : List Piece} → FoundAlike AreAlikeAbbreviations o p → option_map (λ f. f.value.pieces) o ≡ Some definition
+    some : {o p : Option FieldReading} {definition : List Piece} → FoundAlike AreAlikeAbbreviations o p
+        → option_map (λ f. f.value.pieces) o ≡ Some definition
         → (also : List Piece) × (option_map (λ f. f.value.pieces) p ≡ Some also) × Alike definition also
     some FoundAlike.in_neither is = cc
     some (FoundAlike.in_each {x = x} {y = y} are) is = (y.value.pieces, refl, subst (λ ps. Alike ps y.value.pieces) (cc is) are.pieces)
 
-    none : {o p : Option FieldReading} → FoundAlike AreAlikeAbbreviations o p → option_map (λ (f : FieldReading). f.value.pieces) o ≡ None → option_map (λ (f : FieldReading). f.value.pieces) p ≡ None
+    none : {o p : Option FieldReading} → FoundAlike AreAlikeAbbreviations o p
+        → option_map (λ (f : FieldReading). f.value.pieces) o ≡ None
+        → option_map (λ (f : FieldReading). f.value.pieces) p ≡ None
     none FoundAlike.in_neither is = refl
     none (FoundAlike.in_each are) is = cc
 
@@ -138,8 +156,12 @@ AllZip-back R [] (y ∷ ys) back all = absurd all
 AllZip-back R (x ∷ xs) [] back all = absurd all
 AllZip-back R (x ∷ xs) (y ∷ ys) back all = (back x y all.0, AllZip-back R xs ys back all.1)
 
-pub definitions_alike : (one other : List FieldReading) → AllZip AreAlikeAbbreviations one other → DefineAlike (definition_in one) (definition_in other)
+pub definitions_alike : (one other : List FieldReading) → AllZip AreAlikeAbbreviations one other
+    → DefineAlike (definition_in one) (definition_in other)
 definitions_alike one other all = record {
   onward = defined_alike one other all;
-  back = defined_alike other one (AllZip-back AreAlikeAbbreviations one other (λ f g are. record { name = sym are.name; pieces = alike_back are.pieces }) all);
+  back =
+      defined_alike other one
+      (AllZip-back AreAlikeAbbreviations one other
+      (λ f g are. record { name = sym are.name; pieces = alike_back are.pieces }) all);
 }

@@ -65,37 +65,54 @@ pieces_alike : (ps qs : List Piece) → map (moved_piece (λ at. 0)) ps ≡ map 
 pieces_alike [] [] is = Alike.ends
 pieces_alike [] (q ∷ qs) is = cc
 pieces_alike (p ∷ ps) [] is = cc
-pieces_alike (literal p ∷ ps) (literal q ∷ qs) is = Alike.same_text {p = p} {q = q} (ap text_of (cons_head _ _ is)) (pieces_alike ps qs (cons_tail is))
+pieces_alike (literal p ∷ ps) (literal q ∷ qs) is =
+    Alike.same_text {p = p} {q = q} (ap text_of (cons_head _ _ is)) (pieces_alike ps qs (cons_tail is))
 pieces_alike (literal p ∷ ps) (abbreviation q ∷ qs) is = cc
 pieces_alike (abbreviation p ∷ ps) (literal q ∷ qs) is = cc
-pieces_alike (abbreviation p ∷ ps) (abbreviation q ∷ qs) is = Alike.same_name {p = p} {q = q} (ap text_of (cons_head _ _ is)) (pieces_alike ps qs (cons_tail is))
+pieces_alike (abbreviation p ∷ ps) (abbreviation q ∷ qs) is =
+    Alike.same_name {p = p} {q = q} (ap text_of (cons_head _ _ is)) (pieces_alike ps qs (cons_tail is))
 
 -- a field without places, its name in lowercase
 abbrev field_content : FieldReading → FieldReading
 field_content f = moved_field (λ at. 0) (field_in_lowercase f)
 
-fields_alike : (fs gs : List FieldReading) → map (moved_field (λ at. 0)) (map field_in_lowercase fs) ≡ map (moved_field (λ at. 0)) (map field_in_lowercase gs) → AllZip AreAlikeFields fs gs
+fields_alike : (fs gs : List FieldReading)
+    → map (moved_field (λ at. 0)) (map field_in_lowercase fs) ≡ map (moved_field (λ at. 0)) (map field_in_lowercase gs)
+    → AllZip AreAlikeFields fs gs
 fields_alike [] [] is = tt
 fields_alike [] (g ∷ gs) is = cc
 fields_alike (f ∷ fs) [] is = cc
 fields_alike (f ∷ fs) (g ∷ gs) is =
-    let first : field_content f ≡ field_content g = cons_head _ _ is in
-    (record { name = ap (λ (h : FieldReading). h.name.text) first; pieces = pieces_alike f.value.pieces g.value.pieces (ap (λ (h : FieldReading). h.value.pieces) first) }, fields_alike fs gs (cons_tail is))
+    let first : field_content f ≡ field_content g = cons_head _ _ is in (
+      record {
+        name = ap (λ (h : FieldReading). h.name.text) first;
+        pieces = pieces_alike f.value.pieces g.value.pieces (ap (λ (h : FieldReading). h.value.pieces) first);
+      },
+      fields_alike fs gs (cons_tail is),
+    )
 
-abbreviations_alike : (fs gs : List FieldReading) → map (moved_field (λ at. 0)) fs ≡ map (moved_field (λ at. 0)) gs → AllZip AreAlikeAbbreviations fs gs
+abbreviations_alike : (fs gs : List FieldReading) → map (moved_field (λ at. 0)) fs ≡ map (moved_field (λ at. 0)) gs
+    → AllZip AreAlikeAbbreviations fs gs
 abbreviations_alike [] [] is = tt
 abbreviations_alike [] (g ∷ gs) is = cc
 abbreviations_alike (f ∷ fs) [] is = cc
 abbreviations_alike (f ∷ fs) (g ∷ gs) is =
-    let first : moved_field (λ at. 0) f ≡ moved_field (λ at. 0) g = cons_head _ _ is in
-    (record { name = ap (λ (h : FieldReading). h.name.text) first; pieces = pieces_alike f.value.pieces g.value.pieces (ap (λ (h : FieldReading). h.value.pieces) first) }, abbreviations_alike fs gs (cons_tail is))
+    let first : moved_field (λ at. 0) f ≡ moved_field (λ at. 0) g = cons_head _ _ is in (
+      record {
+        name = ap (λ (h : FieldReading). h.name.text) first;
+        pieces = pieces_alike f.value.pieces g.value.pieces (ap (λ (h : FieldReading). h.value.pieces) first);
+      },
+      abbreviations_alike fs gs (cons_tail is),
+    )
 
 -- the type of a name is that of the name in lowercase
-type_of_lowercase : (name other : List ℕ) → str_to_ascii_lowercase name ≡ str_to_ascii_lowercase other → entry_type_of name ≡ entry_type_of other
+type_of_lowercase : (name other : List ℕ) → str_to_ascii_lowercase name ≡ str_to_ascii_lowercase other
+    → entry_type_of name ≡ entry_type_of other
 unfolding entry_type_of named_or_alias
 type_of_lowercase name other same = ap (λ l. unwrap_or (named_or_alias l) (Unknown l)) same
 
-entries_alike : (style : Style) (text : List ℕ) (es gs : List EntryReading) → map entry_content (map (entry_in_order style text) es) ≡ map entry_content gs → AllZip AreAlikeEntries es gs
+entries_alike : (style : Style) (text : List ℕ) (es gs : List EntryReading)
+    → map entry_content (map (entry_in_order style text) es) ≡ map entry_content gs → AllZip AreAlikeEntries es gs
 entries_alike style text [] [] is = tt
 entries_alike style text [] (g ∷ gs) is = cc
 entries_alike style text (e ∷ es) [] is = cc
@@ -105,7 +122,9 @@ entries_alike style text (e ∷ es) (g ∷ gs) is =
     let first : entry_content o ≡ entry_content g = cons_head _ _ is in (
       record {
         key = ap (λ (p : Part). p.text) (sym same.key) ∙ ap (λ (h : EntryReading). h.key.text) first;
-        kind = ap (λ (p : Part). entry_type_of p.text) (sym same.kind) ∙ type_of_lowercase o.kind.text g.kind.text (ap (λ (h : EntryReading). h.kind.text) first);
+        kind =
+            ap (λ (p : Part). entry_type_of p.text) (sym same.kind)
+            ∙ type_of_lowercase o.kind.text g.kind.text (ap (λ (h : EntryReading). h.kind.text) first);
         ordered = o.fields;
         reordered = same.fields;
         fields = fields_alike o.fields g.fields (ap (λ (h : EntryReading). h.fields) first);
@@ -114,7 +133,8 @@ entries_alike style text (e ∷ es) (g ∷ gs) is =
     )
 
 -- files with the same content, but for the order of fields, are alike
-pub files_alike : (style : Style) (text : List ℕ) (one other : FileReading) → content (says_in_order style text one) ≡ content other → AreAlikeFiles one other
+pub files_alike : (style : Style) (text : List ℕ) (one other : FileReading)
+    → content (says_in_order style text one) ≡ content other → AreAlikeFiles one other
 files_alike style text one other is = record {
   entries = entries_alike style text one.entries other.entries (ap (λ (h : FileReading). h.entries) is);
   abbreviations = abbreviations_alike one.abbreviations other.abbreviations (ap (λ (h : FileReading). h.abbreviations) is);
@@ -137,17 +157,22 @@ module _ {one other : Definitions} (both : DefineAlike one other) where
   found_alike c d FoundAlike.in_neither first second = rw (first, second) refl
   found_alike c d (FoundAlike.in_each {x = f} {y = g} are) first second =
       let moved : Evaluates other (is_verbatim_field (name_of g)) g.value.pieces (styled first.0) =
-      subst (λ name. Evaluates other (is_verbatim_field name) g.value.pieces (styled first.0)) are.name (evaluates_alike both.onward are.pieces first.2.says) in
+      subst (λ name. Evaluates other (is_verbatim_field name) g.value.pieces (styled first.0)) are.name
+      (evaluates_alike both.onward are.pieces first.2.says) in
       rw (first.1, second.1) (ap Some (evaluates_same moved second.2.says))
 
-  module _ {said tells : EntryReading} (a b : Entry) (are : AreAlikeEntries said tells) (first : IsEntry one said a) (second : IsEntry other tells b) where
+  module _ {said tells : EntryReading} (a b : Entry) (are : AreAlikeEntries said tells) (first : IsEntry one said a)
+      (second : IsEntry other tells b) where
     texts_alike : (name : List ℕ) → option_map styled (by_name.get a.fields name) ≡ option_map styled (by_name.get b.fields name)
     texts_alike name =
         found_alike (by_name.get a.fields name) (by_name.get b.fields name)
-        (subst (λ o. FoundAlike AreAlikeFields o (field_in tells.fields name)) (are.reordered.found name) (field_alike are.ordered tells.fields name are.fields)) (first.fields name) (second.fields name)
+        (subst (λ o. FoundAlike AreAlikeFields o (field_in tells.fields name)) (are.reordered.found name)
+        (field_alike are.ordered tells.fields name are.fields)) (first.fields name) (second.fields name)
 
     entry_texts_alike : texts_of_entry a ≡ texts_of_entry b
-    entry_texts_alike = entry_texts_same a.entry_type b.entry_type (fields_of a.fields) (fields_of b.fields) (first.kind ∙ are.kind ∙ sym second.kind) texts_alike
+    entry_texts_alike =
+        entry_texts_same a.entry_type b.entry_type (fields_of a.fields) (fields_of b.fields)
+        (first.kind ∙ are.kind ∙ sym second.kind) texts_alike
 
     key_alike : a.key ≡ b.key
     key_alike = first.key ∙ are.key ∙ sym second.key
@@ -155,25 +180,35 @@ module _ {one other : Definitions} (both : DefineAlike one other) where
     claims_alike : claims a ≡ claims b
     claims_alike =
         ap (λ key. key ∷ aliases a) key_alike
-        ∙ ap (λ names. b.key ∷ names) (by_texts (by_name.get a.fields (codes "ids")) ∙ ap (λ o. option_map_or comma_texts o []) (texts_alike (codes "ids")) ∙ sym (by_texts (by_name.get b.fields (codes "ids"))))
+        ∙ ap (λ names. b.key ∷ names)
+        (by_texts (by_name.get a.fields (codes "ids"))
+        ∙ ap (λ o. option_map_or comma_texts o []) (texts_alike (codes "ids"))
+        ∙ sym (by_texts (by_name.get b.fields (codes "ids"))))
       where
-        by_texts : (o : Option (List (Spanned Chunk))) → option_map_or (λ chunks. comma_texts (styled chunks)) o [] ≡ option_map_or comma_texts (option_map styled o) []
+        by_texts : (o : Option (List (Spanned Chunk)))
+            → option_map_or (λ chunks. comma_texts (styled chunks)) o []
+            ≡ option_map_or comma_texts (option_map styled o) []
         by_texts None = refl
         by_texts (Some chunks) = refl
 
   -- the entries of two lists that are alike
-  pub all_alike : (earlier : List (List ℕ)) (said tells : List EntryReading) {as' bs : List Entry} → AllZip AreAlikeEntries said tells → AreEntries one earlier said as' → AreEntries other earlier tells bs → AllZip AreAlikeOwn as' bs
+  pub all_alike : (earlier : List (List ℕ)) (said tells : List EntryReading) {as' bs : List Entry}
+      → AllZip AreAlikeEntries said tells → AreEntries one earlier said as' → AreEntries other earlier tells bs
+      → AllZip AreAlikeOwn as' bs
   all_alike earlier [] [] are AreEntries.none AreEntries.none = tt
   all_alike earlier [] (t ∷ tells) are first second = absurd are
   all_alike earlier (s ∷ said) [] are first second = absurd are
-  all_alike earlier (s ∷ said) (t ∷ tells) are (AreEntries.next {entry = a} fresh is following) (AreEntries.next {entry = b} {entries = bs} fresh' is' following') =
+  all_alike earlier (s ∷ said) (t ∷ tells) are (AreEntries.next {entry = a} fresh is following)
+      (AreEntries.next {entry = b} {entries = bs} fresh' is' following') =
       let same = claims_alike a b are.0 is is' in (
         record { texts = entry_texts_alike a b are.0 is is'; key = key_alike a b are.0 is is'; claims = same },
-        all_alike (earlier ++ claims a) said tells are.1 following (subst (λ names. AreEntries other (earlier ++ names) tells bs) (sym same) following'),
+        all_alike (earlier ++ claims a) said tells are.1 following
+            (subst (λ names. AreEntries other (earlier ++ names) tells bs) (sym same) following'),
       )
 
   -- fields of which each can be read have no error in the other file
-  fields_faultless : (fs gs : List FieldReading) {e : ParseError} → AllZip AreAlikeFields fs gs → AllCanBeRead one fs → IsFirstErrorOfFields other gs e → ⊥
+  fields_faultless : (fs gs : List FieldReading) {e : ParseError} → AllZip AreAlikeFields fs gs → AllCanBeRead one fs
+      → IsFirstErrorOfFields other gs e → ⊥
   fields_faultless [] [] are read error = elim error [ ]
   fields_faultless [] (g ∷ gs) are read error = absurd are
   fields_faultless (f ∷ fs) [] are read error = absurd are
@@ -182,14 +217,21 @@ module _ {one other : Definitions} (both : DefineAlike one other) where
   fields_faultless (f ∷ fs) (g ∷ gs) are read (IsFirstErrorOfFields.following also error) = fields_faultless fs gs are.1 read.1 error
 
   -- entries of the one file, where the other has an error
-  pub entries_faultless : (earlier : List (List ℕ)) (said tells : List EntryReading) {own : List Entry} {e : ParseError} → AllZip AreAlikeEntries said tells → AreEntries one earlier said own → IsFirstErrorOfEntries other earlier tells e → ⊥
+  pub entries_faultless : (earlier : List (List ℕ)) (said tells : List EntryReading) {own : List Entry} {e : ParseError}
+      → AllZip AreAlikeEntries said tells → AreEntries one earlier said own
+      → IsFirstErrorOfEntries other earlier tells e → ⊥
   entries_faultless earlier [] [] are read error = elim error [ ]
   entries_faultless earlier [] (t ∷ tells) are read error = absurd are
   entries_faultless earlier (s ∷ said) [] are read error = absurd are
-  entries_faultless earlier (s ∷ said) (t ∷ tells) are (AreEntries.next fresh read rest) (IsFirstErrorOfEntries.duplicate was is) = both_ways _ (sym (ap (is_claimed earlier) are.0.key) ∙ fresh) was
-  entries_faultless earlier (s ∷ said) (t ∷ tells) are (AreEntries.next fresh read rest) (IsFirstErrorOfEntries.unreadable fresh' error) = fields_faultless are.0.ordered t.fields are.0.fields (are.0.reordered.readable one read.readable) error
-  entries_faultless earlier (s ∷ said) (t ∷ tells) {e = e} are (AreEntries.next {entry = a} fresh read rest) (IsFirstErrorOfEntries.following {entry = b} fresh' read' error) =
-      entries_faultless (earlier ++ claims a) said tells are.1 rest (subst (λ names. IsFirstErrorOfEntries other (earlier ++ names) tells e) (sym (claims_alike a b are.0 read read')) error)
+  entries_faultless earlier (s ∷ said) (t ∷ tells) are (AreEntries.next fresh read rest) (IsFirstErrorOfEntries.duplicate was is) =
+      both_ways _ (sym (ap (is_claimed earlier) are.0.key) ∙ fresh) was
+  entries_faultless earlier (s ∷ said) (t ∷ tells) are (AreEntries.next fresh read rest) (IsFirstErrorOfEntries.unreadable fresh' error) =
+      fields_faultless are.0.ordered t.fields are.0.fields (are.0.reordered.readable one read.readable) error
+  entries_faultless earlier (s ∷ said) (t ∷ tells) {e = e} are (AreEntries.next {entry = a} fresh read rest)
+      (IsFirstErrorOfEntries.following {entry = b} fresh' read' error) =
+      entries_faultless (earlier ++ claims a) said tells are.1 rest
+      (subst (λ names. IsFirstErrorOfEntries other (earlier ++ names) tells e)
+      (sym (claims_alike a b are.0 read read')) error)
 
 -- ---- files
 
@@ -197,7 +239,8 @@ all_texts_zip : (as' bs : List Entry) → AllZip AreAlikeOwn as' bs → texts_of
 all_texts_zip [] [] all = refl
 all_texts_zip [] (b ∷ bs) all = absurd all
 all_texts_zip (a ∷ as') [] all = absurd all
-all_texts_zip (a ∷ as') (b ∷ bs) all = ap (λ x. x ∷ texts_of_entries as') all.0.texts ∙ ap (λ xs. texts_of_entry b ∷ xs) (all_texts_zip as' bs all.1)
+all_texts_zip (a ∷ as') (b ∷ bs) all =
+    ap (λ x. x ∷ texts_of_entries as') all.0.texts ∙ ap (λ xs. texts_of_entry b ∷ xs) (all_texts_zip as' bs all.1)
 
 keys_zip : (as' bs : List Entry) → AllZip AreAlikeOwn as' bs → map (λ (e : Entry). e.key) as' ≡ map (λ (e : Entry). e.key) bs
 keys_zip [] [] all = refl
@@ -213,7 +256,9 @@ names_zip l m (a ∷ as') [] count names all = absurd all
 names_zip l m (a ∷ as') (b ∷ bs) count names all =
     names_zip (appended l a) (appended m b) as' bs
     (length-append l.entries (a ∷ []) ∙ ap (λ k. k + 1) count ∙ sym (length-append m.entries (b ∷ [])))
-    (ap (λ n. claimed n (claims_for (claims a) (length l.entries))) names ∙ ap (λ cs. claimed m.names (claims_for cs (length l.entries))) all.0.claims ∙ ap (λ k. claimed m.names (claims_for (claims b) k)) count)
+    (ap (λ n. claimed n (claims_for (claims a) (length l.entries))) names
+    ∙ ap (λ cs. claimed m.names (claims_for cs (length l.entries))) all.0.claims
+    ∙ ap (λ k. claimed m.names (claims_for (claims b) k)) count)
     all.1
 
 module _ {says tells : FileReading} (are : AreAlikeFiles says tells) where
@@ -232,7 +277,8 @@ module _ {says tells : FileReading} (are : AreAlikeFiles says tells) where
 
   -- where the one file can be a bibliography, the other has no error
   pub faultless : {e : ParseError} → IsAccepted says → IsFirstErrorOf tells e → ⊥
-  faultless accepted (IsFirstErrorOf.entry error) = entries_faultless both_define [] says.entries tells.entries are.entries accepted.entries error
+  faultless accepted (IsFirstErrorOf.entry error) =
+      entries_faultless both_define [] says.entries tells.entries are.entries accepted.entries error
   faultless accepted (IsFirstErrorOf.cycle {own = own} {index = index} read first is) =
       let same = sym (graph_alike accepted.own own accepted.entries read) in
       accepted.no_cycle index (subst (λ g. index < length g) same first.within) (subst (λ g. Leads g index index) same first.cycle)
@@ -240,9 +286,12 @@ module _ {says tells : FileReading} (are : AreAlikeFiles says tells) where
       let all_texts = sym (all_texts_zip accepted.own own (own_alike accepted.own own accepted.entries read)) in
       let graph = sym (graph_alike accepted.own own accepted.entries read) in
       let moved : Inherits (texts_of_entries accepted.own) (graph_of accepted.own) values =
-      subst (λ g. Inherits (texts_of_entries accepted.own) g values) graph (subst (λ s. Inherits s (graph_of own) values) all_texts solves) in
-      bad_apart (texts_of_entries accepted.own) (graph_of accepted.own) values index (subst (λ s. looks_for_date (at_index s index) ≡ true) all_texts looks)
-      (subst (λ g. list_any (is_bad_date values) (refs_of g index) ≡ true) graph (found_any (is_bad_date values) (refs_of (graph_of own) index) is.reference is.first))
+      subst (λ g. Inherits (texts_of_entries accepted.own) g values) graph
+      (subst (λ s. Inherits s (graph_of own) values) all_texts solves) in
+      bad_apart (texts_of_entries accepted.own) (graph_of accepted.own) values index
+      (subst (λ s. looks_for_date (at_index s index) ≡ true) all_texts looks)
+      (subst (λ g. list_any (is_bad_date values) (refs_of g index) ≡ true) graph
+      (found_any (is_bad_date values) (refs_of (graph_of own) index) is.reference is.first))
       (accepted.dates values moved)
 
   -- bibliographies of both
@@ -254,9 +303,12 @@ module _ {says tells : FileReading} (are : AreAlikeFiles says tells) where
       let all_texts = sym (all_texts_zip own others zip) in
       let graph = sym (graph_alike own others first.accepted.entries second.accepted.entries) in
       let moved : Inherits (texts_of_entries own) (graph_of own) (texts_of_entries other.entries) =
-      subst (λ g. Inherits (texts_of_entries own) g (texts_of_entries other.entries)) graph (subst (λ s. Inherits s (graph_of others) (texts_of_entries other.entries)) all_texts second.inherits) in
+      subst (λ g. Inherits (texts_of_entries own) g (texts_of_entries other.entries)) graph
+      (subst (λ s. Inherits s (graph_of others) (texts_of_entries other.entries)) all_texts second.inherits) in
       record {
         keys = first.keys ∙ keys_zip own others zip ∙ sym second.keys;
-        entries = solutions_same own (texts_of_entries one.entries) (texts_of_entries other.entries) first.accepted.no_cycle first.inherits moved;
+        entries =
+            solutions_same own (texts_of_entries one.entries) (texts_of_entries other.entries) first.accepted.no_cycle
+            first.inherits moved;
         names = first.names ∙ names_alike own others first.accepted.entries second.accepted.entries ∙ sym second.names;
       }

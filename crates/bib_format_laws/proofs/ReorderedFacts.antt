@@ -23,14 +23,19 @@ pub record IsReordered (fs gs : List FieldReading) : Type 0 where
   pub readable : (definitions : Definitions) → AllCanBeRead definitions fs → AllCanBeRead definitions gs
 
 -- a field of a name has another name where this name has it
-named_alike : (n name : List ℕ) (f : FieldReading) → bytes_eq name (name_of f) ≡ true → has_name n f ≡ bytes_eq name (str_to_ascii_lowercase n)
+named_alike : (n name : List ℕ) (f : FieldReading) → bytes_eq name (name_of f) ≡ true
+    → has_name n f ≡ bytes_eq name (str_to_ascii_lowercase n)
 named_alike n name f is = ap (λ t. bytes_eq t (str_to_ascii_lowercase n)) (sym ((bytes_eq-Decides name (name_of f)).0 is))
 
 field_append : (fs gs : List FieldReading) (name : List ℕ) → field_in (fs ++ gs) name ≡ option_or (field_in gs name) (field_in fs name)
-field_append fs gs name = ap (find (λ f. bytes_eq name (name_of f))) (reverse-append fs gs) ∙ find-append (λ f. bytes_eq name (name_of f)) (reverse gs) (reverse fs)
+field_append fs gs name =
+    ap (find (λ f. bytes_eq name (name_of f))) (reverse-append fs gs)
+    ∙ find-append (λ f. bytes_eq name (name_of f)) (reverse gs) (reverse fs)
 
 -- the fields of a name, and the others
-field_parted : (n name : List ℕ) (fs : List FieldReading) → option_or (field_in (filter (λ f. not (has_name n f)) fs) name) (field_in (filter (has_name n) fs) name) ≡ field_in fs name
+field_parted : (n name : List ℕ) (fs : List FieldReading)
+    → option_or (field_in (filter (λ f. not (has_name n f)) fs) name) (field_in (filter (has_name n) fs) name)
+    ≡ field_in fs name
 field_parted n name fs = by_name (bytes_eq name (str_to_ascii_lowercase n)) refl
   where
     test : FieldReading → Bool
@@ -42,23 +47,30 @@ field_parted n name fs = by_name (bytes_eq name (str_to_ascii_lowercase n)) refl
     other : FieldReading → Bool
     other f = not (has_name n f)
 
-    by_name : (b : Bool) → bytes_eq name (str_to_ascii_lowercase n) ≡ b → option_or (find test (reverse (filter other fs))) (find test (reverse (filter named fs))) ≡ find test (reverse fs)
+    by_name : (b : Bool) → bytes_eq name (str_to_ascii_lowercase n) ≡ b
+        → option_or (find test (reverse (filter other fs))) (find test (reverse (filter named fs)))
+        ≡ find test (reverse fs)
     by_name true is =
         ap (λ t. option_or (find test t) (find test (reverse (filter named fs)))) (reverse_filter other fs)
-        ∙ ap (λ o. option_or o (find test (reverse (filter named fs)))) (find_failing test other (λ f tests. ap not (named_alike n name f tests ∙ is)) (reverse fs))
+        ∙ ap (λ o. option_or o (find test (reverse (filter named fs))))
+        (find_failing test other (λ f tests. ap not (named_alike n name f tests ∙ is)) (reverse fs))
         ∙ ap (find test) (reverse_filter named fs) ∙ find_passing test named (λ f tests. named_alike n name f tests ∙ is) (reverse fs)
     by_name false is =
         ap (λ t. option_or (find test (reverse (filter other fs))) (find test t)) (reverse_filter named fs)
-        ∙ ap (λ o. option_or (find test (reverse (filter other fs))) o) (find_failing test named (λ f tests. named_alike n name f tests ∙ is) (reverse fs))
+        ∙ ap (λ o. option_or (find test (reverse (filter other fs))) o)
+        (find_failing test named (λ f tests. named_alike n name f tests ∙ is) (reverse fs))
         ∙ or_nothing (find test (reverse (filter other fs)))
-        ∙ ap (find test) (reverse_filter other fs) ∙ find_passing test other (λ f tests. ap not (named_alike n name f tests ∙ is)) (reverse fs)
+        ∙ ap (find test) (reverse_filter other fs)
+        ∙ find_passing test other (λ f tests. ap not (named_alike n name f tests ∙ is)) (reverse fs)
 
 -- of two fields with one name the last stands, in any order of names
 pub order_found : (names : List (List ℕ)) (fs : List FieldReading) (name : List ℕ) → field_in (in_order names fs) name ≡ field_in fs name
 order_found [] fs name = refl
 order_found (n ∷ ns) fs name =
     let rest = filter (λ f. not (has_name n f)) fs in
-    field_append (filter (has_name n) fs) (in_order ns rest) name ∙ ap (λ o. option_or o (field_in (filter (has_name n) fs) name)) (order_found ns rest name) ∙ field_parted n name fs
+    field_append (filter (has_name n) fs) (in_order ns rest) name
+    ∙ ap (λ o. option_or o (field_in (filter (has_name n) fs) name)) (order_found ns rest name)
+    ∙ field_parted n name fs
 
 each_read : (definitions : Definitions) (fs : List FieldReading) → AllCanBeRead definitions fs → AllByRecursion (CanBeRead definitions) fs
 each_read definitions [] all = _
@@ -71,7 +83,9 @@ all_read definitions (f ∷ fs) all = (all.0, all_read definitions fs all.1)
 pub is_reordered : (names : List (List ℕ)) (fs : List FieldReading) → IsReordered fs (in_order names fs)
 is_reordered names fs = record {
   found = order_found names fs;
-  readable = λ definitions all. all_read definitions (in_order names fs) (in_order_all (CanBeRead definitions) names fs (each_read definitions fs all));
+  readable = λ definitions all.
+      all_read definitions (in_order names fs)
+      (in_order_all (CanBeRead definitions) names fs (each_read definitions fs all));
 }
 
 -- an entry with its fields in order has the same key and type

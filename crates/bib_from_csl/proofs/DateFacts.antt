@@ -28,25 +28,29 @@ count_back : (n last : ℕ) → n < last → from_zero (n + 1) last ≡ Some n
 count_back n last h = grind (arith, nat_tests)
 
 parts_back : (y : ℤ) (m d : Option ℕ) → IsYear y → IsKeptDay y m d
-    → datetime_of_counts (counted_year (csl_year y)) (counted_part (option_map from_one m) 12) (counted_part (option_map from_one d) 31) ≡ Some (record { year = y; month = m; day = d; time = None })
+    → datetime_of_counts (counted_year (csl_year y)) (counted_part (option_map from_one m) 12)
+    (counted_part (option_map from_one d) 31) ≡ Some (record { year = y; month = m; day = d; time = None })
 parts_back y None None h k = ap (λ r. datetime_of_counts r (Some None) (Some None)) (year_back y h)
 parts_back y None (Some d) h k = absurd k
 parts_back y (Some m) None h k =
     ap₂ (λ r s. datetime_of_counts r (option_map Some s) (Some None)) (year_back y h) (count_back m 12 k)
 parts_back y (Some m) (Some d) h k =
     ap₂ (λ r s. datetime_of_counts r (option_map Some s) (counted_part (Some (d + 1)) 31)) (year_back y h) (count_back m 12 k.0)
-    ∙ ap (λ s. datetime_of_counts (Some y) (Some (Some m)) (option_map Some s)) (count_back d 31 (omega (arith, k.1, month_short y (m + 1))))
+    ∙ ap (λ s. datetime_of_counts (Some y) (Some (Some m)) (option_map Some s))
+    (count_back d 31 (omega (arith, k.1, month_short y (m + 1))))
 
 datetime_back : (x : Datetime) → IsKeptDatetime x → datetime_of (parts_of_date x) ≡ Some x
 unfolding parts_of_date
 datetime_back x k =
-    parts_back x.year x.month x.day k.year k.day ∙ ap (λ t. Some (record { year = x.year; month = x.month; day = x.day; time = t })) (sym k.time)
+    parts_back x.year x.month x.day k.year k.day
+    ∙ ap (λ t. Some (record { year = x.year; month = x.month; day = x.day; time = t })) (sym k.time)
 
 -- a date as it is read again: it isn't exact where it wasn't sure or exact
 abbrev again : Date → Date
 again d = date_with d.value (d.uncertain || d.approximate)
 
-written_value : (v : DateValue) (circa : Bool) → IsKeptValue v → HasBothEnds v → text_of_item (date_item (date_with v circa)) ≡ Some (date_text (date_with v circa))
+written_value : (v : DateValue) (circa : Bool) → IsKeptValue v → HasBothEnds v
+    → text_of_item (date_item (date_with v circa)) ≡ Some (date_text (date_with v circa))
 unfolding text_of_item date_item parts_of_value open_text
 written_value (At x) circa k closed = ap (λ r. option_map (λ v. date_text (date_with v circa)) (option_map At r)) (datetime_back x k)
 written_value (After x) circa k closed = absurd closed
@@ -66,5 +70,7 @@ pub closed_dates_read : (d : Date) → IsKeptDate d → HasBothEnds d.value → 
 closed_dates_read d kept closed = record {
   text = date_text (again d);
   written = ap text_of_item (sym (same_item d)) ∙ written_value d.value (d.uncertain || d.approximate) kept closed;
-  read = ap (λ r. read_or_unread r (date_text (again d))) (date_survives (again d) kept) ∙ reads (again d) (date_text (again d)) ∙ ap Some (same_item d);
+  read =
+      ap (λ r. read_or_unread r (date_text (again d))) (date_survives (again d) kept)
+      ∙ reads (again d) (date_text (again d)) ∙ ap Some (same_item d);
 }

@@ -13,7 +13,8 @@ listed_view : {A : Type 0} (vs : List (Value A)) → map value_view vs ≡ liste
 listed_view [] = refl
 listed_view (v ∷ vs) = ap (λ js. value_view v ∷ js) (listed_view vs)
 
-listed_members_view : {A : Type 0} (ms : List (Bor (List ℕ) × Value A)) → map (λ m. (m.0.now, value_view m.1)) ms ≡ listed_members (members_view ms)
+listed_members_view : {A : Type 0} (ms : List (Bor (List ℕ) × Value A))
+    → map (λ m. (m.0.now, value_view m.1)) ms ≡ listed_members (members_view ms)
 listed_members_view [] = refl
 listed_members_view (m ∷ ms) = ap (λ js. (m.0.now, value_view m.1) ∷ js) (listed_members_view ms)
 
@@ -27,7 +28,8 @@ elements_of_array v = ap Some (listed_view v.items) ∙ ap array_elements (of v)
   of : {A : Type 0} (v : Vec (Value A) A) → array (items_view v.items) ≡ value_view (Array v)
   of v = sym (view-Array v)
 
-pub members_of_object : {A : Type 0} (v : Vec (Bor (List ℕ) × Value A) A) → Some (map (λ m. (m.0.now, value_view m.1)) v.items) ≡ object_members (value_view (Object v))
+pub members_of_object : {A : Type 0} (v : Vec (Bor (List ℕ) × Value A) A)
+    → Some (map (λ m. (m.0.now, value_view m.1)) v.items) ≡ object_members (value_view (Object v))
 members_of_object v = ap Some (listed_members_view v.items) ∙ ap object_members (of v) where
   of : {A : Type 0} (v : Vec (Bor (List ℕ) × Value A) A) → object (members_view v.items) ≡ value_view (Object v)
   of v = sym (view-Object v)

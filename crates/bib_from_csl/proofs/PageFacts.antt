@@ -110,16 +110,23 @@ decimal_of_page n small = weaker is_ascii_digit is_of_page digit_of_page (decima
 
 page_all : (b : Bool) (r : Range ℕ) → RangeKept r → list_all is_of_page (page_chars_if b r) ≡ true
 page_all true r kept = decimal_of_page r.start kept.0
-page_all false r kept = list_all-append is_of_page (decimal r.start) (8211 ∷ decimal r.end) ∙ and_from _ _ (decimal_of_page r.start kept.0) (decimal_of_page r.end kept.1)
+page_all false r kept =
+    list_all-append is_of_page (decimal r.start) (8211 ∷ decimal r.end)
+    ∙ and_from _ _ (decimal_of_page r.start kept.0) (decimal_of_page r.end kept.1)
 
 -- their bytes are those that are written
 decimal_bytes : (n : ℕ) → n < 2 ^ 32 → encode_utf8_all (decimal n) ≡ decimal n
-decimal_bytes n small = encodes-IsAscii (decimal n) (simple_ascii (decimal n) (weaker is_ascii_digit is_simple digit_simple (decimal n) (decimal_digits n small)))
+decimal_bytes n small =
+    encodes-IsAscii (decimal n)
+    (simple_ascii (decimal n) (weaker is_ascii_digit is_simple digit_simple (decimal n) (decimal_digits n small)))
 
-page_bytes : (b : Bool) (r : Range ℕ) → RangeKept r → encode_utf8_all (page_chars_if b r) ≡ cond b (decimal r.start) (decimal r.start ++ (encode_utf8 8211 ++ decimal r.end))
+page_bytes : (b : Bool) (r : Range ℕ) → RangeKept r
+    → encode_utf8_all (page_chars_if b r)
+    ≡ cond b (decimal r.start) (decimal r.start ++ (encode_utf8 8211 ++ decimal r.end))
 page_bytes true r kept = decimal_bytes r.start kept.0
 page_bytes false r kept =
-    encodes-append (decimal r.start) (8211 ∷ decimal r.end) ∙ ap (λ s. s ++ encode_utf8_all (8211 ∷ decimal r.end)) (decimal_bytes r.start kept.0)
+    encodes-append (decimal r.start) (8211 ∷ decimal r.end)
+    ∙ ap (λ s. s ++ encode_utf8_all (8211 ∷ decimal r.end)) (decimal_bytes r.start kept.0)
     ∙ ap (λ e. decimal r.start ++ (encode_utf8 8211 ++ e)) (decimal_bytes r.end kept.1)
 
 page_written : (r : Range ℕ) → RangeKept r → encode_utf8_all (page_chars r) ≡ pages_of r
@@ -153,16 +160,20 @@ pages_some r kept = some (r.start == r.end)
 not_nothing : (xs : List ℕ) → 0 < length xs → (length xs == 0) ≡ false
 not_nothing xs some = grind (arith, nat_tests)
 
-joined_both : (separator first next : List ℕ) → 0 < length first → 0 < length next → joined separator first next ≡ first ++ (separator ++ next)
+joined_both : (separator first next : List ℕ) → 0 < length first → 0 < length next
+    → joined separator first next ≡ first ++ (separator ++ next)
 unfolding joined
-joined_both separator first next some more = cond-false (length next == 0) _ _ (not_nothing next more) ∙ cond-false (length first == 0) _ _ (not_nothing first some)
+joined_both separator first next some more =
+    cond-false (length next == 0) _ _ (not_nothing next more)
+    ∙ cond-false (length first == 0) _ _ (not_nothing first some)
 
 joined_first : (separator next : List ℕ) → 0 < length next → joined separator [] next ≡ next
 unfolding joined
 joined_first separator next more = cond-false (length next == 0) _ _ (not_nothing next more)
 
 -- what stands after pages
-after_pages : (before : List ℕ) (rs : List (Range ℕ)) → AllByRecursion RangeKept rs → 0 < length before → pages_after before rs ≡ before ++ encode_utf8_all (more_chars rs)
+after_pages : (before : List ℕ) (rs : List (Range ℕ)) → AllByRecursion RangeKept rs → 0 < length before
+    → pages_after before rs ≡ before ++ encode_utf8_all (more_chars rs)
 unfolding pages_after lib.Utf8.encode
 after_pages before [] kept some = sym (append-nil before)
 after_pages before (r ∷ rs) kept some =
@@ -175,7 +186,8 @@ after_pages before (r ∷ rs) kept some =
     ∙ ap (λ p. before ++ (codes ", " ++ (p ++ rest))) (sym (page_written r kept.0))
     ∙ ap (λ t. before ++ (codes ", " ++ t)) (sym (encodes-append (page_chars r) (more_chars rs)))
 
-all_pages : (r : Range ℕ) (rs : List (Range ℕ)) → RangeKept r → AllByRecursion RangeKept rs → pages_after [] (r ∷ rs) ≡ encode_utf8_all (page_chars r ++ more_chars rs)
+all_pages : (r : Range ℕ) (rs : List (Range ℕ)) → RangeKept r → AllByRecursion RangeKept rs
+    → pages_after [] (r ∷ rs) ≡ encode_utf8_all (page_chars r ++ more_chars rs)
 unfolding pages_after
 all_pages r rs first rest =
     ap (λ t. pages_after t rs) (joined_first (codes ", ") (pages_of r) (pages_some r first))
@@ -188,15 +200,19 @@ page_of r kept = page_all (r.start == r.end) r kept
 
 all_scalar : (cs : List ℕ) → list_all is_of_page cs ≡ true → scalars cs ≡ true
 all_scalar [] all = refl
-all_scalar (c ∷ cs) all = let parts = and_parts (is_of_page c) (list_all is_of_page cs) all in and_from _ _ (of_page_scalar c parts.0) (all_scalar cs parts.1)
+all_scalar (c ∷ cs) all =
+    let parts = and_parts (is_of_page c) (list_all is_of_page cs) all in
+    and_from _ _ (of_page_scalar c parts.0) (all_scalar cs parts.1)
 
 scalars_both : (xs ys : List ℕ) → scalars xs ≡ true → scalars ys ≡ true → scalars (xs ++ ys) ≡ true
 scalars_both [] ys first rest = rest
-scalars_both (x ∷ xs) ys first rest = let parts = and_parts (scalar x) (scalars xs) first in and_from _ _ parts.0 (scalars_both xs ys parts.1 rest)
+scalars_both (x ∷ xs) ys first rest =
+    let parts = and_parts (scalar x) (scalars xs) first in and_from _ _ parts.0 (scalars_both xs ys parts.1 rest)
 
 more_scalar : (rs : List (Range ℕ)) → AllByRecursion RangeKept rs → scalars (more_chars rs) ≡ true
 more_scalar [] kept = refl
-more_scalar (r ∷ rs) kept = scalars_both (page_chars r) (more_chars rs) (all_scalar (page_chars r) (page_of r kept.0)) (more_scalar rs kept.1)
+more_scalar (r ∷ rs) kept =
+    scalars_both (page_chars r) (more_chars rs) (all_scalar (page_chars r) (page_of r kept.0)) (more_scalar rs kept.1)
 
 -- ---- where the list is cut
 
@@ -204,7 +220,8 @@ no_comma : (cs : List ℕ) → list_all is_of_page cs ≡ true → NonePass (λ 
 no_comma [] all = tt
 no_comma (c ∷ cs) all = let parts = and_parts (is_of_page c) (list_all is_of_page cs) all in (of_page_comma c parts.0, no_comma cs parts.1)
 
-cut_here : (cs rest : List ℕ) → NonePass (λ c. c == 44) cs → slice_split (λ c. c == 44) (cs ++ 44 ∷ rest) ≡ cs ∷ slice_split (λ c. c == 44) rest
+cut_here : (cs rest : List ℕ) → NonePass (λ c. c == 44) cs
+    → slice_split (λ c. c == 44) (cs ++ 44 ∷ rest) ≡ cs ∷ slice_split (λ c. c == 44) rest
 cut_here [] rest free = slice_split-cons_yes (λ c. c == 44) 44 rest refl
 cut_here (d ∷ cs) rest free = slice_split-cons_no (λ c. c == 44) d (cs ++ 44 ∷ rest) free.0 ∙ ap (onto_first d) (cut_here cs rest free.1)
 
@@ -217,11 +234,16 @@ none_both : (xs ys : List ℕ) → NonePass (λ c. c == 44) xs → NonePass (λ 
 none_both [] ys free more = more
 none_both (x ∷ xs) ys free more = (free.0, none_both xs ys free.1 more)
 
-cut_after_space : (lead : List ℕ) (r : Range ℕ) (rs : List (Range ℕ)) → RangeKept r → AllByRecursion RangeKept rs → NonePass (λ c. c == 44) lead → between_commas ((lead ++ page_chars r) ++ more_chars rs) ≡ (lead ++ page_chars r) ∷ spaced rs
+cut_after_space : (lead : List ℕ) (r : Range ℕ) (rs : List (Range ℕ)) → RangeKept r → AllByRecursion RangeKept rs
+    → NonePass (λ c. c == 44) lead
+    → between_commas ((lead ++ page_chars r) ++ more_chars rs) ≡ (lead ++ page_chars r) ∷ spaced rs
 cut_after_space lead r [] first rest free =
-    ap between_commas (append-nil (lead ++ page_chars r)) ∙ split_none (λ c. c == 44) (lead ++ page_chars r) (none_both lead (page_chars r) free (no_comma (page_chars r) (page_of r first)))
+    ap between_commas (append-nil (lead ++ page_chars r))
+    ∙ split_none (λ c. c == 44) (lead ++ page_chars r)
+    (none_both lead (page_chars r) free (no_comma (page_chars r) (page_of r first)))
 cut_after_space lead r (q ∷ rs) first rest free =
-    cut_here (lead ++ page_chars r) (32 ∷ (page_chars q ++ more_chars rs)) (none_both lead (page_chars r) free (no_comma (page_chars r) (page_of r first)))
+    cut_here (lead ++ page_chars r) (32 ∷ (page_chars q ++ more_chars rs))
+    (none_both lead (page_chars r) free (no_comma (page_chars r) (page_of r first)))
     ∙ ap (λ ts. (lead ++ page_chars r) ∷ ts) (cut_after_space (32 ∷ []) q rs rest.0 rest.1 (refl, tt))
 
 -- ---- what the pieces say
@@ -232,12 +254,15 @@ skip_none (c ∷ cs) all = let parts = and_parts (is_of_page c) (list_all is_of_
 
 drop_none : (cs : List ℕ) → list_all is_of_page cs ≡ true → drop_trailing_whitespace cs ≡ cs
 drop_none [] all = refl
-drop_none (c ∷ cs) all = let parts = and_parts (is_of_page c) (list_all is_of_page cs) all in rw (of_page_white c parts.0) (ap (λ t. c ∷ t) (drop_none cs parts.1))
+drop_none (c ∷ cs) all =
+    let parts = and_parts (is_of_page c) (list_all is_of_page cs) all in
+    rw (of_page_white c parts.0) (ap (λ t. c ∷ t) (drop_none cs parts.1))
 
 start_cut : (cs : List ℕ) → list_all is_of_page cs ≡ true → trim_start (encode_utf8_all (32 ∷ cs)) ≡ encode_utf8_all cs
 unfolding trim_start
 start_cut cs all =
-    ap (λ t. encode_utf8_all (skip_leading_whitespace t)) (chars-encodes (32 ∷ cs) (all_scalar cs all)) ∙ ap encode_utf8_all (skip_none cs all)
+    ap (λ t. encode_utf8_all (skip_leading_whitespace t)) (chars-encodes (32 ∷ cs) (all_scalar cs all))
+    ∙ ap encode_utf8_all (skip_none cs all)
 
 end_cut : (cs : List ℕ) → list_all is_of_page cs ≡ true → trim_end (encode_utf8_all cs) ≡ encode_utf8_all cs
 unfolding trim_end
@@ -248,26 +273,40 @@ end_stays : (last : Bool) (cs : List ℕ) → list_all is_of_page cs ≡ true �
 end_stays true cs all = end_cut cs all
 end_stays false cs all = refl
 
-part_says : (whole : List ℕ) (span : Range ℕ) (at : ℕ) (text : List ℕ) → formatted (chunk_part whole span at text ∷ []) ≡ flowing false (chars text) ++ []
+part_says : (whole : List ℕ) (span : Range ℕ) (at : ℕ) (text : List ℕ)
+    → formatted (chunk_part whole span at text ∷ []) ≡ flowing false (chars text) ++ []
 part_says whole span at text = says (length text == length whole)
   where
-    says : (b : Bool) → formatted (cond b (placed (Normal text) span.start span.end) (placed (Normal text) (further span.start at) (further (further span.start at) (length text))) ∷ []) ≡ flowing false (chars text) ++ []
+    says : (b : Bool)
+        → formatted
+        (cond b (placed (Normal text) span.start span.end)
+        (placed (Normal text) (further span.start at) (further (further span.start at) (length text)))
+        ∷ []) ≡ flowing false (chars text) ++ []
     says true = refl
     says false = refl
 
 page_says : (cs : List ℕ) → list_all is_of_page cs ≡ true → flowing false (chars (encode_utf8_all cs)) ++ [] ≡ cs
-page_says cs all = append-nil _ ∙ ap (flowing false) (chars-encodes cs (all_scalar cs all)) ∙ flowing_whole false cs (weaker is_of_page goes_on of_page_goes cs all)
+page_says cs all =
+    append-nil _ ∙ ap (flowing false) (chars-encodes cs (all_scalar cs all))
+    ∙ flowing_whole false cs (weaker is_of_page goes_on of_page_goes cs all)
 
-first_says : (whole : List ℕ) (span : Range ℕ) (at : ℕ) (last : Bool) (cs : List ℕ) → list_all is_of_page cs ≡ true → formatted (piece whole span at false last (encode_utf8_all cs) ∷ []) ≡ cs
+first_says : (whole : List ℕ) (span : Range ℕ) (at : ℕ) (last : Bool) (cs : List ℕ) → list_all is_of_page cs ≡ true
+    → formatted (piece whole span at false last (encode_utf8_all cs) ∷ []) ≡ cs
 first_says whole span at last cs all =
-    part_says whole span _ (trimmed_end last (encode_utf8_all cs)) ∙ ap (λ t. flowing false (chars t) ++ []) (end_stays last cs all) ∙ page_says cs all
+    part_says whole span _ (trimmed_end last (encode_utf8_all cs))
+    ∙ ap (λ t. flowing false (chars t) ++ []) (end_stays last cs all) ∙ page_says cs all
 
-later_says : (whole : List ℕ) (span : Range ℕ) (at : ℕ) (last : Bool) (cs : List ℕ) → list_all is_of_page cs ≡ true → formatted (piece whole span at true last (encode_utf8_all (32 ∷ cs)) ∷ []) ≡ cs
+later_says : (whole : List ℕ) (span : Range ℕ) (at : ℕ) (last : Bool) (cs : List ℕ) → list_all is_of_page cs ≡ true
+    → formatted (piece whole span at true last (encode_utf8_all (32 ∷ cs)) ∷ []) ≡ cs
 later_says whole span at last cs all =
     part_says whole span _ (trimmed_end last (trim_start (encode_utf8_all (32 ∷ cs))))
-    ∙ ap (λ t. flowing false (chars (trimmed_end last t)) ++ []) (start_cut cs all) ∙ ap (λ t. flowing false (chars t) ++ []) (end_stays last cs all) ∙ page_says cs all
+    ∙ ap (λ t. flowing false (chars (trimmed_end last t)) ++ []) (start_cut cs all)
+    ∙ ap (λ t. flowing false (chars t) ++ []) (end_stays last cs all) ∙ page_says cs all
 
-joined_more : (p : Spanned Chunk) (whole : List ℕ) (span : Range ℕ) (at : ℕ) (text : List ℕ) (texts : List (List ℕ)) (parts : List Value) → joined_parts (p ∷ pieces_between 1 whole span at true (text ∷ texts)) parts ≡ (p ∷ []) ∷ joined_parts (pieces_between 1 whole span at true (text ∷ texts)) parts
+joined_more : (p : Spanned Chunk) (whole : List ℕ) (span : Range ℕ) (at : ℕ) (text : List ℕ) (texts : List (List ℕ))
+    (parts : List Value)
+    → joined_parts (p ∷ pieces_between 1 whole span at true (text ∷ texts)) parts
+    ≡ (p ∷ []) ∷ joined_parts (pieces_between 1 whole span at true (text ∷ texts)) parts
 joined_more p whole span at text [] parts = refl
 joined_more p whole span at text (next ∷ more) parts = refl
 
@@ -275,13 +314,17 @@ abbrev said : List Value → List (List ℕ)
 said parts = map formatted parts
 
 later_parts : (whole : List ℕ) (span : Range ℕ) (at : ℕ) (r : Range ℕ) (rs : List (Range ℕ)) → RangeKept r → AllByRecursion RangeKept rs
-    → said (joined_parts (pieces_between 1 whole span at true ((32 ∷ page_chars r) ∷ spaced rs)) ([] ∷ [])) ≡ page_chars r ∷ map page_chars rs
+    → said (joined_parts (pieces_between 1 whole span at true ((32 ∷ page_chars r) ∷ spaced rs)) ([] ∷ []))
+    ≡ page_chars r ∷ map page_chars rs
 later_parts whole span at r [] first rest = ap (λ cs. cs ∷ []) (later_says whole span at false (page_chars r) (page_of r first))
 later_parts whole span at r (q ∷ rs) first rest =
     let here : Spanned Chunk = piece whole span at true true (encode_utf8_all (32 ∷ page_chars r)) in
     let next : ℕ = at + (length (encode_utf8_all (32 ∷ page_chars r)) + 1) in
     ap said (joined_more here whole span next (32 ∷ page_chars q) (spaced rs) ([] ∷ []))
-    ∙ ap (λ cs. cs ∷ said (joined_parts (pieces_between 1 whole span next true ((32 ∷ page_chars q) ∷ spaced rs)) ([] ∷ []))) (later_says whole span at true (page_chars r) (page_of r first))
+    ∙ ap
+    (λ cs.
+    cs ∷ said (joined_parts (pieces_between 1 whole span next true ((32 ∷ page_chars q) ∷ spaced rs)) ([] ∷ [])))
+    (later_says whole span at true (page_chars r) (page_of r first))
     ∙ ap (λ ts. page_chars r ∷ ts) (later_parts whole span next q rs rest.0 rest.1)
 
 all_parts : (whole : List ℕ) (span : Range ℕ) (r : Range ℕ) (rs : List (Range ℕ)) → RangeKept r → AllByRecursion RangeKept rs
@@ -291,7 +334,10 @@ all_parts whole span r (q ∷ rs) first rest =
     let here : Spanned Chunk = piece whole span 0 false true (encode_utf8_all (page_chars r)) in
     let next : ℕ = 0 + (length (encode_utf8_all (page_chars r)) + 1) in
     ap said (joined_more here whole span next (32 ∷ page_chars q) (spaced rs) ([] ∷ []))
-    ∙ ap (λ cs. cs ∷ said (joined_parts (pieces_between 1 whole span next true ((32 ∷ page_chars q) ∷ spaced rs)) ([] ∷ []))) (first_says whole span 0 true (page_chars r) (page_of r first))
+    ∙ ap
+    (λ cs.
+    cs ∷ said (joined_parts (pieces_between 1 whole span next true ((32 ∷ page_chars q) ∷ spaced rs)) ([] ∷ [])))
+    (first_says whole span 0 true (page_chars r) (page_of r first))
     ∙ ap (λ ts. page_chars r ∷ ts) (later_parts whole span next q rs rest.0 rest.1)
 
 composed : (parts : List Value) → map (λ part. range_of (formatted part)) parts ≡ map range_of (said parts)
@@ -300,21 +346,27 @@ composed (p ∷ parts) = ap (λ xs. range_of (formatted p) ∷ xs) (composed par
 
 each_read : (rs : List (Range ℕ)) → AllByRecursion RangeKept rs → all_of (map range_of (map page_chars rs)) ≡ Some rs
 each_read [] kept = refl
-each_read (r ∷ rs) kept = ap (λ x. with_first x (all_of (map range_of (map page_chars rs)))) (page_read r kept.0) ∙ ap (with_first (Some r)) (each_read rs kept.1)
+each_read (r ∷ rs) kept =
+    ap (λ x. with_first x (all_of (map range_of (map page_chars rs)))) (page_read r kept.0)
+    ∙ ap (with_first (Some r)) (each_read rs kept.1)
 
-ranges_are : (r : Range ℕ) (rs : List (Range ℕ)) → RangeKept r → AllByRecursion RangeKept rs → ranges_read (alone (Normal (pages_after [] (r ∷ rs)))) ≡ Some (r ∷ rs)
+ranges_are : (r : Range ℕ) (rs : List (Range ℕ)) → RangeKept r → AllByRecursion RangeKept rs
+    → ranges_read (alone (Normal (pages_after [] (r ∷ rs)))) ≡ Some (r ∷ rs)
 unfolding ranges_read
 ranges_are r rs first rest =
     let cs : List ℕ = page_chars r ++ more_chars rs in
-    let valid : scalars cs ≡ true = scalars_both (page_chars r) (more_chars rs) (all_scalar (page_chars r) (page_of r first)) (more_scalar rs rest) in
-    let cut : between_commas (chars (encode_utf8_all cs)) ≡ page_chars r ∷ spaced rs = ap between_commas (chars-encodes cs valid) ∙ cut_after_space [] r rs first rest tt in
+    let valid : scalars cs ≡ true =
+    scalars_both (page_chars r) (more_chars rs) (all_scalar (page_chars r) (page_of r first)) (more_scalar rs rest) in
+    let cut : between_commas (chars (encode_utf8_all cs)) ≡ page_chars r ∷ spaced rs =
+    ap between_commas (chars-encodes cs valid) ∙ cut_after_space [] r rs first rest tt in
     ap (λ t. all_of (map (λ part. range_of (formatted part)) (comma_list (alone (Normal t))))) (all_pages r rs first rest)
     ∙ ap all_of (composed (comma_list (alone (Normal (encode_utf8_all cs)))))
     ∙ ap (λ ts. all_of (map range_of (said (joined_parts (pieces_between 1 (encode_utf8_all cs) no_place 0 false ts) ([] ∷ []))))) cut
     ∙ ap (λ ps. all_of (map range_of ps)) (all_parts (encode_utf8_all cs) no_place r rs first rest)
     ∙ each_read (r ∷ rs) (first, rest)
 
-pub pages_read : (ranges : List (Range ℕ)) → RangesKept ranges → pages (Some (alone (Normal (pages_after [] ranges)))) ≡ pages_after [] ranges
+pub pages_read : (ranges : List (Range ℕ)) → RangesKept ranges
+    → pages (Some (alone (Normal (pages_after [] ranges)))) ≡ pages_after [] ranges
 unfolding pages
 pages_read [] kept = absurd (omega (arith, kept.0))
 pages_read (r ∷ rs) kept = ap (λ o. pages_text o (text (alone (Normal (pages_after [] (r ∷ rs)))))) (ranges_are r rs kept.1.0 kept.1.1)

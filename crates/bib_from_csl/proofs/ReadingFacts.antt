@@ -20,21 +20,26 @@ after_none None = refl
 after_none (Some fields) = refl
 
 -- one more
-pub after_one : (before : List Given) (field : Given) (rest : Option (List Given)) → after_fields before (before_fields (Some field) rest) ≡ after_fields (before ++ field ∷ []) rest
+pub after_one : (before : List Given) (field : Given) (rest : Option (List Given))
+    → after_fields before (before_fields (Some field) rest) ≡ after_fields (before ++ field ∷ []) rest
 after_one before field None = refl
 after_one before field (Some fields) = ap Some (sym (append_assoc before (field ∷ []) fields))
 
 -- a member of the head, a member that has its form, and one that hasn't
-pub head_passed : (before : List Given) (m : List ℕ × Json) (ms : List (List ℕ × Json)) → is_head m.0 ≡ true → after_fields before (members_read (m ∷ ms)) ≡ after_fields before (members_read ms)
-head_passed before m ms head = ap (λ b. after_fields before (cond b (members_read ms) (before_fields (member_of m.0 m.1) (members_read ms)))) head
+pub head_passed : (before : List Given) (m : List ℕ × Json) (ms : List (List ℕ × Json)) → is_head m.0 ≡ true
+    → after_fields before (members_read (m ∷ ms)) ≡ after_fields before (members_read ms)
+head_passed before m ms head =
+    ap (λ b. after_fields before (cond b (members_read ms) (before_fields (member_of m.0 m.1) (members_read ms)))) head
 
-pub member_passed : (before : List Given) (m : List ℕ × Json) (ms : List (List ℕ × Json)) (field : Given) → is_head m.0 ≡ false → member_of m.0 m.1 ≡ Some field
+pub member_passed : (before : List Given) (m : List ℕ × Json) (ms : List (List ℕ × Json)) (field : Given)
+    → is_head m.0 ≡ false → member_of m.0 m.1 ≡ Some field
     → after_fields before (members_read (m ∷ ms)) ≡ after_fields (before ++ field ∷ []) (members_read ms)
 member_passed before m ms field head is =
     ap (λ b. after_fields before (cond b (members_read ms) (before_fields (member_of m.0 m.1) (members_read ms)))) head
     ∙ ap (λ r. after_fields before (before_fields r (members_read ms))) is ∙ after_one before field (members_read ms)
 
-pub member_unfit : (before : List Given) (m : List ℕ × Json) (ms : List (List ℕ × Json)) → is_head m.0 ≡ false → member_of m.0 m.1 ≡ None → after_fields before (members_read (m ∷ ms)) ≡ None
+pub member_unfit : (before : List Given) (m : List ℕ × Json) (ms : List (List ℕ × Json)) → is_head m.0 ≡ false
+    → member_of m.0 m.1 ≡ None → after_fields before (members_read (m ∷ ms)) ≡ None
 member_unfit before m ms head is =
     ap (λ b. after_fields before (cond b (members_read ms) (before_fields (member_of m.0 m.1) (members_read ms)))) head
     ∙ ap (λ r. after_fields before (before_fields r (members_read ms))) is
@@ -48,13 +53,16 @@ pub after_no_items : (reading : ItemsReading) → after_items [] reading ≡ rea
 after_no_items (Are items) = refl
 after_no_items (Refused index fault) = refl
 
-pub after_one_item : (before : List GivenItem) (index : ℕ) (item : GivenItem) (rest : ItemsReading) → after_items before (before_items index (Says item) rest) ≡ after_items (before ++ item ∷ []) rest
+pub after_one_item : (before : List GivenItem) (index : ℕ) (item : GivenItem) (rest : ItemsReading)
+    → after_items before (before_items index (Says item) rest) ≡ after_items (before ++ item ∷ []) rest
 after_one_item before index item (Are items) = ap Are (sym (append_assoc before (item ∷ []) items))
 after_one_item before index item (Refused other fault) = refl
 
 pub item_passed : (before : List GivenItem) (index : ℕ) (j : Json) (js : List Json) (item : GivenItem) → item_in j ≡ Says item
     → after_items before (items_read_from index (j ∷ js)) ≡ after_items (before ++ item ∷ []) (items_read_from (index + 1) js)
-item_passed before index j js item is = ap (λ r. after_items before (before_items index r (items_read_from (index + 1) js))) is ∙ after_one_item before index item (items_read_from (index + 1) js)
+item_passed before index j js item is =
+    ap (λ r. after_items before (before_items index r (items_read_from (index + 1) js))) is
+    ∙ after_one_item before index item (items_read_from (index + 1) js)
 
 pub item_unfit : (before : List GivenItem) (index : ℕ) (j : Json) (js : List Json) (fault : Fault) → item_in j ≡ Unfit fault
     → after_items before (items_read_from index (j ∷ js)) ≡ Refused index fault

@@ -13,15 +13,24 @@ use Rattle.bib_text.proofs.ListFacts.{begins, begins_not}
 use Rattle.std.proofs.Math.Bool.{or-false, and-true}
 
 -- what is left after a prefix
-pub prefix_taken : (prefix text : List ℕ) (r : Option (Bor (List ℕ))) → MatchOption r (FindsTextPrefix prefix text None) (λ x. (n : ℕ) × FindsTextPrefix prefix text (Some n) × (x.now ≡ drop n text) × (length x.now + n ≡ length text))
+pub prefix_taken : (prefix text : List ℕ) (r : Option (Bor (List ℕ)))
+    → MatchOption r (FindsTextPrefix prefix text None)
+    (λ x. (n : ℕ) × FindsTextPrefix prefix text (Some n) × (x.now ≡ drop n text) × (length x.now + n ≡ length text))
     → option_map (λ x. x.now) r ≡ without_prefix prefix text
 prefix_taken prefix text None h = sym (ap (λ b. cond b (Some (drop (length prefix) text)) None) (begins_not prefix text h))
 prefix_taken prefix text (Some x) h =
-    ap Some (h.2 ∙ ap (λ k. drop k text) h.1.0) ∙ sym (ap (λ b. cond b (Some (drop (length prefix) text)) None) (begins prefix text (drop h.0 text) h.1.1))
+    ap Some (h.2 ∙ ap (λ k. drop k text) h.1.0)
+    ∙ sym (ap (λ b. cond b (Some (drop (length prefix) text)) None) (begins prefix text (drop h.0 text) h.1.1))
 
 -- one more element that passes or doesn't
-pub any_more : {X : Type 0} (p : X → Bool) (xs : List X) (x : X) (found more : Bool) → found ≡ list_any p xs → more ≡ (found || p x) → more ≡ list_any p (xs ++ x ∷ [])
-any_more p xs x found more was is = is ∙ ap (λ b. b || p x) was ∙ ap (λ b. list_any p xs || b) (sym (or-false (p x))) ∙ sym (list_any-append p xs (x ∷ []))
+pub any_more : {X : Type 0} (p : X → Bool) (xs : List X) (x : X) (found more : Bool) → found ≡ list_any p xs
+    → more ≡ (found || p x) → more ≡ list_any p (xs ++ x ∷ [])
+any_more p xs x found more was is =
+    is ∙ ap (λ b. b || p x) was ∙ ap (λ b. list_any p xs || b) (sym (or-false (p x)))
+    ∙ sym (list_any-append p xs (x ∷ []))
 
-pub all_more : {X : Type 0} (p : X → Bool) (xs : List X) (x : X) (found more : Bool) → found ≡ list_all p xs → more ≡ (found && p x) → more ≡ list_all p (xs ++ x ∷ [])
-all_more p xs x found more was is = is ∙ ap (λ b. b && p x) was ∙ ap (λ b. list_all p xs && b) (sym (and-true (p x))) ∙ sym (list_all-append p xs (x ∷ []))
+pub all_more : {X : Type 0} (p : X → Bool) (xs : List X) (x : X) (found more : Bool) → found ≡ list_all p xs
+    → more ≡ (found && p x) → more ≡ list_all p (xs ++ x ∷ [])
+all_more p xs x found more was is =
+    is ∙ ap (λ b. b && p x) was ∙ ap (λ b. list_all p xs && b) (sym (and-true (p x)))
+    ∙ sym (list_all-append p xs (x ∷ []))

@@ -13,7 +13,8 @@ is_among_words list name = list_any (bytes_eq name) (words list)
 -- the type of the entry of an item that is part of another work, or one issue of a periodical
 abbrev pub part_type : List ℕ → Option EntryType
 part_type kind =
-    if is_among_words (codes "article article-journal article-magazine article-newspaper review review-book") kind then Some entry_type.Article
+    if is_among_words (codes "article article-journal article-magazine article-newspaper review review-book") kind
+    then Some entry_type.Article
     else if is_among_words (codes "chapter") kind then Some entry_type.InCollection
     else if is_among_words (codes "entry entry-dictionary entry-encyclopedia") kind then Some entry_type.InReference
     else if is_among_words (codes "paper-conference") kind then Some entry_type.InProceedings

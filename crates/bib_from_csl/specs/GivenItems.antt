@@ -44,7 +44,9 @@ dashed_text text = replaced char.hyphen (encode_utf8_all (codes "–")) (chars t
 -- the page of a range that begins and ends with it, as `115` of `115-115`; else the text
 unfoldable pub single_page : List ℕ → List ℕ
 single_page text =
-    if has_byte char.hyphen text && bytes_eq (before_first (λ b. b == char.hyphen) text) (after_first (λ b. b == char.hyphen) text) then before_first (λ b. b == char.hyphen) text
+    if has_byte char.hyphen text
+    && bytes_eq (before_first (λ b. b == char.hyphen) text) (after_first (λ b. b == char.hyphen) text)
+    then before_first (λ b. b == char.hyphen) text
     else text
 
 -- the text of a variable; a hyphen between numbers of pages is a dash, and a range of one page is the page

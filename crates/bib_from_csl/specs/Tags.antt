@@ -44,7 +44,9 @@ opened piece =
 -- what stands after the tag that ends another, where a piece begins with one
 abbrev pub closed : List ℕ → Option (List ℕ)
 closed piece =
-    option_or (option_or (option_or (option_or (without_prefix (codes "/i>") piece) (without_prefix (codes "/b>") piece)) (without_prefix (codes "/sup>") piece))
+    option_or (option_or
+    (option_or (option_or (without_prefix (codes "/i>") piece) (without_prefix (codes "/b>") piece))
+    (without_prefix (codes "/sup>") piece))
     (without_prefix (codes "/sub>") piece)) (without_prefix (codes "/span>") piece)
 
 -- a text in which no character has a meaning for LaTeX

@@ -7,7 +7,10 @@ use Rattle.bib_from_csl.specs.EntryTypes.{numbers_issues, numbers_series, stands
 
 -- whether a variable holds people
 abbrev pub is_names : List ℕ → Bool
-is_names = is_among_words (codes "author chair collection-editor compiler composer container-author contributor curator director editor editorial-director executive-producer guest host illustrator interviewer narrator organizer original-author performer producer recipient reviewed-author script-writer series-creator translator")
+is_names =
+    is_among_words
+    (codes
+    "author chair collection-editor compiler composer container-author contributor curator director editor editorial-director executive-producer guest host illustrator interviewer narrator organizer original-author performer producer recipient reviewed-author script-writer series-creator translator")
 
 -- whether a variable holds a date
 abbrev pub is_date : List ℕ → Bool
@@ -15,7 +18,10 @@ is_date = is_among_words (codes "accessed available-date event-date issued origi
 
 -- whether a variable holds a title
 abbrev pub is_title : List ℕ → Bool
-is_title = is_among_words (codes "title title-short volume-title container-title container-title-short collection-title original-title event-title")
+is_title =
+    is_among_words
+    (codes
+    "title title-short volume-title container-title container-title-short collection-title original-title event-title")
 
 -- whether the field of a variable is a list
 abbrev pub is_list_variable : List ℕ → Bool
@@ -31,7 +37,10 @@ is_tagged name = is_title name || is_rich name
 
 -- whether a variable holds a number, or another short text
 abbrev pub is_number_variable : List ℕ → Bool
-is_number_variable = is_among_words (codes "volume number-of-volumes part-number issue number collection-number edition chapter-number page number-of-pages version status keyword language")
+is_number_variable =
+    is_among_words
+    (codes
+    "volume number-of-volumes part-number issue number collection-number edition chapter-number page number-of-pages version status keyword language")
 
 -- whether a variable says by what the item is identified, or where it is kept
 abbrev pub is_identifier : List ℕ → Bool
@@ -164,7 +173,8 @@ either_name first other = if length first == 0 then other else first
 -- volume
 unfoldable pub variable_field : EntryType → Bool → List ℕ → List ℕ
 variable_field kind in_work name =
-    either_name (either_name (either_name (either_name (either_name (title_field kind in_work name) (word_field kind name)) (number_field kind name))
+    either_name (either_name (either_name
+    (either_name (either_name (title_field kind in_work name) (word_field kind name)) (number_field kind name))
     (identifier_field name)) (people_field name)) (field_of_date name)
 
 -- the field beside the field of a variable, which says what the first means, or nothing

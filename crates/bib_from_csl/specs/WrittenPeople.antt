@@ -16,7 +16,9 @@ use Rattle.bib_from_csl.specs.Values.{tie, with_ties}
 
 -- whether a character may stand in a word of a name that is written as BibTeX has it
 abbrev pub may_stand_in_name : ℕ → Bool
-may_stand_in_name c = if c == tie then true else not (is_whitespace c) && not ((c == char.comma) || ((c == char.equals) || (c == char.tilde)))
+may_stand_in_name c =
+    if c == tie then true
+    else not (is_whitespace c) && not ((c == char.comma) || ((c == char.equals) || (c == char.tilde)))
 
 -- whether there is a first character, and it is a small letter
 abbrev pub begins_small : List ℕ → Bool
@@ -79,7 +81,8 @@ with_separator text separator = if length text == 0 then [] else text ++ separat
 -- a name as BibTeX has it
 unfoldable pub plain_text_of : Bool → NameParts → List ℕ
 plain_text_of uses_prefix p =
-    with_separator (particle uses_prefix p) (codes " ") ++ (with_separator p.family (codes ", ") ++ (with_separator p.suffix (codes ", ") ++ p.given))
+    with_separator (particle uses_prefix p) (codes " ")
+    ++ (with_separator p.family (codes ", ") ++ (with_separator p.suffix (codes ", ") ++ p.given))
 
 -- a key and its value, unless the value is empty
 unfoldable pub keyed_unless_empty : List ℕ → List ℕ → Value

@@ -30,7 +30,9 @@ use Rattle.bib_text.proofs.ListFacts.{some_same}
 -- ---- lists
 
 set_here : {A : Type 0} (xs : List A) (i : ℕ) (x : A) → i < length xs → slice_get (set xs i x) i ≡ Some x
-set_here xs i x within = slice_get-get_or (set xs i x) i x (omega (arith, within, length-set xs i x)) ∙ ap Some (get_or-set_same xs i x x within)
+set_here xs i x within =
+    slice_get-get_or (set xs i x) i x (omega (arith, within, length-set xs i x))
+    ∙ ap Some (get_or-set_same xs i x x within)
 
 set_apart : {A : Type 0} (xs : List A) (i k : ℕ) (x : A) → k ≢ i → slice_get (set xs i x) k ≡ slice_get xs k
 set_apart [] i k x apart = refl
@@ -49,9 +51,11 @@ removed_at : (m : Fields) (k q : List ℕ) → by_name.get (by_name.remove m k) 
 removed_at m k q = get-remove nat_list_cmp_total m k q ∙ ap (λ b. cond b None (by_name.get m q)) (is_eq-slice_cmp q k)
 
 -- fields without `crossref` and `xdata` have no references
-no_names : (names : ByText ℕ) (fields : FieldTexts) → fields (codes "crossref") ≡ None → fields (codes "xdata") ≡ None → references names fields ≡ []
+no_names : (names : ByText ℕ) (fields : FieldTexts) → fields (codes "crossref") ≡ None → fields (codes "xdata") ≡ None
+    → references names fields ≡ []
 no_names names fields crossref xdata = go _ _ (fields (codes "crossref")) (fields (codes "xdata")) crossref xdata where
-  go : (first second : List Atom → List (List ℕ)) (a b : Option (List Atom)) → a ≡ None → b ≡ None → filter_map (by_name.get names) (option_map_or first a [] ++ option_map_or second b []) ≡ []
+  go : (first second : List Atom → List (List ℕ)) (a b : Option (List Atom)) → a ≡ None → b ≡ None
+      → filter_map (by_name.get names) (option_map_or first a [] ++ option_map_or second b []) ≡ []
   go first second None None a b = refl
   go first second None (Some x) a b = cc
   go first second (Some x) b is other = cc
@@ -61,22 +65,30 @@ refers_to_nothing : (names : ByText ℕ) (e : Entry) → references names (field
 refers_to_nothing names e =
     let rest : Fields = by_name.remove e.fields (codes "crossref") in
     no_names names (fields_of (without_references e).fields)
-    (ap (option_map styled) (removed_at rest (codes "xdata") (codes "crossref") ∙ removed_at e.fields (codes "crossref") (codes "crossref")))
+    (ap (option_map styled)
+    (removed_at rest (codes "xdata") (codes "crossref") ∙ removed_at e.fields (codes "crossref") (codes "crossref")))
     (ap (option_map styled) (removed_at rest (codes "xdata") (codes "xdata")))
 
 -- ---- errors
 
 -- if no index fails, there are no errors
-pub none_reported : (fails : ℕ → Type 0) (reports : ℕ → ParseError → Type 0) (n : ℕ) → ((index : ℕ) → index < n → fails index → ⊥) → EachReported fails reports n []
+pub none_reported : (fails : ℕ → Type 0) (reports : ℕ → ParseError → Type 0) (n : ℕ)
+    → ((index : ℕ) → index < n → fails index → ⊥) → EachReported fails reports n []
 none_reported fails reports zero never = none
-none_reported fails reports (suc n) never = subst (λ k. EachReported fails reports k []) (add-one n) (passed (none_reported fails reports n (λ index below. never index (omega arith))) (never n (omega arith)))
+none_reported fails reports (suc n) never =
+    subst (λ k. EachReported fails reports k []) (add-one n)
+    (passed (none_reported fails reports n (λ index below. never index (omega arith))) (never n (omega arith)))
 
 -- the same errors for equivalent conditions
-pub each_same : (fails fails' : ℕ → Type 0) (reports reports' : ℕ → ParseError → Type 0) (n : ℕ) (errors : List ParseError) → ((index : ℕ) → fails index → fails' index) → ((index : ℕ) → fails' index → fails index) → ((index : ℕ) (e : ParseError) → reports index e → reports' index e)
+pub each_same : (fails fails' : ℕ → Type 0) (reports reports' : ℕ → ParseError → Type 0) (n : ℕ)
+    (errors : List ParseError) → ((index : ℕ) → fails index → fails' index)
+    → ((index : ℕ) → fails' index → fails index) → ((index : ℕ) (e : ParseError) → reports index e → reports' index e)
     → EachReported fails reports n errors → EachReported fails' reports' n errors
 each_same fails fails' reports reports' n errors there back same none = none
-each_same fails fails' reports reports' n errors there back same (passed {index = index} {errors = before} h never) = passed (each_same fails fails' reports reports' index before there back same h) (λ f. never (back index f))
-each_same fails fails' reports reports' n errors there back same (reported {index = index} {errors = before} {e = e} h f r) = reported (each_same fails fails' reports reports' index before there back same h) (there index f) (same index e r)
+each_same fails fails' reports reports' n errors there back same (passed {index = index} {errors = before} h never) =
+    passed (each_same fails fails' reports reports' index before there back same h) (λ f. never (back index f))
+each_same fails fails' reports reports' n errors there back same (reported {index = index} {errors = before} {e = e} h f r) =
+    reported (each_same fails fails' reports reports' index before there back same h) (there index f) (same index e r)
 
 no_edge : {b : ℕ} → Contains [] b → ⊥
 no_edge c = omega (arith, c.1)
@@ -96,8 +108,10 @@ module _ (spans : List (Range ℕ)) (own : List Entry) (graph : Graph) where
   pub record HaveCut (i : ℕ) (entries : List Entry) (refs : Graph) (errors : List ParseError) : Type 0 where
     pub as_long : length entries ≡ length own
     pub keys : map (λ e. e.key) entries ≡ map (λ e. e.key) own
-    pub on_cycle : (index : ℕ) (entry : Entry) → index < i → slice_get own index ≡ Some entry → IsOnCycle index → slice_get entries index ≡ Some (without_references entry)
-    pub off_cycle : (index : ℕ) (entry : Entry) → index < i → slice_get own index ≡ Some entry → (IsOnCycle index → ⊥) → slice_get entries index ≡ Some entry
+    pub on_cycle : (index : ℕ) (entry : Entry) → index < i → slice_get own index ≡ Some entry → IsOnCycle index
+        → slice_get entries index ≡ Some (without_references entry)
+    pub off_cycle : (index : ℕ) (entry : Entry) → index < i → slice_get own index ≡ Some entry → (IsOnCycle index → ⊥)
+        → slice_get entries index ≡ Some entry
     pub later : (index : ℕ) → i ≤ index → slice_get entries index ≡ slice_get own index
     pub rows : length refs ≡ length graph
     pub fewer : (index : ℕ) → (refs_of refs index ≡ refs_of graph index) ⊎ (refs_of refs index ≡ [])
@@ -120,7 +134,8 @@ module _ (spans : List (Range ℕ)) (own : List Entry) (graph : Graph) where
   }
 
   -- an entry that isn't on a cycle stays unchanged
-  pub cut_on : (i : ℕ) (entries : List Entry) (refs : Graph) (errors : List ParseError) → (IsOnCycle i → ⊥) → HaveCut i entries refs errors → HaveCut (i + 1) entries refs errors
+  pub cut_on : (i : ℕ) (entries : List Entry) (refs : Graph) (errors : List ParseError) → (IsOnCycle i → ⊥)
+      → HaveCut i entries refs errors → HaveCut (i + 1) entries refs errors
   cut_on i entries refs errors off h = record {
     as_long = h.as_long;
     keys = h.keys;
@@ -144,33 +159,43 @@ module _ (spans : List (Range ℕ)) (own : List Entry) (graph : Graph) where
   }
 
   -- the error of a cycle depends only on the entry at the index
-  own_cycle : (i : ℕ) (entries : List Entry) (e : ParseError) → slice_get entries i ≡ slice_get own i → IsCycleAt spans entries i e → IsCycleAt spans own i e
+  own_cycle : (i : ℕ) (entries : List Entry) (e : ParseError) → slice_get entries i ≡ slice_get own i
+      → IsCycleAt spans entries i e → IsCycleAt spans own i e
   own_cycle i entries e same at = record { entry = at.entry; span = at.span; here = sym same ∙ at.here; stands = at.stands; is = at.is }
 
   -- an entry on a cycle loses its references, and is reported
-  pub cut_more : (i : ℕ) (entries : List Entry) (refs : Graph) (errors : List ParseError) (old new : Entry) (e : ParseError) → length graph ≡ length own → i < length own → IsOnCycle i → IsCycleAt spans entries i e → slice_get entries i ≡ Some old → new ≡ without_references old
+  pub cut_more : (i : ℕ) (entries : List Entry) (refs : Graph) (errors : List ParseError) (old new : Entry)
+      (e : ParseError) → length graph ≡ length own → i < length own → IsOnCycle i → IsCycleAt spans entries i e
+      → slice_get entries i ≡ Some old → new ≡ without_references old
       → HaveCut i entries refs errors → HaveCut (i + 1) (set entries i new) (set refs i []) (errors ++ e ∷ [])
   cut_more i entries refs errors old new e rows within leads at here is h =
       let in_entries : i < length entries = omega (arith, within, h.as_long) in
       let in_refs : i < length refs = omega (arith, within, h.rows, rows) in
       record {
         as_long = length-set entries i new ∙ h.as_long;
-        keys = keys_kept entries i new (ap (λ (x : Entry). x.key) is ∙ ap (λ (x : Entry). x.key) (sym (get_or_from_slice_get entries i old new here))) ∙ h.keys;
+        keys =
+            keys_kept entries i new
+            (ap (λ (x : Entry). x.key) is
+            ∙ ap (λ (x : Entry). x.key) (sym (get_or_from_slice_get entries i old new here))) ∙ h.keys;
         on_cycle = λ index entry below there on. elim (eqb_tells index i) [
           | inl t ↦
               let same : Some old ≡ Some entry = sym here ∙ h.later i (omega arith) ∙ ap (slice_get own) (sym t.1) ∙ there in
-              ap (slice_get (set entries i new)) t.1 ∙ set_here entries i new in_entries ∙ ap Some (is ∙ ap without_references (some_same same))
+              ap (slice_get (set entries i new)) t.1 ∙ set_here entries i new in_entries
+              ∙ ap Some (is ∙ ap without_references (some_same same))
           | inr t ↦ set_apart entries i index new t.1 ∙ h.on_cycle index entry (omega (arith, below, t.1)) there on
         ];
         off_cycle = λ index entry below there apart. elim (eqb_tells index i) [
           | inl t ↦ absurd (apart (subst IsOnCycle (sym t.1) leads))
           | inr t ↦ set_apart entries i index new t.1 ∙ h.off_cycle index entry (omega (arith, below, t.1)) there apart
         ];
-        later = λ index above. let apart : index ≢ i = omega (arith, above) in set_apart entries i index new apart ∙ h.later index (omega (arith, above));
+        later = λ index above.
+            let apart : index ≢ i = omega (arith, above) in
+            set_apart entries i index new apart ∙ h.later index (omega (arith, above));
         rows = length-set refs i [] ∙ h.rows;
         fewer = λ index. elim (eqb_tells index i) [
           | inl t ↦ inr (ap (refs_of (set refs i [])) t.1 ∙ get_or-set_same refs i [] [] in_refs)
-          | inr t ↦ ⊎_elim (λ same. inl (get_or-set_other refs i index [] [] t.1 ∙ same)) (λ gone. inr (get_or-set_other refs i index [] [] t.1 ∙ gone)) (h.fewer index)
+          | inr t ↦ ⊎_elim (λ same. inl (get_or-set_other refs i index [] [] t.1 ∙ same))
+              (λ gone. inr (get_or-set_other refs i index [] [] t.1 ∙ gone)) (h.fewer index)
         ];
         nothing = λ index below on. elim (eqb_tells index i) [
           | inl t ↦ ap (refs_of (set refs i [])) t.1 ∙ get_or-set_same refs i [] [] in_refs
@@ -185,7 +210,9 @@ module _ (spans : List (Range ℕ)) (own : List Entry) (graph : Graph) where
 
   module _ (i : ℕ) (entries : List Entry) (refs : Graph) (errors : List ParseError) (h : HaveCut i entries refs errors) where
     edge_kept : (a b : ℕ) → Contains (refs_of refs a) b → Contains (refs_of graph a) b
-    edge_kept a b edge = ⊎_elim (λ same. subst (λ l. Contains l b) same edge) (λ gone. absurd (no_edge (subst (λ l. Contains l b) gone edge))) (h.fewer a)
+    edge_kept a b edge =
+        ⊎_elim (λ same. subst (λ l. Contains l b) same edge)
+        (λ gone. absurd (no_edge (subst (λ l. Contains l b) gone edge))) (h.fewer a)
 
     chain_kept : (a b : ℕ) → Leads refs a b → Leads graph a b
     chain_kept a b (one edge) = one (edge_kept a b edge)
@@ -201,12 +228,17 @@ module _ (spans : List (Range ℕ)) (own : List Entry) (graph : Graph) where
       keys = h.keys;
       in_range = λ in_range. All-from_get_or (λ row. All (λ r. r < length refs) row) refs []
           (λ k below. subst (λ n. All (λ r. r < n) (refs_of refs k)) (sym h.rows) (⊎_elim
-          (λ same. subst (λ l. All (λ r. r < length graph) l) (sym same) (All-get_or (λ row. All (λ r. r < length graph) row) graph k [] (omega (arith, below, h.rows)) in_range))
+          (λ same.
+          subst (λ l. All (λ r. r < length graph) l) (sym same)
+          (All-get_or (λ row. All (λ r. r < length graph) row) graph k [] (omega (arith, below, h.rows))
+          in_range))
           (λ gone. subst (λ l. All (λ r. r < length graph) l) (sym gone) (All-nil (λ r. r < length graph)))
           (h.fewer k)));
       no_cycle = λ index within leads.
           let first = first_edge leads in
-          no_edge (subst (λ l. Contains l first.0) (h.nothing index (omega (arith, within, h.rows, rows, at_end)) (chain_kept index index leads)) first.1);
+          no_edge
+          (subst (λ l. Contains l first.0)
+          (h.nothing index (omega (arith, within, h.rows, rows, at_end)) (chain_kept index index leads)) first.1);
       follows = h.follows;
       reported = subst (λ n. EachReported IsOnCycle (IsCycleAt spans own) n errors) at_end h.each;
     }

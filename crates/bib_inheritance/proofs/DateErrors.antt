@@ -28,27 +28,42 @@ module _ (looks : List Bool) (graph : Graph) (entries : List Entry) (index : ℕ
   Fails k = is_unread_at looks graph values k ≡ true
 
   -- the next entry doesn't lack a required date
-  pub looks_for_none : get_or looks index false ≡ false → EachReported Fails (IsUnreadError graph entries) index errors → EachReported Fails (IsUnreadError graph entries) (index + 1) errors
-  looks_for_none unflagged h = passed h (λ bad. false≢true (sym (ap (λ b. b && list_any (is_bad_date values) (refs_of graph index)) unflagged) ∙ bad))
+  pub looks_for_none : get_or looks index false ≡ false → EachReported Fails (IsUnreadError graph entries) index errors
+      → EachReported Fails (IsUnreadError graph entries) (index + 1) errors
+  looks_for_none unflagged h =
+      passed h
+      (λ bad. false≢true (sym (ap (λ b. b && list_any (is_bad_date values) (refs_of graph index)) unflagged) ∙ bad))
 
   -- all dates of its references can be parsed
-  pub finds_none : list_any (is_bad_date values) (refs_of graph index) ≡ false → EachReported Fails (IsUnreadError graph entries) index errors → EachReported Fails (IsUnreadError graph entries) (index + 1) errors
-  finds_none read h = passed h (λ bad. false≢true (sym (ap (λ b. get_or looks index false && b) read ∙ never (get_or looks index false)) ∙ bad)) where
-    never : (b : Bool) → (b && false) ≡ false
-    never true = refl
-    never false = refl
+  pub finds_none : list_any (is_bad_date values) (refs_of graph index) ≡ false
+      → EachReported Fails (IsUnreadError graph entries) index errors
+      → EachReported Fails (IsUnreadError graph entries) (index + 1) errors
+  finds_none read h =
+      passed h
+      (λ bad.
+      false≢true (sym (ap (λ b. get_or looks index false && b) read ∙ never (get_or looks index false)) ∙ bad))
+    where
+      never : (b : Bool) → (b && false) ≡ false
+      never true = refl
+      never false = refl
 
   -- the date of one of its references can't be parsed
-  pub finds_one : (error : TypeError) (e : ParseError) → get_or looks index false ≡ true → IsUnreadDate entries (refs_of graph index) error → e ≡ record { span = error.span; kind = ResolutionError error.kind } → EachReported Fails (IsUnreadError graph entries) index errors → EachReported Fails (IsUnreadError graph entries) (index + 1) (errors ++ e ∷ [])
+  pub finds_one : (error : TypeError) (e : ParseError) → get_or looks index false ≡ true
+      → IsUnreadDate entries (refs_of graph index) error
+      → e ≡ record { span = error.span; kind = ResolutionError error.kind }
+      → EachReported Fails (IsUnreadError graph entries) index errors
+      → EachReported Fails (IsUnreadError graph entries) (index + 1) (errors ++ e ∷ [])
   finds_one error e flagged unread is h =
       reported h
-      (ap (λ b. b && list_any (is_bad_date values) (refs_of graph index)) flagged ∙ found_any (is_bad_date values) (refs_of graph index) unread.reference unread.first)
+      (ap (λ b. b && list_any (is_bad_date values) (refs_of graph index)) flagged
+      ∙ found_any (is_bad_date values) (refs_of graph index) unread.reference unread.first)
       (record { error = error; unread = unread; is = is })
 
 -- ---- all entries
 
 -- the error of a reference's date is the error of the own entry
-date_error : (own : List Entry) (graph : Graph) (entries : List Entry) (index : ℕ) (e : ParseError) → map (λ e. e.key) entries ≡ map (λ e. e.key) own → AllKeepChunks own entries
+date_error : (own : List Entry) (graph : Graph) (entries : List Entry) (index : ℕ) (e : ParseError)
+    → map (λ e. e.key) entries ≡ map (λ e. e.key) own → AllKeepChunks own entries
     → IsUnreadError graph entries index e → IsDateError own graph (texts_of_entries entries) index e
 date_error own graph entries index e keys kept h = record {
   reference = h.unread.reference;
@@ -62,10 +77,16 @@ date_error own graph entries index e keys kept h = record {
 }
 
 -- the errors of the flagged entries are those of the entries that lack a required date
-pub dates_reported : (own : List Entry) (looks : List Bool) (graph : Graph) (entries : List Entry) (n : ℕ) (errors : List ParseError) → looks ≡ map (λ e. looks_for_date (texts_of_entry e)) own
+pub dates_reported : (own : List Entry) (looks : List Bool) (graph : Graph) (entries : List Entry) (n : ℕ)
+    (errors : List ParseError) → looks ≡ map (λ e. looks_for_date (texts_of_entry e)) own
     → map (λ e. e.key) entries ≡ map (λ e. e.key) own → AllKeepChunks own entries
     → EachReported (λ index. is_unread_at looks graph (texts_of_entries entries) index ≡ true) (IsUnreadError graph entries) n errors
-    → EachReported (λ index. has_bad_date (texts_of_entries own) graph (texts_of_entries entries) index ≡ true) (IsDateError own graph (texts_of_entries entries)) n errors
+    → EachReported (λ index. has_bad_date (texts_of_entries own) graph (texts_of_entries entries) index ≡ true)
+    (IsDateError own graph (texts_of_entries entries)) n errors
 dates_reported own looks graph entries n errors are keys kept =
-    each_same (λ index. is_unread_at looks graph (texts_of_entries entries) index ≡ true) (λ index. has_bad_date (texts_of_entries own) graph (texts_of_entries entries) index ≡ true) (IsUnreadError graph entries) (IsDateError own graph (texts_of_entries entries)) n errors
-    (λ index bad. sym (bad_at own looks graph (texts_of_entries entries) index are) ∙ bad) (λ index bad. bad_at own looks graph (texts_of_entries entries) index are ∙ bad) (λ index e. date_error own graph entries index e keys kept)
+    each_same (λ index. is_unread_at looks graph (texts_of_entries entries) index ≡ true)
+    (λ index. has_bad_date (texts_of_entries own) graph (texts_of_entries entries) index ≡ true)
+    (IsUnreadError graph entries) (IsDateError own graph (texts_of_entries entries)) n errors
+    (λ index bad. sym (bad_at own looks graph (texts_of_entries entries) index are) ∙ bad)
+    (λ index bad. bad_at own looks graph (texts_of_entries entries) index are ∙ bad)
+    (λ index e. date_error own graph entries index e keys kept)

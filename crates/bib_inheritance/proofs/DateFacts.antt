@@ -37,17 +37,21 @@ module _ (entries : List Entry) where
   none_read dates none index d is = absurd (false≢true (sym (none index) ∙ ap is_some is))
 
   -- caching the date of one more entry
-  pub dates_more : (dates : Dates) (index : ℕ) (d : Kept) → index < length dates → IsDateAt entries index d → AreDates entries dates → AreDates entries (set dates index (Some d))
+  pub dates_more : (dates : Dates) (index : ℕ) (d : Kept) → index < length dates → IsDateAt entries index d
+      → AreDates entries dates → AreDates entries (set dates index (Some d))
   dates_more dates index d within here are other e is = elim (cases_Bool (eqb other index)) [
     | inl same ↦
         let at : other ≡ index = same_index other index same in
-        let now : Some d ≡ Some e = sym (get_or-set_same dates index (Some d) None within) ∙ ap (date_at (set dates index (Some d))) (sym at) ∙ is in
+        let now : Some d ≡ Some e =
+        sym (get_or-set_same dates index (Some d) None within) ∙ ap (date_at (set dates index (Some d))) (sym at)
+        ∙ is in
         subst (λ k. IsDateAt entries k e) (sym at) (subst (IsDateAt entries index) (some_same now) here)
     | inr apart ↦ are other e (sym (get_or-set_other dates index other (Some d) None (λ x. both_ways _ apart (eq-eqb other index x))) ∙ is)
   ]
 
 -- caching a date adds a date only at its index
-pub reads_more : (dates : Dates) (index other : ℕ) (d : Kept) → index < length dates → IsSome (date_at (set dates index (Some d)) other) → IsSome (date_at dates other) ⊎ (other ≡ index)
+pub reads_more : (dates : Dates) (index other : ℕ) (d : Kept) → index < length dates
+    → IsSome (date_at (set dates index (Some d)) other) → IsSome (date_at dates other) ⊎ (other ≡ index)
 reads_more dates index other d within there = elim (cases_Bool (eqb other index)) [
   | inl same ↦ inr (same_index other index same)
   | inr apart ↦ inl (subst IsSome (get_or-set_other dates index other (Some d) None (λ x. both_ways _ apart (eq-eqb other index x))) there)
@@ -57,32 +61,41 @@ reads_more dates index other d within there = elim (cases_Bool (eqb other index)
 
 module _ (at : ℕ → EntryTexts) where
   -- the last date of a suffix is the last date
-  date_prefix : (k : ℕ) (indices : List ℕ) (date : List Atom) → last_date (map at (drop k indices)) ≡ Some date → last_date (map at indices) ≡ Some date
+  date_prefix : (k : ℕ) (indices : List ℕ) (date : List Atom) → last_date (map at (drop k indices)) ≡ Some date
+      → last_date (map at indices) ≡ Some date
   date_prefix zero indices date h = h
   date_prefix (suc k) [] date h = h
   date_prefix (suc k) (p ∷ rest) date h = ap (λ o. first_some o (dated_text (inheritable_date (at p).fields))) (date_prefix k rest date h)
 
   -- the date of one more entry from the end, if those after it have none
   date_next : (indices : List ℕ) (done : ℕ) → done < length indices → last_date (map at (drop (length indices - done) indices)) ≡ None
-      → last_date (map at (drop (length indices - (done + 1)) indices)) ≡ dated_text (inheritable_date (at (get_or indices (length indices - 1 - done) 0)).fields)
+      → last_date (map at (drop (length indices - (done + 1)) indices))
+      ≡ dated_text (inheritable_date (at (get_or indices (length indices - 1 - done) 0)).fields)
   date_next indices done within none =
       let k : ℕ = length indices - (done + 1) in
       let here : k ≡ length indices - 1 - done = omega arith in
       let following : length indices - done ≡ k + 1 = omega arith in
       let none' = ap (λ n. last_date (map at (drop n indices))) (sym following) ∙ none in
-      at_drop_more (λ l. last_date (map at l)) indices k 0 (omega arith) ∙ ap (λ o. first_some o (dated_text (inheritable_date (at (get_or indices k 0)).fields))) none'
+      at_drop_more (λ l. last_date (map at l)) indices k 0 (omega arith)
+      ∙ ap (λ o. first_some o (dated_text (inheritable_date (at (get_or indices k 0)).fields))) none'
       ∙ ap (λ n. dated_text (inheritable_date (at (get_or indices n 0)).fields)) here
 
-  pub date_none : (indices : List ℕ) (done : ℕ) → done < length indices → dated_text (inheritable_date (at (get_or indices (length indices - 1 - done) 0)).fields) ≡ None → last_date (map at (drop (length indices - done) indices)) ≡ None
+  pub date_none : (indices : List ℕ) (done : ℕ) → done < length indices
+      → dated_text (inheritable_date (at (get_or indices (length indices - 1 - done) 0)).fields) ≡ None
+      → last_date (map at (drop (length indices - done) indices)) ≡ None
       → last_date (map at (drop (length indices - (done + 1)) indices)) ≡ None
   date_none indices done within has none = date_next indices done within none ∙ has
 
-  pub date_found : (indices : List ℕ) (done : ℕ) (date : List Atom) → done < length indices → dated_text (inheritable_date (at (get_or indices (length indices - 1 - done) 0)).fields) ≡ Some date → last_date (map at (drop (length indices - done) indices)) ≡ None
+  pub date_found : (indices : List ℕ) (done : ℕ) (date : List Atom) → done < length indices
+      → dated_text (inheritable_date (at (get_or indices (length indices - 1 - done) 0)).fields) ≡ Some date
+      → last_date (map at (drop (length indices - done) indices)) ≡ None
       → last_date (map at indices) ≡ Some date
-  date_found indices done date within has none = date_prefix (length indices - (done + 1)) indices date (date_next indices done within none ∙ has)
+  date_found indices done date within has none =
+      date_prefix (length indices - (done + 1)) indices date (date_next indices done within none ∙ has)
 
 -- the cached date at an index in range doesn't depend on the default
-pub read_at : {A : Type 0} (of : Option Kept → A) (dates : Dates) (index : ℕ) (o : Option Kept) → index < length dates → of (date_at dates index) ≡ of (get_or dates index o)
+pub read_at : {A : Type 0} (of : Option Kept → A) (dates : Dates) (index : ℕ) (o : Option Kept) → index < length dates
+    → of (date_at dates index) ≡ of (get_or dates index o)
 read_at of dates index o below = ap of (get_or_default dates index None o below)
 
 -- the cached date of an entry is its date
@@ -90,9 +103,11 @@ module _ (entries : List Entry) (dates : Dates) (index : ℕ) (are : AreDates en
   abbrev here : EntryTexts
   here = at_index (texts_of_entries entries) index
 
-  pub dated_here : (chunks : List (Spanned Chunk)) → dated_in (date_at dates index) ≡ Some chunks → dated_text (inheritable_date here.fields) ≡ Some (styled chunks)
+  pub dated_here : (chunks : List (Spanned Chunk)) → dated_in (date_at dates index) ≡ Some chunks
+      → dated_text (inheritable_date here.fields) ≡ Some (styled chunks)
   dated_here chunks is = go (date_at dates index) refl is where
-    go : (o : Option Kept) → date_at dates index ≡ o → dated_in o ≡ Some chunks → dated_text (inheritable_date here.fields) ≡ Some (styled chunks)
+    go : (o : Option Kept) → date_at dates index ≡ o → dated_in o ≡ Some chunks
+        → dated_text (inheritable_date here.fields) ≡ Some (styled chunks)
     go None there is = cc
     go (Some Undated) there is = cc
     go (Some (Unreadable error)) there is = cc
@@ -107,7 +122,9 @@ module _ (entries : List Entry) (dates : Dates) (index : ℕ) (are : AreDates en
     go (Some (Dated found)) there was is = cc
 
 -- if the cache changes only at an index among `indices`, it has new dates only among `indices`
-pub adds_more : (indices : List ℕ) (k : ℕ) (old mid new : Dates) → k < length indices → AddsAmong indices old mid → ((other : ℕ) → IsSome (date_at new other) → IsSome (date_at mid other) ⊎ (other ≡ get_or indices k 0)) → AddsAmong indices old new
+pub adds_more : (indices : List ℕ) (k : ℕ) (old mid new : Dates) → k < length indices → AddsAmong indices old mid
+    → ((other : ℕ) → IsSome (date_at new other) → IsSome (date_at mid other) ⊎ (other ≡ get_or indices k 0))
+    → AddsAmong indices old new
 adds_more indices k old mid new within before more other there = elim (more other there) [
   | inl mid ↦ before other mid
   | inr this ↦ inr (subst (Contains indices) (sym this) (Contains-get_or indices k 0 within))
@@ -116,7 +133,8 @@ adds_more indices k old mid new within before more other there = elim (more othe
 -- ---- the order of resolving
 
 -- cached dates stay valid if an entry changes whose date isn't cached
-pub dates_kept : (entries : List Entry) (index : ℕ) (new : Entry) (dates : Dates) → (IsSome (date_at dates index) → ⊥) → AreDates entries dates → AreDates (set entries index new) dates
+pub dates_kept : (entries : List Entry) (index : ℕ) (new : Entry) (dates : Dates) → (IsSome (date_at dates index) → ⊥)
+    → AreDates entries dates → AreDates (set entries index new) dates
 dates_kept entries index new dates unread are other d is =
     let apart : other ≢ index = λ same. unread (subst (λ k. IsSome (date_at dates k)) same (ap is_some is)) in
     let all = map-set texts_of_entry entries index new in
@@ -129,7 +147,8 @@ dates_kept entries index new dates unread are other d is =
       is = subst (λ (s : EntryTexts). IsInheritableDate s.fields d) (sym here) was.is;
       entry = was.entry;
       there = slice_get-get_or (set entries index new) other was.entry (omega (arith, within, length-set entries index new))
-          ∙ ap (λ e. Some e) (get_or-set_other entries index other new was.entry apart) ∙ sym (slice_get-get_or entries other was.entry within) ∙ was.there;
+          ∙ ap (λ e. Some e) (get_or-set_other entries index other new was.entry apart)
+          ∙ sym (slice_get-get_or entries other was.entry within) ∙ was.there;
       lies = was.lies;
     }
 
@@ -138,10 +157,13 @@ abbrev pub AreAfter : List ℕ → Dates → Type 0
 AreAfter turns dates = (index : ℕ) → IsSome (date_at dates index) → Contains turns index
 
 -- the references of an entry come before it in a topological order
-refs_after : (graph : Graph) (turns : List ℕ) (i index : ℕ) → IsTopologicalOrder graph turns → i < length turns → Contains (refs_of graph (get_or turns i 0)) index → Contains (take i turns) index
+refs_after : (graph : Graph) (turns : List ℕ) (i index : ℕ) → IsTopologicalOrder graph turns → i < length turns
+    → Contains (refs_of graph (get_or turns i 0)) index → Contains (take i turns) index
 refs_after graph turns i index order within among = subst (Contains (take i turns)) among.2 (order.in_order i within among.0 index among.1)
 
-module _ (graph : Graph) (turns indices : List ℕ) (i : ℕ) (order : IsTopologicalOrder graph turns) (within : i < length turns) (row : indices ≡ refs_of graph (get_or turns i 0)) (old new : Dates) (added : AddsAmong indices old new) (following : AreAfter (take i turns) old) where
+module _ (graph : Graph) (turns indices : List ℕ) (i : ℕ) (order : IsTopologicalOrder graph turns)
+    (within : i < length turns) (row : indices ≡ refs_of graph (get_or turns i 0)) (old new : Dates)
+    (added : AddsAmong indices old new) (following : AreAfter (take i turns) old) where
   still_after : (index : ℕ) → IsSome (date_at new index) → Contains (take i turns) index
   still_after index there = elim (added index there) [
     | inl before ↦ following index before
@@ -152,4 +174,6 @@ module _ (graph : Graph) (turns indices : List ℕ) (i : ℕ) (order : IsTopolog
   turn_unread there = new_turn graph turns i order within (still_after (get_or turns i 0) there)
 
   pub after_more : AreAfter (take (i + 1) turns) new
-  after_more index there = subst (λ l. Contains l index) (sym (take_more turns i 0 within)) (Contains-append_left (take i turns) (get_or turns i 0 ∷ []) index (still_after index there))
+  after_more index there =
+      subst (λ l. Contains l index) (sym (take_more turns i 0 within))
+      (Contains-append_left (take i turns) (get_or turns i 0 ∷ []) index (still_after index there))

@@ -24,14 +24,20 @@ use Rattle.bib_inheritance.specs.Turning.{IsFirstUnread, is_unread_at}
 use Rattle.bib_inheritance.proofs.TurnFacts.{texts_at_index}
 
 -- the flag at an index tells whether the entry there lacks a required date
-pub looks_at : (own : List Entry) (index : ℕ) → get_or (map (λ e. looks_for_date (texts_of_entry e)) own) index false ≡ looks_for_date (at_index (texts_of_entries own) index)
+pub looks_at : (own : List Entry) (index : ℕ)
+    → get_or (map (λ e. looks_for_date (texts_of_entry e)) own) index false
+    ≡ looks_for_date (at_index (texts_of_entries own) index)
 looks_at [] index = refl
 looks_at (e ∷ own) zero = refl
 looks_at (e ∷ own) (suc index) = looks_at own index
 
 -- the flags lead to the same bad dates as the definition
-pub bad_at : (own : List Entry) (looks : List Bool) (graph : Graph) (values : List EntryTexts) (index : ℕ) → looks ≡ map (λ e. looks_for_date (texts_of_entry e)) own → is_unread_at looks graph values index ≡ has_bad_date (texts_of_entries own) graph values index
-bad_at own looks graph values index are = ap (λ b. b && list_any (is_bad_date values) (refs_of graph index)) (ap (λ l. get_or l index false) are ∙ looks_at own index)
+pub bad_at : (own : List Entry) (looks : List Bool) (graph : Graph) (values : List EntryTexts) (index : ℕ)
+    → looks ≡ map (λ e. looks_for_date (texts_of_entry e)) own
+    → is_unread_at looks graph values index ≡ has_bad_date (texts_of_entries own) graph values index
+bad_at own looks graph values index are =
+    ap (λ b. b && list_any (is_bad_date values) (refs_of graph index))
+    (ap (λ l. get_or l index false) are ∙ looks_at own index)
 
 -- parsing a date in three fields fails only with kinds that dates have
 pub of_dates : (fields : FieldTexts) (kind : TypeErrorKind) → DateMayFail fields kind → IsDateKind kind
@@ -41,13 +47,17 @@ of_dates fields kind = go (fields (codes "year")) where
   go (Some y) may = has_date_kind (three_fields fields (plain y)) kind may
 
 -- if two lists of entries have the same keys, an entry at an index of one has an own entry at that index of the other
-written_at : (own entries : List Entry) (index : ℕ) (entry : Entry) → map (λ e. e.key) entries ≡ map (λ e. e.key) own → slice_get entries index ≡ Some entry → (written : Entry) × (slice_get own index ≡ Some written)
+written_at : (own entries : List Entry) (index : ℕ) (entry : Entry) → map (λ e. e.key) entries ≡ map (λ e. e.key) own
+    → slice_get entries index ≡ Some entry → (written : Entry) × (slice_get own index ≡ Some written)
 written_at own entries index entry keys there =
-    let as_long : length entries ≡ length own = sym (length-map entries (λ (e : Entry). e.key)) ∙ ap length keys ∙ length-map own (λ (e : Entry). e.key) in
+    let as_long : length entries ≡ length own =
+    sym (length-map entries (λ (e : Entry). e.key)) ∙ ap length keys ∙ length-map own (λ (e : Entry). e.key) in
     (get_or own index entry, slice_get-get_or own index entry (omega (arith, slice_get_within entries index entry there, as_long)))
 
 -- the span of a date that can't be parsed, by the own entries
-pub place_unread : (own entries : List Entry) (index : ℕ) (entry : Entry) (place : Range ℕ) → map (λ e. e.key) entries ≡ map (λ e. e.key) own → AllKeepChunks own entries → slice_get entries index ≡ Some entry → IsPlaceOfDate (by_name.get entry.fields) place
+pub place_unread : (own entries : List Entry) (index : ℕ) (entry : Entry) (place : Range ℕ)
+    → map (λ e. e.key) entries ≡ map (λ e. e.key) own → AllKeepChunks own entries → slice_get entries index ≡ Some entry
+    → IsPlaceOfDate (by_name.get entry.fields) place
     → IsPlaceAt own (texts_of_entries entries) index place
 place_unread own entries index entry place keys kept there lies =
     let written = written_at own entries index entry keys there in
@@ -62,10 +72,17 @@ place_unread own entries index entry place keys kept there lies =
     }
 
 -- the error of the first flagged entry that refers to a bad date is the error of inheriting
-pub date_unread : (spans : List (Range ℕ)) (own : List Entry) (looks : List Bool) (graph : Graph) (entries : List Entry) (error : TypeError) (e : ParseError)
-    → ((index : ℕ) → is_unread_at looks graph (texts_of_entries entries) index ≡ has_bad_date (texts_of_entries own) graph (texts_of_entries entries) index)
-    → ((index : ℕ) → get_or looks index false ≡ true → looks_for_date (at_index (texts_of_entries own) index) ≡ true) → HasNoCycle graph → Inherits (texts_of_entries own) graph (texts_of_entries entries)
-    → map (λ e. e.key) entries ≡ map (λ e. e.key) own → AllKeepChunks own entries → IsFirstUnread looks graph entries error → e ≡ record { span = error.span; kind = ResolutionError error.kind } → IsResolvingError spans own graph e
+pub date_unread : (spans : List (Range ℕ)) (own : List Entry) (looks : List Bool) (graph : Graph) (entries : List Entry)
+    (error : TypeError) (e : ParseError)
+    →
+    ((index : ℕ)
+    → is_unread_at looks graph (texts_of_entries entries) index
+    ≡ has_bad_date (texts_of_entries own) graph (texts_of_entries entries) index)
+    → ((index : ℕ) → get_or looks index false ≡ true → looks_for_date (at_index (texts_of_entries own) index) ≡ true)
+    → HasNoCycle graph → Inherits (texts_of_entries own) graph (texts_of_entries entries)
+    → map (λ e. e.key) entries ≡ map (λ e. e.key) own → AllKeepChunks own entries
+    → IsFirstUnread looks graph entries error → e ≡ record { span = error.span; kind = ResolutionError error.kind }
+    → IsResolvingError spans own graph e
 date_unread spans own looks graph entries error e same looking none solves keys kept first is =
     IsResolvingError.date none solves (looking first.index first.flagged)
     (λ other before. sym (same other) ∙ first.earlier other before)

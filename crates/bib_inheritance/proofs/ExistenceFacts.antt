@@ -47,7 +47,8 @@ first_chunks fields [] = None
 first_chunks fields (name ∷ names) = first_some (get fields name) (first_chunks fields names)
 
 -- the styled text of these chunks is the first offer
-first_styled : (fields : ByText Value) (names : Names) → option_map styled (first_chunks fields names) ≡ first_offer (fields_of fields) names
+first_styled : (fields : ByText Value) (names : Names)
+    → option_map styled (first_chunks fields names) ≡ first_offer (fields_of fields) names
 first_styled fields [] = refl
 first_styled fields (name ∷ names) =
     styled_first (get fields name) (first_chunks fields names) ∙ ap (first_some (fields_of fields name)) (first_styled fields names)
@@ -89,19 +90,26 @@ unwanted false true i h none lacks = lacks
 unwanted false false i h none lacks = ap (λ b. b && true) none
 
 -- a name that is not among all these names is not inherited by the type
-last_names : (entry_type : EntryType) (refs : List Entry) (q : List ℕ) → is_one_of (names_given entry_type refs) q ≡ false → is_one_of (inheritable entry_type) q ≡ false
+last_names : (entry_type : EntryType) (refs : List Entry) (q : List ℕ)
+    → is_one_of (names_given entry_type refs) q ≡ false → is_one_of (inheritable entry_type) q ≡ false
 last_names entry_type [] q other = other
 last_names entry_type (r ∷ rest) q other =
-    last_names entry_type rest q (or_parts (is_one_of (names_in r.fields) q) (is_one_of (names_given entry_type rest) q) (sym (list_any-append (λ each. bytes_eq each q) (names_in r.fields) (names_given entry_type rest)) ∙ other)).1
+    last_names entry_type rest q
+    (or_parts (is_one_of (names_in r.fields) q) (is_one_of (names_given entry_type rest) q)
+    (sym (list_any-append (λ each. bytes_eq each q) (names_in r.fields) (names_given entry_type rest)) ∙ other)).1
 
 -- no field of any other name is inherited
-other_name : (entry_type : EntryType) (refs : List Entry) (q : List ℕ) → is_one_of (names_given entry_type refs) q ≡ false → inherited_field entry_type q (texts_of_entries refs) ≡ None
+other_name : (entry_type : EntryType) (refs : List Entry) (q : List ℕ)
+    → is_one_of (names_given entry_type refs) q ≡ false → inherited_field entry_type q (texts_of_entries refs) ≡ None
 other_name entry_type [] q other = refl
 other_name entry_type (r ∷ rest) q other =
-    let parts = or_parts (is_one_of (names_in r.fields) q) (is_one_of (names_given entry_type rest) q) (sym (list_any-append (λ each. bytes_eq each q) (names_in r.fields) (names_given entry_type rest)) ∙ other) in
+    let parts =
+    or_parts (is_one_of (names_in r.fields) q) (is_one_of (names_given entry_type rest) q)
+    (sym (list_any-append (λ each. bytes_eq each q) (names_in r.fields) (names_given entry_type rest)) ∙ other) in
     let lacks : has (texts_of_entry r) q ≡ false = sym (has_names r.fields q) ∙ parts.0 in
     ap (λ b. first_some (cond b (offer (texts_of_entry r) q) None) (inherited_field entry_type q (texts_of_entries rest)))
-    (unwanted (is_one_of never_inherited q) (is_container entry_type) (is_one_of (inheritable entry_type) q) (has (texts_of_entry r) q) (last_names entry_type rest q parts.1) lacks)
+    (unwanted (is_one_of never_inherited q) (is_container entry_type) (is_one_of (inheritable entry_type) q)
+    (has (texts_of_entry r) q) (last_names entry_type rest q parts.1) lacks)
     ∙ other_name entry_type rest q parts.1
 
 -- ---- the list of fields of a function
@@ -116,7 +124,8 @@ listed f [] = []
 listed f (name ∷ names) = with_first name (f name) (listed f names)
 
 -- finding a name in a list with one more field
-listed_first : (f : List ℕ → Option Value) (name q : List ℕ) (rest : List (List ℕ × Value)) (among : Bool) → first_named rest q ≡ cond among (f q) None
+listed_first : (f : List ℕ → Option Value) (name q : List ℕ) (rest : List (List ℕ × Value)) (among : Bool)
+    → first_named rest q ≡ cond among (f q) None
     → first_named (with_first name (f name) rest) q ≡ cond (bytes_eq name q || among) (f q) None
 listed_first f name q rest among below =
     elim (bytes_decides name q) [
@@ -140,7 +149,8 @@ listed_first f name q rest among below =
     there (Some value) apart = ap (λ b. cond b (Some value) (first_named rest q)) (flipped q name ∙ apart)
 
 -- a name has its field in the list if it is among the names
-listed_finds : (f : List ℕ → Option Value) (names : Names) (q : List ℕ) → first_named (listed f names) q ≡ cond (is_one_of names q) (f q) None
+listed_finds : (f : List ℕ → Option Value) (names : Names) (q : List ℕ)
+    → first_named (listed f names) q ≡ cond (is_one_of names q) (f q) None
 listed_finds f [] q = refl
 listed_finds f (name ∷ names) q = listed_first f name q (listed f names) (is_one_of names q) (listed_finds f names q)
 
@@ -156,7 +166,8 @@ given_to own refs = listed (lacked own refs) (names_given own.entry_type refs)
 
 -- the styled text of a field that an entry lacks and inherits
 lacked_styled : (own : Entry) (refs : List Entry) (q : List ℕ)
-    → option_map styled (lacked own refs q) ≡ cond (is_some (fields_of own.fields q)) None (inherited_field own.entry_type q (texts_of_entries refs))
+    → option_map styled (lacked own refs q)
+    ≡ cond (is_some (fields_of own.fields q)) None (inherited_field own.entry_type q (texts_of_entries refs))
 lacked_styled own refs q =
     turned (is_some (fields_of own.fields q)) (inherited_chunks own.entry_type q refs)
     ∙ ap (cond (is_some (fields_of own.fields q)) None) (inherited_styled own.entry_type q refs)
@@ -167,7 +178,8 @@ lacked_styled own refs q =
 
 -- the styled text of such a field in the list
 given_styled : (own : Entry) (refs : List Entry) (q : List ℕ)
-    → option_map styled (first_named (given_to own refs) q) ≡ cond (is_some (fields_of own.fields q)) None (inherited_field own.entry_type q (texts_of_entries refs))
+    → option_map styled (first_named (given_to own refs) q)
+    ≡ cond (is_some (fields_of own.fields q)) None (inherited_field own.entry_type q (texts_of_entries refs))
 given_styled own refs q =
     ap (option_map styled) (listed_finds (lacked own refs) (names_given own.entry_type refs) q)
     ∙ styled_if (is_one_of (names_given own.entry_type refs) q) (lacked own refs q)
@@ -178,10 +190,13 @@ given_styled own refs q =
         → cond b (cond (is_some (fields_of own.fields q)) None (inherited_field own.entry_type q (texts_of_entries refs))) None
         ≡ cond (is_some (fields_of own.fields q)) None (inherited_field own.entry_type q (texts_of_entries refs))
     all true is = refl
-    all false is = sym (ap (cond (is_some (fields_of own.fields q)) None) (other_name own.entry_type refs q is) ∙ nothing (is_some (fields_of own.fields q))) where
-      nothing : (b : Bool) → cond {A = Option (List Atom)} b None None ≡ None
-      nothing true = refl
-      nothing false = refl
+    all false is =
+        sym
+        (ap (cond (is_some (fields_of own.fields q)) None) (other_name own.entry_type refs q is)
+        ∙ nothing (is_some (fields_of own.fields q))) where
+          nothing : (b : Bool) → cond {A = Option (List Atom)} b None None ≡ None
+          nothing true = refl
+          nothing false = refl
 
 -- a text as one normal chunk
 abbrev as_chunk : List ℕ → Value
@@ -205,7 +220,8 @@ of_three None = (None, refl)
 of_three (Some date) = (Some (as_chunk (date_text date)), ap Some (chunk_styled (date_text date)))
 
 -- the date of an entry is the text of chunks
-date_by : (fields : FieldTexts) (date : Option Value) (year : Option (List Atom)) → HasChunks (dated_text (inheritable_date_by fields (option_map styled date) year))
+date_by : (fields : FieldTexts) (date : Option Value) (year : Option (List Atom))
+    → HasChunks (dated_text (inheritable_date_by fields (option_map styled date) year))
 date_by fields (Some date) year = of_one date (rewritten_date (plain (styled date)))
 date_by fields None (Some year) = of_three (readable_value (three_fields fields (plain year)))
 date_by fields None None = (None, refl)
@@ -216,8 +232,11 @@ last_chunks [] = (None, refl)
 last_chunks (r ∷ rest) =
     let fields = fields_of r.fields in
     let later = last_chunks rest in
-    let here = date_by fields (get r.fields (codes "date")) (fields (codes "year")) in
-    (first_some later.0 here.0, styled_first later.0 here.0 ∙ ap (λ o. first_some o (option_map styled here.0)) later.1 ∙ ap (first_some (last_date (texts_of_entries rest))) here.1)
+    let here = date_by fields (get r.fields (codes "date")) (fields (codes "year")) in (
+      first_some later.0 here.0,
+      styled_first later.0 here.0 ∙ ap (λ o. first_some o (option_map styled here.0)) later.1
+          ∙ ap (first_some (last_date (texts_of_entries rest))) here.1,
+    )
 
 -- the inherited date is the text of chunks
 date_chunks : (own : Entry) (refs : List Entry) → HasChunks (date_for (texts_of_entry own) (texts_of_entries refs))
@@ -237,7 +256,8 @@ fields_by own given (Some date) =
     let plain_ones = remove (made.made (reverse (reverse (entries own.fields ++ given)))) (codes "xdata") in (
       insert (remove (remove (remove plain_ones (codes "year")) (codes "month")) (codes "day")) (codes "date") date,
       λ q. made.field_dated plain_ones (codes "year") (codes "month") (codes "day") (codes "date") date q
-          ∙ ap (λ o. cond (bytes_eq q (codes "date")) (Some date) (cond (is_one_of date_parts q) None o)) (made.field_gathered own.fields given (codes "xdata") q),
+          ∙ ap (λ o. cond (bytes_eq q (codes "date")) (Some date) (cond (is_one_of date_parts q) None o))
+          (made.field_gathered own.fields given (codes "xdata") q),
     )
 
 -- an entry after inheriting: it has the same key, the fields of the rule, and the own chunks of the fields that it keeps
@@ -247,23 +267,36 @@ pub record IsHeir (own : Entry) (refs : List Entry) (entry : Entry) : Type 0 whe
   pub keeps : KeepsChunks own entry
 
 -- an own field keeps its chunks or is removed
-stays_by : (date : Option Value) (own : ByText Value) (given : List ℕ → Option Value) (name : List ℕ) (chunks : Value) → get own name ≡ Some chunks
-    → (option_map styled date ≡ None ⊎ get own (codes "date") ≡ None) → (field_by date (get own) given name ≡ Some chunks) ⊎ (field_by date (get own) given name ≡ None)
+stays_by : (date : Option Value) (own : ByText Value) (given : List ℕ → Option Value) (name : List ℕ) (chunks : Value)
+    → get own name ≡ Some chunks
+    → (option_map styled date ≡ None ⊎ get own (codes "date") ≡ None)
+    → (field_by date (get own) given name ≡ Some chunks) ⊎ (field_by date (get own) given name ≡ None)
 stays_by date own given name chunks has free = with_date date free where
   plainly : (plain_field (get own) given name ≡ Some chunks) ⊎ (plain_field (get own) given name ≡ None)
   plainly = go (bytes_eq name (codes "xdata")) where
-    go : (b : Bool) → (cond b None (first_some (get own name) (given name)) ≡ Some chunks) ⊎ (cond b None (first_some (get own name) (given name)) ≡ None)
+    go : (b : Bool)
+        → (cond b None (first_some (get own name) (given name)) ≡ Some chunks)
+        ⊎ (cond b None (first_some (get own name) (given name)) ≡ None)
     go true = inr refl
     go false = inl (ap (λ o. first_some o (given name)) has)
 
-  with_date : (d : Option Value) → (option_map styled d ≡ None ⊎ get own (codes "date") ≡ None) → (field_by d (get own) given name ≡ Some chunks) ⊎ (field_by d (get own) given name ≡ None)
+  with_date : (d : Option Value) → (option_map styled d ≡ None ⊎ get own (codes "date") ≡ None)
+      → (field_by d (get own) given name ≡ Some chunks) ⊎ (field_by d (get own) given name ≡ None)
   with_date None free = plainly
   with_date (Some value) (inl none) = cc
   with_date (Some value) (inr lacks) = elim (bytes_decides name (codes "date")) [
     | inl same ↦ cc
-    | inr other ↦ subst (λ b. (cond b (Some value) (cond (is_one_of date_parts name) None (plain_field (get own) given name)) ≡ Some chunks) ⊎ (cond b (Some value) (cond (is_one_of date_parts name) None (plain_field (get own) given name)) ≡ None)) (sym other.0) (past (is_one_of date_parts name))
+    | inr other ↦ subst
+        (λ b.
+        (cond b (Some value) (cond (is_one_of date_parts name) None (plain_field (get own) given name))
+        ≡ Some chunks)
+        ⊎
+        (cond b (Some value) (cond (is_one_of date_parts name) None (plain_field (get own) given name))
+        ≡ None)) (sym other.0) (past (is_one_of date_parts name))
   ] where
-    past : (b : Bool) → (cond b None (plain_field (get own) given name) ≡ Some chunks) ⊎ (cond b None (plain_field (get own) given name) ≡ None)
+    past : (b : Bool)
+        → (cond b None (plain_field (get own) given name) ≡ Some chunks)
+        ⊎ (cond b None (plain_field (get own) given name) ≡ None)
     past true = inr refl
     past false = plainly
 
@@ -280,11 +313,18 @@ nothing_there None e = refl
 nothing_there (Some value) e = absurd (false≢true (sym e))
 
 -- an entry that inherits a date has no own field `date`
-free_of_date : (own : Entry) (refs : List Entry) → (date_for (texts_of_entry own) (texts_of_entries refs) ≡ None) ⊎ (get own.fields (codes "date") ≡ None)
+free_of_date : (own : Entry) (refs : List Entry)
+    → (date_for (texts_of_entry own) (texts_of_entries refs) ≡ None) ⊎ (get own.fields (codes "date") ≡ None)
 free_of_date own refs = go (looks_for_date (texts_of_entry own)) refl where
-  go : (b : Bool) → looks_for_date (texts_of_entry own) ≡ b → (cond b (last_date (texts_of_entries refs)) None ≡ None) ⊎ (get own.fields (codes "date") ≡ None)
+  go : (b : Bool) → looks_for_date (texts_of_entry own) ≡ b
+      → (cond b (last_date (texts_of_entries refs)) None ≡ None) ⊎ (get own.fields (codes "date") ≡ None)
   go false looks = inl refl
-  go true looks = inr (nothing_there (get own.fields (codes "date")) (neither (has (texts_of_entry own) (codes "date")) (has (texts_of_entry own) (codes "year")) (both_true (rules_of own.entry_type).needs_date (not (has (texts_of_entry own) (codes "date") || has (texts_of_entry own) (codes "year"))) looks)))
+  go true looks =
+      inr
+      (nothing_there (get own.fields (codes "date"))
+      (neither (has (texts_of_entry own) (codes "date")) (has (texts_of_entry own) (codes "year"))
+      (both_true (rules_of own.entry_type).needs_date
+      (not (has (texts_of_entry own) (codes "date") || has (texts_of_entry own) (codes "year"))) looks)))
 
 -- each entry can inherit from any references
 heir : (own : Entry) (refs : List Entry) → (entry : Entry) × IsHeir own refs entry
@@ -295,10 +335,14 @@ heir own refs =
       record own { fields = made_of.0 },
       record {
         key = refl;
-        is = made.inherits own.entry_type own.fields made_of.0 (texts_of_entries refs) given date.0 (given_styled own refs) date.1 made_of.1;
+        is =
+            made.inherits own.entry_type own.fields made_of.0 (texts_of_entries refs) given date.0
+            (given_styled own refs) date.1 made_of.1;
         keeps = λ name chunks has.
-            let free : (option_map styled date.0 ≡ None) ⊎ (get own.fields (codes "date") ≡ None) = elim (free_of_date own refs) [ inl none ↦ inl (date.1 ∙ none) | inr lacks ↦ inr lacks ] in
-            elim (stays_by date.0 own.fields (first_named given) name chunks has free) [ inl same ↦ inl (made_of.1 name ∙ same) | inr gone ↦ inr (made_of.1 name ∙ gone) ];
+            let free : (option_map styled date.0 ≡ None) ⊎ (get own.fields (codes "date") ≡ None) =
+            elim (free_of_date own refs) [ inl none ↦ inl (date.1 ∙ none) | inr lacks ↦ inr lacks ] in
+            elim (stays_by date.0 own.fields (first_named given) name chunks has free)
+            [ inl same ↦ inl (made_of.1 name ∙ same) | inr gone ↦ inr (made_of.1 name ∙ gone) ];
       },
     )
 
@@ -315,9 +359,13 @@ entry_at : (own : List Entry) (index : ℕ) → texts_of_entry (get_or own index
 entry_at own index = sym (get_or-map texts_of_entry own index blank) ∙ ap (get_or (texts_of_entries own) index) blank_texts
 
 -- the texts of the entries at these indices
-at_indices : (values : List Entry) (indices : List ℕ) → texts_of_entries (map (λ r. get_or values r blank) indices) ≡ map (λ r. get_or (texts_of_entries values) r no_entry) indices
+at_indices : (values : List Entry) (indices : List ℕ)
+    → texts_of_entries (map (λ r. get_or values r blank) indices)
+    ≡ map (λ r. get_or (texts_of_entries values) r no_entry) indices
 at_indices values [] = refl
-at_indices values (r ∷ rest) = ap (λ s. s ∷ texts_of_entries (map (λ x. get_or values x blank) rest)) (entry_at values r) ∙ ap (λ ss. get_or (texts_of_entries values) r no_entry ∷ ss) (at_indices values rest)
+at_indices values (r ∷ rest) =
+    ap (λ s. s ∷ texts_of_entries (map (λ x. get_or values x blank) rest)) (entry_at values r)
+    ∙ ap (λ ss. get_or (texts_of_entries values) r no_entry ∷ ss) (at_indices values rest)
 
 -- the entry at an index after inheriting
 abbrev next : List Entry → ℕ → List Entry → Entry
@@ -336,14 +384,23 @@ module _ (own : List Entry) (graph : Graph) (long : length graph ≡ length own)
   values : List Entry
   values = solved.0
 
-  each : (index : ℕ) → index < length graph → get_or values index blank ≡ next own index (map (λ r. get_or values r blank) (refs_of graph index))
+  each : (index : ℕ) → index < length graph
+      → get_or values index blank ≡ next own index (map (λ r. get_or values r blank) (refs_of graph index))
   unfolding values solved
   each index within = solved.1.each index within
 
-  is_heir : (index : ℕ) → index < length graph → IsHeir (get_or own index blank) (map (λ r. get_or values r blank) (refs_of graph index)) (get_or values index blank)
-  is_heir index within = subst (IsHeir (get_or own index blank) (map (λ r. get_or values r blank) (refs_of graph index))) (sym (each index within)) (heir (get_or own index blank) (map (λ r. get_or values r blank) (refs_of graph index))).1
+  is_heir : (index : ℕ) → index < length graph
+      → IsHeir (get_or own index blank) (map (λ r. get_or values r blank) (refs_of graph index))
+      (get_or values index blank)
+  is_heir index within =
+      subst (IsHeir (get_or own index blank) (map (λ r. get_or values r blank) (refs_of graph index)))
+      (sym (each index within))
+      (heir (get_or own index blank) (map (λ r. get_or values r blank) (refs_of graph index))).1
 
-  equation : (index : ℕ) → index < length graph → get_or (texts_of_entries values) index no_entry ≡ rule_by (texts_of_entries own) index (map (λ r. get_or (texts_of_entries values) r no_entry) (refs_of graph index))
+  equation : (index : ℕ) → index < length graph
+      → get_or (texts_of_entries values) index no_entry
+      ≡ rule_by (texts_of_entries own) index
+      (map (λ r. get_or (texts_of_entries values) r no_entry) (refs_of graph index))
   equation index within =
       let refs = map (λ r. get_or values r blank) (refs_of graph index) in
       sym (entry_at values index)
@@ -364,7 +421,10 @@ module _ (own : List Entry) (graph : Graph) (long : length graph ≡ length own)
     record {
       keys = ext_get_or [] (map (λ (e : Entry). e.key) values) (map (λ (e : Entry). e.key) own)
           (length-map values _ ∙ long_values ∙ long ∙ sym (length-map own _))
-          (λ index below. key_at values index ∙ (is_heir index (subst (λ n. index < n) (length-map values _ ∙ long_values) below)).key ∙ sym (key_at own index));
+          (λ index below.
+          key_at values index
+          ∙ (is_heir index (subst (λ n. index < n) (length-map values _ ∙ long_values) below)).key
+          ∙ sym (key_at own index));
       inherits = record { same_length = length-map values _ ∙ long_values; each = equation };
       chunks = λ index written entry there here.
           let within : index < length graph = subst (λ n. index < n) (sym long) (slice_get_within own index written there) in

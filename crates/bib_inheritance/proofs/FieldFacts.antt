@@ -26,7 +26,9 @@ abbrev pub made : List (List ℕ × Value) → Map
 made pairs = from_entries pairs
 
 -- the field of a name after adding fields and removing one: the own field counts before the added one
-pub field_gathered : (own : Map) (given : List (List ℕ × Value)) (gone q : List ℕ) → get (remove (made (reverse (reverse (entries own ++ given)))) gone) q ≡ cond (bytes_eq q gone) None (first_some (get own q) (first_named given q))
+pub field_gathered : (own : Map) (given : List (List ℕ × Value)) (gone q : List ℕ)
+    → get (remove (made (reverse (reverse (entries own ++ given)))) gone) q
+    ≡ cond (bytes_eq q gone) None (first_some (get own q) (first_named given q))
 field_gathered own given gone q =
     removed_at (made (reverse (reverse (entries own ++ given)))) gone q
     ∙ ap (cond (bytes_eq q gone) None)
@@ -50,7 +52,9 @@ inserted_at : (m : Map) (k : List ℕ) (v : Value) (q : List ℕ) → get (inser
 inserted_at m k v q = get-insert nat_list_cmp_total m k v q ∙ ap (λ b. cond b (Some v) (get m q)) (is_eq-slice_cmp q k)
 
 -- a field of a map after removing three names and setting another
-pub field_dated : (m : Map) (a b c k : List ℕ) (v : Value) (q : List ℕ) → get (insert (remove (remove (remove m a) b) c) k v) q ≡ cond (bytes_eq q k) (Some v) (cond (bytes_eq a q || (bytes_eq b q || (bytes_eq c q || false))) None (get m q))
+pub field_dated : (m : Map) (a b c k : List ℕ) (v : Value) (q : List ℕ)
+    → get (insert (remove (remove (remove m a) b) c) k v) q
+    ≡ cond (bytes_eq q k) (Some v) (cond (bytes_eq a q || (bytes_eq b q || (bytes_eq c q || false))) None (get m q))
 field_dated m a b c k v q =
     inserted_at (remove (remove (remove m a) b) c) k v q
     ∙ ap (cond (bytes_eq q k) (Some v))
@@ -68,16 +72,23 @@ styled_if true x y = refl
 styled_if false x y = refl
 
 -- the rule for a field commutes with taking styled texts
-styled_plain : (own given : List ℕ → Option Value) (name : List ℕ) → option_map styled (plain_field own given name) ≡ plain_field (λ n. option_map styled (own n)) (λ n. option_map styled (given n)) name
-styled_plain own given name = styled_if (bytes_eq name (codes "xdata")) None (first_some (own name) (given name)) ∙ ap (cond (bytes_eq name (codes "xdata")) None) (styled_first (own name) (given name))
+styled_plain : (own given : List ℕ → Option Value) (name : List ℕ)
+    → option_map styled (plain_field own given name)
+    ≡ plain_field (λ n. option_map styled (own n)) (λ n. option_map styled (given n)) name
+styled_plain own given name =
+    styled_if (bytes_eq name (codes "xdata")) None (first_some (own name) (given name))
+    ∙ ap (cond (bytes_eq name (codes "xdata")) None) (styled_first (own name) (given name))
 
 -- the rule for a field with an inherited date commutes with taking styled texts
-styled_by : (date : Option Value) (own given : List ℕ → Option Value) (name : List ℕ) → option_map styled (field_by date own given name) ≡ field_by (option_map styled date) (λ n. option_map styled (own n)) (λ n. option_map styled (given n)) name
+styled_by : (date : Option Value) (own given : List ℕ → Option Value) (name : List ℕ)
+    → option_map styled (field_by date own given name)
+    ≡ field_by (option_map styled date) (λ n. option_map styled (own n)) (λ n. option_map styled (given n)) name
 styled_by None own given name = styled_plain own given name
 styled_by (Some date) own given name =
     styled_if (bytes_eq name (codes "date")) (Some date) (cond (is_one_of date_parts name) None (plain_field own given name))
     ∙ ap (cond (bytes_eq name (codes "date")) (Some (styled date)))
-    (styled_if (is_one_of date_parts name) None (plain_field own given name) ∙ ap (cond (is_one_of date_parts name) None) (styled_plain own given name))
+    (styled_if (is_one_of date_parts name) None (plain_field own given name)
+    ∙ ap (cond (is_one_of date_parts name) None) (styled_plain own given name))
 
 -- a field that an entry has itself isn't searched for
 plain_lacked : {A : Type 0} (own given : Option A) → first_some own (cond (is_some own) None given) ≡ first_some own given
@@ -85,18 +96,30 @@ plain_lacked None given = refl
 plain_lacked (Some x) given = refl
 
 -- the rule needs only the given fields that the entry lacks
-by_lacked : (date : Option (List Atom)) (own given : FieldTexts) (name : List ℕ) → field_by date own (λ n. cond (is_some (own n)) None (given n)) name ≡ field_by date own given name
+by_lacked : (date : Option (List Atom)) (own given : FieldTexts) (name : List ℕ)
+    → field_by date own (λ n. cond (is_some (own n)) None (given n)) name ≡ field_by date own given name
 by_lacked None own given name = ap (cond (bytes_eq name (codes "xdata")) None) (plain_lacked (own name) (given name))
 by_lacked (Some date) own given name =
-    ap (λ o. cond (bytes_eq name (codes "date")) (Some date) (cond (is_one_of date_parts name) None (cond (bytes_eq name (codes "xdata")) None o))) (plain_lacked (own name) (given name))
+    ap
+    (λ o.
+    cond (bytes_eq name (codes "date")) (Some date)
+    (cond (is_one_of date_parts name) None (cond (bytes_eq name (codes "xdata")) None o)))
+    (plain_lacked (own name) (given name))
 
 -- the entry after inheriting satisfies the rule
 pub inherits : (entry_type : EntryType) (own fields : Map) (refs : List EntryTexts) (given : List (List ℕ × Value)) (date : Option Value)
-    → ((name : List ℕ) → option_map styled (first_named given name) ≡ cond (is_some (fields_of own name)) None (inherited_field entry_type name refs))
-    → option_map styled date ≡ date_for (texts_of_fields entry_type own) refs → ((name : List ℕ) → get fields name ≡ field_by date (get own) (first_named given) name)
+    →
+    ((name : List ℕ)
+    → option_map styled (first_named given name)
+    ≡ cond (is_some (fields_of own name)) None (inherited_field entry_type name refs))
+    → option_map styled date ≡ date_for (texts_of_fields entry_type own) refs
+    → ((name : List ℕ) → get fields name ≡ field_by date (get own) (first_named given) name)
     → texts_of_fields entry_type fields ≡ inherited (texts_of_fields entry_type own) refs
 inherits entry_type own fields refs given date gives dated h =
-    let same : (name : List ℕ) → fields_of fields name ≡ field_by (date_for (texts_of_fields entry_type own) refs) (fields_of own) (λ n. inherited_field entry_type n refs) name =
+    let same : (name : List ℕ)
+    → fields_of fields name
+    ≡ field_by (date_for (texts_of_fields entry_type own) refs) (fields_of own)
+    (λ n. inherited_field entry_type n refs) name =
     λ name. ap (option_map styled) (h name) ∙ styled_by date (get own) (first_named given) name
     ∙ ap (λ d. field_by d (fields_of own) (λ n. option_map styled (first_named given n)) name) dated
     ∙ ap (λ (f : FieldTexts). field_by (date_for (texts_of_fields entry_type own) refs) (fields_of own) f name) (λ i n. gives n i)

@@ -46,7 +46,8 @@ mapped_if f true x y = refl
 mapped_if f false x y = refl
 
 -- a collected field after one more insertion
-pub gathered_inserted : (m n : Gathered) (bs : List ℕ) (c : Bor Value) → tree.UpdatesBy (λ x y. slice_cmp nat_cmp x.now y.now) (λ k. slice_cmp nat_cmp bs k.now) m n (Some c)
+pub gathered_inserted : (m n : Gathered) (bs : List ℕ) (c : Bor Value)
+    → tree.UpdatesBy (λ x y. slice_cmp nat_cmp x.now y.now) (λ k. slice_cmp nat_cmp bs k.now) m n (Some c)
     → (q : List ℕ) → gathered_text n q ≡ cond (bytes_eq bs q) (Some (styled c.now)) (gathered_text m q)
 gathered_inserted m n bs c h q =
     ap (option_map text_of_loan) (btree_map_updates_str bs m n (Some c) h q)
@@ -64,18 +65,24 @@ abbrev pub IsGathered : Names → ℕ → EntryTexts → Gathered → Gathered �
 IsGathered names i s old new = (q : List ℕ) → gathered_text new q ≡ first_some (offered_among (take i names) s q) (gathered_text old q)
 
 -- a name is among the first `i + 1` names if it is among the first `i` or is the next
-among_more : (names : Names) (i : ℕ) (q : List ℕ) (b : Bool) → i < length names → bytes_eq (get_or names i []) q ≡ b → is_one_of (take (i + 1) names) q ≡ (is_one_of (take i names) q || b)
+among_more : (names : Names) (i : ℕ) (q : List ℕ) (b : Bool) → i < length names → bytes_eq (get_or names i []) q ≡ b
+    → is_one_of (take (i + 1) names) q ≡ (is_one_of (take i names) q || b)
 among_more names i q b h e = list_any_more (λ each. bytes_eq each q) names i [] h ∙ ap (λ v. is_one_of (take i names) q || v) e
 
 -- the next name adds no offer for another name
-among_other : (names : Names) (i : ℕ) (s : EntryTexts) (q : List ℕ) → i < length names → bytes_eq (get_or names i []) q ≡ false → offered_among (take (i + 1) names) s q ≡ offered_among (take i names) s q
-among_other names i s q h e = ap (λ b. cond (not (is_one_of never_inherited q) && b) (offer s q) None) (among_more names i q false h e ∙ or-false (is_one_of (take i names) q))
+among_other : (names : Names) (i : ℕ) (s : EntryTexts) (q : List ℕ) → i < length names
+    → bytes_eq (get_or names i []) q ≡ false → offered_among (take (i + 1) names) s q ≡ offered_among (take i names) s q
+among_other names i s q h e =
+    ap (λ b. cond (not (is_one_of never_inherited q) && b) (offer s q) None)
+    (among_more names i q false h e ∙ or-false (is_one_of (take i names) q))
 
 -- nothing is offered for a name that is never inherited or has no offer
-among_none : (names : Names) (s : EntryTexts) (q : List ℕ) → (is_one_of never_inherited q ≡ true) ⊎ (offer s q ≡ None) → offered_among names s q ≡ None
+among_none : (names : Names) (s : EntryTexts) (q : List ℕ) → (is_one_of never_inherited q ≡ true) ⊎ (offer s q ≡ None)
+    → offered_among names s q ≡ None
 among_none names s q (inl k) = ap (λ k. cond (not k && is_one_of names q) (offer s q) None) k
 among_none names s q (inr o) =
-    ap (λ v. cond (not (is_one_of never_inherited q) && is_one_of names q) v None) o ∙ both (not (is_one_of never_inherited q) && is_one_of names q)
+    ap (λ v. cond (not (is_one_of never_inherited q) && is_one_of names q) v None) o
+    ∙ both (not (is_one_of never_inherited q) && is_one_of names q)
   where
     both : (b : Bool) → cond {A = Option (List Atom)} b None None ≡ None
     both true = refl
@@ -83,21 +90,31 @@ among_none names s q (inr o) =
 
 -- before the first name, nothing is collected
 pub gathered_none : (names : Names) (s : EntryTexts) (gathered : Gathered) → IsGathered names 0 s gathered gathered
-gathered_none names s gathered q = ap (λ b. first_some (cond b (offer s q) None) (gathered_text gathered q)) (sym (and-false (not (is_one_of never_inherited q))))
+gathered_none names s gathered q =
+    ap (λ b. first_some (cond b (offer s q) None) (gathered_text gathered q))
+    (sym (and-false (not (is_one_of never_inherited q))))
 
 -- the next name is never inherited, or the reference offers nothing for it
-pub gathered_skip : (names : Names) (i : ℕ) (s : EntryTexts) (n : List ℕ) (old new : Gathered) → i < length names → n ≡ get_or names i [] → (is_one_of never_inherited n ≡ true) ⊎ (offer s n ≡ None) → IsGathered names i s old new → IsGathered names (i + 1) s old new
+pub gathered_skip : (names : Names) (i : ℕ) (s : EntryTexts) (n : List ℕ) (old new : Gathered) → i < length names
+    → n ≡ get_or names i [] → (is_one_of never_inherited n ≡ true) ⊎ (offer s n ≡ None) → IsGathered names i s old new
+    → IsGathered names (i + 1) s old new
 gathered_skip names i s n old new within at none h q =
     elim (bytes_decides n q) [
       | inl t ↦
           let no = subst (λ x. (is_one_of never_inherited x ≡ true) ⊎ (offer s x ≡ None)) t.1 none in
-          h q ∙ ap (λ o. first_some o (gathered_text old q)) (among_none (take i names) s q no ∙ sym (among_none (take (i + 1) names) s q no))
-      | inr t ↦ h q ∙ ap (λ o. first_some o (gathered_text old q)) (sym (among_other names i s q within (ap (λ x. bytes_eq x q) (sym at) ∙ t.0)))
+          h q
+          ∙ ap (λ o. first_some o (gathered_text old q))
+          (among_none (take i names) s q no ∙ sym (among_none (take (i + 1) names) s q no))
+      | inr t ↦ h q
+          ∙ ap (λ o. first_some o (gathered_text old q))
+          (sym (among_other names i s q within (ap (λ x. bytes_eq x q) (sym at) ∙ t.0)))
     ]
 
 -- the next name has an offer
-pub gathered_more : (names : Names) (i : ℕ) (s : EntryTexts) (n : List ℕ) (c : Bor Value) (old mid new : Gathered) → i < length names → n ≡ get_or names i [] → is_one_of never_inherited n ≡ false → offer s n ≡ Some (styled c.now)
-    → tree.UpdatesBy (λ x y. slice_cmp nat_cmp x.now y.now) (λ k. slice_cmp nat_cmp n k.now) mid new (Some c) → IsGathered names i s old mid → IsGathered names (i + 1) s old new
+pub gathered_more : (names : Names) (i : ℕ) (s : EntryTexts) (n : List ℕ) (c : Bor Value) (old mid new : Gathered)
+    → i < length names → n ≡ get_or names i [] → is_one_of never_inherited n ≡ false → offer s n ≡ Some (styled c.now)
+    → tree.UpdatesBy (λ x y. slice_cmp nat_cmp x.now y.now) (λ k. slice_cmp nat_cmp n k.now) mid new (Some c)
+    → IsGathered names i s old mid → IsGathered names (i + 1) s old new
 gathered_more names i s n c old mid new within at free gives updates h q =
     elim (bytes_decides n q) [
       | inl t ↦
@@ -107,14 +124,17 @@ gathered_more names i s n c old mid new within at free gives updates h q =
           ∙ ap (λ k. cond (not k && true) (offer s q) None) (subst (λ x. is_one_of never_inherited x ≡ false) t.1 free)
           ∙ subst (λ x. offer s x ≡ Some (styled c.now)) t.1 gives
           in
-          gathered_inserted mid new n c updates q ∙ ap (λ b. cond b (Some (styled c.now)) (gathered_text mid q)) t.0 ∙ ap (λ o. first_some o (gathered_text old q)) (sym is)
+          gathered_inserted mid new n c updates q ∙ ap (λ b. cond b (Some (styled c.now)) (gathered_text mid q)) t.0
+          ∙ ap (λ o. first_some o (gathered_text old q)) (sym is)
       | inr t ↦
           gathered_inserted mid new n c updates q ∙ ap (λ b. cond b (Some (styled c.now)) (gathered_text mid q)) t.0 ∙ h q
           ∙ ap (λ o. first_some o (gathered_text old q)) (sym (among_other names i s q within (ap (λ x. bytes_eq x q) (sym at) ∙ t.0)))
     ]
 
 -- collecting for two conditions one after the other is collecting for either
-twice : {A : Type 0} (n a b : Bool) (o x : Option A) → first_some (cond (n && b) o None) (first_some (cond (n && a) o None) x) ≡ first_some (cond (n && (a || b)) o None) x
+twice : {A : Type 0} (n a b : Bool) (o x : Option A)
+    → first_some (cond (n && b) o None) (first_some (cond (n && a) o None) x)
+    ≡ first_some (cond (n && (a || b)) o None) x
 twice false a b o x = refl
 twice true false false o x = refl
 twice true false true o x = refl
@@ -123,10 +143,12 @@ twice true true true None x = refl
 twice true true true (Some v) x = refl
 
 -- collecting for one list of names and then for another is collecting for both
-pub offered_both : (a b : Names) (s : EntryTexts) (q : List ℕ) (x : Option (List Atom)) → first_some (offered_among b s q) (first_some (offered_among a s q) x) ≡ first_some (offered_among (a ++ b) s q) x
+pub offered_both : (a b : Names) (s : EntryTexts) (q : List ℕ) (x : Option (List Atom))
+    → first_some (offered_among b s q) (first_some (offered_among a s q) x) ≡ first_some (offered_among (a ++ b) s q) x
 offered_both a b s q x =
     twice (not (is_one_of never_inherited q)) (is_one_of a q) (is_one_of b q) (offer s q) x
-    ∙ ap (λ v. first_some (cond (not (is_one_of never_inherited q) && v) (offer s q) None) x) (sym (list_any-append (λ each. bytes_eq each q) a b))
+    ∙ ap (λ v. first_some (cond (not (is_one_of never_inherited q) && v) (offer s q) None) x)
+    (sym (list_any-append (λ each. bytes_eq each q) a b))
 
 same_some : {A B : Type 0} (f : A → B) (o : Option A) → is_some o ≡ is_some (option_map f o)
 same_some f None = refl
@@ -152,29 +174,43 @@ found_or v found later false h = h
 
 is_some-find : (q : List ℕ) (es : List (List ℕ × Value)) → is_some (find by_bytes q es) ≡ is_one_of (map (λ e. e.0) es) q
 is_some-find q [] = refl
-is_some-find q (e ∷ es) = ap (λ b. is_some (cond b (Some e.1) (find by_bytes q es))) (flipped q e.0) ∙ found_or e.1 (find by_bytes q es) (is_one_of (map (λ x. x.0) es) q) (bytes_eq e.0 q) (is_some-find q es)
+is_some-find q (e ∷ es) =
+    ap (λ b. is_some (cond b (Some e.1) (find by_bytes q es))) (flipped q e.0)
+    ∙ found_or e.1 (find by_bytes q es) (is_one_of (map (λ x. x.0) es) q) (bytes_eq e.0 q) (is_some-find q es)
 
 -- a map has a field of a name exactly if the name is among its names
 pub has_names : (m : ByText Value) (q : List ℕ) → is_one_of (map (λ e. e.0) (entries m)) q ≡ is_some (fields_of m q)
 has_names m q = sym (is_some-find q (entries m)) ∙ ap is_some (sym (get-entries m q)) ∙ same_some styled (get m q)
 
 -- a container is offered each field of its reference
-pub given_container : (entry_type : EntryType) (reference : Reference) (names : Names) (q : List ℕ) → is_container entry_type ≡ true → names ≡ map (λ e. e.0) (entries reference.fields.now) → offered_among names (texts_of_reference reference) q ≡ offered_field entry_type (texts_of_reference reference) q
+pub given_container : (entry_type : EntryType) (reference : Reference) (names : Names) (q : List ℕ)
+    → is_container entry_type ≡ true → names ≡ map (λ e. e.0) (entries reference.fields.now)
+    → offered_among names (texts_of_reference reference) q ≡ offered_field entry_type (texts_of_reference reference) q
 given_container entry_type reference names q is all =
     let s = texts_of_reference reference in
-    ap (λ b. cond (not (is_one_of never_inherited q) && b) (offer s q) None) (ap (λ l. is_one_of l q) all ∙ has_names reference.fields.now q)
+    ap (λ b. cond (not (is_one_of never_inherited q) && b) (offer s q) None)
+    (ap (λ l. is_one_of l q) all ∙ has_names reference.fields.now q)
     ∙ same (not (is_one_of never_inherited q)) (has s q) (offer s q)
-    ∙ ap (λ b. cond ((not (is_one_of never_inherited q) && (b || is_one_of (inheritable entry_type) q)) && (not b || has s q)) (offer s q) None) (sym is)
+    ∙ ap
+    (λ b.
+    cond
+    ((not (is_one_of never_inherited q) && (b || is_one_of (inheritable entry_type) q))
+    && (not b || has s q)) (offer s q) None) (sym is)
   where
     same : {A : Type 0} (n h : Bool) (o : Option A) → cond (n && h) o None ≡ cond ((n && true) && h) o None
     same true h o = refl
     same false h o = refl
 
 -- any other entry is offered the fields that its type inherits
-pub given_other : (entry_type : EntryType) (s : EntryTexts) (q : List ℕ) → is_container entry_type ≡ false → offered_among (inheritable entry_type) s q ≡ offered_field entry_type s q
+pub given_other : (entry_type : EntryType) (s : EntryTexts) (q : List ℕ) → is_container entry_type ≡ false
+    → offered_among (inheritable entry_type) s q ≡ offered_field entry_type s q
 given_other entry_type s q is =
     same (not (is_one_of never_inherited q)) (is_one_of (inheritable entry_type) q) (offer s q)
-    ∙ ap (λ b. cond ((not (is_one_of never_inherited q) && (b || is_one_of (inheritable entry_type) q)) && (not b || has s q)) (offer s q) None) (sym is)
+    ∙ ap
+    (λ b.
+    cond
+    ((not (is_one_of never_inherited q) && (b || is_one_of (inheritable entry_type) q))
+    && (not b || has s q)) (offer s q) None) (sym is)
   where
     same : {A : Type 0} (n h : Bool) (o : Option A) → cond (n && h) o None ≡ cond ((n && h) && true) o None
     same true true o = refl
@@ -182,8 +218,14 @@ given_other entry_type s q is =
     same false h o = refl
 
 -- the fields collected after one more reference from the end
-pub given_more : (entry_type : EntryType) (refs : List Reference) (done : ℕ) (r : Reference) (old new : Gathered) → done < length refs → r ≡ get_or refs (length refs - 1 - done) r
-    → ((q : List ℕ) → gathered_text new q ≡ first_some (offered_field entry_type (texts_of_reference r) q) (gathered_text old q)) → ((q : List ℕ) → gathered_text old q ≡ inherited_field entry_type q (texts_of_references (drop (length refs - done) refs)))
+pub given_more : (entry_type : EntryType) (refs : List Reference) (done : ℕ) (r : Reference) (old new : Gathered)
+    → done < length refs → r ≡ get_or refs (length refs - 1 - done) r
+    →
+    ((q : List ℕ)
+    → gathered_text new q ≡ first_some (offered_field entry_type (texts_of_reference r) q) (gathered_text old q))
+    →
+    ((q : List ℕ)
+    → gathered_text old q ≡ inherited_field entry_type q (texts_of_references (drop (length refs - done) refs)))
     → (q : List ℕ) → gathered_text new q ≡ inherited_field entry_type q (texts_of_references (drop (length refs - (done + 1)) refs))
 given_more entry_type refs done r old new within at adds h q =
     let k : ℕ = length refs - (done + 1) in
@@ -192,15 +234,27 @@ given_more entry_type refs done r old new within at adds h q =
     let next = at_drop_more (λ l. inherited_field entry_type q (texts_of_references l)) refs k r (omega arith) in
     let is : r ≡ get_or refs k r = at ∙ ap (λ n. get_or refs n r) here in
     adds q
-    ∙ ap (first_some (offered_field entry_type (texts_of_reference r) q)) (h q ∙ ap (λ n. inherited_field entry_type q (texts_of_references (drop n refs))) following)
-    ∙ ap (λ x. first_some (offered_field entry_type (texts_of_reference x) q) (inherited_field entry_type q (texts_of_references (drop (k + 1) refs)))) is
+    ∙ ap (first_some (offered_field entry_type (texts_of_reference r) q))
+    (h q ∙ ap (λ n. inherited_field entry_type q (texts_of_references (drop n refs))) following)
+    ∙ ap
+    (λ x.
+    first_some (offered_field entry_type (texts_of_reference x) q)
+    (inherited_field entry_type q (texts_of_references (drop (k + 1) refs)))) is
     ∙ sym next
 
 -- the fields collected after one more group of names
-pub groups_more : (groups : List (Bor (List (Bor (List ℕ))))) (i : ℕ) (d : Bor (List (Bor (List ℕ)))) (s : EntryTexts) (old mid new : Gathered) → i < length groups
+pub groups_more : (groups : List (Bor (List (Bor (List ℕ))))) (i : ℕ) (d : Bor (List (Bor (List ℕ)))) (s : EntryTexts)
+    (old mid new : Gathered) → i < length groups
     → ((q : List ℕ) → gathered_text new q ≡ first_some (offered_among (texts (get_or groups i d).now) s q) (gathered_text mid q))
-    → ((q : List ℕ) → gathered_text mid q ≡ first_some (offered_among (flat_map (λ group. texts group.now) (take i groups)) s q) (gathered_text old q))
-    → (q : List ℕ) → gathered_text new q ≡ first_some (offered_among (flat_map (λ group. texts group.now) (take (i + 1) groups)) s q) (gathered_text old q)
+    →
+    ((q : List ℕ)
+    → gathered_text mid q
+    ≡ first_some (offered_among (flat_map (λ group. texts group.now) (take i groups)) s q)
+    (gathered_text old q))
+    → (q : List ℕ)
+    → gathered_text new q
+    ≡ first_some (offered_among (flat_map (λ group. texts group.now) (take (i + 1) groups)) s q)
+    (gathered_text old q)
 groups_more groups i d s old mid new within adds h q =
     let g : Bor (List (Bor (List ℕ))) = get_or groups i d in
     let before : Names = flat_map (λ (group : Bor (List (Bor (List ℕ)))). texts group.now) (take i groups) in
@@ -213,9 +267,14 @@ groups_more groups i d s old mid new within adds h q =
     ∙ ap (λ l. first_some (offered_among l s q) (gathered_text old q)) (sym all)
 
 -- the fields collected for the names of a type, in four steps
-pub inheritable_gathered : (entry_type : EntryType) (s : EntryTexts) (required optional pages author : Names) (q : List ℕ) (x : Option (List Atom))
-    → required ≡ (rules_of entry_type).required → optional ≡ (rules_of entry_type).optional → pages ≡ page_names (rules_of entry_type).pages → author ≡ author_names (rules_of entry_type).author
-    → first_some (offered_among author s q) (first_some (offered_among pages s q) (first_some (offered_among optional s q) (first_some (offered_among required s q) x))) ≡ first_some (offered_among (inheritable entry_type) s q) x
+pub inheritable_gathered : (entry_type : EntryType) (s : EntryTexts) (required optional pages author : Names)
+    (q : List ℕ) (x : Option (List Atom))
+    → required ≡ (rules_of entry_type).required → optional ≡ (rules_of entry_type).optional
+    → pages ≡ page_names (rules_of entry_type).pages → author ≡ author_names (rules_of entry_type).author
+    → first_some (offered_among author s q)
+    (first_some (offered_among pages s q)
+    (first_some (offered_among optional s q) (first_some (offered_among required s q) x)))
+    ≡ first_some (offered_among (inheritable entry_type) s q) x
 inheritable_gathered entry_type s required optional pages author q x a b c d =
     ap (λ o. first_some (offered_among author s q) (first_some (offered_among pages s q) o)) (offered_both required optional s q x)
     ∙ ap (first_some (offered_among author s q)) (offered_both (required ++ optional) pages s q x)
@@ -236,17 +295,22 @@ abbrev pub copied : ByText Value → List Loan → List ℕ → Option (List Ato
 copied own gathered q = cond (is_some (fields_of own q)) None (gathered_text_in gathered q)
 
 -- the styled text of a name in a list of collected fields
-gathered_next : (n : Bor (List ℕ)) (c : Bor Value) (rest : List Loan) (q : List ℕ) → gathered_text_in ((n, c) ∷ rest) q ≡ cond (bytes_eq n.now q) (Some (styled c.now)) (gathered_text_in rest q)
+gathered_next : (n : Bor (List ℕ)) (c : Bor Value) (rest : List Loan) (q : List ℕ)
+    → gathered_text_in ((n, c) ∷ rest) q ≡ cond (bytes_eq n.now q) (Some (styled c.now)) (gathered_text_in rest q)
 gathered_next n c rest q =
     ap (λ b. option_map text_of_loan (cond b (Some c) (lookup (tree.is_at (λ key. slice_cmp nat_cmp q key.now)) rest))) (flipped q n.now)
     ∙ mapped_if text_of_loan (bytes_eq n.now q) (Some c) (lookup (tree.is_at (λ key. slice_cmp nat_cmp q key.now)) rest)
 
-found-following : (q : List ℕ) (xs ys : List (List ℕ × Value)) → find by_bytes q (xs ++ ys) ≡ first_some (find by_bytes q xs) (find by_bytes q ys)
+found-following : (q : List ℕ) (xs ys : List (List ℕ × Value))
+    → find by_bytes q (xs ++ ys) ≡ first_some (find by_bytes q xs) (find by_bytes q ys)
 found-following q [] ys = refl
-found-following q (x ∷ xs) ys = step x.1 (find by_bytes q (xs ++ ys)) (find by_bytes q xs) (find by_bytes q ys) (eq_by_cmp by_bytes q x.0) (found-following q xs ys) where
-  step : (v : Value) (all one other : Option Value) (b : Bool) → all ≡ first_some one other → cond b (Some v) all ≡ first_some (cond b (Some v) one) other
-  step v all one other true h = refl
-  step v all one other false h = h
+found-following q (x ∷ xs) ys =
+    step x.1 (find by_bytes q (xs ++ ys)) (find by_bytes q xs) (find by_bytes q ys) (eq_by_cmp by_bytes q x.0)
+    (found-following q xs ys) where
+      step : (v : Value) (all one other : Option Value) (b : Bool) → all ≡ first_some one other
+          → cond b (Some v) all ≡ first_some (cond b (Some v) one) other
+      step v all one other true h = refl
+      step v all one other false h = h
 
 -- the first field of a name in a concatenation
 pub first_after : (q : List ℕ) (xs ys : List (List ℕ × Value)) → first_named (xs ++ ys) q ≡ first_some (first_named xs q) (first_named ys q)
@@ -269,30 +333,43 @@ pub copied_none : (own : ByText Value) (all : List Loan) → AreCopied own all a
 copied_none own all q = refl
 
 -- a collected field that the entry has is skipped
-pub copied_skip : (own : ByText Value) (all rest left : List Loan) (n : Bor (List ℕ)) (c : Bor Value) (copies : List (List ℕ × Value)) → left ≡ (n, c) ∷ rest → is_some (get own n.now) ≡ true → AreCopied own all left copies → AreCopied own all rest copies
+pub copied_skip : (own : ByText Value) (all rest left : List Loan) (n : Bor (List ℕ)) (c : Bor Value)
+    (copies : List (List ℕ × Value)) → left ≡ (n, c) ∷ rest → is_some (get own n.now) ≡ true
+    → AreCopied own all left copies → AreCopied own all rest copies
 copied_skip own all rest left n c copies is had h q =
-    h q ∙ ap (first_some (option_map styled (first_named copies q))) (ap (λ l. copied own l q) is ∙ ap (cond (is_some (fields_of own q)) None) (gathered_next n c rest q)
+    h q ∙ ap (first_some (option_map styled (first_named copies q))) (ap (λ l. copied own l q) is
+    ∙ ap (cond (is_some (fields_of own q)) None) (gathered_next n c rest q)
     ∙ elim (bytes_decides n.now q) [
       | inl t ↦
-          let own_has : is_some (fields_of own q) ≡ true = sym (same_some styled (get own q)) ∙ subst (λ x. is_some (get own x) ≡ true) t.1 had in
-          ap (λ b. cond b None (cond (bytes_eq n.now q) (Some (styled c.now)) (gathered_text_in rest q))) own_has ∙ ap (λ b. cond b None (gathered_text_in rest q)) (sym own_has)
+          let own_has : is_some (fields_of own q) ≡ true =
+          sym (same_some styled (get own q)) ∙ subst (λ x. is_some (get own x) ≡ true) t.1 had in
+          ap (λ b. cond b None (cond (bytes_eq n.now q) (Some (styled c.now)) (gathered_text_in rest q))) own_has
+          ∙ ap (λ b. cond b None (gathered_text_in rest q)) (sym own_has)
       | inr t ↦ ap (λ b. cond (is_some (fields_of own q)) None (cond b (Some (styled c.now)) (gathered_text_in rest q))) t.0
     ])
 
 -- a collected field that the entry lacks is copied
-pub copied_more : (own : ByText Value) (all rest left : List Loan) (n : Bor (List ℕ)) (c : Bor Value) (v : Value) (copies : List (List ℕ × Value)) → left ≡ (n, c) ∷ rest → is_some (get own n.now) ≡ false → v ≡ c.now → AreCopied own all left copies → AreCopied own all rest (copies ++ (n.now, v) ∷ [])
+pub copied_more : (own : ByText Value) (all rest left : List Loan) (n : Bor (List ℕ)) (c : Bor Value) (v : Value)
+    (copies : List (List ℕ × Value)) → left ≡ (n, c) ∷ rest → is_some (get own n.now) ≡ false → v ≡ c.now
+    → AreCopied own all left copies → AreCopied own all rest (copies ++ (n.now, v) ∷ [])
 copied_more own all rest left n c v copies is lacks same h q =
     let one : option_map styled (first_named ((n.now, v) ∷ []) q) ≡ cond (bytes_eq n.now q) (Some (styled c.now)) None =
-    ap (λ b. option_map styled (cond b (Some v) None)) (flipped q n.now) ∙ mapped_if styled (bytes_eq n.now q) (Some v) None ∙ ap (λ x. cond (bytes_eq n.now q) (Some (styled x)) None) same
+    ap (λ b. option_map styled (cond b (Some v) None)) (flipped q n.now)
+    ∙ mapped_if styled (bytes_eq n.now q) (Some v) None
+    ∙ ap (λ x. cond (bytes_eq n.now q) (Some (styled x)) None) same
     in
-    let before : option_map styled (first_named (copies ++ (n.now, v) ∷ []) q) ≡ first_some (option_map styled (first_named copies q)) (cond (bytes_eq n.now q) (Some (styled c.now)) None) =
-    ap (option_map styled) (first_after q copies ((n.now, v) ∷ [])) ∙ styled_first (first_named copies q) (first_named ((n.now, v) ∷ []) q) ∙ ap (first_some (option_map styled (first_named copies q))) one
+    let before : option_map styled (first_named (copies ++ (n.now, v) ∷ []) q)
+    ≡ first_some (option_map styled (first_named copies q)) (cond (bytes_eq n.now q) (Some (styled c.now)) None) =
+    ap (option_map styled) (first_after q copies ((n.now, v) ∷ []))
+    ∙ styled_first (first_named copies q) (first_named ((n.now, v) ∷ []) q)
+    ∙ ap (first_some (option_map styled (first_named copies q))) one
     in
     let here : copied own left q ≡ first_some (cond (bytes_eq n.now q) (Some (styled c.now)) None) (copied own rest q) =
     ap (λ l. copied own l q) is ∙ ap (cond (is_some (fields_of own q)) None) (gathered_next n c rest q)
     ∙ elim (bytes_decides n.now q) [
       | inl t ↦
-          let own_lacks : is_some (fields_of own q) ≡ false = sym (same_some styled (get own q)) ∙ subst (λ x. is_some (get own x) ≡ false) t.1 lacks in
+          let own_lacks : is_some (fields_of own q) ≡ false =
+          sym (same_some styled (get own q)) ∙ subst (λ x. is_some (get own x) ≡ false) t.1 lacks in
           ap (λ b. cond b None (cond (bytes_eq n.now q) (Some (styled c.now)) (gathered_text_in rest q))) own_lacks
           ∙ ap (λ b. cond b (Some (styled c.now)) (gathered_text_in rest q)) t.0
           ∙ sym (ap (λ b. first_some (cond b (Some (styled c.now)) None) (copied own rest q)) t.0)
@@ -310,9 +387,13 @@ copied_some None = refl
 copied_some (Some x) = refl
 
 -- no collected field remains
-pub copied_all : (own : ByText Value) (all left : List Loan) (copies : List (List ℕ × Value)) → left ≡ [] → AreCopied own all left copies → (q : List ℕ) → option_map styled (first_named copies q) ≡ copied own all q
+pub copied_all : (own : ByText Value) (all left : List Loan) (copies : List (List ℕ × Value)) → left ≡ []
+    → AreCopied own all left copies → (q : List ℕ) → option_map styled (first_named copies q) ≡ copied own all q
 copied_all own all left copies none h q =
-    sym (h q ∙ ap (λ l. first_some (option_map styled (first_named copies q)) (copied own l q)) none ∙ ap (first_some (option_map styled (first_named copies q))) (nothing (is_some (fields_of own q))) ∙ alone (option_map styled (first_named copies q)))
+    sym
+    (h q ∙ ap (λ l. first_some (option_map styled (first_named copies q)) (copied own l q)) none
+    ∙ ap (first_some (option_map styled (first_named copies q))) (nothing (is_some (fields_of own q)))
+    ∙ alone (option_map styled (first_named copies q)))
   where
     nothing : (b : Bool) → cond {A = Option (List Atom)} b None None ≡ None
     nothing true = refl

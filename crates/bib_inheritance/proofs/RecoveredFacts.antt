@@ -14,9 +14,11 @@ use Rattle.bib_inheritance.proofs.DateErrors.{dates_reported}
 
 -- if the entries on cycles lost their references, and all entries then inherited, they are the recovery, with the errors of
 -- both
-pub recovered : (spans : List (Range ℕ)) (names : ByText ℕ) (own cut entries : List Entry) (graph left : Graph) (looks : List Bool) (n : ℕ) (cycles dates errors : List ParseError)
+pub recovered : (spans : List (Range ℕ)) (names : ByText ℕ) (own cut entries : List Entry) (graph left : Graph)
+    (looks : List Bool) (n : ℕ) (cycles dates errors : List ParseError)
     → graph ≡ graph_by names own → IsCut spans own graph cut left cycles
-    → map (λ e. e.key) entries ≡ map (λ e. e.key) cut → Inherits (texts_of_entries cut) left (texts_of_entries entries) → AllKeepChunks cut entries
+    → map (λ e. e.key) entries ≡ map (λ e. e.key) cut → Inherits (texts_of_entries cut) left (texts_of_entries entries)
+    → AllKeepChunks cut entries
     → looks ≡ map (λ e. looks_for_date (texts_of_entry e)) cut → n ≡ length own
     → EachReported (λ index. is_unread_at looks left (texts_of_entries entries) index ≡ true) (IsUnreadError left entries) n dates
     → errors ≡ cycles ++ dates → AreRecovered spans names own entries errors
@@ -31,10 +33,21 @@ recovered spans names own cut entries graph left looks n cycles dates errors gra
       inherits = subst (λ g. Inherits (texts_of_entries cut) g (texts_of_entries entries)) left_is inherits;
       chunks = chunks;
       cycles = cycles;
-      each_cycle = subst (λ (g : Graph). EachReported (λ index. Leads g index index) (IsCycleAt spans own) (length own) cycles) graph_is h.reported;
+      each_cycle =
+          subst (λ (g : Graph). EachReported (λ index. Leads g index index) (IsCycleAt spans own) (length own) cycles)
+          graph_is h.reported;
       dates = dates;
-      each_date = subst (λ m. EachReported (λ index. has_bad_date (texts_of_entries cut) (graph_by names cut) (texts_of_entries entries) index ≡ true) (IsDateError cut (graph_by names cut) (texts_of_entries entries)) m dates) long
-          (subst (λ g. EachReported (λ index. has_bad_date (texts_of_entries cut) g (texts_of_entries entries) index ≡ true) (IsDateError cut g (texts_of_entries entries)) n dates) left_is
+      each_date =
+          subst
+          (λ m.
+          EachReported
+          (λ index.
+          has_bad_date (texts_of_entries cut) (graph_by names cut) (texts_of_entries entries) index
+          ≡ true) (IsDateError cut (graph_by names cut) (texts_of_entries entries)) m dates) long
+          (subst
+          (λ g.
+          EachReported (λ index. has_bad_date (texts_of_entries cut) g (texts_of_entries entries) index ≡ true)
+          (IsDateError cut g (texts_of_entries entries)) n dates) left_is
           (dates_reported cut looks left entries n dates are keys chunks each));
       are = is;
     }

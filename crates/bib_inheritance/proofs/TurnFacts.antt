@@ -31,23 +31,43 @@ use Rattle.bib_inheritance.specs.Turning.{IsTurned}
 -- ---- repeated references
 
 -- a field is inherited from the references before the last one, or else from the last one
-taken_last : (entry_type : EntryType) (name : List ℕ) (rs : List EntryTexts) (r : EntryTexts) → inherited_field entry_type name (rs ++ r ∷ []) ≡ first_some (inherited_field entry_type name rs) (offered_field entry_type r name)
+taken_last : (entry_type : EntryType) (name : List ℕ) (rs : List EntryTexts) (r : EntryTexts)
+    → inherited_field entry_type name (rs ++ r ∷ [])
+    ≡ first_some (inherited_field entry_type name rs) (offered_field entry_type r name)
 taken_last entry_type name [] r = alone (offered_field entry_type r name) where
   alone : {A : Type 0} (o : Option A) → first_some o None ≡ o
   alone None = refl
   alone (Some x) = refl
-taken_last entry_type name (x ∷ rs) r = ap (first_some (offered_field entry_type x name)) (taken_last entry_type name rs r) ∙ either (offered_field entry_type x name) (inherited_field entry_type name rs) (offered_field entry_type r name) where
-  either : {A : Type 0} (a b c : Option A) → first_some a (first_some b c) ≡ first_some (first_some a b) c
-  either None b c = refl
-  either (Some y) b c = refl
+taken_last entry_type name (x ∷ rs) r =
+    ap (first_some (offered_field entry_type x name)) (taken_last entry_type name rs r)
+    ∙ either (offered_field entry_type x name) (inherited_field entry_type name rs)
+    (offered_field entry_type r name) where
+      either : {A : Type 0} (a b c : Option A) → first_some a (first_some b c) ≡ first_some (first_some a b) c
+      either None b c = refl
+      either (Some y) b c = refl
 
 -- a reference that occurred before adds no field
-given_before : (entry_type : EntryType) (name : List ℕ) (at : ℕ → EntryTexts) (p : ℕ) (indices : List ℕ) → list_any (λ x. eqb x p) indices ≡ true → first_some (inherited_field entry_type name (map at indices)) (offered_field entry_type (at p) name) ≡ inherited_field entry_type name (map at indices)
+given_before : (entry_type : EntryType) (name : List ℕ) (at : ℕ → EntryTexts) (p : ℕ) (indices : List ℕ)
+    → list_any (λ x. eqb x p) indices ≡ true
+    → first_some (inherited_field entry_type name (map at indices)) (offered_field entry_type (at p) name)
+    ≡ inherited_field entry_type name (map at indices)
 given_before entry_type name at p [] among = absurd (false≢true among)
 given_before entry_type name at p (x ∷ indices) among =
     elim (cases_Bool (eqb x p)) [
-      | inl is ↦ ap (λ y. first_some (first_some (offered_field entry_type (at y) name) (inherited_field entry_type name (map at indices))) (offered_field entry_type (at p) name)) (same_index x p is) ∙ again (offered_field entry_type (at p) name) (inherited_field entry_type name (map at indices)) ∙ ap (λ y. first_some (offered_field entry_type (at y) name) (inherited_field entry_type name (map at indices))) (sym (same_index x p is))
-      | inr other ↦ later (offered_field entry_type (at x) name) (inherited_field entry_type name (map at indices)) (offered_field entry_type (at p) name) (given_before entry_type name at p indices (ap (λ b. b || list_any (λ y. eqb y p) indices) (sym other) ∙ among))
+      | inl is ↦ ap
+          (λ y.
+          first_some
+          (first_some (offered_field entry_type (at y) name)
+          (inherited_field entry_type name (map at indices))) (offered_field entry_type (at p) name))
+          (same_index x p is)
+          ∙ again (offered_field entry_type (at p) name) (inherited_field entry_type name (map at indices))
+          ∙ ap
+          (λ y. first_some (offered_field entry_type (at y) name) (inherited_field entry_type name (map at indices)))
+          (sym (same_index x p is))
+      | inr other ↦ later (offered_field entry_type (at x) name) (inherited_field entry_type name (map at indices))
+          (offered_field entry_type (at p) name)
+          (given_before entry_type name at p indices
+          (ap (λ b. b || list_any (λ y. eqb y p) indices) (sym other) ∙ among))
     ]
   where
     again : {A : Type 0} (a b : Option A) → first_some (first_some a b) a ≡ first_some a b
@@ -64,24 +84,36 @@ given_before entry_type name at p (x ∷ indices) among =
 
 -- an entry inherits the same from `first` as from `indices`
 abbrev pub GivesSame : List ℕ → List ℕ → Type 0
-GivesSame first indices = (at : ℕ → EntryTexts) (entry_type : EntryType) (name : List ℕ) → inherited_field entry_type name (map at first) ≡ inherited_field entry_type name (map at indices)
+GivesSame first indices =
+    (at : ℕ → EntryTexts) (entry_type : EntryType) (name : List ℕ)
+    → inherited_field entry_type name (map at first) ≡ inherited_field entry_type name (map at indices)
 
 -- a repeated reference can be left out
-pub gives_again : (first indices : List ℕ) (i : ℕ) → i < length indices → list_any (λ x. eqb x (get_or indices i 0)) (take i indices) ≡ true → GivesSame first (take i indices) → GivesSame first (take (i + 1) indices)
+pub gives_again : (first indices : List ℕ) (i : ℕ) → i < length indices
+    → list_any (λ x. eqb x (get_or indices i 0)) (take i indices) ≡ true → GivesSame first (take i indices)
+    → GivesSame first (take (i + 1) indices)
 gives_again first indices i within among h at entry_type name =
     let p : ℕ = get_or indices i 0 in
-    h at entry_type name ∙ sym (given_before entry_type name at p (take i indices) among) ∙ sym (taken_last entry_type name (map at (take i indices)) (at p))
-    ∙ ap (inherited_field entry_type name) (sym (map_push at (take i indices) p)) ∙ ap (λ l. inherited_field entry_type name (map at l)) (sym (take_more indices i 0 within))
+    h at entry_type name ∙ sym (given_before entry_type name at p (take i indices) among)
+    ∙ sym (taken_last entry_type name (map at (take i indices)) (at p))
+    ∙ ap (inherited_field entry_type name) (sym (map_push at (take i indices) p))
+    ∙ ap (λ l. inherited_field entry_type name (map at l)) (sym (take_more indices i 0 within))
 
 -- a reference can be added to both lists
-pub gives_more : (first indices : List ℕ) (i : ℕ) → i < length indices → GivesSame first (take i indices) → GivesSame (first ++ get_or indices i 0 ∷ []) (take (i + 1) indices)
+pub gives_more : (first indices : List ℕ) (i : ℕ) → i < length indices → GivesSame first (take i indices)
+    → GivesSame (first ++ get_or indices i 0 ∷ []) (take (i + 1) indices)
 gives_more first indices i within h at entry_type name =
     let p : ℕ = get_or indices i 0 in
-    ap (inherited_field entry_type name) (map_push at first p) ∙ taken_last entry_type name (map at first) (at p) ∙ ap (λ o. first_some o (offered_field entry_type (at p) name)) (h at entry_type name)
-    ∙ sym (taken_last entry_type name (map at (take i indices)) (at p)) ∙ ap (inherited_field entry_type name) (sym (map_push at (take i indices) p)) ∙ ap (λ l. inherited_field entry_type name (map at l)) (sym (take_more indices i 0 within))
+    ap (inherited_field entry_type name) (map_push at first p) ∙ taken_last entry_type name (map at first) (at p)
+    ∙ ap (λ o. first_some o (offered_field entry_type (at p) name)) (h at entry_type name)
+    ∙ sym (taken_last entry_type name (map at (take i indices)) (at p))
+    ∙ ap (inherited_field entry_type name) (sym (map_push at (take i indices) p))
+    ∙ ap (λ l. inherited_field entry_type name (map at l)) (sym (take_more indices i 0 within))
 
 -- an index was seen after one more step if it was seen before or is the next one
-pub seen_more : (indices : List ℕ) (i q : ℕ) (old new : Bool) → i < length indices → new ≡ cond (eq_by_cmp nat_cmp (get_or indices i 0) q) true old → old ≡ list_any (λ x. eqb x q) (take i indices) → new ≡ list_any (λ x. eqb x q) (take (i + 1) indices)
+pub seen_more : (indices : List ℕ) (i q : ℕ) (old new : Bool) → i < length indices
+    → new ≡ cond (eq_by_cmp nat_cmp (get_or indices i 0) q) true old → old ≡ list_any (λ x. eqb x q) (take i indices)
+    → new ≡ list_any (λ x. eqb x q) (take (i + 1) indices)
 seen_more indices i q old new within is was =
     let p : ℕ = get_or indices i 0 in
     is ∙ ap (λ b. cond b true old) (unsigned_tied p q) ∙ ap (cond (eqb p q) true) was
@@ -94,10 +126,13 @@ seen_more indices i q old new within is was =
     either false false = refl
 
 -- a repeated index adds no seen index
-pub seen_again : (indices : List ℕ) (i q : ℕ) → i < length indices → list_any (λ x. eqb x (get_or indices i 0)) (take i indices) ≡ true → list_any (λ x. eqb x q) (take (i + 1) indices) ≡ list_any (λ x. eqb x q) (take i indices)
+pub seen_again : (indices : List ℕ) (i q : ℕ) → i < length indices
+    → list_any (λ x. eqb x (get_or indices i 0)) (take i indices) ≡ true
+    → list_any (λ x. eqb x q) (take (i + 1) indices) ≡ list_any (λ x. eqb x q) (take i indices)
 seen_again indices i q within again = list_any_more (λ x. eqb x q) indices i 0 within ∙ elim (cases_Bool (eqb (get_or indices i 0) q)) [
   | inl is ↦
-      let among : list_any (λ x. eqb x q) (take i indices) ≡ true = subst (λ y. list_any (λ x. eqb x y) (take i indices) ≡ true) (nat_same (get_or indices i 0) q is) again in
+      let among : list_any (λ x. eqb x q) (take i indices) ≡ true =
+      subst (λ y. list_any (λ x. eqb x y) (take i indices) ≡ true) (nat_same (get_or indices i 0) q is) again in
       ap (λ b. b || eqb (get_or indices i 0) q) among ∙ sym among
   | inr other ↦ ap (λ b. list_any (λ x. eqb x q) (take i indices) || b) other ∙ or_false (list_any (λ x. eqb x q) (take i indices))
 ] where
@@ -111,39 +146,50 @@ seen_again indices i q within again = list_any_more (λ x. eqb x q) indices i 0 
 -- ---- resolving one entry
 
 -- the texts at an index are those of the entry
-pub texts_at_index : (entries : List Entry) (index : ℕ) (e : Entry) → index < length entries → e ≡ get_or entries index e → at_index (texts_of_entries entries) index ≡ texts_of_entry e
+pub texts_at_index : (entries : List Entry) (index : ℕ) (e : Entry) → index < length entries
+    → e ≡ get_or entries index e → at_index (texts_of_entries entries) index ≡ texts_of_entry e
 texts_at_index entries index e within is = get_or-map texts_of_entry entries index e no_entry within ∙ ap texts_of_entry (sym is)
 
 -- the texts of the references with one more reference
-pub one_reference : (entries : List Entry) (indices : List ℕ) (i : ℕ) (e : Entry) (references : List Reference) (new : Reference) → i < length indices → get_or indices i 0 < length entries → e ≡ get_or entries (get_or indices i 0) e → texts_of_reference new ≡ texts_of_entry e
-    → texts_of_references references ≡ map (at_index (texts_of_entries entries)) (take i indices) → texts_of_references (references ++ new ∷ []) ≡ map (at_index (texts_of_entries entries)) (take (i + 1) indices)
+pub one_reference : (entries : List Entry) (indices : List ℕ) (i : ℕ) (e : Entry) (references : List Reference)
+    (new : Reference) → i < length indices → get_or indices i 0 < length entries
+    → e ≡ get_or entries (get_or indices i 0) e → texts_of_reference new ≡ texts_of_entry e
+    → texts_of_references references ≡ map (at_index (texts_of_entries entries)) (take i indices)
+    → texts_of_references (references ++ new ∷ []) ≡ map (at_index (texts_of_entries entries)) (take (i + 1) indices)
 one_reference entries indices i e references new within below is same h =
     map_push texts_of_reference references new
     ∙ ap (λ l. l ++ texts_of_reference new ∷ []) h
-    ∙ ap (λ s. map (at_index (texts_of_entries entries)) (take i indices) ++ s ∷ []) (same ∙ sym (texts_at_index entries (get_or indices i 0) e below is))
+    ∙ ap (λ s. map (at_index (texts_of_entries entries)) (take i indices) ++ s ∷ [])
+    (same ∙ sym (texts_at_index entries (get_or indices i 0) e below is))
     ∙ sym (map_push (at_index (texts_of_entries entries)) (take i indices) (get_or indices i 0))
     ∙ ap (map (at_index (texts_of_entries entries))) (sym (take_more indices i 0 within))
 
 -- an own field keeps its chunks or is removed
-kept_plain : (own offered_field : List ℕ → Option Value) (name : List ℕ) (chunks : Value) → own name ≡ Some chunks → (plain_field own offered_field name ≡ Some chunks) ⊎ (plain_field own offered_field name ≡ None)
+kept_plain : (own offered_field : List ℕ → Option Value) (name : List ℕ) (chunks : Value) → own name ≡ Some chunks
+    → (plain_field own offered_field name ≡ Some chunks) ⊎ (plain_field own offered_field name ≡ None)
 kept_plain own offered_field name chunks is = go (bytes_eq name (codes "xdata")) where
-  go : (b : Bool) → (cond b None (first_some (own name) (offered_field name)) ≡ Some chunks) ⊎ (cond b None (first_some (own name) (offered_field name)) ≡ None)
+  go : (b : Bool)
+      → (cond b None (first_some (own name) (offered_field name)) ≡ Some chunks)
+      ⊎ (cond b None (first_some (own name) (offered_field name)) ≡ None)
   go true = inr refl
   go false = inl (ap (λ o. first_some o (offered_field name)) is)
 
 -- an entry with a field `date` doesn't lack a required date
 looks_not : (own : EntryTexts) → has own (codes "date") ≡ true → looks_for_date own ≡ false
-looks_not own had = ap (λ h. (rules_of own.entry_type).needs_date && not (h || has own (codes "year"))) had ∙ never (rules_of own.entry_type).needs_date where
-  never : (b : Bool) → (b && false) ≡ false
-  never true = refl
-  never false = refl
+looks_not own had =
+    ap (λ h. (rules_of own.entry_type).needs_date && not (h || has own (codes "year"))) had
+    ∙ never (rules_of own.entry_type).needs_date where
+      never : (b : Bool) → (b && false) ≡ false
+      never true = refl
+      never false = refl
 
 -- an entry with a field `date` inherits no date
 no_date : (own : EntryTexts) (refs : List EntryTexts) → has own (codes "date") ≡ true → date_for own refs ≡ None
 no_date own refs had = ap (λ b. cond b (last_date refs) None) (looks_not own had)
 
 -- an own field keeps its chunks or is removed, if no date is inherited in place of an own one
-kept_by : (date : Option Value) (own offered_field : List ℕ → Option Value) (name : List ℕ) (chunks : Value) → own name ≡ Some chunks → (bytes_eq name (codes "date") ≡ true → date ≡ None)
+kept_by : (date : Option Value) (own offered_field : List ℕ → Option Value) (name : List ℕ) (chunks : Value)
+    → own name ≡ Some chunks → (bytes_eq name (codes "date") ≡ true → date ≡ None)
     → (field_by date own offered_field name ≡ Some chunks) ⊎ (field_by date own offered_field name ≡ None)
 kept_by None own offered_field name chunks is lacks = kept_plain own offered_field name chunks is
 kept_by (Some date) own offered_field name chunks is lacks = elim (cases_Bool (bytes_eq name (codes "date"))) [
@@ -153,7 +199,9 @@ kept_by (Some date) own offered_field name chunks is lacks = elim (cases_Bool (b
   no_some : Some date ≡ None → ⊥
   no_some e = cc
 
-  parts : (b t : Bool) → t ≡ false → (cond t (Some date) (cond b None (plain_field own offered_field name)) ≡ Some chunks) ⊎ (cond t (Some date) (cond b None (plain_field own offered_field name)) ≡ None)
+  parts : (b t : Bool) → t ≡ false
+      → (cond t (Some date) (cond b None (plain_field own offered_field name)) ≡ Some chunks)
+      ⊎ (cond t (Some date) (cond b None (plain_field own offered_field name)) ≡ None)
   parts b true other = absurd (clash other) where
     clash : true ≡ false → ⊥
     clash e = cc
@@ -164,28 +212,41 @@ same_some : {A B : Type 0} (f : A → B) (o : Option A) (a : A) → o ≡ Some a
 same_some f o a is = ap (λ o. is_some (option_map f o)) is
 
 -- the new entry is the old one after inheriting
-pub turned : (old new : Entry) (refs : List EntryTexts) (offered_field : List (List ℕ × Value)) (date : Option Value) → new.key ≡ old.key → new.entry_type ≡ old.entry_type
-    → ((name : List ℕ) → option_map styled (first_named offered_field name) ≡ cond (is_some (fields_of old.fields name)) None (inherited_field old.entry_type name refs))
+pub turned : (old new : Entry) (refs : List EntryTexts) (offered_field : List (List ℕ × Value)) (date : Option Value)
+    → new.key ≡ old.key → new.entry_type ≡ old.entry_type
+    →
+    ((name : List ℕ)
+    → option_map styled (first_named offered_field name)
+    ≡ cond (is_some (fields_of old.fields name)) None (inherited_field old.entry_type name refs))
     → option_map styled date ≡ date_for (texts_of_entry old) refs
     → ((name : List ℕ) → get new.fields name ≡ field_by date (get old.fields) (first_named offered_field) name) → IsTurned old refs new
 turned old new refs offered_field date key entry_type gives dated h = record {
   key = key;
-  inherits = ap (λ k. texts_of_fields k new.fields) entry_type ∙ inherits old.entry_type old.fields new.fields refs offered_field date gives dated h;
+  inherits =
+      ap (λ k. texts_of_fields k new.fields) entry_type
+      ∙ inherits old.entry_type old.fields new.fields refs offered_field date gives dated h;
   chunks = λ name chunks is.
       let none : bytes_eq name (codes "date") ≡ true → date ≡ None = λ here.
       let named : name ≡ codes "date" = (bytes_eq-Decides name (codes "date")).0 here in
-      mapped_none date (dated ∙ no_date (texts_of_entry old) refs (ap (λ n. is_some (fields_of old.fields n)) (sym named) ∙ same_some styled (get old.fields name) chunks is))
+      mapped_none date
+      (dated
+      ∙ no_date (texts_of_entry old) refs
+      (ap (λ n. is_some (fields_of old.fields n)) (sym named)
+      ∙ same_some styled (get old.fields name) chunks is))
       in
-      subst (λ o. (o ≡ Some chunks) ⊎ (o ≡ None)) (sym (h name)) (kept_by date (get old.fields) (first_named offered_field) name chunks is none);
+      subst (λ o. (o ≡ Some chunks) ⊎ (o ≡ None)) (sym (h name))
+      (kept_by date (get old.fields) (first_named offered_field) name chunks is none);
 } where
   mapped_none : (o : Option Value) → option_map styled o ≡ None → o ≡ None
   mapped_none None e = refl
   mapped_none (Some x) e = cc
 
 -- an entry without references and without `xdata` keeps each field
-alone_by : (own : EntryTexts) (name : List ℕ) → own.fields (codes "xdata") ≡ None → plain_field own.fields (λ n. None) name ≡ own.fields name
+alone_by : (own : EntryTexts) (name : List ℕ) → own.fields (codes "xdata") ≡ None
+    → plain_field own.fields (λ n. None) name ≡ own.fields name
 alone_by own name none = elim (cases_Bool (bytes_eq name (codes "xdata"))) [
-  | inl is ↦ ap (λ b. cond b None (first_some (own.fields name) None)) is ∙ sym (ap own.fields ((bytes_eq-Decides name (codes "xdata")).0 is) ∙ none)
+  | inl is ↦ ap (λ b. cond b None (first_some (own.fields name) None)) is
+      ∙ sym (ap own.fields ((bytes_eq-Decides name (codes "xdata")).0 is) ∙ none)
   | inr other ↦ ap (λ b. cond b None (first_some (own.fields name) None)) other ∙ found (own.fields name)
 ] where
   found : {A : Type 0} (o : Option A) → first_some o None ≡ o
@@ -217,12 +278,19 @@ untouched e none = record {
 -- ---- resolving all entries
 
 -- an index in a topological order is in range
-pub turn_within : (graph : Graph) (turns : List ℕ) (i : ℕ) → IsTopologicalOrder graph turns → i < length turns → get_or turns i 0 < length graph
+pub turn_within : (graph : Graph) (turns : List ℕ) (i : ℕ) → IsTopologicalOrder graph turns → i < length turns
+    → get_or turns i 0 < length graph
 turn_within graph turns i h within =
     let p : ℕ = get_or turns i 0 in
     elim (cases_lt p (length graph)) [
       | inl t ↦ t
-      | inr t ↦ absurd (omega (arith, times_from_contains p turns (Contains-get_or turns i 0 within), h.once p, as_one _ _ (le-ltb p (length graph) t)))
+      | inr t ↦ absurd
+          (omega (
+            arith,
+            times_from_contains p turns (Contains-get_or turns i 0 within),
+            h.once p,
+            as_one _ _ (le-ltb p (length graph) t),
+          ))
     ]
 
 key_at : (entries : List Entry) (index : ℕ) (d : Entry) → (get_or entries index d).key ≡ get_or (map (λ x. x.key) entries) index d.key
@@ -231,19 +299,23 @@ key_at (e ∷ entries) zero d = refl
 key_at (e ∷ entries) (suc index) d = key_at entries index d
 
 -- replacing an entry by one with the same key keeps the list of keys
-pub keys_kept : (entries : List Entry) (index : ℕ) (new : Entry) → new.key ≡ (get_or entries index new).key → map (λ x. x.key) (set entries index new) ≡ map (λ x. x.key) entries
+pub keys_kept : (entries : List Entry) (index : ℕ) (new : Entry) → new.key ≡ (get_or entries index new).key
+    → map (λ x. x.key) (set entries index new) ≡ map (λ x. x.key) entries
 keys_kept entries index new same =
     map-set (λ (x : Entry). x.key) entries index new
     ∙ ap (set (map (λ (x : Entry). x.key) entries) index) (same ∙ key_at entries index new)
     ∙ set-get_or (map (λ (x : Entry). x.key) entries) index new.key
 
 -- an entry without references and without `xdata` is resolved when unchanged
-pub left_alone : (entries : List Entry) (index : ℕ) (e : Entry) (indices : List ℕ) → index < length entries → e ≡ get_or entries index e → indices ≡ [] → get e.fields (codes "xdata") ≡ None
-    → (entry : Entry) × (entries ≡ set entries index entry) × IsTurned (get_or entries index entry) (map (at_index (texts_of_entries entries)) indices) entry
+pub left_alone : (entries : List Entry) (index : ℕ) (e : Entry) (indices : List ℕ) → index < length entries
+    → e ≡ get_or entries index e → indices ≡ [] → get e.fields (codes "xdata") ≡ None
+    → (entry : Entry) × (entries ≡ set entries index entry)
+    × IsTurned (get_or entries index entry) (map (at_index (texts_of_entries entries)) indices) entry
 left_alone entries index e indices within is none lacks = (
   e,
   sym (ap (set entries index) is ∙ set-get_or entries index e),
-  subst (λ l. IsTurned (get_or entries index e) (map (at_index (texts_of_entries entries)) l) e) (sym none) (subst (λ x. IsTurned x [] e) is (untouched e lacks)),
+  subst (λ l. IsTurned (get_or entries index e) (map (at_index (texts_of_entries entries)) l) e) (sym none)
+      (subst (λ x. IsTurned x [] e) is (untouched e lacks)),
 )
 
 -- the state after the first `i` entries in the order are resolved
@@ -265,8 +337,12 @@ turned_none refs turns own = record {
 }
 
 -- one more entry is resolved
-pub turned_more : (refs : Graph) (turns : List ℕ) (own entries after : List Entry) (i : ℕ) (new : Entry) (indices : List ℕ) → IsTopologicalOrder refs turns → i < length turns → length own ≡ length refs → indices ≡ refs_of refs (get_or turns i 0)
-    → after ≡ set entries (get_or turns i 0) new → IsTurned (get_or entries (get_or turns i 0) new) (map (at_index (texts_of_entries entries)) indices) new → HaveTurned refs turns own entries i → HaveTurned refs turns own after (i + 1)
+pub turned_more : (refs : Graph) (turns : List ℕ) (own entries after : List Entry) (i : ℕ) (new : Entry)
+    (indices : List ℕ) → IsTopologicalOrder refs turns → i < length turns → length own ≡ length refs
+    → indices ≡ refs_of refs (get_or turns i 0)
+    → after ≡ set entries (get_or turns i 0) new
+    → IsTurned (get_or entries (get_or turns i 0) new) (map (at_index (texts_of_entries entries)) indices) new
+    → HaveTurned refs turns own entries i → HaveTurned refs turns own after (i + 1)
 turned_more refs turns own entries after i new indices order within as_long row is turn h =
     let p : ℕ = get_or turns i 0 in
     let fresh = new_turn refs turns i order within in
@@ -277,7 +353,8 @@ turned_more refs turns own entries after i new indices order within as_long row 
     let kept : at_index (texts_of_entries entries) p ≡ at_index (texts_of_entries own) p = h.solved.kept p fresh in
     let value : EntryTexts = texts_of_entry new in
     let by_rule : value ≡ rule_by (texts_of_entries own) p (map (at_index (texts_of_entries entries)) (refs_of refs p)) =
-    turn.inherits ∙ ap (λ l. inherited (texts_of_entry old) (map (at_index (texts_of_entries entries)) l)) row ∙ ap (λ s. inherited s (map (at_index (texts_of_entries entries)) (refs_of refs p))) (sym here ∙ kept)
+    turn.inherits ∙ ap (λ l. inherited (texts_of_entry old) (map (at_index (texts_of_entries entries)) l)) row
+    ∙ ap (λ s. inherited s (map (at_index (texts_of_entries entries)) (refs_of refs p))) (sym here ∙ kept)
     in
     let all : texts_of_entries (set entries p new) ≡ set (texts_of_entries entries) p value = map-set texts_of_entry entries p new in
     let later : (q : ℕ) → (Contains (take (i + 1) turns) q → ⊥) → (Contains (take i turns) q → ⊥) × (q ≢ p) = λ q none.
@@ -287,15 +364,20 @@ turned_more refs turns own entries after i new indices order within as_long row 
       as_long = length-set entries p new ∙ h.as_long;
       keys = keys_kept entries p new turn.key ∙ h.keys;
       solved = subst (IsSolvedTo no_entry (rule_by (texts_of_entries own)) refs turns (texts_of_entries own) (i + 1)) (sym all)
-          (solved_more no_entry (rule_by (texts_of_entries own)) refs turns (texts_of_entries own) i (texts_of_entries entries) value order within (omega (arith, below, length-map entries texts_of_entry)) by_rule h.solved);
+          (solved_more no_entry (rule_by (texts_of_entries own)) refs turns (texts_of_entries own) i
+          (texts_of_entries entries) value order within (omega (arith, below, length-map entries texts_of_entry))
+          by_rule h.solved);
       waiting = λ q d none. get_or-set_other entries p q new d (later q none).1 ∙ h.waiting q d (later q none).0;
       chunks = λ q d. elim (cases_Bool (eqb q p)) [
         | inl e ↦
             let q_is : q ≡ p = nat_same q p e in
-            let mine : get_or own q d ≡ old = ap (λ x. get_or own x d) q_is ∙ sym (h.waiting p d fresh) ∙ get_or_default entries p d new below in
-            let now : get_or (set entries p new) q d ≡ new = ap (λ x. get_or (set entries p new) x d) q_is ∙ get_or-set_same entries p new d below in
+            let mine : get_or own q d ≡ old =
+            ap (λ x. get_or own x d) q_is ∙ sym (h.waiting p d fresh) ∙ get_or_default entries p d new below in
+            let now : get_or (set entries p new) q d ≡ new =
+            ap (λ x. get_or (set entries p new) x d) q_is ∙ get_or-set_same entries p new d below in
             subst (λ a. KeepsChunks a (get_or (set entries p new) q d)) (sym mine) (subst (KeepsChunks old) (sym now) turn.chunks)
-        | inr e ↦ subst (KeepsChunks (get_or own q d)) (sym (get_or-set_other entries p q new d (λ x. both_ways _ e (nat_is q p x)))) (h.chunks q d)
+        | inr e ↦ subst (KeepsChunks (get_or own q d))
+            (sym (get_or-set_other entries p q new d (λ x. both_ways _ e (nat_is q p x)))) (h.chunks q d)
       ];
     }
   where
@@ -305,12 +387,19 @@ turned_more refs turns own entries after i new indices order within as_long row 
     nat_is : (x y : ℕ) → x ≡ y → eqb x y ≡ true
     nat_is x y is = eq-eqb x y is
 
-    contains_more : (turns : List ℕ) (i q : ℕ) → i < length turns → (Contains (take i turns) q) ⊎ (get_or turns i 0 ≡ q) → Contains (take (i + 1) turns) q
-    contains_more turns i q within (inl c) = subst (λ l. Contains l q) (sym (take_more turns i 0 within)) (Contains-append_left (take i turns) (get_or turns i 0 ∷ []) q c)
-    contains_more turns i q within (inr e) = subst (λ l. Contains l q) (sym (take_more turns i 0 within)) (subst (Contains (take i turns ++ get_or turns i 0 ∷ [])) e (Contains-push (take i turns) (get_or turns i 0)))
+    contains_more : (turns : List ℕ) (i q : ℕ) → i < length turns → (Contains (take i turns) q) ⊎ (get_or turns i 0 ≡ q)
+        → Contains (take (i + 1) turns) q
+    contains_more turns i q within (inl c) =
+        subst (λ l. Contains l q) (sym (take_more turns i 0 within))
+        (Contains-append_left (take i turns) (get_or turns i 0 ∷ []) q c)
+    contains_more turns i q within (inr e) =
+        subst (λ l. Contains l q) (sym (take_more turns i 0 within))
+        (subst (Contains (take i turns ++ get_or turns i 0 ∷ [])) e
+        (Contains-push (take i turns) (get_or turns i 0)))
 
 -- resolved entries keep the chunks of the own entries
-pub turned_chunks : (refs : Graph) (turns : List ℕ) (own entries : List Entry) (i : ℕ) → HaveTurned refs turns own entries i → AllKeepChunks own entries
+pub turned_chunks : (refs : Graph) (turns : List ℕ) (own entries : List Entry) (i : ℕ)
+    → HaveTurned refs turns own entries i → AllKeepChunks own entries
 turned_chunks refs turns own entries i h index written entry mine now =
     subst (λ a. KeepsChunks a entry) (at_get own index written entry mine)
     (subst (KeepsChunks (get_or own index entry)) (at_get entries index entry entry now) (h.chunks index entry))

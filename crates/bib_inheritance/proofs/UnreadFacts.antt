@@ -19,47 +19,56 @@ none_more : (b c : Bool) → b ≡ false → c ≡ false → (b || c) ≡ false
 none_more b c first second = ap (λ x. x || c) first ∙ second
 
 -- one more element that fails a test
-pub any_more : {A : Type 0} (test : A → Bool) (xs : List A) (i : ℕ) (d : A) → i < length xs → test (get_or xs i d) ≡ false → list_any test (take i xs) ≡ false → list_any test (take (i + 1) xs) ≡ false
-any_more test xs i d within not_here none = list_any_more test xs i d within ∙ none_more (list_any test (take i xs)) (test (get_or xs i d)) none not_here
+pub any_more : {A : Type 0} (test : A → Bool) (xs : List A) (i : ℕ) (d : A) → i < length xs
+    → test (get_or xs i d) ≡ false → list_any test (take i xs) ≡ false → list_any test (take (i + 1) xs) ≡ false
+any_more test xs i d within not_here none =
+    list_any_more test xs i d within ∙ none_more (list_any test (take i xs)) (test (get_or xs i d)) none not_here
 
 -- the first element that passes a test
-pub find_here : {A : Type 0} (test : A → Bool) (xs : List A) (i : ℕ) (d : A) → i < length xs → list_any test (take i xs) ≡ false → test (get_or xs i d) ≡ true → find test xs ≡ Some (get_or xs i d)
+pub find_here : {A : Type 0} (test : A → Bool) (xs : List A) (i : ℕ) (d : A) → i < length xs
+    → list_any test (take i xs) ≡ false → test (get_or xs i d) ≡ true → find test xs ≡ Some (get_or xs i d)
 find_here test [] i d within none here = absurd (omega (arith, within))
 find_here test (x ∷ xs) zero d within none here = ap (λ b. cond b (Some x) (find test xs)) here
-find_here test (x ∷ xs) (suc i) d within none here = following (test x) (list_any test (take i xs)) none (find_here test xs i d (omega (arith, within))) here where
-  following : (b c : Bool) → (b || c) ≡ false → (c ≡ false → test (get_or xs i d) ≡ true → find test xs ≡ Some (get_or xs i d)) → test (get_or xs i d) ≡ true → cond b (Some x) (find test xs) ≡ Some (get_or xs i d)
-  following true c none rest here = absurd (false≢true (sym none))
-  following false c none rest here = rest none here
+find_here test (x ∷ xs) (suc i) d within none here =
+    following (test x) (list_any test (take i xs)) none (find_here test xs i d (omega (arith, within))) here where
+      following : (b c : Bool) → (b || c) ≡ false
+          → (c ≡ false → test (get_or xs i d) ≡ true → find test xs ≡ Some (get_or xs i d)) → test (get_or xs i d) ≡ true
+          → cond b (Some x) (find test xs) ≡ Some (get_or xs i d)
+      following true c none rest here = absurd (false≢true (sym none))
+      following false c none rest here = rest none here
 
 -- the next entry has a date that can't be parsed, or has not
-module _ (entries : List Entry) (dates : Dates) (indices : List ℕ) (i : ℕ) (within : i < length indices) (are : AreDates entries dates) (none : list_any (is_bad_date (texts_of_entries entries)) (take i indices) ≡ false) where
-  abbrev values : List EntryTexts
-  values = texts_of_entries entries
+module _ (entries : List Entry) (dates : Dates) (indices : List ℕ) (i : ℕ) (within : i < length indices)
+    (are : AreDates entries dates) (none : list_any (is_bad_date (texts_of_entries entries)) (take i indices) ≡ false)
+  where
+    abbrev values : List EntryTexts
+    values = texts_of_entries entries
 
-  abbrev p : ℕ
-  p = get_or indices i 0
+    abbrev p : ℕ
+    p = get_or indices i 0
 
-  pub unread_here : (error : TypeError) → error_in (date_at dates p) ≡ Some error → IsUnreadDate entries indices error
-  unread_here error is = go (date_at dates p) refl is where
-    go : (o : Option Kept) → date_at dates p ≡ o → error_in o ≡ Some error → IsUnreadDate entries indices error
-    go None there is = cc
-    go (Some Undated) there is = cc
-    go (Some (Dated chunks)) there is = cc
-    go (Some (Unreadable found)) there is =
-        let bad = are p (Unreadable found) there in
-        record {
-          reference = p;
-          first = find_here (is_bad_date values) indices i 0 within none (ap is_unreadable bad.is.0);
-          may = subst (λ (f : TypeError). DateMayFail (at_index values p).fields f.kind) (some_same is) bad.is.1;
-          entry = bad.entry;
-          there = bad.there;
-          lies = subst (λ (f : TypeError). IsPlaceOfDate (by_name.get bad.entry.fields) f.span) (some_same is) bad.lies;
-        }
+    pub unread_here : (error : TypeError) → error_in (date_at dates p) ≡ Some error → IsUnreadDate entries indices error
+    unread_here error is = go (date_at dates p) refl is where
+      go : (o : Option Kept) → date_at dates p ≡ o → error_in o ≡ Some error → IsUnreadDate entries indices error
+      go None there is = cc
+      go (Some Undated) there is = cc
+      go (Some (Dated chunks)) there is = cc
+      go (Some (Unreadable found)) there is =
+          let bad = are p (Unreadable found) there in
+          record {
+            reference = p;
+            first = find_here (is_bad_date values) indices i 0 within none (ap is_unreadable bad.is.0);
+            may = subst (λ (f : TypeError). DateMayFail (at_index values p).fields f.kind) (some_same is) bad.is.1;
+            entry = bad.entry;
+            there = bad.there;
+            lies = subst (λ (f : TypeError). IsPlaceOfDate (by_name.get bad.entry.fields) f.span) (some_same is) bad.lies;
+          }
 
-  pub read_here : IsSome (date_at dates p) → error_in (date_at dates p) ≡ None → list_any (is_bad_date values) (take (i + 1) indices) ≡ false
-  read_here was is = any_more (is_bad_date values) indices i 0 within (go (date_at dates p) refl was is) none where
-    go : (o : Option Kept) → date_at dates p ≡ o → IsSome o → error_in o ≡ None → is_bad_date values p ≡ false
-    go None there was is = absurd (false≢true was)
-    go (Some Undated) there was is = ap is_unreadable (are p Undated there).is
-    go (Some (Dated chunks)) there was is = ap is_unreadable (are p (Dated chunks) there).is
-    go (Some (Unreadable found)) there was is = cc
+    pub read_here : IsSome (date_at dates p) → error_in (date_at dates p) ≡ None
+        → list_any (is_bad_date values) (take (i + 1) indices) ≡ false
+    read_here was is = any_more (is_bad_date values) indices i 0 within (go (date_at dates p) refl was is) none where
+      go : (o : Option Kept) → date_at dates p ≡ o → IsSome o → error_in o ≡ None → is_bad_date values p ≡ false
+      go None there was is = absurd (false≢true was)
+      go (Some Undated) there was is = ap is_unreadable (are p Undated there).is
+      go (Some (Dated chunks)) there was is = ap is_unreadable (are p (Dated chunks) there).is
+      go (Some (Unreadable found)) there was is = cc

@@ -13,7 +13,8 @@ use Rattle.bib_inheritance.specs.Resolving.{IsCycleAt, graph_by}
 use Rattle.bib_inheritance.specs.Turning.{IsUnreadDate}
 
 -- the entries and their graph after each entry on a cycle has lost its references, with an error for each of these entries
-pub record IsCut (spans : List (Range ℕ)) (own : List Entry) (graph : Graph) (entries : List Entry) (left : Graph) (errors : List ParseError) : Type 0 where
+pub record IsCut (spans : List (Range ℕ)) (own : List Entry) (graph : Graph) (entries : List Entry) (left : Graph)
+    (errors : List ParseError) : Type 0 where
   pub cut : AreCut graph own entries
   pub keys : map (λ e. e.key) entries ≡ map (λ e. e.key) own
   pub in_range : IsInRange graph → IsInRange left

@@ -16,7 +16,8 @@ use Rattle.bib_inheritance.specs.EntryTexts.{EntryTexts}
 
 -- the styled text of the collected field of a name
 abbrev pub gathered_text_in : List (Bor (List ℕ) × Bor (List (Spanned Chunk))) → List ℕ → Option (List Atom)
-gathered_text_in gathered name = option_map (λ chunks. styled chunks.now) (lookup (tree.is_at (λ key. slice_cmp nat_cmp name key.now)) gathered)
+gathered_text_in gathered name =
+    option_map (λ chunks. styled chunks.now) (lookup (tree.is_at (λ key. slice_cmp nat_cmp name key.now)) gathered)
 
 -- the same for the map of the collected fields
 abbrev pub gathered_text : BTreeMap (Bor (List ℕ)) (Bor (List (Spanned Chunk))) → List ℕ → Option (List Atom)

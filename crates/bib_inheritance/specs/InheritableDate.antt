@@ -99,7 +99,12 @@ as_text chunks = record { v = Verbatim (plain (styled chunks)); span = whole_spa
 
 -- the span of the error of the year, the month and the day of an entry: that of the first of them that can't be parsed
 abbrev pub IsPlaceOfDate : FieldChunks → Range ℕ → Type 0
-IsPlaceOfDate fields place = IsSomeAnd (fields (codes "year")) (λ year. place ≡ three_fields_place (as_text year) (option_map as_text (fields (codes "month"))) (option_map as_text (fields (codes "day"))))
+IsPlaceOfDate fields place =
+    IsSomeAnd (fields (codes "year"))
+    (λ year.
+    place
+    ≡ three_fields_place (as_text year) (option_map as_text (fields (codes "month")))
+    (option_map as_text (fields (codes "day"))))
 
 -- if the date can't be parsed, its error has the span given by the fields
 abbrev pub LiesAtDate : FieldChunks → Kept → Type 0

@@ -44,7 +44,8 @@ same_meaning =
 abbrev pub title_for : EntryType → List ℕ → Option Names
 title_for entry_type name =
     first_some (if is_periodical entry_type then named journal_titles name else None)
-    (first_some (if is_collection entry_type then named book_titles name else None) (if is_multi_volume entry_type then named main_titles name else None))
+    (first_some (if is_collection entry_type then named book_titles name else None)
+    (if is_multi_volume entry_type then named main_titles name else None))
 
 -- the names of the fields that an entry of a type offers for a name, in order of preference
 abbrev pub offered_from : EntryType → List ℕ → Names

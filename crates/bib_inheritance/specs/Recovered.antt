@@ -17,14 +17,18 @@ without_references e = record e { fields = by_name.remove (by_name.remove e.fiel
 -- `cut` has the same entries as `own`, except that each entry on a cycle has lost its references
 pub record AreCut (graph : Graph) (own cut : List Entry) : Type 0 where
   pub same_length : length cut ≡ length own
-  pub on_cycle : (index : ℕ) (entry : Entry) → slice_get own index ≡ Some entry → Leads graph index index → slice_get cut index ≡ Some (without_references entry)
-  pub off_cycle : (index : ℕ) (entry : Entry) → slice_get own index ≡ Some entry → (Leads graph index index → ⊥) → slice_get cut index ≡ Some entry
+  pub on_cycle : (index : ℕ) (entry : Entry) → slice_get own index ≡ Some entry → Leads graph index index
+      → slice_get cut index ≡ Some (without_references entry)
+  pub off_cycle : (index : ℕ) (entry : Entry) → slice_get own index ≡ Some entry → (Leads graph index index → ⊥)
+      → slice_get cut index ≡ Some entry
 
 -- the errors of the indices below a number, in order: one for each index for which `fails` holds, related to it by `reports`
 pub data EachReported (fails : ℕ → Type 0) (reports : ℕ → ParseError → Type 0) : ℕ → List ParseError → Type 0 where
   none : EachReported fails reports 0 []
-  passed : {index : ℕ} {errors : List ParseError} → EachReported fails reports index errors → (fails index → ⊥) → EachReported fails reports (index + 1) errors
-  reported : {index : ℕ} {errors : List ParseError} {e : ParseError} → EachReported fails reports index errors → fails index → reports index e → EachReported fails reports (index + 1) (errors ++ e ∷ [])
+  passed : {index : ℕ} {errors : List ParseError} → EachReported fails reports index errors → (fails index → ⊥)
+      → EachReported fails reports (index + 1) errors
+  reported : {index : ℕ} {errors : List ParseError} {e : ParseError} → EachReported fails reports index errors
+      → fails index → reports index e → EachReported fails reports (index + 1) (errors ++ e ∷ [])
 
 -- the entries after inheriting, and the errors. First each entry on a cycle loses its references, and then all entries
 -- inherit. The first errors are those of the entries on cycles, in order. The others are those of the entries that lack a
@@ -39,5 +43,7 @@ pub record AreRecovered (spans : List (Range ℕ)) (names : ByText ℕ) (own ent
   pub cycles : List ParseError
   pub each_cycle : EachReported (λ index. Leads (graph_by names own) index index) (IsCycleAt spans own) (length own) cycles
   pub dates : List ParseError
-  pub each_date : EachReported (λ index. has_bad_date (texts_of_entries cut) (graph_by names cut) (texts_of_entries entries) index ≡ true) (IsDateError cut (graph_by names cut) (texts_of_entries entries)) (length own) dates
+  pub each_date : EachReported
+      (λ index. has_bad_date (texts_of_entries cut) (graph_by names cut) (texts_of_entries entries) index ≡ true)
+      (IsDateError cut (graph_by names cut) (texts_of_entries entries)) (length own) dates
   pub are : errors ≡ cycles ++ dates

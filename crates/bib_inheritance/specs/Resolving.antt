@@ -84,7 +84,9 @@ pub record IsDateError (own : List Entry) (graph : Graph) (values : List EntryTe
 
 -- entries keep the chunks of the own entries at the same indices
 abbrev pub AllKeepChunks : List Entry → List Entry → Type 0
-AllKeepChunks own entries = (index : ℕ) (written entry : Entry) → slice_get own index ≡ Some written → slice_get entries index ≡ Some entry → KeepsChunks written entry
+AllKeepChunks own entries =
+    (index : ℕ) (written entry : Entry) → slice_get own index ≡ Some written → slice_get entries index ≡ Some entry
+    → KeepsChunks written entry
 
 -- the entries after inheriting: keys are unchanged, own chunks are kept, the fields solve the inheritance equation, and there
 -- are no errors

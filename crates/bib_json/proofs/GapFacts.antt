@@ -27,9 +27,11 @@ lexemes ended (t ∷ ts) = cond (ended && begins t) (comma ∷ []) [] ++ (token_
 quoted_lexemes : (s r : List ℕ) → lex between (quoted s ++ r) ≡ token (string s) ∷ lex between r
 unfolding lex
 quoted_lexemes s r =
-    ap (λ l. lex between (34 ∷ l)) (append_assoc (escape s) (34 ∷ []) r) ∙ ap₂ (λ o l. token (string_token o) ∷ l) (content-escape s r) (lex-escape s r)
+    ap (λ l. lex between (34 ∷ l)) (append_assoc (escape s) (34 ∷ []) r)
+    ∙ ap₂ (λ o l. token (string_token o) ∷ l) (content-escape s r) (lex-escape s r)
 
-text_lexemes : (t : Token) (r : List ℕ) → IsPrintable t → (ends t ≡ true → ends_word r ≡ true) → lex between (token_text t ++ r) ≡ token_lexemes t ++ lex between r
+text_lexemes : (t : Token) (r : List ℕ) → IsPrintable t → (ends t ≡ true → ends_word r ≡ true)
+    → lex between (token_text t ++ r) ≡ token_lexemes t ++ lex between r
 unfolding lex word
 text_lexemes begin_object r h ended = refl
 text_lexemes end_object r h ended = refl
@@ -60,7 +62,8 @@ gap_ends (x ∷ g) r (inl is, h) e = rw is
 gap_ends (x ∷ g) r (inr is, h) e = rw is
 
 -- after a value stands white space, a comma, a closing bracket or nothing
-spaced_ends : (ps : List (List ℕ × Token)) (tail : List ℕ) → AreGaps ps → ends_word tail ≡ true → ends_word (print_spaced true ps ++ tail) ≡ true
+spaced_ends : (ps : List (List ℕ × Token)) (tail : List ℕ) → AreGaps ps → ends_word tail ≡ true
+    → ends_word (print_spaced true ps ++ tail) ≡ true
 unfolding print_spaced
 spaced_ends [] tail h e = e
 spaced_ends ((g, begin_object) ∷ ps) tail h e = refl
@@ -77,7 +80,8 @@ spaced_ends ((g, bad) ∷ ps) tail h e = refl
 regrouped : (a b c d tail : List ℕ) → (a ++ (b ++ (c ++ d))) ++ tail ≡ a ++ (b ++ (c ++ (d ++ tail)))
 regrouped a b c d tail = simp append_assoc
 
-spaced_lexemes : (ended : Bool) (ps : List (List ℕ × Token)) (tail : List ℕ) → AreGaps ps → IsGap tail → ends_word tail ≡ true → ArePrintable (map (λ p. p.1) ps)
+spaced_lexemes : (ended : Bool) (ps : List (List ℕ × Token)) (tail : List ℕ) → AreGaps ps → IsGap tail
+    → ends_word tail ≡ true → ArePrintable (map (λ p. p.1) ps)
     → lex between (print_spaced ended ps ++ tail) ≡ lexemes ended (map (λ p. p.1) ps)
 unfolding lex print_spaced ArePrintable
 spaced_lexemes ended [] tail gaps last e h = ap (lex between) (sym (append-nil tail)) ∙ gap_lexemes tail [] last
@@ -86,11 +90,15 @@ spaced_lexemes ended (p ∷ ps) tail gaps last e h =
     let rest = print_spaced (ends t) ps in
     ap (lex between) (regrouped (separator ended t) p.0 (token_text t) rest tail) ∙ separator_lexemes (ended && begins t) _
     ∙ ap (λ l. cond (ended && begins t) (comma ∷ []) [] ++ l)
-    (gap_lexemes p.0 (token_text t ++ (rest ++ tail)) gaps.0 ∙ text_lexemes t (rest ++ tail) h.0 (λ ends_value. ap (λ b. ends_word (print_spaced b ps ++ tail)) ends_value ∙ spaced_ends ps tail gaps.1 e)
+    (gap_lexemes p.0 (token_text t ++ (rest ++ tail)) gaps.0
+    ∙ text_lexemes t (rest ++ tail) h.0
+    (λ ends_value. ap (λ b. ends_word (print_spaced b ps ++ tail)) ends_value ∙ spaced_ends ps tail gaps.1 e)
     ∙ ap (λ l. token_lexemes t ++ l) (spaced_lexemes (ends t) ps tail gaps.1 last e h.1))
 
 -- a text of printed tokens has the same tokens with a line feed after it
-pub with_line_feed : (ps : List (List ℕ × Token)) → AreGaps ps → ArePrintable (map (λ p. p.1) ps) → tokens (print_spaced false ps ++ 10 ∷ []) ≡ tokens (print_spaced false ps)
+pub with_line_feed : (ps : List (List ℕ × Token)) → AreGaps ps → ArePrintable (map (λ p. p.1) ps)
+    → tokens (print_spaced false ps ++ 10 ∷ []) ≡ tokens (print_spaced false ps)
 with_line_feed ps gaps h =
     ap (punctuate fresh)
-    (spaced_lexemes false ps (10 ∷ []) gaps (inr refl, tt) refl h ∙ sym (spaced_lexemes false ps [] gaps tt refl h) ∙ ap (lex between) (append-nil (print_spaced false ps)))
+    (spaced_lexemes false ps (10 ∷ []) gaps (inr refl, tt) refl h ∙ sym (spaced_lexemes false ps [] gaps tt refl h)
+    ∙ ap (lex between) (append-nil (print_spaced false ps)))

@@ -31,7 +31,8 @@ none_after name [] p = refl
 none_after name (field ∷ rest) p = passed (by_bytes name field.0) field.1 _ (first _ _ p) ∙ none_after name rest (second _ _ p)
 
 -- what is found under a name once a field was put, and then those after it
-next : (b : Bool) (name : List ℕ) (field : Field) (rest : List Field) (ms : Members) → bytes_eq name field.0 ≡ b → T (below_all by_bytes field.0 rest)
+next : (b : Bool) (name : List ℕ) (field : Field) (rest : List Field) (ms : Members) → bytes_eq name field.0 ≡ b
+    → T (below_all by_bytes field.0 rest)
     → option_or (option_map (field_json name) (find by_bytes name rest)) (get_member name (put field.0 (field_json field.0 field.1) ms))
     ≡ option_or (option_map (field_json name) (cond b (Some field.1) (find by_bytes name rest))) (get_member name ms)
 next true name field rest ms is below =
@@ -42,20 +43,28 @@ next true name field rest ms is below =
     ∙ ap (λ n. get_member n (put field.0 d ms)) same ∙ get_member-put field.0 d ms ∙ ap (λ n. Some (field_json n field.1)) (sym same)
 next false name field rest ms is below =
     let other = λ (same : name ≡ field.0). true≢false (sym ((bytes_eq-Decides name field.0).1 same) ∙ is) in
-    ap (λ o. option_or (option_map (field_json name) (find by_bytes name rest)) o) (get_member-put_other name field.0 (field_json field.0 field.1) ms other)
+    ap (λ o. option_or (option_map (field_json name) (find by_bytes name rest)) o)
+    (get_member-put_other name field.0 (field_json field.0 field.1) ms other)
 
 found_among : (fields : List Field) (ms : Members) (name : List ℕ) → T (is_sorted by_bytes fields)
-    → get_member name (with_members ms (map field_member fields)) ≡ option_or (option_map (field_json name) (find by_bytes name fields)) (get_member name ms)
+    → get_member name (with_members ms (map field_member fields))
+    ≡ option_or (option_map (field_json name) (find by_bytes name fields)) (get_member name ms)
 found_among [] ms name p = refl
 found_among (field ∷ rest) ms name p =
-    found_among rest (put field.0 (field_json field.0 field.1) ms) name (second _ _ p) ∙ next (bytes_eq name field.0) name field rest ms refl (first _ _ p)
-    ∙ ap (λ b. option_or (option_map (field_json name) (cond b (Some field.1) (find by_bytes name rest))) (get_member name ms)) (sym (is_eq-slice_cmp name field.0))
+    found_among rest (put field.0 (field_json field.0 field.1) ms) name (second _ _ p)
+    ∙ next (bytes_eq name field.0) name field rest ms refl (first _ _ p)
+    ∙ ap
+    (λ b.
+    option_or (option_map (field_json name) (cond b (Some field.1) (find by_bytes name rest)))
+    (get_member name ms)) (sym (is_eq-slice_cmp name field.0))
 
 without_else : {A : Type 0} (o : Option A) → option_or o None ≡ o
 without_else None = refl
 without_else (Some x) = refl
 
 -- a field is found in the object of all fields
-pub found_field : (fields : ByText Value) (name : List ℕ) → get name (fields_json fields) ≡ option_map (field_json name) (by_name.get fields name)
+pub found_field : (fields : ByText Value) (name : List ℕ)
+    → get name (fields_json fields) ≡ option_map (field_json name) (by_name.get fields name)
 found_field fields name =
-    found_among (entries fields) no_members name (entries_sorted fields) ∙ without_else _ ∙ ap (λ o. option_map (field_json name) o) (sym (get-entries fields name))
+    found_among (entries fields) no_members name (entries_sorted fields) ∙ without_else _
+    ∙ ap (λ o. option_map (field_json name) o) (sym (get-entries fields name))

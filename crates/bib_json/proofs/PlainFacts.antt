@@ -83,13 +83,20 @@ before_plain k d ms p q = record { no_float = neither _ _ p.no_float q.no_float;
 
 first_plain : {n : ℕ} (k : List ℕ) (d : Data) (ms : Members) → ArePlain n (member k d ms) → IsPlain n d
 first_plain {n} k d ms p =
-    record { no_float = first_of (has_float d) (members_have_float ms) p.no_float; shallow = at_most_one_more (depth d) _ n (le-max_left (depth d) (members_depth ms)) p.shallow }
+    record {
+      no_float = first_of (has_float d) (members_have_float ms) p.no_float;
+      shallow = at_most_one_more (depth d) _ n (le-max_left (depth d) (members_depth ms)) p.shallow;
+    }
 
 rest_plain : {n : ℕ} (k : List ℕ) (d : Data) (ms : Members) → ArePlain n (member k d ms) → ArePlain n ms
 rest_plain {n} k d ms p =
-    record { no_float = second_of (has_float d) (members_have_float ms) p.no_float; shallow = at_most_one_more (members_depth ms) _ n (le-max_right (depth d) (members_depth ms)) p.shallow }
+    record {
+      no_float = second_of (has_float d) (members_have_float ms) p.no_float;
+      shallow = at_most_one_more (members_depth ms) _ n (le-max_right (depth d) (members_depth ms)) p.shallow;
+    }
 
-placed : {n : ℕ} (o : Ordering) (k l : List ℕ) (d e : Data) (ms : Members) → IsPlain n d → IsPlain n e → ArePlain n ms → ArePlain n (put k d ms)
+placed : {n : ℕ} (o : Ordering) (k l : List ℕ) (d e : Data) (ms : Members) → IsPlain n d → IsPlain n e → ArePlain n ms
+    → ArePlain n (put k d ms)
     → ArePlain n (match_ordering o (member k d (member l e ms)) (member l d ms) (member l e (put k d ms)))
 placed Less k l d e ms p q r s = before_plain k d _ p (before_plain l e ms q r)
 placed Equal k l d e ms p q r s = before_plain l d ms p r
@@ -105,7 +112,8 @@ given_plain : {n : ℕ} (k : List ℕ) (o : Option Data) (ms : Members) → IsPl
 given_plain k None ms p q = q
 given_plain k (Some d) ms p q = put_plain k d ms p q
 
-with_members_plain : {n : ℕ} (ms : Members) (members : List Member) → ArePlain n ms → AreGivenPlain n members → ArePlain n (with_members ms members)
+with_members_plain : {n : ℕ} (ms : Members) (members : List Member) → ArePlain n ms → AreGivenPlain n members
+    → ArePlain n (with_members ms members)
 with_members_plain ms [] p q = p
 with_members_plain ms (m ∷ rest) p q = with_members_plain (with_given m.0 m.1 ms) rest (given_plain m.0 m.1 ms q.0 p) q.1
 
@@ -117,13 +125,15 @@ object_plain {n} members p =
     let all = with_members_plain no_members members (none_plain n) p in
     record { no_float = all.no_float; shallow = one_deeper _ n all.shallow }
 
-items_plain : {n : ℕ} {T : Type 0} (element : T → Data) (elements : List T) → ((x : T) → IsPlain n (element x)) → (items_have_float (items_of (map element elements)) ≡ false) × (items_depth (items_of (map element elements)) ≤ n)
+items_plain : {n : ℕ} {T : Type 0} (element : T → Data) (elements : List T) → ((x : T) → IsPlain n (element x))
+    → (items_have_float (items_of (map element elements)) ≡ false) × (items_depth (items_of (map element elements)) ≤ n)
 items_plain element [] p = (refl, omega arith)
 items_plain element (x ∷ xs) p =
     let rest = items_plain element xs p in
     (neither _ _ (p x).no_float rest.0, max-le (p x).shallow rest.1)
 
-array_plain : {n : ℕ} {T : Type 0} (element : T → Data) (elements : List T) → ((x : T) → IsPlain n (element x)) → IsPlain (suc n) (array_of element elements)
+array_plain : {n : ℕ} {T : Type 0} (element : T → Data) (elements : List T) → ((x : T) → IsPlain n (element x))
+    → IsPlain (suc n) (array_of element elements)
 array_plain {n} element elements p =
     let all = items_plain element elements p in
     record { no_float = all.0; shallow = one_deeper _ n all.1 }
@@ -151,7 +161,11 @@ chosen_plain true d p = tt
 chosen_plain false d p = p
 
 chunk_plain : (c : Spanned Chunk) → IsPlain 1 (chunk_json c)
-chunk_plain c = object_plain (chunk_members c) (leaf _ refl refl, (leaf _ refl refl, (chosen_plain _ _ (leaf _ refl refl), (chosen_plain _ _ (leaf _ refl refl), tt))))
+chunk_plain c =
+    object_plain (chunk_members c) (
+      leaf _ refl refl,
+      (leaf _ refl refl, (chosen_plain _ _ (leaf _ refl refl), (chosen_plain _ _ (leaf _ refl refl), tt))),
+    )
 
 chunks_plain : (chunks : Value) → IsPlain 2 (chunks_json chunks)
 chunks_plain chunks = array_plain chunk_json chunks chunk_plain
@@ -160,18 +174,33 @@ chunks_plain chunks = array_plain chunk_json chunks chunk_plain
 
 time_plain : (t : Time) → IsPlain 1 (time_json t)
 time_plain t =
-    object_plain (time_members t)
-    (leaf _ refl refl, (leaf _ refl refl, (leaf _ refl refl, (mapped_plain offset_json t.offset (λ offset. integer_plain (offset_minutes offset)), tt))))
+    object_plain (time_members t) (
+      leaf _ refl refl,
+      (
+        leaf _ refl refl,
+        (leaf _ refl refl, (mapped_plain offset_json t.offset (λ offset. integer_plain (offset_minutes offset)), tt)),
+      ),
+    )
 
 datetime_plain : (d : Datetime) → IsPlain 2 (datetime_json d)
 datetime_plain d =
-    object_plain (datetime_members d)
-    (integer_plain d.year, (mapped_plain counted_json d.month (λ index. leaf _ refl refl), (mapped_plain counted_json d.day (λ index. leaf _ refl refl), (mapped_plain time_json d.time time_plain, tt))))
+    object_plain (datetime_members d) (
+      integer_plain d.year,
+      (
+        mapped_plain counted_json d.month (λ index. leaf _ refl refl),
+        (mapped_plain counted_json d.day (λ index. leaf _ refl refl), (mapped_plain time_json d.time time_plain, tt)),
+      ),
+    )
 
 date_plain : (d : Date) → IsPlain 3 (date_json d)
 date_plain d =
-    object_plain (members_of_date d)
-    (leaf _ refl refl, (mapped_plain datetime_json (date_start d.value) datetime_plain, (mapped_plain datetime_json (date_end d.value) datetime_plain, (leaf _ refl refl, (leaf _ refl refl, tt)))))
+    object_plain (members_of_date d) (
+      leaf _ refl refl,
+      (
+        mapped_plain datetime_json (date_start d.value) datetime_plain,
+        (mapped_plain datetime_json (date_end d.value) datetime_plain, (leaf _ refl refl, (leaf _ refl refl, tt))),
+      ),
+    )
 
 -- ---- values
 
@@ -210,7 +239,8 @@ named_plain (Some language) part = leaf _ refl refl
 two_three : {d : Data} → IsPlain 2 d → IsPlain 3 d
 two_three {d} p = deeper d (omega arith) p
 
-list_plain : {T : Type 0} (element : T → Data) (elements : List T) → ((x : T) → IsPlain 1 (element x)) → IsPlain 3 (array_of element elements)
+list_plain : {T : Type 0} (element : T → Data) (elements : List T) → ((x : T) → IsPlain 1 (element x))
+    → IsPlain 3 (array_of element elements)
 list_plain element elements p = two_three (array_plain element elements p)
 
 typed_plain : (type : ValueType) (chunks : Value) → IsPlainIfGiven 3 (typed_json type chunks)
@@ -233,14 +263,23 @@ typed_if_plain (Some type) chunks = typed_plain type chunks
 -- ---- fields and entries
 
 field_plain : (name : List ℕ) (chunks : Value) → IsPlain 4 (field_json name chunks)
-field_plain name chunks = object_plain (field_members name chunks) (two_three (chunks_plain chunks), (typed_if_plain (value_type name) chunks, tt))
+field_plain name chunks =
+    object_plain (field_members name chunks)
+    (two_three (chunks_plain chunks), (typed_if_plain (value_type name) chunks, tt))
 
 fields_plain : (fields : List (List ℕ × Value)) → AreGivenPlain 4 (map field_member fields)
 fields_plain [] = tt
 fields_plain (field ∷ rest) = (field_plain field.0 field.1, fields_plain rest)
 
 whole_plain : (entry : Entry) → IsPlain 6 (entry_object entry)
-whole_plain entry = object_plain (entry_members entry) (leaf _ refl refl, (leaf _ refl refl, (object_plain (map field_member (entries entry.fields)) (fields_plain (entries entry.fields)), tt)))
+whole_plain entry =
+    object_plain (entry_members entry) (
+      leaf _ refl refl,
+      (
+        leaf _ refl refl,
+        (object_plain (map field_member (entries entry.fields)) (fields_plain (entries entry.fields)), tt),
+      ),
+    )
 
 -- no part of an entry's object is a float
 pub entry_has_no_float : (entry : Entry) → has_float (entry_object entry) ≡ false

@@ -57,7 +57,9 @@ tokens_on_line (t ∷ ts) qs = ap (λ l. t ∷ l) (tokens_alone ts qs)
 
 tokens_of_elements : (ds : List Data) → map (λ p. p.1) (elements ds) ≡ items_tokens (items_outline (items_of ds))
 tokens_of_elements [] = refl
-tokens_of_elements (d ∷ ds) = tokens_on_line (json_tokens (outline d)) (elements ds) ∙ ap (λ l. json_tokens (outline d) ++ l) (tokens_of_elements ds)
+tokens_of_elements (d ∷ ds) =
+    tokens_on_line (json_tokens (outline d)) (elements ds)
+    ∙ ap (λ l. json_tokens (outline d) ++ l) (tokens_of_elements ds)
 
 tokens_of_whole : (ds : List Data) → map (λ p. p.1) (whole ds) ≡ json_tokens (outline (array (items_of ds)))
 tokens_of_whole [] = refl
@@ -84,11 +86,13 @@ gaps_of_whole (d ∷ ds) = (tt, gaps_of_elements (d ∷ ds))
 grouped : (a b c d : List ℕ) → a ++ (b ++ (c ++ d)) ≡ (a ++ (b ++ c)) ++ d
 grouped a b c d = simp append_assoc
 
-spaced_alone : (ended : Bool) (ts : List Token) (qs : List (List ℕ × Token)) → print_spaced ended (map (λ t. ([], t)) ts ++ qs) ≡ print_from ended ts ++ print_spaced (after ended ts) qs
+spaced_alone : (ended : Bool) (ts : List Token) (qs : List (List ℕ × Token))
+    → print_spaced ended (map (λ t. ([], t)) ts ++ qs) ≡ print_from ended ts ++ print_spaced (after ended ts) qs
 unfolding print_spaced print_from
 spaced_alone ended [] qs = refl
 spaced_alone ended (t ∷ ts) qs =
-    ap (λ l. separator ended t ++ (token_text t ++ l)) (spaced_alone (ends t) ts qs) ∙ grouped (separator ended t) (token_text t) (print_from (ends t) ts) (print_spaced (after (ends t) ts) qs)
+    ap (λ l. separator ended t ++ (token_text t ++ l)) (spaced_alone (ends t) ts qs)
+    ∙ grouped (separator ended t) (token_text t) (print_from (ends t) ts) (print_spaced (after (ends t) ts) qs)
 
 spaced_on_line : (ended : Bool) (t : Token) (ts : List Token) (qs : List (List ℕ × Token)) → begins t ≡ true
     → print_spaced ended (on_own_line (t ∷ ts) ++ qs) ≡ comma_if ended ++ (10 ∷ (print (t ∷ ts) ++ print_spaced (after (ends t) ts) qs))
@@ -97,7 +101,9 @@ spaced_on_line true t ts qs first =
     ap₂ (λ b l. cond b (44 ∷ []) [] ++ (10 ∷ (token_text t ++ l))) first (spaced_alone (ends t) ts qs)
     ∙ ap (λ l. 44 ∷ 10 ∷ l) (sym (append_assoc (token_text t) (print_from (ends t) ts) (print_spaced (after (ends t) ts) qs)))
 spaced_on_line false t ts qs first =
-    ap (λ l. 10 ∷ (token_text t ++ l)) (spaced_alone (ends t) ts qs) ∙ ap (λ l. 10 ∷ l) (sym (append_assoc (token_text t) (print_from (ends t) ts) (print_spaced (after (ends t) ts) qs)))
+    ap (λ l. 10 ∷ (token_text t ++ l)) (spaced_alone (ends t) ts qs)
+    ∙ ap (λ l. 10 ∷ l)
+    (sym (append_assoc (token_text t) (print_from (ends t) ts) (print_spaced (after (ends t) ts) qs)))
 
 mutual
   items_ended : (ds : Items) (ended : Bool) → after ended (items_tokens (items_outline ds)) ≡ true
@@ -121,29 +127,48 @@ of_value null = record { first = Token.null; others = []; are = refl; opens = re
 of_value (boolean b) = record { first = Token.boolean b; others = []; are = refl; opens = refl; closes = refl }
 of_value (number n) = record { first = Token.number _; others = []; are = refl; opens = refl; closes = refl }
 of_value (string s) = record { first = Token.string s; others = []; are = refl; opens = refl; closes = refl }
-of_value (array ds) = record { first = Token.begin_array; others = items_tokens (items_outline ds); are = refl; opens = refl; closes = items_ended ds false }
-of_value (object ms) = record { first = Token.begin_object; others = members_tokens (members_outline ms); are = refl; opens = refl; closes = members_ended ms false }
+of_value (array ds) = record {
+  first = Token.begin_array;
+  others = items_tokens (items_outline ds);
+  are = refl;
+  opens = refl;
+  closes = items_ended ds false;
+}
+of_value (object ms) = record {
+  first = Token.begin_object;
+  others = members_tokens (members_outline ms);
+  are = refl;
+  opens = refl;
+  closes = members_ended ms false;
+}
 
-spaced_value : (ended : Bool) (ts : List Token) (qs : List (List ℕ × Token)) → AreOfValue ts → print_spaced ended (on_own_line ts ++ qs) ≡ comma_if ended ++ (10 ∷ (print ts ++ print_spaced true qs))
+spaced_value : (ended : Bool) (ts : List Token) (qs : List (List ℕ × Token)) → AreOfValue ts
+    → print_spaced ended (on_own_line ts ++ qs) ≡ comma_if ended ++ (10 ∷ (print ts ++ print_spaced true qs))
 spaced_value ended ts qs v =
     ap (λ l. print_spaced ended (on_own_line l ++ qs)) v.are ∙ spaced_on_line ended v.first v.others qs v.opens
     ∙ ap₂ (λ l b. comma_if ended ++ (10 ∷ (print l ++ print_spaced b qs))) (sym v.are) v.closes
 
-spaced_element : (ended : Bool) (d : Data) (qs : List (List ℕ × Token)) → print_spaced ended (on_own_line (json_tokens (outline d)) ++ qs) ≡ comma_if ended ++ (10 ∷ (compact_text d ++ print_spaced true qs))
-spaced_element ended d qs = spaced_value ended (json_tokens (outline d)) qs (of_value d) ∙ ap (λ l. comma_if ended ++ (10 ∷ (l ++ print_spaced true qs))) (print-outline d)
+spaced_element : (ended : Bool) (d : Data) (qs : List (List ℕ × Token))
+    → print_spaced ended (on_own_line (json_tokens (outline d)) ++ qs)
+    ≡ comma_if ended ++ (10 ∷ (compact_text d ++ print_spaced true qs))
+spaced_element ended d qs =
+    spaced_value ended (json_tokens (outline d)) qs (of_value d)
+    ∙ ap (λ l. comma_if ended ++ (10 ∷ (l ++ print_spaced true qs))) (print-outline d)
 
 further_text : (ds : List Data) → further_elements (map compact_text ds) ≡ print_spaced true (elements ds) ++ codes "\n"
 unfolding print_spaced
 further_text [] = refl
 further_text (d ∷ ds) =
-    ap (λ l. 44 ∷ 10 ∷ (compact_text d ++ l)) (further_text ds) ∙ ap (λ l. 44 ∷ 10 ∷ l) (sym (append_assoc (compact_text d) (print_spaced true (elements ds)) (codes "\n")))
+    ap (λ l. 44 ∷ 10 ∷ (compact_text d ++ l)) (further_text ds)
+    ∙ ap (λ l. 44 ∷ 10 ∷ l) (sym (append_assoc (compact_text d) (print_spaced true (elements ds)) (codes "\n")))
     ∙ ap (λ l. l ++ codes "\n") (sym (spaced_element true d (elements ds)))
 
 whole_text : (ds : List Data) → array_text (map compact_text ds) ≡ print_spaced false (whole ds) ++ codes "\n"
 unfolding print_spaced
 whole_text [] = refl
 whole_text (d ∷ ds) =
-    ap (λ l. 91 ∷ 10 ∷ (compact_text d ++ l)) (further_text ds) ∙ ap (λ l. 91 ∷ 10 ∷ l) (sym (append_assoc (compact_text d) (print_spaced true (elements ds)) (codes "\n")))
+    ap (λ l. 91 ∷ 10 ∷ (compact_text d ++ l)) (further_text ds)
+    ∙ ap (λ l. 91 ∷ 10 ∷ l) (sym (append_assoc (compact_text d) (print_spaced true (elements ds)) (codes "\n")))
     ∙ ap (λ l. 91 ∷ (l ++ codes "\n")) (sym (spaced_element false d (elements ds)))
 
 -- ---- what it is read as
@@ -172,7 +197,9 @@ self_le n = omega arith
 numbers_of : (text : List ℕ) (d : Data) → tokens text ≡ json_tokens (outline d) → HasNumbers (outline d)
 numbers_of text d same =
     let j = outline d in
-    value-HasNumbers (tree.depth j) (tokens text) [] j (ArePrintableOrBad-tokens text) (ap (json.value (tree.depth j)) (same ∙ sym (append-nil (json_tokens j))) ∙ value-json_tokens j (tree.depth j) [] (self_le (tree.depth j)))
+    value-HasNumbers (tree.depth j) (tokens text) [] j (ArePrintableOrBad-tokens text)
+    (ap (json.value (tree.depth j)) (same ∙ sym (append-nil (json_tokens j)))
+    ∙ value-json_tokens j (tree.depth j) [] (self_le (tree.depth j)))
 
 -- what is read of tokens of a value
 abbrev parsed : List Token → Option json.Json
@@ -181,7 +208,9 @@ parsed ts = option_and_then (λ p. json.if_last p.0 p.1) (json.value max_depth t
 parsed_value : (d : Data) → depth d ≤ max_depth → parsed (json_tokens (outline d)) ≡ Some (outline d)
 parsed_value d shallow =
     let j = outline d in
-    ap (option_and_then (λ p. json.if_last p.0 p.1)) (ap (json.value max_depth) (sym (append-nil (json_tokens j))) ∙ value-json_tokens j max_depth [] (subst (λ n. n ≤ max_depth) (sym (depth_outline d)) shallow))
+    ap (option_and_then (λ p. json.if_last p.0 p.1))
+    (ap (json.value max_depth) (sym (append-nil (json_tokens j)))
+    ∙ value-json_tokens j max_depth [] (subst (λ n. n ≤ max_depth) (sym (depth_outline d)) shallow))
 
 -- a value whose text is read as it, token by token
 pub record IsRead (d : Data) : Type 0 where
@@ -223,7 +252,8 @@ pub array_read : (ds : List Data) → AreRead ds → read (array_text (map compa
 array_read ds r =
     let d = array (items_of ds) in
     let gaps = gaps_of_whole ds in
-    let printable : ArePrintable (map (λ p. p.1) (whole ds)) = subst ArePrintable (sym (tokens_of_whole ds)) (ArePrintable-json_tokens (outline d) (items_numbers ds r)) in
+    let printable : ArePrintable (map (λ p. p.1) (whole ds)) =
+    subst ArePrintable (sym (tokens_of_whole ds)) (ArePrintable-json_tokens (outline d) (items_numbers ds r)) in
     let same = with_line_feed (whole ds) gaps printable ∙ tokens-print_spaced (whole ds) gaps printable ∙ tokens_of_whole ds in
     let shallow : depth d ≤ max_depth = one_deeper (items_depth (items_of ds)) (items_shallow ds r) in
     ap read (whole_text ds) ∙ ap (λ ts. option_and_then of_json (parsed ts)) same ∙ ap (option_and_then of_json) (parsed_value d shallow)
@@ -232,8 +262,10 @@ array_read ds r =
 -- ---- entries
 
 -- the text of an entry that was written is read back
-pub read_back : {E : Type 0} (result : Result (String Global) E) (v : Data) (entry : Entry) → v ≡ entry_object entry → IfOk result (λ s. has_float v ≡ false → string_bytes s ≡ compact_text v)
-    → IfOk result (λ s. IsInOrder (string_bytes s) v) → IfOk result (λ s. depth v ≤ max_depth → read (string_bytes s) ≡ Some v) → IfOk result (λ _. IsReadBack entry)
+pub read_back : {E : Type 0} (result : Result (String Global) E) (v : Data) (entry : Entry) → v ≡ entry_object entry
+    → IfOk result (λ s. has_float v ≡ false → string_bytes s ≡ compact_text v)
+    → IfOk result (λ s. IsInOrder (string_bytes s) v)
+    → IfOk result (λ s. depth v ≤ max_depth → read (string_bytes s) ≡ Some v) → IfOk result (λ _. IsReadBack entry)
 read_back (Ok s) v entry is written order reads =
     let no_float : has_float v ≡ false = ap has_float is ∙ entry_has_no_float entry in
     let shallow : depth v ≤ max_depth = subst (λ d. depth d ≤ max_depth) (sym is) (not_deep _ (entry_is_shallow entry)) in
@@ -253,5 +285,8 @@ texts_are [] = refl
 texts_are (entry ∷ rest) = ap (λ l. json_text_of entry ∷ l) (texts_are rest)
 
 -- an array of entries is read
-pub entries_read : (entries : List Entry) → AllByRecursion IsReadBack entries → read (array_text (map json_text_of entries)) ≡ Some (array_of entry_object entries)
-entries_read entries h = ap (λ texts. read (array_text texts)) (sym (texts_are entries)) ∙ array_read (map entry_object entries) (are_read entries h)
+pub entries_read : (entries : List Entry) → AllByRecursion IsReadBack entries
+    → read (array_text (map json_text_of entries)) ≡ Some (array_of entry_object entries)
+entries_read entries h =
+    ap (λ texts. read (array_text texts)) (sym (texts_are entries))
+    ∙ array_read (map entry_object entries) (are_read entries h)

@@ -8,8 +8,10 @@ use Rattle.bib_json.specs.declared.types.ValueType.TheVariants.{People, Date, Nu
 -- the fields of people
 abbrev pub fields_of_people : List (List ℕ)
 fields_of_people =
-    codes "author" ∷ codes "editor" ∷ codes "editora" ∷ codes "editorb" ∷ codes "editorc" ∷ codes "translator" ∷ codes "annotator" ∷ codes "commentator"
-    ∷ codes "introduction" ∷ codes "foreword" ∷ codes "afterword" ∷ codes "bookauthor" ∷ codes "holder" ∷ codes "shortauthor" ∷ codes "shorteditor" ∷ []
+    codes "author" ∷ codes "editor" ∷ codes "editora" ∷ codes "editorb" ∷ codes "editorc" ∷ codes "translator"
+    ∷ codes "annotator" ∷ codes "commentator"
+    ∷ codes "introduction" ∷ codes "foreword" ∷ codes "afterword" ∷ codes "bookauthor" ∷ codes "holder"
+    ∷ codes "shortauthor" ∷ codes "shorteditor" ∷ []
 
 -- the fields of dates
 abbrev pub dated_fields : List (List ℕ)
@@ -26,7 +28,8 @@ comma_fields = codes "keywords" ∷ codes "ids" ∷ codes "xdata" ∷ codes "ent
 -- the fields of lists with `and` between their texts
 abbrev pub and_fields : List (List ℕ)
 and_fields =
-    codes "publisher" ∷ codes "location" ∷ codes "address" ∷ codes "organization" ∷ codes "institution" ∷ codes "school" ∷ codes "origlocation"
+    codes "publisher" ∷ codes "location" ∷ codes "address" ∷ codes "organization" ∷ codes "institution" ∷ codes "school"
+    ∷ codes "origlocation"
     ∷ codes "origpublisher" ∷ []
 
 -- the fields of what page numbers count

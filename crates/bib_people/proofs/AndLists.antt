@@ -32,16 +32,20 @@ whole_part text left at same = ap (chunk_part text no_place at) same ∙ (rw (eq
 untouched : (text : List ℕ) → piece text no_place 0 false false text ≡ normal text
 untouched text = whole_part text _ _ refl
 
-whole_piece : (text : List ℕ) (first last : Bool) → trim_start text ≡ text → trim_end text ≡ text → piece text no_place 0 first last text ≡ normal text
+whole_piece : (text : List ℕ) (first last : Bool) → trim_start text ≡ text → trim_end text ≡ text
+    → piece text no_place 0 first last text ≡ normal text
 whole_piece text true true start end = whole_part text _ _ (ap trim_end start ∙ end)
 whole_piece text true false start end = whole_part text _ _ start
 whole_piece text false true start end = whole_part text _ _ end
 whole_piece text false false start end = untouched text
 
 -- a normal chunk is one part if trimming doesn't change it and it contains no word `and`
-pub normal_part : (text : List ℕ) → between_ands false (chars text) ≡ chars text ∷ [] → encode_utf8_all (chars text) ≡ text → trim_start text ≡ text → trim_end text ≡ text → IsPart (Normal text)
+pub normal_part : (text : List ℕ) → between_ands false (chars text) ≡ chars text ∷ []
+    → encode_utf8_all (chars text) ≡ text → trim_start text ≡ text → trim_end text ≡ text → IsPart (Normal text)
 normal_part text one spelt start end = record {
-  one = ap (pieces_between 3 text no_place 0 false) one ∙ ap (λ t. piece text no_place 0 false false t ∷ []) spelt ∙ ap (λ c. c ∷ []) (whole_piece text false false start end);
+  one =
+      ap (pieces_between 3 text no_place 0 false) one ∙ ap (λ t. piece text no_place 0 false false t ∷ []) spelt
+      ∙ ap (λ c. c ∷ []) (whole_piece text false false start end);
   ends = λ first last. whole_piece text first last start end;
 }
 
@@ -72,41 +76,57 @@ padded_parts before chunk (next ∷ more) = padded before true chunk ∷ padded_
 
 -- the ends of the list
 
-trimmed_after : (chunk : Chunk) (chunks : List Chunk) → IsPart chunk → AllParts chunks → trimmed_from false (written_after (chunk ∷ chunks)) ≡ written_after (chunk ∷ chunks)
-trimmed_after chunk [] part all = ap (λ c. trimmed false false (Normal (codes " and ")) no_place ∷ c ∷ []) (part.ends false true) ∙ ap (λ c. c ∷ nowhere chunk ∷ []) (untouched (codes " and "))
+trimmed_after : (chunk : Chunk) (chunks : List Chunk) → IsPart chunk → AllParts chunks
+    → trimmed_from false (written_after (chunk ∷ chunks)) ≡ written_after (chunk ∷ chunks)
+trimmed_after chunk [] part all =
+    ap (λ c. trimmed false false (Normal (codes " and ")) no_place ∷ c ∷ []) (part.ends false true)
+    ∙ ap (λ c. c ∷ nowhere chunk ∷ []) (untouched (codes " and "))
 trimmed_after chunk (next ∷ more) part all =
-    ap (λ c. trimmed false false (Normal (codes " and ")) no_place ∷ c ∷ trimmed_from false (written_after (next ∷ more))) (part.ends false false)
+    ap
+    (λ c.
+    trimmed false false (Normal (codes " and ")) no_place ∷ c ∷ trimmed_from false (written_after (next ∷ more)))
+    (part.ends false false)
     ∙ ap (λ l. trimmed false false (Normal (codes " and ")) no_place ∷ nowhere chunk ∷ l) (trimmed_after next more all.0 all.1)
     ∙ ap (λ c. c ∷ nowhere chunk ∷ written_after (next ∷ more)) (untouched (codes " and "))
 
-trimmed_whole : (chunk : Chunk) (chunks : List Chunk) → IsPart chunk → AllParts chunks → trimmed_ends (nowhere chunk ∷ written_after chunks) ≡ nowhere chunk ∷ written_after chunks
+trimmed_whole : (chunk : Chunk) (chunks : List Chunk) → IsPart chunk → AllParts chunks
+    → trimmed_ends (nowhere chunk ∷ written_after chunks) ≡ nowhere chunk ∷ written_after chunks
 trimmed_whole chunk [] part all = ap (λ c. c ∷ []) (part.ends true true)
-trimmed_whole chunk (next ∷ more) part all = ap (λ c. c ∷ trimmed_from false (written_after (next ∷ more))) (part.ends true false) ∙ ap (λ l. nowhere chunk ∷ l) (trimmed_after next more all.0 all.1)
+trimmed_whole chunk (next ∷ more) part all =
+    ap (λ c. c ∷ trimmed_from false (written_after (next ∷ more))) (part.ends true false)
+    ∙ ap (λ l. nowhere chunk ∷ l) (trimmed_after next more all.0 all.1)
 
 -- its parts
 
 abbrev parts : Value → List Value
 parts = list_parts 3 (between_ands false)
 
-cut_after : (next : Chunk) (more : List Chunk) → IsPart next → parts (written_after (next ∷ more)) ≡ empties before_and true ∷ onto (empties after_and true) (onto (alone next) (parts (written_after more)))
+cut_after : (next : Chunk) (more : List Chunk) → IsPart next
+    → parts (written_after (next ∷ more))
+    ≡ empties before_and true ∷ onto (empties after_and true) (onto (alone next) (parts (written_after more)))
 cut_after next more part =
     ap (λ ps. joined_parts ps (joined_parts (pieces 3 (between_ands false) next no_place) (parts (written_after more)))) and_separates.cut
     ∙ ap (λ ps. joined_parts (empties before_and true ++ empties after_and true) (joined_parts ps (parts (written_after more)))) part.one
 
-onto_one : (before : Bool) (chunk : Chunk) (chunks : List Chunk) → AllParts chunks → onto (empties after_and before) (onto (alone chunk) (parts (written_after chunks))) ≡ padded_parts before chunk chunks
+onto_one : (before : Bool) (chunk : Chunk) (chunks : List Chunk) → AllParts chunks
+    → onto (empties after_and before) (onto (alone chunk) (parts (written_after chunks)))
+    ≡ padded_parts before chunk chunks
 onto_one false chunk [] all = refl
 onto_one true chunk [] all = refl
 onto_one false chunk (next ∷ more) all =
-    ap (λ ps. onto [] (onto (alone chunk) ps)) (cut_after next more all.0) ∙ ap (λ ps. padded false true chunk ∷ ps) (onto_one true next more all.1)
+    ap (λ ps. onto [] (onto (alone chunk) ps)) (cut_after next more all.0)
+    ∙ ap (λ ps. padded false true chunk ∷ ps) (onto_one true next more all.1)
 onto_one true chunk (next ∷ more) all =
-    ap (λ ps. onto (empties after_and true) (onto (alone chunk) ps)) (cut_after next more all.0) ∙ ap (λ ps. padded true true chunk ∷ ps) (onto_one true next more all.1)
+    ap (λ ps. onto (empties after_and true) (onto (alone chunk) ps)) (cut_after next more all.0)
+    ∙ ap (λ ps. padded true true chunk ∷ ps) (onto_one true next more all.1)
 
 onto_nothing : (chunk : Chunk) (ps : List Value) → onto [] (onto (alone chunk) ps) ≡ onto (alone chunk) ps
 onto_nothing chunk [] = refl
 onto_nothing chunk (p ∷ ps) = refl
 
 -- a written list is parsed as its parts, with empty chunks around them
-pub and_list_written : (chunk : Chunk) (chunks : List Chunk) → IsPart chunk → AllParts chunks → and_list (nowhere chunk ∷ written_after chunks) ≡ padded_parts false chunk chunks
+pub and_list_written : (chunk : Chunk) (chunks : List Chunk) → IsPart chunk → AllParts chunks
+    → and_list (nowhere chunk ∷ written_after chunks) ≡ padded_parts false chunk chunks
 and_list_written chunk chunks part all =
     ap parts (trimmed_whole chunk chunks part all)
     ∙ ap (λ ps. joined_parts ps (parts (written_after chunks))) part.one

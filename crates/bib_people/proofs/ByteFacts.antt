@@ -22,7 +22,11 @@ pub ascii_fact : (test : ℕ → Bool) → list_all test (range_with_len 0 128) 
 ascii_fact test all b below =
     let here : get_or (range_with_len 0 128) b 0 ≡ b = get_or-range_with_len 0 128 b 0 below ∙ omega arith in
     ⊎_elim (λ passes. passes)
-    (λ fails. absurd (both_ways (list_all test (range_with_len 0 128)) (list_all_at test (range_with_len 0 128) b 0 (omega (arith, length-range_with_len 0 128)) (ap test here ∙ fails)) all))
+    (λ fails.
+    absurd
+    (both_ways (list_all test (range_with_len 0 128))
+    (list_all_at test (range_with_len 0 128) b 0 (omega (arith, length-range_with_len 0 128))
+    (ap test here ∙ fails)) all))
     (cases_Bool (test b))
 
 pub implied : (a b : Bool) → (not a || b) ≡ true → a ≡ true → b ≡ true
@@ -47,7 +51,9 @@ plain_table : list_all (λ b. not (is_name_byte b) || is_plain b) (range_with_le
 plain_table = refl
 
 pub name_plain : (b : ℕ) → is_name_byte b ≡ true → is_plain b ≡ true
-name_plain b name = implied (is_name_byte b) (is_plain b) (ascii_fact (λ x. not (is_name_byte x) || is_plain x) plain_table b (name_small b name)) name
+name_plain b name =
+    implied (is_name_byte b) (is_plain b)
+    (ascii_fact (λ x. not (is_name_byte x) || is_plain x) plain_table b (name_small b name)) name
 
 capital_table : list_all (λ b. not (is_capital_letter b) || not (is_lowercase b)) (range_with_len 0 128) ≡ true
 unfolding is_lowercase in_ranges lowercase_ranges
@@ -55,7 +61,11 @@ capital_table = refl
 
 -- an uppercase letter is not in lower case
 pub capital_not_low : (b : ℕ) → is_capital_letter b ≡ true → is_lowercase b ≡ false
-capital_not_low b capital = not-true (is_lowercase b) (implied (is_capital_letter b) (not (is_lowercase b)) (ascii_fact (λ x. not (is_capital_letter x) || not (is_lowercase x)) capital_table b (capital_small b capital)) capital)
+capital_not_low b capital =
+    not-true (is_lowercase b)
+    (implied (is_capital_letter b) (not (is_lowercase b))
+    (ascii_fact (λ x. not (is_capital_letter x) || not (is_lowercase x)) capital_table b
+    (capital_small b capital)) capital)
 
 small_table : list_all (λ b. not (is_small_letter b) || (is_lowercase b && not (is_uppercase b))) (range_with_len 0 128) ≡ true
 unfolding is_lowercase is_uppercase in_ranges lowercase_ranges uppercase_ranges
@@ -63,7 +73,10 @@ small_table = refl
 
 -- a lowercase letter is in lower case
 pub small_low : (b : ℕ) → is_small_letter b ≡ true → (is_lowercase b && not (is_uppercase b)) ≡ true
-small_low b small = implied (is_small_letter b) (is_lowercase b && not (is_uppercase b)) (ascii_fact (λ x. not (is_small_letter x) || (is_lowercase x && not (is_uppercase x))) small_table b (letter_small b small)) small
+small_low b small =
+    implied (is_small_letter b) (is_lowercase b && not (is_uppercase b))
+    (ascii_fact (λ x. not (is_small_letter x) || (is_lowercase x && not (is_uppercase x))) small_table b
+    (letter_small b small)) small
 
 -- a byte of a written name
 abbrev pub is_line_byte : ℕ → Bool
@@ -80,7 +93,9 @@ line_table = refl
 
 -- a byte of a written name is neither an equals sign nor a line break
 pub line_open : (b : ℕ) → is_line_byte b ≡ true → is_open b ≡ true
-line_open b line = implied (is_line_byte b) (is_open b) (ascii_fact (λ x. not (is_line_byte x) || is_open x) line_table b (line_small b line)) line
+line_open b line =
+    implied (is_line_byte b) (is_open b)
+    (ascii_fact (λ x. not (is_line_byte x) || is_open x) line_table b (line_small b line)) line
 
 pub name_line : (b : ℕ) → is_name_byte b ≡ true → is_line_byte b ≡ true
 name_line b name = rw name refl
@@ -93,7 +108,8 @@ ascii_of test small (b ∷ bs) all zero = small b (and_parts (test b) (list_all 
 ascii_of test small (b ∷ bs) all (suc k) = ascii_of test small bs (and_parts (test b) (list_all test bs) all).1 k
 
 -- if a test implies another one, so does passing it throughout
-pub all_follow : {A : Type 0} (one two : A → Bool) → ((b : A) → one b ≡ true → two b ≡ true) → (bs : List A) → list_all one bs ≡ true → list_all two bs ≡ true
+pub all_follow : {A : Type 0} (one two : A → Bool) → ((b : A) → one b ≡ true → two b ≡ true) → (bs : List A)
+    → list_all one bs ≡ true → list_all two bs ≡ true
 all_follow one two follows [] all = refl
 all_follow one two follows (b ∷ bs) all =
     let both = and_parts (one b) (list_all one bs) all in
@@ -124,17 +140,25 @@ drop_none [] last = refl
 drop_none (b ∷ []) last = rw last refl
 drop_none (b ∷ c ∷ bs) last =
     let more : drop_trailing_whitespace (c ∷ bs) ≡ c ∷ bs = drop_none (c ∷ bs) last in
-    let some : (length (drop_trailing_whitespace (c ∷ bs)) == 0) ≡ false = ap (λ l. length l == 0) more ∙ ne_eqb (suc (length bs)) 0 (λ none. omega arith) in
-    cond_second (is_whitespace b) (length (drop_trailing_whitespace (c ∷ bs)) == 0) [] (b ∷ drop_trailing_whitespace (c ∷ bs)) some ∙ ap (λ l. b ∷ l) more
+    let some : (length (drop_trailing_whitespace (c ∷ bs)) == 0) ≡ false =
+    ap (λ l. length l == 0) more ∙ ne_eqb (suc (length bs)) 0 (λ none. omega arith) in
+    cond_second (is_whitespace b) (length (drop_trailing_whitespace (c ∷ bs)) == 0) []
+    (b ∷ drop_trailing_whitespace (c ∷ bs)) some ∙ ap (λ l. b ∷ l) more
 
 pub start_none : (bs : List ℕ) → IsAscii bs → skip_leading_whitespace bs ≡ bs → trim_start bs ≡ bs
 unfolding trim_start
-start_none bs ascii none = ap (λ cs. encode_utf8_all (skip_leading_whitespace cs)) (chars-IsAscii bs ascii) ∙ ap encode_utf8_all none ∙ encodes-IsAscii bs ascii
+start_none bs ascii none =
+    ap (λ cs. encode_utf8_all (skip_leading_whitespace cs)) (chars-IsAscii bs ascii) ∙ ap encode_utf8_all none
+    ∙ encodes-IsAscii bs ascii
 
 pub start_one : (bs : List ℕ) → IsAscii (32 ∷ bs) → IsAscii bs → skip_leading_whitespace bs ≡ bs → trim_start (32 ∷ bs) ≡ bs
 unfolding trim_start
-start_one bs ascii more none = ap (λ cs. encode_utf8_all (skip_leading_whitespace cs)) (chars-IsAscii (32 ∷ bs) ascii) ∙ ap encode_utf8_all none ∙ encodes-IsAscii bs more
+start_one bs ascii more none =
+    ap (λ cs. encode_utf8_all (skip_leading_whitespace cs)) (chars-IsAscii (32 ∷ bs) ascii) ∙ ap encode_utf8_all none
+    ∙ encodes-IsAscii bs more
 
 pub end_none : (bs : List ℕ) → IsAscii bs → ends_in_space false bs ≡ false → trim_end bs ≡ bs
 unfolding trim_end
-end_none bs ascii last = ap (λ cs. encode_utf8_all (drop_trailing_whitespace cs)) (chars-IsAscii bs ascii) ∙ ap encode_utf8_all (drop_none bs last) ∙ encodes-IsAscii bs ascii
+end_none bs ascii last =
+    ap (λ cs. encode_utf8_all (drop_trailing_whitespace cs)) (chars-IsAscii bs ascii)
+    ∙ ap encode_utf8_all (drop_none bs last) ∙ encodes-IsAscii bs ascii

@@ -34,7 +34,10 @@ one_cond test (word ∷ words) = ⊎_elim (λ yes. rw yes refl) (λ no. rw no re
 
 -- at the start of the search no word has passed
 pub through_init : (test : Word → Bool) (words : List Word) → Through test words 0 0
-through_init test words = record { is = cond_at (list_any test words) (through_last test words) (one_cond test words); within = omega arith }
+through_init test words = record {
+  is = cond_at (list_any test words) (through_last test words) (one_cond test words);
+  within = omega arith;
+}
 
 -- a step of the search: one more word
 step_yes : (n i t : ℕ) (b : Bool) → (b ≡ false → t ≡ 0) → n ≡ cond true (i + cond true (1 + t) 0) 0 → n ≡ cond b (i + 1 + t) (i + 1)
@@ -45,29 +48,43 @@ step_no : (n i t end : ℕ) (b : Bool) → n ≡ cond b (i + cond b (1 + t) 0) e
 step_no n i t end true is = is ∙ omega arith
 step_no n i t end false is = is
 
-at_word : (test : Word → Bool) (words : List Word) (i : ℕ) (word : Word) → i < length words → word ≡ get_or words i word → drop i words ≡ word ∷ drop (i + 1) words
+at_word : (test : Word → Bool) (words : List Word) (i : ℕ) (word : Word) → i < length words → word ≡ get_or words i word
+    → drop i words ≡ word ∷ drop (i + 1) words
 at_word test words i word within is = drop_more words i word within ∙ ap (λ w. w ∷ drop (i + 1) words) (sym is)
 
 -- a step of the search: a word that passes
-pub through_yes : (test : Word → Bool) (words : List Word) (i end : ℕ) (word : Word) → i < length words → word ≡ get_or words i word → test word ≡ true → Through test words i end → Through test words (i + 1) (i + 1)
+pub through_yes : (test : Word → Bool) (words : List Word) (i end : ℕ) (word : Word) → i < length words
+    → word ≡ get_or words i word → test word ≡ true → Through test words i end → Through test words (i + 1) (i + 1)
 through_yes test words i end word within is passes so_far =
     let here = so_far.is in
     let more = rw (at_word test words i word within is, passes) at here in
-    record { is = step_yes (through_last test words) i (through_last test (drop (i + 1) words)) (list_any test (drop (i + 1) words)) (through_none test (drop (i + 1) words)) more; within = omega arith }
+    record {
+      is =
+          step_yes (through_last test words) i (through_last test (drop (i + 1) words))
+          (list_any test (drop (i + 1) words)) (through_none test (drop (i + 1) words)) more;
+      within = omega arith;
+    }
 
 -- a step of the search: a word that fails
-pub through_no : (test : Word → Bool) (words : List Word) (i end : ℕ) (word : Word) → i < length words → word ≡ get_or words i word → test word ≡ false → Through test words i end → Through test words (i + 1) end
+pub through_no : (test : Word → Bool) (words : List Word) (i end : ℕ) (word : Word) → i < length words
+    → word ≡ get_or words i word → test word ≡ false → Through test words i end → Through test words (i + 1) end
 through_no test words i end word within is fails so_far =
     let here = so_far.is in
     let more = rw (at_word test words i word within is, fails) at here in
-    record { is = step_no (through_last test words) i (through_last test (drop (i + 1) words)) end (list_any test (drop (i + 1) words)) more; within = omega arith }
+    record {
+      is =
+          step_no (through_last test words) i (through_last test (drop (i + 1) words)) end
+          (list_any test (drop (i + 1) words)) more;
+      within = omega arith;
+    }
 
 -- a text without spaces
 pub no_space : (text : List ℕ) → ((i : ℕ) → i < length text → get_or text i 0 ≢ 32) → list_any is_space_byte text ≡ false
 no_space [] none = refl
 no_space (b ∷ bs) none = rw (ne_eqb b 32 (none 0 (omega arith)), no_space bs (λ i within. none (suc i) (omega arith))) refl
 
-last_at : (text : List ℕ) (at : ℕ) → IsUtf8 text → IsCharBoundary text at → at < length text → get_or text at 0 ≡ 32 → ((i : ℕ) → at < i → i < length text → get_or text i 0 ≢ 32) → IsLastSpace text at
+last_at : (text : List ℕ) (at : ℕ) → IsUtf8 text → IsCharBoundary text at → at < length text → get_or text at 0 ≡ 32
+    → ((i : ℕ) → at < i → i < length text → get_or text i 0 ≢ 32) → IsLastSpace text at
 last_at text at utf8 boundary within here later =
     let passes : is_space_byte (get_or text at 0) ≡ true = rw here refl in
     let fails : (at + 1 - 1 ≡ at) = omega arith in
@@ -84,7 +101,10 @@ last_at text at utf8 boundary within here later =
       next = IsCharBoundary-after_ascii text at utf8 within (omega arith);
     }
 
-pub last_space_found : (text : List ℕ) (r : Option ℕ) → IsUtf8 text → MatchOption r (RFindsChar 32 text None) (λ i. (j : ℕ) × RFindsChar 32 text (Some (i, j)) × (i ≤ j) × IsCharBoundary text i × IsCharBoundary text j) → MatchOption r (list_any is_space_byte text ≡ false) (IsLastSpace text)
+pub last_space_found : (text : List ℕ) (r : Option ℕ) → IsUtf8 text
+    → MatchOption r (RFindsChar 32 text None)
+    (λ i. (j : ℕ) × RFindsChar 32 text (Some (i, j)) × (i ≤ j) × IsCharBoundary text i × IsCharBoundary text j)
+    → MatchOption r (list_any is_space_byte text ≡ false) (IsLastSpace text)
 last_space_found text None utf8 found = no_space text (rfind_char 32 text None found (omega arith))
 last_space_found text (Some at) utf8 found =
     let is = rfind_char 32 text (Some at) found (omega arith) in

@@ -30,7 +30,8 @@ kept_any test [] kept = absurd (false≢true kept)
 kept_any test (b ∷ bs) kept =
     let outer = and_parts (test b) (list_all is_name_byte (b ∷ bs) && not (is_word_and (b ∷ bs))) kept in
     let inner = and_parts (list_all is_name_byte (b ∷ bs)) (not (is_word_and (b ∷ bs))) outer.1 in
-    and_from (is_name_byte b) (list_all is_name_byte (b ∷ bs) && not (is_word_and (b ∷ bs))) (and_parts (is_name_byte b) (list_all is_name_byte bs) inner.0).0 outer.1
+    and_from (is_name_byte b) (list_all is_name_byte (b ∷ bs) && not (is_word_and (b ∷ bs)))
+    (and_parts (is_name_byte b) (list_all is_name_byte bs) inner.0).0 outer.1
 
 pub all_any : (test : ℕ → Bool) (words : List (List ℕ)) → AllWords test words → AllWords is_name_byte words
 all_any test words all = all_follow (is_kept_word test) (is_kept_word is_name_byte) (kept_any test) words all
@@ -48,7 +49,9 @@ kept_line (b ∷ bs) kept =
     let outer = and_parts (is_name_byte b) (list_all is_name_byte (b ∷ bs) && not (is_word_and (b ∷ bs))) kept in
     let inner = and_parts (list_all is_name_byte (b ∷ bs)) (not (is_word_and (b ∷ bs))) outer.1 in
     let solid : is_solid (b ∷ bs) ≡ true = all_follow is_name_byte (λ x. not (is_whitespace x)) name_no_space (b ∷ bs) inner.0 in
-    and_from (is_item (b ∷ bs)) (list_all is_line_byte (b ∷ bs)) (and_from (is_solid (b ∷ bs)) (not (is_word_and (b ∷ bs))) solid inner.1) (all_follow is_name_byte is_line_byte name_line (b ∷ bs) inner.0)
+    and_from (is_item (b ∷ bs)) (list_all is_line_byte (b ∷ bs))
+    (and_from (is_solid (b ∷ bs)) (not (is_word_and (b ∷ bs))) solid inner.1)
+    (all_follow is_name_byte is_line_byte name_line (b ∷ bs) inner.0)
 
 pub all_line : (words : List (List ℕ)) → AllWords is_name_byte words → list_all is_line_item words ≡ true
 all_line words all = all_follow (is_kept_word is_name_byte) is_line_item kept_line words all
@@ -78,8 +81,10 @@ items_part items all =
     let same : chars (spaced items) ≡ spaced items = chars-IsAscii (spaced items) ascii in
     let solid = items_solid items all in
     let one = spaced_one items (all_follow is_line_item is_item line_is_item items all) in
-    normal_part (spaced items) (ap (between_ands false) same ∙ one ∙ ap (λ t. t ∷ []) (sym same)) (ap encode_utf8_all same ∙ encodes-IsAscii (spaced items) ascii)
-    (start_none (spaced items) ascii (skip_none (spaced items) (spaced_begins items solid))) (end_none (spaced items) ascii (spaced_ends items solid))
+    normal_part (spaced items) (ap (between_ands false) same ∙ one ∙ ap (λ t. t ∷ []) (sym same))
+    (ap encode_utf8_all same ∙ encodes-IsAscii (spaced items) ascii)
+    (start_none (spaced items) ascii (skip_none (spaced items) (spaced_begins items solid)))
+    (end_none (spaced items) ascii (spaced_ends items solid))
 
 -- commas after words
 
@@ -91,11 +96,14 @@ comma (word ∷ next ∷ more) = word ∷ comma (next ∷ more)
 
 comma_after : (word : List ℕ) (words : List (List ℕ)) → after_words (comma (word ∷ words)) ≡ after_words (word ∷ words) ++ 44 ∷ []
 comma_after word [] = ap (λ l. 32 ∷ l) (append-nil (word ++ 44 ∷ []) ∙ ap (λ l. l ++ 44 ∷ []) (sym (append-nil word)))
-comma_after word (next ∷ more) = ap (λ l. 32 ∷ (word ++ l)) (comma_after next more) ∙ ap (λ l. 32 ∷ l) (sym (append_assoc word (after_words (next ∷ more)) (44 ∷ [])))
+comma_after word (next ∷ more) =
+    ap (λ l. 32 ∷ (word ++ l)) (comma_after next more)
+    ∙ ap (λ l. 32 ∷ l) (sym (append_assoc word (after_words (next ∷ more)) (44 ∷ [])))
 
 comma_spaced : (word : List ℕ) (words : List (List ℕ)) → spaced (comma (word ∷ words)) ≡ spaced (word ∷ words) ++ 44 ∷ []
 comma_spaced word [] = append-nil (word ++ 44 ∷ []) ∙ ap (λ l. l ++ 44 ∷ []) (sym (append-nil word))
-comma_spaced word (next ∷ more) = ap (λ l. word ++ l) (comma_after next more) ∙ sym (append_assoc word (after_words (next ∷ more)) (44 ∷ []))
+comma_spaced word (next ∷ more) =
+    ap (λ l. word ++ l) (comma_after next more) ∙ sym (append_assoc word (after_words (next ∷ more)) (44 ∷ []))
 
 comma_some : (word : List ℕ) (words : List (List ℕ)) → 0 < length (comma (word ∷ words))
 comma_some word [] = omega arith
@@ -112,14 +120,17 @@ comma_item : (word : List ℕ) → is_line_item word ≡ true → is_line_item (
 comma_item [] line = absurd (false≢true line)
 comma_item (b ∷ bs) line =
     let solid : list_all (λ x. not (is_whitespace x)) (b ∷ bs) ≡ true = line_is_solid (b ∷ bs) line in
-    let all_solid : list_all (λ x. not (is_whitespace x)) ((b ∷ bs) ++ 44 ∷ []) ≡ true = list_all-append (λ x. not (is_whitespace x)) (b ∷ bs) (44 ∷ []) ∙ and_from _ true solid refl in
-    let all_bytes : list_all is_line_byte ((b ∷ bs) ++ 44 ∷ []) ≡ true = list_all-append is_line_byte (b ∷ bs) (44 ∷ []) ∙ and_from _ true (line_is_bytes (b ∷ bs) line) refl in
+    let all_solid : list_all (λ x. not (is_whitespace x)) ((b ∷ bs) ++ 44 ∷ []) ≡ true =
+    list_all-append (λ x. not (is_whitespace x)) (b ∷ bs) (44 ∷ []) ∙ and_from _ true solid refl in
+    let all_bytes : list_all is_line_byte ((b ∷ bs) ++ 44 ∷ []) ≡ true =
+    list_all-append is_line_byte (b ∷ bs) (44 ∷ []) ∙ and_from _ true (line_is_bytes (b ∷ bs) line) refl in
     and_from (is_item ((b ∷ bs) ++ 44 ∷ [])) (list_all is_line_byte ((b ∷ bs) ++ 44 ∷ []))
     (and_from (is_solid ((b ∷ bs) ++ 44 ∷ [])) (not (is_word_and ((b ∷ bs) ++ 44 ∷ []))) all_solid (ap not (no_word (b ∷ bs)))) all_bytes
 
 pub comma_items : (words : List (List ℕ)) → list_all is_line_item words ≡ true → list_all is_line_item (comma words) ≡ true
 comma_items [] all = refl
-comma_items (word ∷ []) all = and_from (is_line_item (word ++ 44 ∷ [])) true (comma_item word (and_parts (is_line_item word) true all).0) refl
+comma_items (word ∷ []) all =
+    and_from (is_line_item (word ++ 44 ∷ [])) true (comma_item word (and_parts (is_line_item word) true all).0) refl
 comma_items (word ∷ next ∷ more) all =
     let both = and_parts (is_line_item word) (list_all is_line_item (next ∷ more)) all in
     and_from (is_line_item word) (list_all is_line_item (comma (next ∷ more))) both.0 (comma_items (next ∷ more) both.1)
@@ -130,13 +141,16 @@ comma_items (word ∷ next ∷ more) all =
 pub spaced_then : (xs ys : List (List ℕ)) → 0 < length xs → 0 < length ys → spaced (xs ++ ys) ≡ spaced xs ++ (32 ∷ spaced ys)
 spaced_then [] ys some more = absurd (omega arith)
 spaced_then (x ∷ xs) [] some more = absurd (omega arith)
-spaced_then (x ∷ xs) (y ∷ ys) some more = ap (λ l. x ++ l) (after_append xs (y ∷ ys)) ∙ sym (append_assoc x (after_words xs) (after_words (y ∷ ys)))
+spaced_then (x ∷ xs) (y ∷ ys) some more =
+    ap (λ l. x ++ l) (after_append xs (y ∷ ys)) ∙ sym (append_assoc x (after_words xs) (after_words (y ∷ ys)))
 
 -- the words of a person, with a comma after the family name and one after the suffix
 abbrev pub line_items : List (List ℕ) → List (List ℕ) → List (List ℕ) → List (List ℕ)
 line_items leading_run suffix given = comma leading_run ++ (comma suffix ++ given)
 
-pub line_all : (leading_run suffix given : List (List ℕ)) → AllWords is_name_byte leading_run → AllWords is_name_byte suffix → AllWords is_name_byte given → list_all is_line_item (line_items leading_run suffix given) ≡ true
+pub line_all : (leading_run suffix given : List (List ℕ)) → AllWords is_name_byte leading_run
+    → AllWords is_name_byte suffix → AllWords is_name_byte given
+    → list_all is_line_item (line_items leading_run suffix given) ≡ true
 line_all leading_run suffix given one two three =
     list_all-append is_line_item (comma leading_run) (comma suffix ++ given)
     ∙ and_from _ _ (comma_items leading_run (all_line leading_run one))
@@ -147,7 +161,8 @@ first_some [] words all = absurd (false≢true all)
 first_some (b ∷ bs) words all = ne_eqb (suc (length (bs ++ after_words words))) 0 (λ none. omega arith)
 
 -- the text of a suffix and a given name, as words
-pub suffix_line : (suffix given : List (List ℕ)) → AllWords is_name_byte suffix → 0 < length given → suffix_text (spaced suffix) ++ spaced given ≡ spaced (comma suffix ++ given)
+pub suffix_line : (suffix given : List (List ℕ)) → AllWords is_name_byte suffix → 0 < length given
+    → suffix_text (spaced suffix) ++ spaced given ≡ spaced (comma suffix ++ given)
 suffix_line [] given all some = refl
 suffix_line (s ∷ ss) given all some =
     let long : suffix_text (spaced (s ∷ ss)) ≡ spaced (s ∷ ss) ++ (44 ∷ 32 ∷ []) = rw (first_some s ss all) refl in
@@ -172,9 +187,12 @@ line_spelt (f ∷ fs) suffix given first all some =
     ∙ ap (λ l. spaced (f ∷ fs) ++ (44 ∷ 32 ∷ l)) (sym (suffix_line suffix given all some))
 
 -- a person is written as one normal chunk
-pub plain_line : (prefix name suffix given : List (List ℕ)) → AllWords is_small_letter prefix → 0 < length name → AllWords is_name_byte suffix → 0 < length given
-    → plain_chunks (person (spaced name) (spaced given) (spaced prefix) (spaced suffix)) ≡ normal (spaced (line_items (prefix ++ name) suffix given)) ∷ []
-plain_line [] name suffix given small has_name all has_given = ap (λ t. normal t ∷ []) (sym (line_spelt name suffix given has_name all has_given))
+pub plain_line : (prefix name suffix given : List (List ℕ)) → AllWords is_small_letter prefix → 0 < length name
+    → AllWords is_name_byte suffix → 0 < length given
+    → plain_chunks (person (spaced name) (spaced given) (spaced prefix) (spaced suffix))
+    ≡ normal (spaced (line_items (prefix ++ name) suffix given)) ∷ []
+plain_line [] name suffix given small has_name all has_given =
+    ap (λ t. normal t ∷ []) (sym (line_spelt name suffix given has_name all has_given))
 plain_line ([] ∷ xs) name suffix given small has_name all has_given = absurd (false≢true small)
 plain_line ((b ∷ bs) ∷ xs) name suffix given small has_name all has_given =
     let words = (b ∷ bs) ∷ xs in

@@ -25,7 +25,8 @@ is_item word = is_solid word && not (is_word_and word)
 
 -- the ends
 
-solid_ends : (empty : Bool) (b : ℕ) (bs : List ℕ) → list_all (λ x. not (is_whitespace x)) (b ∷ bs) ≡ true → ends_in_space empty (b ∷ bs) ≡ false
+solid_ends : (empty : Bool) (b : ℕ) (bs : List ℕ) → list_all (λ x. not (is_whitespace x)) (b ∷ bs) ≡ true
+    → ends_in_space empty (b ∷ bs) ≡ false
 solid_ends empty b [] all = not-true (is_whitespace b) (and_parts (not (is_whitespace b)) true all).0
 solid_ends empty b (c ∷ bs) all = solid_ends (is_whitespace b) c bs (and_parts (not (is_whitespace b)) _ all).1
 
@@ -37,17 +38,20 @@ after_ends : (words : List (List ℕ)) → list_all is_solid words ≡ true → 
 after_ends [] all = refl
 after_ends (word ∷ words) all =
     let both = and_parts (is_solid word) (list_all is_solid words) all in
-    ends-append true word (after_words words) ∙ ap (λ e. ends_in_space e (after_words words)) (word_ends true word both.0) ∙ after_ends words both.1
+    ends-append true word (after_words words)
+    ∙ ap (λ e. ends_in_space e (after_words words)) (word_ends true word both.0) ∙ after_ends words both.1
 
 -- words do not end in white space
 pub spaced_ends : (words : List (List ℕ)) → list_all is_solid words ≡ true → ends_in_space false (spaced words) ≡ false
 spaced_ends [] all = refl
 spaced_ends (word ∷ words) all =
     let both = and_parts (is_solid word) (list_all is_solid words) all in
-    ends-append false word (after_words words) ∙ ap (λ e. ends_in_space e (after_words words)) (word_ends false word both.0) ∙ after_ends words both.1
+    ends-append false word (after_words words)
+    ∙ ap (λ e. ends_in_space e (after_words words)) (word_ends false word both.0) ∙ after_ends words both.1
 
 -- words do not begin with white space
-pub spaced_begins : (words : List (List ℕ)) → list_all is_solid words ≡ true → list_all (λ b. not (is_whitespace b)) (take 1 (spaced words)) ≡ true
+pub spaced_begins : (words : List (List ℕ)) → list_all is_solid words ≡ true
+    → list_all (λ b. not (is_whitespace b)) (take 1 (spaced words)) ≡ true
 spaced_begins [] all = refl
 spaced_begins ([] ∷ words) all = absurd (false≢true all)
 spaced_begins ((b ∷ bs) ∷ words) all =
@@ -58,23 +62,32 @@ spaced_begins ((b ∷ bs) ∷ words) all =
 
 pub after_append : (xs ys : List (List ℕ)) → after_words (xs ++ ys) ≡ after_words xs ++ after_words ys
 after_append [] ys = refl
-after_append (x ∷ xs) ys = ap (λ l. 32 ∷ (x ++ l)) (after_append xs ys) ∙ ap (λ l. 32 ∷ l) (sym (append_assoc x (after_words xs) (after_words ys)))
+after_append (x ∷ xs) ys =
+    ap (λ l. 32 ∷ (x ++ l)) (after_append xs ys)
+    ∙ ap (λ l. 32 ∷ l) (sym (append_assoc x (after_words xs) (after_words ys)))
 
-pub spaced_append : (x : List ℕ) (xs : List (List ℕ)) (y : List ℕ) (ys : List (List ℕ)) → spaced ((x ∷ xs) ++ (y ∷ ys)) ≡ spaced (x ∷ xs) ++ (32 ∷ spaced (y ∷ ys))
+pub spaced_append : (x : List ℕ) (xs : List (List ℕ)) (y : List ℕ) (ys : List (List ℕ))
+    → spaced ((x ∷ xs) ++ (y ∷ ys)) ≡ spaced (x ∷ xs) ++ (32 ∷ spaced (y ∷ ys))
 spaced_append x xs y ys = ap (λ l. x ++ l) (after_append xs (y ∷ ys)) ∙ sym (append_assoc x (after_words xs) (after_words (y ∷ ys)))
 
 -- a test that passes for each word and for a space passes for the text
-after_all : (test : ℕ → Bool) → test 32 ≡ true → (words : List (List ℕ)) → list_all (λ w. list_all test w) words ≡ true → list_all test (after_words words) ≡ true
+after_all : (test : ℕ → Bool) → test 32 ≡ true → (words : List (List ℕ)) → list_all (λ w. list_all test w) words ≡ true
+    → list_all test (after_words words) ≡ true
 after_all test space [] all = refl
 after_all test space (word ∷ words) all =
     let both = and_parts (list_all test word) (list_all (λ w. list_all test w) words) all in
-    and_from (test 32) (list_all test (word ++ after_words words)) space (list_all-append test word (after_words words) ∙ and_from (list_all test word) (list_all test (after_words words)) both.0 (after_all test space words both.1))
+    and_from (test 32) (list_all test (word ++ after_words words)) space
+    (list_all-append test word (after_words words)
+    ∙ and_from (list_all test word) (list_all test (after_words words)) both.0
+    (after_all test space words both.1))
 
-pub spaced_all : (test : ℕ → Bool) → test 32 ≡ true → (words : List (List ℕ)) → list_all (λ w. list_all test w) words ≡ true → list_all test (spaced words) ≡ true
+pub spaced_all : (test : ℕ → Bool) → test 32 ≡ true → (words : List (List ℕ))
+    → list_all (λ w. list_all test w) words ≡ true → list_all test (spaced words) ≡ true
 spaced_all test space [] all = refl
 spaced_all test space (word ∷ words) all =
     let both = and_parts (list_all test word) (list_all (λ w. list_all test w) words) all in
-    list_all-append test word (after_words words) ∙ and_from (list_all test word) (list_all test (after_words words)) both.0 (after_all test space words both.1)
+    list_all-append test word (after_words words)
+    ∙ and_from (list_all test word) (list_all test (after_words words)) both.0 (after_all test space words both.1)
 
 -- the word `and`
 
@@ -89,21 +102,25 @@ either true cs none = none
 either false cs none = not_spaced cs
 
 -- there is no cut at a character where no such word is
-step : (space : Bool) (c : ℕ) (cs : List ℕ) → word_here space (c ∷ cs) ≡ false → between_ands (is_whitespace c) cs ≡ cs ∷ [] → between_ands space (c ∷ cs) ≡ (c ∷ cs) ∷ []
+step : (space : Bool) (c : ℕ) (cs : List ℕ) → word_here space (c ∷ cs) ≡ false
+    → between_ands (is_whitespace c) cs ≡ cs ∷ [] → between_ands space (c ∷ cs) ≡ (c ∷ cs) ∷ []
 step space c cs here more = between_other space c cs here ∙ ap (prepend (c ∷ [])) more
 
-run : (bs rest : List ℕ) → list_all (λ b. not (is_whitespace b)) bs ≡ true → between_ands false rest ≡ rest ∷ [] → between_ands false (bs ++ rest) ≡ (bs ++ rest) ∷ []
+run : (bs rest : List ℕ) → list_all (λ b. not (is_whitespace b)) bs ≡ true → between_ands false rest ≡ rest ∷ []
+    → between_ands false (bs ++ rest) ≡ (bs ++ rest) ∷ []
 run [] rest all more = more
 run (b ∷ bs) rest all more =
     let both = and_parts (not (is_whitespace b)) (list_all (λ x. not (is_whitespace x)) bs) all in
-    step false b (bs ++ rest) (not_spaced (b ∷ (bs ++ rest))) (ap (λ s. between_ands s (bs ++ rest)) (not-true (is_whitespace b) both.0) ∙ run bs rest both.1 more)
+    step false b (bs ++ rest) (not_spaced (b ∷ (bs ++ rest)))
+    (ap (λ s. between_ands s (bs ++ rest)) (not-true (is_whitespace b) both.0) ∙ run bs rest both.1 more)
 
 -- the word isn't where another word begins that a space or nothing follows
 no_space : (a d s : Bool) → (((a && false) && d) && s) ≡ false
 no_space true d s = refl
 no_space false d s = refl
 
-no_and : (b : ℕ) (bs : List ℕ) (words : List (List ℕ)) → list_all (λ x. not (is_whitespace x)) (b ∷ bs) ≡ true → is_word_and (b ∷ bs) ≡ false → word_here true (b ∷ (bs ++ after_words words)) ≡ false
+no_and : (b : ℕ) (bs : List ℕ) (words : List (List ℕ)) → list_all (λ x. not (is_whitespace x)) (b ∷ bs) ≡ true
+    → is_word_and (b ∷ bs) ≡ false → word_here true (b ∷ (bs ++ after_words words)) ≡ false
 no_and b [] [] all other = refl
 no_and b [] ([] ∷ []) all other = refl
 no_and b [] ([] ∷ w ∷ words) all other = no_space (b == 97) (32 == 100) (begins_with_space (w ++ after_words words))
@@ -120,12 +137,15 @@ no_and b (c ∷ d ∷ e ∷ bs) words all other =
     let last = not-true (is_whitespace e) four.0 in
     rw last (and-false (is_and b c d))
 
-item : (space : Bool) (b : ℕ) (bs : List ℕ) (words : List (List ℕ)) → is_item (b ∷ bs) ≡ true → between_ands false (after_words words) ≡ after_words words ∷ [] → between_ands space (b ∷ (bs ++ after_words words)) ≡ (b ∷ (bs ++ after_words words)) ∷ []
+item : (space : Bool) (b : ℕ) (bs : List ℕ) (words : List (List ℕ)) → is_item (b ∷ bs) ≡ true
+    → between_ands false (after_words words) ≡ after_words words ∷ []
+    → between_ands space (b ∷ (bs ++ after_words words)) ≡ (b ∷ (bs ++ after_words words)) ∷ []
 item space b bs words is more =
     let both = and_parts (is_solid (b ∷ bs)) (not (is_word_and (b ∷ bs))) is in
     let solid : list_all (λ x. not (is_whitespace x)) (b ∷ bs) ≡ true = both.0 in
     let parts = and_parts (not (is_whitespace b)) (list_all (λ x. not (is_whitespace x)) bs) solid in
-    step space b (bs ++ after_words words) (either space (b ∷ (bs ++ after_words words)) (no_and b bs words solid (not-true (is_word_and (b ∷ bs)) both.1)))
+    step space b (bs ++ after_words words)
+    (either space (b ∷ (bs ++ after_words words)) (no_and b bs words solid (not-true (is_word_and (b ∷ bs)) both.1)))
     (ap (λ s. between_ands s (bs ++ after_words words)) (not-true (is_whitespace b) parts.0) ∙ run bs (after_words words) parts.1 more)
 
 after_one : (words : List (List ℕ)) → list_all is_item words ≡ true → between_ands false (after_words words) ≡ after_words words ∷ []
@@ -133,7 +153,8 @@ after_one [] all = refl
 after_one ([] ∷ words) all = absurd (false≢true all)
 after_one ((b ∷ bs) ∷ words) all =
     let both = and_parts (is_item (b ∷ bs)) (list_all is_item words) all in
-    step false 32 (b ∷ (bs ++ after_words words)) (not_spaced (32 ∷ b ∷ (bs ++ after_words words))) (item true b bs words both.0 (after_one words both.1))
+    step false 32 (b ∷ (bs ++ after_words words)) (not_spaced (32 ∷ b ∷ (bs ++ after_words words)))
+    (item true b bs words both.0 (after_one words both.1))
 
 -- words that contain no word `and` are one part of an `and` list
 pub spaced_one : (words : List (List ℕ)) → list_all is_item words ≡ true → between_ands false (spaced words) ≡ spaced words ∷ []
@@ -153,7 +174,8 @@ abbrev pub words_at : Bool → List (List ℕ) → List Word
 words_at first [] = []
 words_at first (word ∷ words) = a_word (gap_of first) (map (letter false) word) ∷ words_at false words
 
-solid_letters : (bs : List ℕ) → list_all (λ b. not (is_whitespace b)) bs ≡ true → list_all (λ l. not (is_gap l)) (map (letter false) bs) ≡ true
+solid_letters : (bs : List ℕ) → list_all (λ b. not (is_whitespace b)) bs ≡ true
+    → list_all (λ l. not (is_gap l)) (map (letter false) bs) ≡ true
 solid_letters [] all = refl
 solid_letters (b ∷ bs) all =
     let both = and_parts (not (is_whitespace b)) (list_all (λ x. not (is_whitespace x)) bs) all in
@@ -167,7 +189,9 @@ apart_after : (words : List (List ℕ)) → stand_apart (words_of (letters_of (a
 apart_after [] = apart_end
 apart_after (word ∷ words) = apart_gap (letter false 32) (letters_of (word ++ after_words words)) refl
 
-one_word : (b : ℕ) (bs : List ℕ) (words : List (List ℕ)) → is_solid (b ∷ bs) ≡ true → words_of (letters_of (after_words words)) ≡ words_at false words → words_of (letters_of (b ∷ (bs ++ after_words words))) ≡ a_word [] (letters_of (b ∷ bs)) ∷ words_at false words
+one_word : (b : ℕ) (bs : List ℕ) (words : List (List ℕ)) → is_solid (b ∷ bs) ≡ true
+    → words_of (letters_of (after_words words)) ≡ words_at false words
+    → words_of (letters_of (b ∷ (bs ++ after_words words))) ≡ a_word [] (letters_of (b ∷ bs)) ∷ words_at false words
 one_word b bs words solid more =
     let both = and_parts (not (is_whitespace b)) (list_all (λ x. not (is_whitespace x)) bs) solid in
     let here : is_gap (letter false b) ≡ false = let fails = not-true (is_whitespace b) both.0 in rw fails refl in
@@ -180,7 +204,8 @@ after_words_of [] all = refl
 after_words_of ([] ∷ words) all = absurd (false≢true all)
 after_words_of ((b ∷ bs) ∷ words) all =
     let both = and_parts (is_solid (b ∷ bs)) (list_all is_solid words) all in
-    words_gap (letter false 32 ∷ []) (letters_of (b ∷ (bs ++ after_words words))) (letters_of (b ∷ bs)) (words_at false words) refl (one_word b bs words both.0 (after_words_of words both.1))
+    words_gap (letter false 32 ∷ []) (letters_of (b ∷ (bs ++ after_words words))) (letters_of (b ∷ bs))
+    (words_at false words) refl (one_word b bs words both.0 (after_words_of words both.1))
 
 -- the words of a text of words
 pub spaced_words_of : (words : List (List ℕ)) → list_all is_solid words ≡ true → words_of (letters_of (spaced words)) ≡ words_at true words

@@ -67,15 +67,25 @@ is_text words all =
     let line = all_line words all in
     let ascii : IsAscii (spaced words) = items_ascii words line in
     let solid = items_solid words line in
-    let bytes = spaced_all is_text_byte refl words (all_follow (is_kept_word is_name_byte) (λ w. list_all is_text_byte w) word_bytes words all) in
+    let bytes =
+    spaced_all is_text_byte refl words
+    (all_follow (is_kept_word is_name_byte) (λ w. list_all is_text_byte w) word_bytes words all) in
     let free = all_follow is_text_byte (λ b. not (is_comma b) && goes_on b) text_plain (spaced words) bytes in
     let skips = skip_none (spaced words) (spaced_begins words solid) in
     record {
       ascii = ascii;
       same = chars-IsAscii (spaced words) ascii;
       spelt = encodes-IsAscii (spaced words) ascii;
-      no_comma = none_of is_comma (spaced words) (all_follow (λ b. not (is_comma b) && goes_on b) (λ b. not (is_comma b)) (λ b both. (and_parts (not (is_comma b)) (goes_on b) both).0) (spaced words) free);
-      flows = ap (flowing false) (sym (append-nil (spaced words))) ∙ flowing_run false (spaced words) [] (all_follow (λ b. not (is_comma b) && goes_on b) goes_on (λ b both. (and_parts (not (is_comma b)) (goes_on b) both).1) (spaced words) free) ∙ append-nil (spaced words);
+      no_comma =
+          none_of is_comma (spaced words)
+          (all_follow (λ b. not (is_comma b) && goes_on b) (λ b. not (is_comma b))
+          (λ b both. (and_parts (not (is_comma b)) (goes_on b) both).0) (spaced words) free);
+      flows =
+          ap (flowing false) (sym (append-nil (spaced words)))
+          ∙ flowing_run false (spaced words) []
+          (all_follow (λ b. not (is_comma b) && goes_on b) goes_on
+          (λ b both. (and_parts (not (is_comma b)) (goes_on b) both).1) (spaced words) free)
+          ∙ append-nil (spaced words);
       skips = skips;
       start = start_none (spaced words) ascii skips;
       end = end_none (spaced words) ascii (spaced_ends words solid);
@@ -94,28 +104,38 @@ after_space text is = start_one text (space_small text is.ascii) is.ascii is.ski
 
 -- parts of a name, with or without empty chunks around them
 
-formatted_text : (text : List ℕ) (span : Range ℕ) (following : Bool) → IsText text → formatted (stands span text ∷ empties before_and following) ≡ text
+formatted_text : (text : List ℕ) (span : Range ℕ) (following : Bool) → IsText text
+    → formatted (stands span text ∷ empties before_and following) ≡ text
 formatted_text text span following is =
-    ap (λ l. flowing false (chars text) ++ l) (formatted_empties before_and (space_after false (Normal text)) following) ∙ append-nil (flowing false (chars text)) ∙ ap (flowing false) is.same ∙ is.flows
+    ap (λ l. flowing false (chars text) ++ l) (formatted_empties before_and (space_after false (Normal text)) following)
+    ∙ append-nil (flowing false (chars text)) ∙ ap (flowing false) is.same ∙ is.flows
 
-shown_text : (text : List ℕ) (span : Range ℕ) (following : Bool) → IsText text → shown (stands span text ∷ empties before_and following) ≡ text
-shown_text text span following is = ap (λ cs. trim (encode_utf8_all cs)) (formatted_text text span following is) ∙ ap trim is.spelt ∙ trim_same text is
+shown_text : (text : List ℕ) (span : Range ℕ) (following : Bool) → IsText text
+    → shown (stands span text ∷ empties before_and following) ≡ text
+shown_text text span following is =
+    ap (λ cs. trim (encode_utf8_all cs)) (formatted_text text span following is) ∙ ap trim is.spelt ∙ trim_same text is
 
 and_no : (a b : Bool) → b ≡ false → (a && b) ≡ false
 and_no true b no_b = no_b
 and_no false b no_b = refl
 
-not_blank : (text : List ℕ) (span : Range ℕ) (following : Bool) → IsText text → 0 < length text → formats_to_nothing (stands span text ∷ empties before_and following) ≡ false
+not_blank : (text : List ℕ) (span : Range ℕ) (following : Bool) → IsText text → 0 < length text
+    → formats_to_nothing (stands span text ∷ empties before_and following) ≡ false
 not_blank text span following is some =
-    and_no (length (stands span text ∷ empties before_and following) == 1) _ (ap (λ cs. length cs == 0) (formatted_text text span following is) ∙ ne_eqb (length text) 0 (λ none. omega arith))
+    and_no (length (stands span text ∷ empties before_and following) == 1) _
+    (ap (λ cs. length cs == 0) (formatted_text text span following is)
+    ∙ ne_eqb (length text) 0 (λ none. omega arith))
 
-letters_text : (before : Bool) (text : List ℕ) (span : Range ℕ) → IsText text → letters (empties after_and before ++ (stands span text ∷ [])) ≡ letters_of text
+letters_text : (before : Bool) (text : List ℕ) (span : Range ℕ) → IsText text
+    → letters (empties after_and before ++ (stands span text ∷ [])) ≡ letters_of text
 letters_text false text span is = append-nil (letters_of (chars text)) ∙ ap letters_of is.same
-letters_text true text span is = ap (λ l. letters_of l ++ (letters_of (chars text) ++ [])) chars-nil ∙ append-nil (letters_of (chars text)) ∙ ap letters_of is.same
+letters_text true text span is = ap (λ l. letters_of l ++ (letters_of (chars text) ++ [])) chars-nil
+    ∙ append-nil (letters_of (chars text)) ∙ ap letters_of is.same
 
 -- prefix and name
 
-words_append : (first : Bool) (xs ys : List (List ℕ)) → (second : Bool) × (words_at first (xs ++ ys) ≡ words_at first xs ++ words_at second ys)
+words_append : (first : Bool) (xs ys : List (List ℕ))
+    → (second : Bool) × (words_at first (xs ++ ys) ≡ words_at first xs ++ words_at second ys)
 words_append first [] ys = (first, refl)
 words_append first (x ∷ xs) ys = let more = words_append false xs ys in (more.0, ap (λ l. a_word (gap_of first) (letters_of x) ∷ l) more.1)
 
@@ -125,17 +145,21 @@ low_words first ([] ∷ words) all = absurd (false≢true all)
 low_words first ((b ∷ bs) ∷ words) all =
     let both = and_parts (is_kept_word is_small_letter (b ∷ bs)) (list_all (is_kept_word is_small_letter) words) all in
     let small = (and_parts (is_small_letter b) _ both.0).0 in
-    and_from (is_lowercase b) (list_all is_low (words_at false words)) (and_parts (is_lowercase b) _ (small_low b small)).0 (low_words false words both.1)
+    and_from (is_lowercase b) (list_all is_low (words_at false words))
+    (and_parts (is_lowercase b) _ (small_low b small)).0 (low_words false words both.1)
 
-high_words : (first : Bool) (words : List (List ℕ)) → AllWords is_capital_letter words → list_all (λ w. not (is_low w)) (words_at first words) ≡ true
+high_words : (first : Bool) (words : List (List ℕ)) → AllWords is_capital_letter words
+    → list_all (λ w. not (is_low w)) (words_at first words) ≡ true
 high_words first [] all = refl
 high_words first ([] ∷ words) all = absurd (false≢true all)
 high_words first ((b ∷ bs) ∷ words) all =
     let both = and_parts (is_kept_word is_capital_letter (b ∷ bs)) (list_all (is_kept_word is_capital_letter) words) all in
     let capital = (and_parts (is_capital_letter b) _ both.0).0 in
-    and_from (not (is_lowercase b)) (list_all (λ w. not (is_low w)) (words_at false words)) (not_from_false (is_lowercase b) (capital_not_low b capital)) (high_words false words both.1)
+    and_from (not (is_lowercase b)) (list_all (λ w. not (is_low w)) (words_at false words))
+    (not_from_false (is_lowercase b) (capital_not_low b capital)) (high_words false words both.1)
 
-leading_split : {A : Type 0} (test : A → Bool) (xs : List A) (y : A) (ys : List A) → list_all test xs ≡ true → test y ≡ false → prefix_len test (xs ++ (y ∷ ys)) ≡ length xs
+leading_split : {A : Type 0} (test : A → Bool) (xs : List A) (y : A) (ys : List A) → list_all test xs ≡ true
+    → test y ≡ false → prefix_len test (xs ++ (y ∷ ys)) ≡ length xs
 leading_split test [] y ys all fails = rw fails refl
 leading_split test (x ∷ xs) y ys all fails =
     let both = and_parts (test x) (list_all test xs) all in
@@ -147,7 +171,8 @@ no_through : (test : Word → Bool) (ys : List Word) → list_any test ys ≡ fa
 no_through test [] none = refl
 no_through test (y ∷ ys) none = rw none refl
 
-through_split : (test : Word → Bool) (xs ys : List Word) → list_all test xs ≡ true → list_any test ys ≡ false → through_last test (xs ++ ys) ≡ length xs
+through_split : (test : Word → Bool) (xs ys : List Word) → list_all test xs ≡ true → list_any test ys ≡ false
+    → through_last test (xs ++ ys) ≡ length xs
 through_split test [] ys all none = no_through test ys none
 through_split test (x ∷ xs) ys all none =
     let both = and_parts (test x) (list_all test xs) all in
@@ -165,14 +190,16 @@ no_words test (y ∷ ys) all =
 abbrev a_cut : ℕ → Cuts
 a_cut prefix = record { given = 0; prefix = prefix }
 
-cut_prefix : (xs ys : List Word) → list_all is_low xs ≡ true → list_all (λ w. not (is_low w)) ys ≡ true → 0 < length ys → before_comma (xs ++ ys) ≡ record { given = 0; prefix = length xs }
+cut_prefix : (xs ys : List Word) → list_all is_low xs ≡ true → list_all (λ w. not (is_low w)) ys ≡ true → 0 < length ys
+    → before_comma (xs ++ ys) ≡ record { given = 0; prefix = length xs }
 unfolding before_comma
 cut_prefix xs [] low high some = absurd (omega arith)
 cut_prefix xs (y ∷ ys) low high some =
     let first = not-true (is_low y) (and_parts (not (is_low y)) _ high).0 in
     let lead : leading is_low (xs ++ (y ∷ ys)) ≡ length xs = leading_split is_low xs y ys low first in
     let size : length (xs ++ (y ∷ ys)) ≡ length xs + suc (length ys) = length-append xs (y ∷ ys) in
-    let not_all : (leading is_low (xs ++ (y ∷ ys)) == length (xs ++ (y ∷ ys))) ≡ false = ne_eqb (leading is_low (xs ++ (y ∷ ys))) (length (xs ++ (y ∷ ys))) (λ same. omega arith) in
+    let not_all : (leading is_low (xs ++ (y ∷ ys)) == length (xs ++ (y ∷ ys))) ≡ false =
+    ne_eqb (leading is_low (xs ++ (y ∷ ys))) (length (xs ++ (y ∷ ys))) (λ same. omega arith) in
     let end : through_last is_low (xs ++ (y ∷ ys)) ≡ length xs = through_split is_low xs (y ∷ ys) low (no_words is_low (y ∷ ys) high) in
     ap (λ b. cond b (a_cut (length (xs ++ (y ∷ ys)) - 1)) (a_cut (through_last is_low (xs ++ (y ∷ ys))))) not_all ∙ ap a_cut end
 
@@ -183,11 +210,14 @@ letters_chars (b ∷ bs) = ap (λ l. b ∷ l) (letters_chars bs)
 spelt_words : (first : Bool) (words : List (List ℕ)) → AllWords is_name_byte words → text_of_words (words_at first words) ≡ spaced words
 spelt_words first words all =
     let is = is_text words all in
-    ap (λ ls. trim (spelt ls)) (letters_spaced first words) ∙ ap (λ cs. trim (encode_utf8_all cs)) (letters_chars (spaced words)) ∙ ap trim is.spelt ∙ trim_same (spaced words) is
+    ap (λ ls. trim (spelt ls)) (letters_spaced first words)
+    ∙ ap (λ cs. trim (encode_utf8_all cs)) (letters_chars (spaced words)) ∙ ap trim is.spelt
+    ∙ trim_same (spaced words) is
 
 -- one person
 
-padded_no_equals : (before following : Bool) (text : List ℕ) → list_any (λ b. b == 61) text ≡ false → is_in_parts (padded before following (Normal text)) ≡ false
+padded_no_equals : (before following : Bool) (text : List ℕ) → list_any (λ b. b == 61) text ≡ false
+    → is_in_parts (padded before following (Normal text)) ≡ false
 padded_no_equals true true text none = rw none refl
 padded_no_equals true false text none = rw none refl
 padded_no_equals false true text none = rw none refl
@@ -200,30 +230,51 @@ words_some : (first : Bool) (words : List (List ℕ)) → 0 < length words → 0
 words_some first [] some = absurd (omega arith)
 words_some first (w ∷ ws) some = omega arith
 
-no_equals : (items : List (List ℕ)) → list_all is_line_item items ≡ true → (before following : Bool) → is_in_parts (padded before following (Normal (spaced items))) ≡ false
+no_equals : (items : List (List ℕ)) → list_all is_line_item items ≡ true → (before following : Bool)
+    → is_in_parts (padded before following (Normal (spaced items))) ≡ false
 no_equals items all before following =
-    let none : list_any (λ b. b == 61) (spaced items) ≡ false = none_of (λ b. b == 61) (spaced items) (all_follow is_line_byte (λ b. not (b == 61)) (λ b line. (and_parts (not (b == 61)) (goes_on b) (line_open b line)).0) (spaced items) (items_bytes items all)) in
+    let none : list_any (λ b. b == 61) (spaced items) ≡ false =
+    none_of (λ b. b == 61) (spaced items)
+    (all_follow is_line_byte (λ b. not (b == 61))
+    (λ b line. (and_parts (not (b == 61)) (goes_on b) (line_open b line)).0) (spaced items)
+    (items_bytes items all)) in
     padded_no_equals before following (spaced items) none
 
 -- a name that is cut at its comma
-with_comma_read : (before following : Bool) (prefix name given : List (List ℕ)) (suffix : List ℕ) (a c : Range ℕ) → AllWords is_small_letter prefix → AllWords is_capital_letter name → AllWords is_name_byte given → 0 < length name → 0 < length (spaced given)
-    → with_comma (empties after_and before ++ (stands a (spaced (prefix ++ name)) ∷ [])) (stands c (spaced given) ∷ empties before_and following) suffix ≡ person (spaced name) (spaced given) (spaced prefix) suffix
+with_comma_read : (before following : Bool) (prefix name given : List (List ℕ)) (suffix : List ℕ) (a c : Range ℕ)
+    → AllWords is_small_letter prefix → AllWords is_capital_letter name → AllWords is_name_byte given → 0 < length name
+    → 0 < length (spaced given)
+    → with_comma (empties after_and before ++ (stands a (spaced (prefix ++ name)) ∷ []))
+    (stands c (spaced given) ∷ empties before_and following) suffix
+    ≡ person (spaced name) (spaced given) (spaced prefix) suffix
 with_comma_read before following prefix name given suffix a c small capital any has_name has_given =
     let first = empties after_and before ++ (stands a (spaced (prefix ++ name)) ∷ []) in
     let second = stands c (spaced given) ∷ empties before_and following in
     let small_any = all_any is_small_letter prefix small in
     let capital_any = all_any is_capital_letter name capital in
-    let prefix_any : AllWords is_name_byte (prefix ++ name) = list_all-append (is_kept_word is_name_byte) prefix name ∙ and_from _ _ small_any capital_any in
+    let prefix_any : AllWords is_name_byte (prefix ++ name) =
+    list_all-append (is_kept_word is_name_byte) prefix name ∙ and_from _ _ small_any capital_any in
     let leading_run = is_text (prefix ++ name) prefix_any in
     let last = is_text given any in
     let apart = words_append true prefix name in
     let xs = words_at true prefix in
     let ys = words_at apart.0 name in
-    let words : words_of (letters first) ≡ xs ++ ys = ap words_of (letters_text before (spaced (prefix ++ name)) a leading_run) ∙ spaced_words_of (prefix ++ name) (items_solid (prefix ++ name) (all_line (prefix ++ name) prefix_any)) ∙ apart.1 in
-    let cuts : before_comma (xs ++ ys) ≡ a_cut (length xs) = cut_prefix xs ys (low_words true prefix small) (high_words apart.0 name capital) (words_some apart.0 name has_name) in
-    let prefix_is : text_of_words (take (length xs) (xs ++ ys)) ≡ spaced prefix = ap text_of_words (take_at xs ys (length xs) refl) ∙ spelt_words true prefix small_any in
-    let name_is : text_of_words (drop (length xs) (xs ++ ys)) ≡ spaced name = ap text_of_words (drop_at xs ys (length xs) refl) ∙ spelt_words apart.0 name capital_any in
-    ap (λ blank. cond blank (at_last_space (encode_utf8_all (formatted first)) suffix) (before_comma_person (words_of (letters first)) (shown second) suffix)) (not_blank (spaced given) c following last has_given)
+    let words : words_of (letters first) ≡ xs ++ ys =
+    ap words_of (letters_text before (spaced (prefix ++ name)) a leading_run)
+    ∙ spaced_words_of (prefix ++ name) (items_solid (prefix ++ name) (all_line (prefix ++ name) prefix_any))
+    ∙ apart.1 in
+    let cuts : before_comma (xs ++ ys) ≡ a_cut (length xs) =
+    cut_prefix xs ys (low_words true prefix small) (high_words apart.0 name capital)
+    (words_some apart.0 name has_name) in
+    let prefix_is : text_of_words (take (length xs) (xs ++ ys)) ≡ spaced prefix =
+    ap text_of_words (take_at xs ys (length xs) refl) ∙ spelt_words true prefix small_any in
+    let name_is : text_of_words (drop (length xs) (xs ++ ys)) ≡ spaced name =
+    ap text_of_words (drop_at xs ys (length xs) refl) ∙ spelt_words apart.0 name capital_any in
+    ap
+    (λ blank.
+    cond blank (at_last_space (encode_utf8_all (formatted first)) suffix)
+    (before_comma_person (words_of (letters first)) (shown second) suffix))
+    (not_blank (spaced given) c following last has_given)
     ∙ ap (λ ws. before_comma_person ws (shown second) suffix) words
     ∙ ap (λ cut. cut_person cut (xs ++ ys) (shown second) suffix) cuts
     ∙ ap (λ n. person n (shown second) (text_of_words (take (length xs) (xs ++ ys))) suffix) name_is
@@ -235,13 +286,18 @@ some_words [] some = some
 some_words (w ∷ ws) some = omega arith
 
 -- the chunks after the first comma
-after_read : (before following : Bool) (prefix name suffix given : List (List ℕ)) (a c : Range ℕ) → AllWords is_small_letter prefix → AllWords is_capital_letter name → AllWords is_name_byte suffix → AllWords is_name_byte given → 0 < length name → 0 < length (spaced given)
-    → with_commas_of (empties after_and before ++ (stands a (spaced (prefix ++ name)) ∷ [])) (stands c (trim_start (32 ∷ (suffix_text (spaced suffix) ++ spaced given))) ∷ empties before_and following) ≡ person (spaced name) (spaced given) (spaced prefix) (spaced suffix)
+after_read : (before following : Bool) (prefix name suffix given : List (List ℕ)) (a c : Range ℕ)
+    → AllWords is_small_letter prefix → AllWords is_capital_letter name → AllWords is_name_byte suffix
+    → AllWords is_name_byte given → 0 < length name → 0 < length (spaced given)
+    → with_commas_of (empties after_and before ++ (stands a (spaced (prefix ++ name)) ∷ []))
+    (stands c (trim_start (32 ∷ (suffix_text (spaced suffix) ++ spaced given))) ∷ empties before_and following)
+    ≡ person (spaced name) (spaced given) (spaced prefix) (spaced suffix)
 after_read before following prefix name [] given a c small capital tail any has_name has_given =
     let last = is_text given any in
     let first = empties after_and before ++ (stands a (spaced (prefix ++ name)) ∷ []) in
     ap (λ t. with_commas_of first (stands c t ∷ empties before_and following)) (after_space (spaced given) last)
-    ∙ ap (with_commas first (stands c (spaced given) ∷ empties before_and following)) (cut_no_comma (spaced given) c before_and following last.no_comma last.same)
+    ∙ ap (with_commas first (stands c (spaced given) ∷ empties before_and following))
+    (cut_no_comma (spaced given) c before_and following last.no_comma last.same)
     ∙ with_comma_read before following prefix name given [] a c small capital any has_name has_given
 after_read before following prefix name ([] ∷ ss) given a c small capital tail any has_name has_given = absurd (false≢true tail)
 after_read before following prefix name ((s ∷ t) ∷ ss) given a c small capital tail any has_name has_given =
@@ -251,52 +307,129 @@ after_read before following prefix name ((s ∷ t) ∷ ss) given a c small capit
     let first = empties after_and before ++ (stands a (spaced (prefix ++ name)) ∷ []) in
     let some : (length (spaced suffix) == 0) ≡ false = ne_eqb (suc (length (t ++ after_words ss))) 0 (λ none. omega arith) in
     let long : suffix_text (spaced suffix) ≡ spaced suffix ++ (44 ∷ 32 ∷ []) = rw some refl in
-    let whole : suffix_text (spaced suffix) ++ spaced given ≡ spaced suffix ++ (44 ∷ (32 ∷ spaced given)) = ap (λ l. l ++ spaced given) long ∙ append_assoc (spaced suffix) (44 ∷ 32 ∷ []) (spaced given) in
+    let whole : suffix_text (spaced suffix) ++ spaced given ≡ spaced suffix ++ (44 ∷ (32 ∷ spaced given)) =
+    ap (λ l. l ++ spaced given) long ∙ append_assoc (spaced suffix) (44 ∷ 32 ∷ []) (spaced given) in
     let items = comma suffix ++ given in
-    let all : list_all is_line_item items ≡ true = list_all-append is_line_item (comma suffix) given ∙ and_from _ _ (comma_items suffix (all_line suffix tail)) (all_line given any) in
+    let all : list_all is_line_item items ≡ true =
+    list_all-append is_line_item (comma suffix) given
+    ∙ and_from _ _ (comma_items suffix (all_line suffix tail)) (all_line given any) in
     let ascii : IsAscii (spaced items) = items_ascii items all in
     let line : suffix_text (spaced suffix) ++ spaced given ≡ spaced items = suffix_line suffix given tail (some_words given has_given) in
     let trimmed : trim_start (32 ∷ (suffix_text (spaced suffix) ++ spaced given)) ≡ spaced suffix ++ (44 ∷ (32 ∷ spaced given)) =
-    ap (λ l. trim_start (32 ∷ l)) line ∙ start_one (spaced items) (space_small (spaced items) ascii) ascii (skip_none (spaced items) (spaced_begins items (items_solid items all))) ∙ sym line ∙ whole in
+    ap (λ l. trim_start (32 ∷ l)) line
+    ∙ start_one (spaced items) (space_small (spaced items) ascii) ascii
+    (skip_none (spaced items) (spaced_begins items (items_solid items all))) ∙ sym line ∙ whole in
     let small_whole : IsAscii (spaced suffix ++ (44 ∷ (32 ∷ spaced given))) = subst IsAscii (sym line ∙ whole) ascii in
     let cut : AreHalves (spaced suffix) (32 ∷ spaced given) c =
-    halves_at (spaced suffix) (32 ∷ spaced given) c middle.no_comma (chars-IsAscii _ small_whole) middle.spelt (encodes-IsAscii (32 ∷ spaced given) (space_small (spaced given) last.ascii)) in
+    halves_at (spaced suffix) (32 ∷ spaced given) c middle.no_comma (chars-IsAscii _ small_whole) middle.spelt
+    (encodes-IsAscii (32 ∷ spaced given) (space_small (spaced given) last.ascii)) in
     ap (λ l. with_commas_of first (stands c l ∷ empties before_and following)) trimmed
-    ∙ ap (with_commas first (stands c (spaced suffix ++ (44 ∷ (32 ∷ spaced given))) ∷ empties before_and following)) (cut_first_comma after_and false (spaced suffix) (32 ∷ spaced given) c (empties before_and following) cut)
-    ∙ ap (λ l. with_comma first (stands cut.right l ∷ empties before_and following) (shown (stands cut.left (trim_end (spaced suffix)) ∷ []))) (after_space (spaced given) last)
-    ∙ ap (λ l. with_comma first (stands cut.right (spaced given) ∷ empties before_and following) (shown (stands cut.left l ∷ []))) middle.end
-    ∙ ap (with_comma first (stands cut.right (spaced given) ∷ empties before_and following)) (shown_text (spaced suffix) cut.left false middle)
+    ∙ ap (with_commas first (stands c (spaced suffix ++ (44 ∷ (32 ∷ spaced given))) ∷ empties before_and following))
+    (cut_first_comma after_and false (spaced suffix) (32 ∷ spaced given) c (empties before_and following) cut)
+    ∙ ap
+    (λ l.
+    with_comma first (stands cut.right l ∷ empties before_and following)
+    (shown (stands cut.left (trim_end (spaced suffix)) ∷ []))) (after_space (spaced given) last)
+    ∙ ap
+    (λ l.
+    with_comma first (stands cut.right (spaced given) ∷ empties before_and following)
+    (shown (stands cut.left l ∷ []))) middle.end
+    ∙ ap (with_comma first (stands cut.right (spaced given) ∷ empties before_and following))
+    (shown_text (spaced suffix) cut.left false middle)
     ∙ with_comma_read before following prefix name given (spaced suffix) a cut.right small capital any has_name has_given
 
-name_read : (before following : Bool) (prefix name suffix given : List (List ℕ)) → AllWords is_small_letter prefix → AllWords is_capital_letter name → AllWords is_name_byte suffix → AllWords is_name_byte given → 0 < length name → 0 < length (spaced given)
-    → person_of (padded before following (Normal (spaced (line_items (prefix ++ name) suffix given)))) ≡ person (spaced name) (spaced given) (spaced prefix) (spaced suffix)
+name_read : (before following : Bool) (prefix name suffix given : List (List ℕ)) → AllWords is_small_letter prefix
+    → AllWords is_capital_letter name → AllWords is_name_byte suffix → AllWords is_name_byte given → 0 < length name
+    → 0 < length (spaced given)
+    → person_of (padded before following (Normal (spaced (line_items (prefix ++ name) suffix given))))
+    ≡ person (spaced name) (spaced given) (spaced prefix) (spaced suffix)
 unfolding person_of
 name_read before following prefix name suffix given small capital tail any has_name has_given =
-    let prefix_any : AllWords is_name_byte (prefix ++ name) = list_all-append (is_kept_word is_name_byte) prefix name ∙ and_from _ _ (all_any is_small_letter prefix small) (all_any is_capital_letter name capital) in
+    let prefix_any : AllWords is_name_byte (prefix ++ name) =
+    list_all-append (is_kept_word is_name_byte) prefix name
+    ∙ and_from _ _ (all_any is_small_letter prefix small) (all_any is_capital_letter name capital) in
     let leading_run = is_text (prefix ++ name) prefix_any in
     let items = line_items (prefix ++ name) suffix given in
     let chunks = padded before following (Normal (spaced items)) in
     let rest = 32 ∷ (suffix_text (spaced suffix) ++ spaced given) in
-    let line : spaced items ≡ spaced (prefix ++ name) ++ (44 ∷ rest) = line_spelt (prefix ++ name) suffix given (more_some prefix name has_name) tail (some_words given has_given) in
+    let line : spaced items ≡ spaced (prefix ++ name) ++ (44 ∷ rest) =
+    line_spelt (prefix ++ name) suffix given (more_some prefix name has_name) tail (some_words given has_given) in
     let all = line_all (prefix ++ name) suffix given prefix_any tail any in
     let small_whole : IsAscii (spaced (prefix ++ name) ++ (44 ∷ rest)) = subst IsAscii line (items_ascii items all) in
     let after = comma suffix ++ given in
-    let after_all : list_all is_line_item after ≡ true = list_all-append is_line_item (comma suffix) given ∙ and_from _ _ (comma_items suffix (all_line suffix tail)) (all_line given any) in
-    let small_rest : IsAscii rest = subst (λ l. IsAscii (32 ∷ l)) (sym (suffix_line suffix given tail (some_words given has_given))) (space_small (spaced after) (items_ascii after after_all)) in
-    let cut : AreHalves (spaced (prefix ++ name)) rest no_place = halves_at (spaced (prefix ++ name)) rest no_place leading_run.no_comma (chars-IsAscii _ small_whole) leading_run.spelt (encodes-IsAscii rest small_rest) in
+    let after_all : list_all is_line_item after ≡ true =
+    list_all-append is_line_item (comma suffix) given
+    ∙ and_from _ _ (comma_items suffix (all_line suffix tail)) (all_line given any) in
+    let small_rest : IsAscii rest =
+    subst (λ l. IsAscii (32 ∷ l)) (sym (suffix_line suffix given tail (some_words given has_given)))
+    (space_small (spaced after) (items_ascii after after_all)) in
+    let cut : AreHalves (spaced (prefix ++ name)) rest no_place =
+    halves_at (spaced (prefix ++ name)) rest no_place leading_run.no_comma (chars-IsAscii _ small_whole)
+    leading_run.spelt (encodes-IsAscii rest small_rest) in
     ap (λ b. cond b (in_parts chunks) (by_commas chunks)) (no_equals items all before following)
-    ∙ ap (cut_by_commas chunks) (ap (λ t. cut_at (padded before following (Normal t)) 44) line ∙ cut_first_comma after_and before (spaced (prefix ++ name)) rest no_place (empties before_and following) cut)
-    ∙ ap (λ t. with_commas_of (empties after_and before ++ (stands cut.left t ∷ [])) (stands cut.right (trim_start rest) ∷ empties before_and following)) leading_run.end
+    ∙ ap (cut_by_commas chunks)
+    (ap (λ t. cut_at (padded before following (Normal t)) 44) line
+    ∙ cut_first_comma after_and before (spaced (prefix ++ name)) rest no_place (empties before_and following)
+    cut)
+    ∙ ap
+    (λ t.
+    with_commas_of (empties after_and before ++ (stands cut.left t ∷ []))
+    (stands cut.right (trim_start rest) ∷ empties before_and following)) leading_run.end
     ∙ after_read before following prefix name suffix given cut.left cut.right small capital tail any has_name has_given
 
 -- people
 
-as_words : (p : Person) (k : IsKeptPerson p) → p ≡ person (spaced k.name.words) (spaced k.given_name.words) (spaced k.prefix.words) (spaced k.suffix.words)
+as_words : (p : Person) (k : IsKeptPerson p)
+    → p ≡ person (spaced k.name.words) (spaced k.given_name.words) (spaced k.prefix.words) (spaced k.suffix.words)
 as_words p k =
-    ap (λ x. record { name = p.name; given_name = p.given_name; prefix = p.prefix; suffix = p.suffix; id = x; prefix_initials = p.prefix_initials; given_initials = p.given_initials; use_prefix = p.use_prefix }) k.no_id
-    ∙ ap (λ x. record { name = p.name; given_name = p.given_name; prefix = p.prefix; suffix = p.suffix; id = None; prefix_initials = x; given_initials = p.given_initials; use_prefix = p.use_prefix }) k.no_prefix_initials
-    ∙ ap (λ x. record { name = p.name; given_name = p.given_name; prefix = p.prefix; suffix = p.suffix; id = None; prefix_initials = None; given_initials = x; use_prefix = p.use_prefix }) k.no_given_initials
-    ∙ ap (λ x. record { name = p.name; given_name = p.given_name; prefix = p.prefix; suffix = p.suffix; id = None; prefix_initials = None; given_initials = None; use_prefix = x }) k.no_use_prefix
+    ap
+    (λ x.
+    record {
+      name = p.name;
+      given_name = p.given_name;
+      prefix = p.prefix;
+      suffix = p.suffix;
+      id = x;
+      prefix_initials = p.prefix_initials;
+      given_initials = p.given_initials;
+      use_prefix = p.use_prefix;
+    }) k.no_id
+    ∙ ap
+    (λ x.
+    record {
+      name = p.name;
+      given_name = p.given_name;
+      prefix = p.prefix;
+      suffix = p.suffix;
+      id = None;
+      prefix_initials = x;
+      given_initials = p.given_initials;
+      use_prefix = p.use_prefix;
+    }) k.no_prefix_initials
+    ∙ ap
+    (λ x.
+    record {
+      name = p.name;
+      given_name = p.given_name;
+      prefix = p.prefix;
+      suffix = p.suffix;
+      id = None;
+      prefix_initials = None;
+      given_initials = x;
+      use_prefix = p.use_prefix;
+    }) k.no_given_initials
+    ∙ ap
+    (λ x.
+    record {
+      name = p.name;
+      given_name = p.given_name;
+      prefix = p.prefix;
+      suffix = p.suffix;
+      id = None;
+      prefix_initials = None;
+      given_initials = None;
+      use_prefix = x;
+    }) k.no_use_prefix
     ∙ ap (λ x. person x p.given_name p.prefix p.suffix) k.name.spell
     ∙ ap (λ x. person (spaced k.name.words) x p.prefix p.suffix) k.given_name.spell
     ∙ ap (λ x. person (spaced k.name.words) (spaced k.given_name.words) x p.suffix) k.prefix.spell
@@ -312,12 +445,18 @@ person_written : (p : Person) (k : IsKeptPerson p) → person_chunks p ≡ norma
 unfolding line_of
 person_written p k =
     ap person_chunks (as_words p k)
-    ∙ plain_line k.prefix.words k.name.words k.suffix.words k.given_name.words k.prefix.kept (some_words k.name.words (some_spaced p.name k.name.words k.name.spell k.has_name)) k.suffix.kept (some_words k.given_name.words (some_spaced p.given_name k.given_name.words k.given_name.spell k.has_given_name))
+    ∙ plain_line k.prefix.words k.name.words k.suffix.words k.given_name.words k.prefix.kept
+    (some_words k.name.words (some_spaced p.name k.name.words k.name.spell k.has_name)) k.suffix.kept
+    (some_words k.given_name.words (some_spaced p.given_name k.given_name.words k.given_name.spell k.has_given_name))
 
-person_read : (p : Person) (k : IsKeptPerson p) (before following : Bool) → person_of (padded before following (Normal (spaced (line_of p k)))) ≡ p
+person_read : (p : Person) (k : IsKeptPerson p) (before following : Bool)
+    → person_of (padded before following (Normal (spaced (line_of p k)))) ≡ p
 unfolding line_of
 person_read p k before following =
-    name_read before following k.prefix.words k.name.words k.suffix.words k.given_name.words k.prefix.kept k.name.kept k.suffix.kept k.given_name.kept (some_words k.name.words (some_spaced p.name k.name.words k.name.spell k.has_name)) (some_spaced p.given_name k.given_name.words k.given_name.spell k.has_given_name)
+    name_read before following k.prefix.words k.name.words k.suffix.words k.given_name.words k.prefix.kept k.name.kept
+    k.suffix.kept k.given_name.kept
+    (some_words k.name.words (some_spaced p.name k.name.words k.name.spell k.has_name))
+    (some_spaced p.given_name k.given_name.words k.given_name.spell k.has_given_name)
     ∙ sym (as_words p k)
 
 person_part : (p : Person) (k : IsKeptPerson p) → IsPart (Normal (spaced (line_of p k)))
@@ -325,7 +464,9 @@ unfolding line_of
 person_part p k =
     items_part (line_items (k.prefix.words ++ k.name.words) k.suffix.words k.given_name.words)
     (line_all (k.prefix.words ++ k.name.words) k.suffix.words k.given_name.words
-    (list_all-append (is_kept_word is_name_byte) k.prefix.words k.name.words ∙ and_from _ _ (all_any is_small_letter k.prefix.words k.prefix.kept) (all_any is_capital_letter k.name.words k.name.kept)) k.suffix.kept k.given_name.kept)
+    (list_all-append (is_kept_word is_name_byte) k.prefix.words k.name.words
+    ∙ and_from _ _ (all_any is_small_letter k.prefix.words k.prefix.kept)
+    (all_any is_capital_letter k.name.words k.name.kept)) k.suffix.kept k.given_name.kept)
 
 -- the chunks of people
 abbrev lines : (people : List Person) → AllKept people → List Chunk
@@ -342,7 +483,8 @@ after_written (p ∷ people) all =
     ap (λ l. normal (codes " and ") ∷ (l ++ people_from false people)) (person_written p all.0)
     ∙ ap (λ l. normal (codes " and ") ∷ normal (spaced (line_of p all.0)) ∷ l) (after_written people all.1)
 
-parts_read : (before : Bool) (p : Person) (people : List Person) (k : IsKeptPerson p) (all : AllKept people) → map person_of (padded_parts before (Normal (spaced (line_of p k))) (lines people all)) ≡ p ∷ people
+parts_read : (before : Bool) (p : Person) (people : List Person) (k : IsKeptPerson p) (all : AllKept people)
+    → map person_of (padded_parts before (Normal (spaced (line_of p k))) (lines people all)) ≡ p ∷ people
 parts_read before p [] k all = ap (λ x. x ∷ []) (person_read p k before false)
 parts_read before p (next ∷ more) k all =
     ap (λ x. x ∷ map person_of (padded_parts true (Normal (spaced (line_of next all.0))) (lines more all.1))) (person_read p k before true)
@@ -354,7 +496,9 @@ people_survive [] are = absurd (omega (arith, are.some))
 people_survive (p ∷ people) are =
     ap (λ l. people_of (l ++ people_from false people)) (person_written p are.all.0)
     ∙ ap (λ l. people_of (normal (spaced (line_of p are.all.0)) ∷ l)) (after_written people are.all.1)
-    ∙ ap (map person_of) (and_list_written (Normal (spaced (line_of p are.all.0))) (lines people are.all.1) (person_part p are.all.0) (all_parts people are.all.1))
+    ∙ ap (map person_of)
+    (and_list_written (Normal (spaced (line_of p are.all.0))) (lines people are.all.1) (person_part p are.all.0)
+    (all_parts people are.all.1))
     ∙ parts_read false p people are.all.0 are.all.1
 
 pub people_survive_read : (people : List Person) → ArePeople people → Some (people_of (people_chunks people)) ≡ Some people

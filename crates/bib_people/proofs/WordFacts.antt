@@ -32,7 +32,9 @@ pub after_fails : {A : Type 0} (p : A → Bool) (xs : List A) (b : A) (bs : List
 after_fails p [] b bs is = cc
 after_fails p (x ∷ xs) b bs is =
     ⊎_elim (λ yes. after_fails p xs b bs (sym (ap (λ n. drop n (x ∷ xs)) (one_passes p x xs yes)) ∙ is))
-    (λ no. let same : x ∷ xs ≡ b ∷ bs = sym (ap (λ n. drop n (x ∷ xs)) (none_passes p x xs no)) ∙ is in let first : x ≡ b = cc in ap p (sym first) ∙ no)
+    (λ no.
+    let same : x ∷ xs ≡ b ∷ bs = sym (ap (λ n. drop n (x ∷ xs)) (none_passes p x xs no)) ∙ is in
+    let first : x ≡ b = cc in ap p (sym first) ∙ no)
     (cases_Bool (p x))
 
 -- words
@@ -43,7 +45,8 @@ stand_apart [] = true
 stand_apart (word ∷ words) = not (length word.gap == 0)
 
 -- the words after a gap
-pub words_gap : (gap rest inside : List Letter) (words : List Word) → list_all is_gap gap ≡ true → words_of rest ≡ a_word [] inside ∷ words → words_of (gap ++ rest) ≡ a_word gap inside ∷ words
+pub words_gap : (gap rest inside : List Letter) (words : List Word) → list_all is_gap gap ≡ true
+    → words_of rest ≡ a_word [] inside ∷ words → words_of (gap ++ rest) ≡ a_word gap inside ∷ words
 words_gap [] rest inside words all is = is
 words_gap (l ∷ gap) rest inside words all is =
     let both = and_parts (is_gap l) (list_all is_gap gap) all in
@@ -60,11 +63,14 @@ words_none (l ∷ gap) all =
     let more = words_none gap both.1 in
     rw (more, here) refl
 
-one_letter : (l : Letter) (words : List Word) → is_gap l ≡ false → stand_apart words ≡ true → words_with_letter l words ≡ a_word [] (l ∷ []) ∷ words
+one_letter : (l : Letter) (words : List Word) → is_gap l ≡ false → stand_apart words ≡ true
+    → words_with_letter l words ≡ a_word [] (l ∷ []) ∷ words
 one_letter l [] no_gap apart = rw no_gap refl
 one_letter l (word ∷ words) no_gap apart = let apart_here = not-true (length word.gap == 0) apart in rw (no_gap, apart_here) refl
 
-pub words_word : (l : Letter) (inside after : List Letter) → is_gap l ≡ false → list_all (λ x. not (is_gap x)) inside ≡ true → stand_apart (words_of after) ≡ true → words_of (l ∷ (inside ++ after)) ≡ a_word [] (l ∷ inside) ∷ words_of after
+pub words_word : (l : Letter) (inside after : List Letter) → is_gap l ≡ false
+    → list_all (λ x. not (is_gap x)) inside ≡ true → stand_apart (words_of after) ≡ true
+    → words_of (l ∷ (inside ++ after)) ≡ a_word [] (l ∷ inside) ∷ words_of after
 words_word l [] after no_gap all apart = one_letter l (words_of after) no_gap apart
 words_word l (m ∷ inside) after no_gap all apart =
     let both = and_parts (not (is_gap m)) (list_all (λ x. not (is_gap x)) inside) all in
@@ -77,7 +83,9 @@ apart_end = refl
 
 apart_words : (l : Letter) (words : List Word) → is_gap l ≡ true → stand_apart (words_with_letter l words) ≡ true
 apart_words l [] gap = rw gap refl
-apart_words l (word ∷ words) gap = let far : (suc (length word.gap) == 0) ≡ false = ne_eqb (suc (length word.gap)) 0 (λ same. omega arith) in rw gap (ap not far)
+apart_words l (word ∷ words) gap =
+    let far : (suc (length word.gap) == 0) ≡ false = ne_eqb (suc (length word.gap)) 0 (λ same. omega arith) in
+    rw gap (ap not far)
 
 pub apart_gap : (l : Letter) (rest : List Letter) → is_gap l ≡ true → stand_apart (words_of (l ∷ rest)) ≡ true
 apart_gap l rest gap = apart_words l (words_of rest) gap
@@ -87,7 +95,9 @@ apart_after following [] is = apart_end
 apart_after following (l ∷ rest) is = apart_gap l rest (not-false (is_gap l) (after_fails (λ x. not (is_gap x)) following l rest (sym is)))
 
 -- the first word, as the program finds it
-next : (rest before following inside after : List Letter) → list_all is_gap before ≡ true → rest ≡ before ++ following → ((b : Letter) (bs : List Letter) → following ≡ b ∷ bs → is_gap b ≡ false) → 0 < length following → inside ≡ take (word_len following) following → after ≡ drop (word_len following) following
+next : (rest before following inside after : List Letter) → list_all is_gap before ≡ true → rest ≡ before ++ following
+    → ((b : Letter) (bs : List Letter) → following ≡ b ∷ bs → is_gap b ≡ false) → 0 < length following
+    → inside ≡ take (word_len following) following → after ≡ drop (word_len following) following
     → (words_of rest ≡ a_word before inside ∷ words_of after) × (length after < length rest)
 next rest before [] inside after gap whole first some in_word out = absurd (omega arith)
 next rest before (b ∷ bs) inside after gap whole first some in_word out =
@@ -96,17 +106,23 @@ next rest before (b ∷ bs) inside after gap whole first some in_word out =
     let len : word_len (b ∷ bs) ≡ suc (word_len bs) = rw no_gap (omega arith) in
     let inside_is : inside ≡ b ∷ take (word_len bs) bs = in_word ∙ ap (λ n. take n (b ∷ bs)) len in
     let after_is : after ≡ drop (word_len bs) bs = out ∙ ap (λ n. drop n (b ∷ bs)) len in
-    let whole_after : b ∷ (take (word_len bs) bs ++ after) ≡ b ∷ bs = ap (λ l. b ∷ l) (ap (λ a. take (word_len bs) bs ++ a) after_is ∙ take-append-drop (word_len bs) bs) in
+    let whole_after : b ∷ (take (word_len bs) bs ++ after) ≡ b ∷ bs =
+    ap (λ l. b ∷ l) (ap (λ a. take (word_len bs) bs ++ a) after_is ∙ take-append-drop (word_len bs) bs) in
     let word = words_word b (take (word_len bs) bs) after here (prefix_passes (λ x. not (is_gap x)) bs) (apart_after bs after after_is) in
-    let after_words : words_of (b ∷ bs) ≡ a_word [] inside ∷ words_of after = ap words_of (sym whole_after) ∙ word ∙ ap (λ i. a_word [] i ∷ words_of after) (sym inside_is) in
+    let after_words : words_of (b ∷ bs) ≡ a_word [] inside ∷ words_of after =
+    ap words_of (sym whole_after) ∙ word ∙ ap (λ i. a_word [] i ∷ words_of after) (sym inside_is) in
     let size : length after ≡ length bs - word_len bs = ap length after_is ∙ length-drop (word_len bs) bs in
     let sizes : length rest ≡ length before + length (b ∷ bs) = ap length whole ∙ length-append before (b ∷ bs) in
     (ap words_of whole ∙ words_gap before (b ∷ bs) inside (words_of after) gap after_words, omega arith)
 
-pub next_word : (rest before following inside after : List Letter) → before ≡ take (gap_len rest) rest → following ≡ drop (gap_len rest) rest → 0 < length following → inside ≡ take (word_len following) following → after ≡ drop (word_len following) following
+pub next_word : (rest before following inside after : List Letter) → before ≡ take (gap_len rest) rest
+    → following ≡ drop (gap_len rest) rest → 0 < length following → inside ≡ take (word_len following) following
+    → after ≡ drop (word_len following) following
     → (words_of rest ≡ a_word before inside ∷ words_of after) × (length after < length rest)
 next_word rest before following inside after is_before is_after some in_word out =
-    next rest before following inside after (rw is_before (prefix_passes is_gap rest)) (rw (is_before, is_after) (sym (take-append-drop (gap_len rest) rest))) (λ b bs is. after_fails is_gap rest b bs (sym is_after ∙ is)) some in_word out
+    next rest before following inside after (rw is_before (prefix_passes is_gap rest))
+    (rw (is_before, is_after) (sym (take-append-drop (gap_len rest) rest)))
+    (λ b bs is. after_fails is_gap rest b bs (sym is_after ∙ is)) some in_word out
 
 empty : {A : Type 0} (xs : List A) → length xs ≡ 0 → xs ≡ []
 empty [] none = refl
@@ -121,12 +137,15 @@ pub last_word : (rest following : List Letter) → following ≡ drop (gap_len r
 last_word rest following is none =
     let gap = prefix_passes is_gap rest in
     let nothing : drop (gap_len rest) rest ≡ [] = sym is ∙ empty following none in
-    let whole : rest ≡ take (gap_len rest) rest = sym (take-append-drop (gap_len rest) rest) ∙ ap (λ l. take (gap_len rest) rest ++ l) nothing ∙ append-nil _ in
+    let whole : rest ≡ take (gap_len rest) rest =
+    sym (take-append-drop (gap_len rest) rest) ∙ ap (λ l. take (gap_len rest) rest ++ l) nothing ∙ append-nil _ in
     words_none rest (rw (← whole) at gap)
 
 -- a step of the loop: one more word was added
-pub word_pushed : (all new : List Word) (word : Word) (words rest total : List Word) → new ≡ all ++ word ∷ [] → rest ≡ word ∷ words → all ++ rest ≡ total → new ++ words ≡ total
-word_pushed all new word words rest total pushed here is = ap (λ l. l ++ words) pushed ∙ append_assoc all (word ∷ []) words ∙ ap (λ l. all ++ l) (sym here) ∙ is
+pub word_pushed : (all new : List Word) (word : Word) (words rest total : List Word) → new ≡ all ++ word ∷ []
+    → rest ≡ word ∷ words → all ++ rest ≡ total → new ++ words ≡ total
+word_pushed all new word words rest total pushed here is =
+    ap (λ l. l ++ words) pushed ∙ append_assoc all (word ∷ []) words ∙ ap (λ l. all ++ l) (sym here) ∙ is
 
 -- texts
 
@@ -137,21 +156,27 @@ spelt_append : (xs ys : List Letter) → spelt (xs ++ ys) ≡ spelt xs ++ spelt 
 spelt_append xs ys = ap encode_utf8_all (map-append (λ l. l.char) xs ys) ∙ encodes-append (map (λ l. l.char) xs) (map (λ l. l.char) ys)
 
 -- the gap before a word is written, except before the first one
-pub gap_written : (was middle : List ℕ) (first : Bool) (gap : List Letter) → first ≡ false → middle ≡ was ++ spelt gap → middle ≡ was ++ spelt (cond first [] gap)
+pub gap_written : (was middle : List ℕ) (first : Bool) (gap : List Letter) → first ≡ false → middle ≡ was ++ spelt gap
+    → middle ≡ was ++ spelt (cond first [] gap)
 gap_written was middle first gap following is = rw following is
 
 -- the gap before the first word is not written
-pub gap_passed : (was middle : List ℕ) (first : Bool) (gap : List Letter) → first ≡ true → middle ≡ was → middle ≡ was ++ spelt (cond first [] gap)
+pub gap_passed : (was middle : List ℕ) (first : Bool) (gap : List Letter) → first ≡ true → middle ≡ was
+    → middle ≡ was ++ spelt (cond first [] gap)
 gap_passed was middle first gap leading_run is = rw leading_run (is ∙ sym (append-nil was))
 
 -- a step of the loop: one more word was written
-pub word_written : (was middle now total : List ℕ) (first : Bool) (words : List Word) (i : ℕ) (word : Word) (gap inside : List Letter) → i < length words → word ≡ get_or words i word → word ≡ a_word gap inside → middle ≡ was ++ spelt (cond first [] gap) → now ≡ middle ++ spelt inside
+pub word_written : (was middle now total : List ℕ) (first : Bool) (words : List Word) (i : ℕ) (word : Word)
+    (gap inside : List Letter) → i < length words → word ≡ get_or words i word → word ≡ a_word gap inside
+    → middle ≡ was ++ spelt (cond first [] gap) → now ≡ middle ++ spelt inside
     → was ++ spelt (word_letters first (drop i words)) ≡ total → now ++ spelt (word_letters false (drop (i + 1) words)) ≡ total
 word_written was middle now total first words i word gap inside within here is before following so_far =
     let rest = word_letters false (drop (i + 1) words) in
-    let next : drop i words ≡ a_word gap inside ∷ drop (i + 1) words = drop_more words i word within ∙ ap (λ w. w ∷ drop (i + 1) words) (sym here ∙ is) in
+    let next : drop i words ≡ a_word gap inside ∷ drop (i + 1) words =
+    drop_more words i word within ∙ ap (λ w. w ∷ drop (i + 1) words) (sym here ∙ is) in
     let all : spelt (word_letters first (drop i words)) ≡ spelt (cond first [] gap) ++ (spelt inside ++ spelt rest) =
-    ap (λ l. spelt (word_letters first l)) next ∙ spelt_append (cond first [] gap) (inside ++ rest) ∙ ap (λ l. spelt (cond first [] gap) ++ l) (spelt_append inside rest) in
+    ap (λ l. spelt (word_letters first l)) next ∙ spelt_append (cond first [] gap) (inside ++ rest)
+    ∙ ap (λ l. spelt (cond first [] gap) ++ l) (spelt_append inside rest) in
     ap (λ l. l ++ spelt rest) (following ∙ ap (λ l. l ++ spelt inside) before)
     ∙ append_assoc (was ++ spelt (cond first [] gap)) (spelt inside) (spelt rest)
     ∙ append_assoc was (spelt (cond first [] gap)) (spelt inside ++ spelt rest)

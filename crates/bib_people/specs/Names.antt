@@ -213,4 +213,8 @@ gap_beside text = if length text == 0 then [] else char.space ∷ []
 -- given name, prefix, family name and suffix: a space comes after a given name or a prefix that isn't empty, and before
 -- a suffix that isn't empty
 abbrev pub shown_person : Person → List ℕ
-shown_person p = p.given_name ++ (gap_beside p.given_name ++ (p.prefix ++ (gap_beside p.prefix ++ (p.name ++ (gap_beside p.suffix ++ p.suffix)))))
+shown_person p =
+    p.given_name
+    ++
+    (gap_beside p.given_name
+    ++ (p.prefix ++ (gap_beside p.prefix ++ (p.name ++ (gap_beside p.suffix ++ p.suffix)))))

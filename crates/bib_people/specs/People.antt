@@ -58,11 +58,19 @@ keyed_flag key (Some flag) = keyed key (flag_text flag)
 
 -- the four parts of a person with their keys
 abbrev pub four_keys : Person → Value
-four_keys p = keyed (codes "given=") p.given_name ++ (keyed (codes ", family=") p.name ++ (keyed (codes ", prefix=") p.prefix ++ keyed (codes ", suffix=") p.suffix))
+four_keys p =
+    keyed (codes "given=") p.given_name
+    ++
+    (keyed (codes ", family=") p.name
+    ++ (keyed (codes ", prefix=") p.prefix ++ keyed (codes ", suffix=") p.suffix))
 
 -- the optional parts of a person with their keys
 abbrev pub more_keys : Person → Value
-more_keys p = keyed_some (codes ", id=") p.id ++ (keyed_some (codes ", prefix-i=") p.prefix_initials ++ (keyed_some (codes ", given-i=") p.given_initials ++ keyed_flag (codes ", useprefix=") p.use_prefix))
+more_keys p =
+    keyed_some (codes ", id=") p.id
+    ++
+    (keyed_some (codes ", prefix-i=") p.prefix_initials
+    ++ (keyed_some (codes ", given-i=") p.given_initials ++ keyed_flag (codes ", useprefix=") p.use_prefix))
 
 -- whether a person has one of the optional parts
 abbrev pub has_more : Person → Bool

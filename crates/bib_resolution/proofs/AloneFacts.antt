@@ -12,7 +12,8 @@ use Rattle.bib_syntax.specs.Grammar.{IsRawReading}
 use Rattle.bib_syntax.specs.Reading.{FileReading}
 
 -- a text whose entries, as they are loaded, refer to none stands alone
-pub alone : (text : List ℕ) (says : FileReading) (own : List Entry) (names : ByText ℕ) → IsRawReading text says → IsLoadedSoFar (definition_in says.abbreviations) says.entries own names
+pub alone : (text : List ℕ) (says : FileReading) (own : List Entry) (names : ByText ℕ) → IsRawReading text says
+    → IsLoadedSoFar (definition_in says.abbreviations) says.entries own names
     → AllByRecursion (λ refs. refs ≡ []) (graph_by names own) → StandsAlone text
 alone text says own names reading loaded none = record {
   says = says;

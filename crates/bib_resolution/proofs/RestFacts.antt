@@ -3,12 +3,14 @@ use Rattle.std.proofs.Common.{◌≡◌, ℕ, zero, suc, ◌+◌, ◌<◌, ◌�
 use Rattle.std.specs.List.{AllByRecursion}
 use Rattle.std.proofs.lemmas.List.{drop_more}
 
-module _ {A B : Type 0} (view : A → B) (P : B → Type 0) (xs : List A) (i : ℕ) (x : A) (within : i < length xs) (is : x ≡ get_or xs i x) where
+module _ {A B : Type 0} (view : A → B) (P : B → Type 0) (xs : List A) (i : ℕ) (x : A) (within : i < length xs)
+    (is : x ≡ get_or xs i x) where
   left : map view (drop i xs) ≡ view x ∷ map view (drop (i + 1) xs)
   left = ap (map view) (drop_more xs i x within ∙ ap (λ y. y ∷ drop (i + 1) xs) (sym is))
 
   -- what follows from all that are left follows from those after the next, of which it holds
-  pub rest_holds : {W : Type 0} → (AllByRecursion P (map view (drop i xs)) → W) → P (view x) → AllByRecursion P (map view (drop (i + 1) xs)) → W
+  pub rest_holds : {W : Type 0} → (AllByRecursion P (map view (drop i xs)) → W) → P (view x)
+      → AllByRecursion P (map view (drop (i + 1) xs)) → W
   rest_holds so_far here rest = so_far (subst (AllByRecursion P) (sym left) (here, rest))
 
   -- what holds of all that are left holds of the next, and of those after it
@@ -16,7 +18,8 @@ module _ {A B : Type 0} (view : A → B) (P : B → Type 0) (xs : List A) (i : �
   next_holds all = let cut = subst (AllByRecursion P) left all in (cut.0, cut.1)
 
 -- none is left
-pub none_left : {A B : Type 0} (view : A → B) (P : B → Type 0) (xs : List A) (i : ℕ) → length xs ≤ i → AllByRecursion P (map view (drop i xs))
+pub none_left : {A B : Type 0} (view : A → B) (P : B → Type 0) (xs : List A) (i : ℕ) → length xs ≤ i
+    → AllByRecursion P (map view (drop i xs))
 none_left view P [] zero past = tt
 none_left view P [] (suc i) past = tt
 none_left view P (x ∷ xs) zero past = absurd (omega arith)

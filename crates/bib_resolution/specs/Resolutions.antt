@@ -61,10 +61,13 @@ values_as_they_stand text entries = flat_map (λ e. map (value_as_it_stands text
 abbrev pub IsValueKept : List (List ℕ) → List ℕ → FieldReading → Type 0
 IsValueKept values text f = (has_name (codes "date") f ≡ true) ⊎ Contains values (value_as_it_stands text f)
 
--- a document was made of another alike: what stands round entries is the same, byte for byte, and each value but a date's stands in the other
+-- a document was made of another alike: the text around entries is the same, byte for byte, and each value except that of a date
+-- occurs in the other
 pub record IsMadeAlike (d made : Document) : Type 0 where
   pub round : round_entries made.text 0 made.says.entries ≡ round_entries d.text 0 d.says.entries
-  pub values : AllByRecursion (λ e. AllByRecursion (IsValueKept (values_as_they_stand d.text d.says.entries) made.text) e.fields) made.says.entries
+  pub values : AllByRecursion
+      (λ e. AllByRecursion (IsValueKept (values_as_they_stand d.text d.says.entries) made.text) e.fields)
+      made.says.entries
 
 -- a text is a document's with what entries inherit in fields of their own: it was made of the document alike, the bibliographies of both
 -- have the same entries in order, and no entry refers to one

@@ -11,7 +11,8 @@ use Rattle.bib_ris.specs.Lines.{on_line}
 -- a text with one more character
 pub one_more : (f : ℕ → ℕ) (cs : List ℕ) (c : ℕ) → encode_utf8_all (map f (cs ++ c ∷ [])) ≡ encode_utf8_all (map f cs) ++ encode_utf8 (f c)
 one_more f cs c =
-    ap encode_utf8_all (map-append f cs (c ∷ [])) ∙ encodes-append (map f cs) (f c ∷ []) ∙ ap (λ t. encode_utf8_all (map f cs) ++ t) (append-nil (encode_utf8 (f c)))
+    ap encode_utf8_all (map-append f cs (c ∷ [])) ∙ encodes-append (map f cs) (f c ∷ [])
+    ∙ ap (λ t. encode_utf8_all (map f cs) ++ t) (append-nil (encode_utf8 (f c)))
 
 kept_or_space : (b : Bool) (c : ℕ) → is_break c ≡ b → is_break (cond b char.space c) ≡ false
 kept_or_space true c is = refl

@@ -58,7 +58,9 @@ people_lines tag (Some chunks) = ris_lines tag (map person_text (people_of chunk
 
 -- the authors, and then the editors
 abbrev pub names_part : Entry → List ℕ
-names_part entry = people_lines (codes "AU") (entry_field entry (codes "author")) ++ people_lines (codes "ED") (entry_field entry (codes "editor"))
+names_part entry =
+    people_lines (codes "AU") (entry_field entry (codes "author"))
+    ++ people_lines (codes "ED") (entry_field entry (codes "editor"))
 
 -- ---- titles
 
@@ -93,7 +95,10 @@ date_or_three (Some chunks) three = date_read chunks
 
 -- the date of an entry, if it has one that can be read
 abbrev pub entry_date : Entry → Option Date
-entry_date entry = date_or_three (entry_field entry (codes "date")) (three_fields_read (entry_field entry (codes "year")) (entry_field entry (codes "month")) (entry_field entry (codes "day")))
+entry_date entry =
+    date_or_three (entry_field entry (codes "date"))
+    (three_fields_read (entry_field entry (codes "year")) (entry_field entry (codes "month"))
+    (entry_field entry (codes "day")))
 
 -- one date, or the end of a range that is known first
 abbrev pub first_date : DateValue → Datetime
@@ -110,7 +115,9 @@ two_digits (Some index) = if nat_lt index 9 then codes "0" ++ decimal (index + 1
 -- a line of a year, a month and a day with a slash after each, if the month is known
 abbrev pub day_line : ℤ → Option ℕ → Option ℕ → List ℕ
 day_line year None day = []
-day_line year (Some month) day = ris_line (codes "DA") (signed_decimal year ++ (codes "/" ++ (two_digits (Some month) ++ (codes "/" ++ (two_digits day ++ codes "/")))))
+day_line year (Some month) day =
+    ris_line (codes "DA")
+    (signed_decimal year ++ (codes "/" ++ (two_digits (Some month) ++ (codes "/" ++ (two_digits day ++ codes "/")))))
 
 -- the lines of a date: its year, and its day
 abbrev pub datetime_lines : Datetime → List ℕ

@@ -59,27 +59,39 @@ brace_or_quote c is = by_brace (c == 125) refl is
 body_end : {start u v : Place} {kind : Part} {k : BlockKind} {says : FileReading} → Body longest start kind k u says v → LastSign u v
 body_end (body.comment brace chars closes) = record { sign = 125; start = brace; ahead = ahead_run chars.run; here = closes; is = inl refl }
 body_end (body.preamble {w = w} {c = c} quoted white closes is_brace) =
-    record { sign = c; start = w; ahead = ahead_then (ahead_quoted quoted) (ahead_run white.run); here = closes; is = brace_or_quote c is_brace }
+    record {
+      sign = c;
+      start = w;
+      ahead = ahead_then (ahead_quoted quoted) (ahead_run white.run);
+      here = closes;
+      is = brace_or_quote c is_brace;
+    }
 body_end (body.strings {v = v} fs closes) = record { sign = 125; start = v; ahead = ahead_fields fs; here = closes; is = inl refl }
 body_end (body.entry {z = z} key_end key white comma gap fs closes) = record {
   sign = 125;
   start = z;
-  ahead = ahead_then (ahead_run key.run) (ahead_then (ahead_run white.run) (ahead_then (ahead_char comma) (ahead_then (ahead_gap gap) (ahead_fields fs))));
+  ahead =
+      ahead_then (ahead_run key.run)
+      (ahead_then (ahead_run white.run)
+      (ahead_then (ahead_char comma) (ahead_then (ahead_gap gap) (ahead_fields fs))));
   here = closes;
   is = inl refl;
 }
 
 -- a character of ASCII that stands between two places
-byte_there : {m z v s : Place} (c : ℕ) → c < 128 → Ahead m z → CharAt z c v → Ahead v s → s.at ≤ length m.text → has_byte c (between m s) ≡ true
+byte_there : {m z v s : Place} (c : ℕ) → c < 128 → Ahead m z → CharAt z c v → Ahead v s → s.at ≤ length m.text
+    → has_byte c (between m s) ≡ true
 byte_there {m} {z} {v} {s} c small first char rest within =
     let within' : s.at ≤ length z.text = omega (arith, within, ap length first.text) in
     let later : has_byte c (between z s) ≡ true =
-    ap (has_byte c) (parted (ahead_char char) rest within' ∙ ap (λ t. t ++ between v s) (one_byte c small char)) ∙ ap (λ b. b || has_byte c (between v s)) (eq-eqb c c refl) in
+    ap (has_byte c) (parted (ahead_char char) rest within' ∙ ap (λ t. t ++ between v s) (one_byte c small char))
+    ∙ ap (λ b. b || has_byte c (between v s)) (eq-eqb c c refl) in
     ap (has_byte c) (parted first (ahead_then (ahead_char char) rest) within) ∙ list_any-append (λ b. b == c) (between m z) (between z s)
     ∙ ap (λ b. has_byte c (between m z) || b) later ∙ or-true (has_byte c (between m z))
 
 -- a character that stands at a block's end stands before a line feed in it no more than at it
-sign_over : {l m z v s : Place} (c : ℕ) → c < 128 → (c == 10) ≡ false → l.text ≡ z.text → CharAt l 10 m → CharAt z c v → l.at < v.at → Ahead v s → s.at ≤ length m.text → has_byte c (between m s) ≡ false → ⊥
+sign_over : {l m z v s : Place} (c : ℕ) → c < 128 → (c == 10) ≡ false → l.text ≡ z.text → CharAt l 10 m → CharAt z c v
+    → l.at < v.at → Ahead v s → s.at ≤ length m.text → has_byte c (between m s) ≡ false → ⊥
 sign_over {l} {m} {z} {v} {s} c small other same feed char before rest within clear =
     let width : len_utf8 c ≡ 1 = len_utf8_ascii c small in
     elim (cases_lt l.at z.at) [
@@ -91,18 +103,23 @@ sign_over {l} {m} {z} {v} {s} c small other same feed char before rest within cl
           char_clash char (subst (λ p. CharAt p 10 m) here feed) other
     ]
 
-block_over : {a l m v s : Place} {says : FileReading} → Block longest a says v → l.text ≡ a.text → CharAt l 10 m → l.at < v.at → Ahead v s → s.at ≤ length m.text → IsClearOf (between m s) → ⊥
+block_over : {a l m v s : Place} {says : FileReading} → Block longest a says v → l.text ≡ a.text → CharAt l 10 m
+    → l.at < v.at → Ahead v s → s.at ≤ length m.text → IsClearOf (between m s) → ⊥
 block_over {a} {l} {m} {v} {s} b same feed before rest within clear =
     let last = body_end b.body in
     let ahead = ahead_then (ahead_head b.head) last.ahead in
     elim last.is [
-      | inl is ↦ sign_over 125 (omega arith) refl (same ∙ sym ahead.text) feed (subst (λ c. CharAt last.start c v) is last.here) before rest within clear.brace
-      | inr is ↦ sign_over 34 (omega arith) refl (same ∙ sym ahead.text) feed (subst (λ c. CharAt last.start c v) is last.here) before rest within clear.quote
+      | inl is ↦ sign_over 125 (omega arith) refl (same ∙ sym ahead.text) feed
+          (subst (λ c. CharAt last.start c v) is last.here) before rest within clear.brace
+      | inr is ↦ sign_over 34 (omega arith) refl (same ∙ sym ahead.text) feed
+          (subst (λ c. CharAt last.start c v) is last.here) before rest within clear.quote
     ]
 
 -- ---- a file up to an at sign, cut after a line feed
 
-pub feed_cut : {a l m s x : Place} {says : FileReading} → FileBefore a says s → CharAt s 64 x → s.at ≤ length m.text → l.text ≡ a.text → CharAt l 10 m → a.at ≤ l.at → m.at ≤ s.at → IsClearOf (between m s) → FileBefore a says l × Plain m s
+pub feed_cut : {a l m s x : Place} {says : FileReading} → FileBefore a says s → CharAt s 64 x → s.at ≤ length m.text
+    → l.text ≡ a.text → CharAt l 10 m → a.at ≤ l.at → m.at ≤ s.at → IsClearOf (between m s)
+    → FileBefore a says l × Plain m s
 feed_cut FileBefore.none sign within same feed from below clear = absurd (omega (arith, feed.next))
 feed_cut {a} {l} {m} {s} {x} {says} (FileBefore.skipped {v = w} {c = c} char passes rest) sign within same feed from below clear =
     elim (cases_lt l.at w.at) [
@@ -141,17 +158,20 @@ feed_cut {a} {l} {m} {s} (FileBefore.block {v = w} b rest) sign within same feed
 -- ---- read wherever it stands
 
 -- a file up to a place before the end of a zone
-pub file_before_inside : {f : Frame} {u v : Place} {says : FileReading} → Zone f → Inside f u → Inside f v → v.at < f.end → FileBefore u says v → FileBefore (there f u) (moved_file f.move says) (there f v)
+pub file_before_inside : {f : Frame} {u v : Place} {says : FileReading} → Zone f → Inside f u → Inside f v
+    → v.at < f.end → FileBefore u says v → FileBefore (there f u) (moved_file f.move says) (there f v)
 file_before_inside z iu iv below FileBefore.none = FileBefore.none
 file_before_inside z iu iv below (FileBefore.skipped char passes others) =
     let a = inside_between z iu iv (ahead_char char) (ahead_file_before others) in
     FileBefore.skipped (char_there z iu a char) passes (file_before_inside z a iv below others)
 file_before_inside {f} z iu iv below (FileBefore.line_comment m others) =
     let a = inside_between z iu iv (ahead_line_comment m) (ahead_file_before others) in
-    FileBefore.line_comment (line_comment_there z iu a (omega (arith, (ahead_file_before others).at, below)) m) (file_before_inside z a iv below others)
+    FileBefore.line_comment (line_comment_there z iu a (omega (arith, (ahead_file_before others).at, below)) m)
+    (file_before_inside z a iv below others)
 file_before_inside {f} {u} {v} z iu iv below (FileBefore.block {first = first} {rest = rest} b others) =
     let a = inside_between z iu iv (ahead_block b) (ahead_file_before others) in
-    subst (λ says. FileBefore (there f u) says (there f v)) (sym (moved-then f.move first rest)) (FileBefore.block (block_there z iu a b) (file_before_inside z a iv below others))
+    subst (λ says. FileBefore (there f u) says (there f v)) (sym (moved-then f.move first rest))
+    (FileBefore.block (block_there z iu a b) (file_before_inside z a iv below others))
 
 -- what says nothing after a file up to a place
 pub before_then : {u v w : Place} {says : FileReading} → FileBefore u says v → FileBefore v empty_reading w → FileBefore u says w

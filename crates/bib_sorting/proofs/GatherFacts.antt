@@ -11,15 +11,19 @@ pub next_entry : (entries : List (Spanned RawEntry)) (i : ℕ) (e : Spanned RawE
     → map entry_reading_of (drop i entries) ≡ entry_reading_of e ∷ map entry_reading_of (drop (i + 1) entries)
 next_entry entries i e within is =
     let next : suc i ≡ i + 1 = omega arith in
-    ap (map entry_reading_of) (drop-cons entries i e within ∙ ap (λ x. x ∷ drop (suc i) entries) (sym is) ∙ ap (λ n. e ∷ drop n entries) next)
+    ap (map entry_reading_of)
+    (drop-cons entries i e within ∙ ap (λ x. x ∷ drop (suc i) entries) (sym is) ∙ ap (λ n. e ∷ drop n entries) next)
 
 -- one more is gathered
-pub gathered_more : {A B : Type 0} (f : A → B) (old new : List A) (x : A) (y : B) (rest all : List B) → new ≡ old ++ x ∷ [] → f x ≡ y → map f old ++ y ∷ rest ≡ all → map f new ++ rest ≡ all
+pub gathered_more : {A B : Type 0} (f : A → B) (old new : List A) (x : A) (y : B) (rest all : List B)
+    → new ≡ old ++ x ∷ [] → f x ≡ y → map f old ++ y ∷ rest ≡ all → map f new ++ rest ≡ all
 gathered_more f old new x y rest all is same whole =
-    ap (λ l. map f l ++ rest) is ∙ ap (λ l. l ++ rest) (map-append f old (x ∷ [])) ∙ append_assoc (map f old) (f x ∷ []) rest ∙ ap (λ z. map f old ++ z ∷ rest) same ∙ whole
+    ap (λ l. map f l ++ rest) is ∙ ap (λ l. l ++ rest) (map-append f old (x ∷ []))
+    ∙ append_assoc (map f old) (f x ∷ []) rest ∙ ap (λ z. map f old ++ z ∷ rest) same ∙ whole
 
 -- what stays of what stands before an entry
-pub space_is : (is_first : Bool) (text gap comment : List ℕ) (at start : ℕ) → gap ≡ take (start - at) (drop at text) → comment ≡ comment_in is_first gap → at ≤ start → start ≤ length text
+pub space_is : (is_first : Bool) (text gap comment : List ℕ) (at start : ℕ) → gap ≡ take (start - at) (drop at text)
+    → comment ≡ comment_in is_first gap → at ≤ start → start ≤ length text
     → take ((start - length comment) - at) (drop at text) ≡ space_in is_first (take (start - at) (drop at text))
 space_is is_first text gap comment at start gap_is comment_is ordered within =
     let whole = take (start - at) (drop at text) in

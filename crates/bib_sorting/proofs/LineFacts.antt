@@ -17,23 +17,42 @@ and_assoc false b c = refl
 
 -- a line, and what stands after it
 pub line_passed : (blank : Bool) (kept text : List ℕ) → position_or_len is_feed text < length text
-    → after_blank_line blank kept text ≡ after_blank_line true (kept_after (blank && list_all is_ascii_whitespace (before_first is_feed text)) (after_first is_feed text) kept) (after_first is_feed text)
+    → after_blank_line blank kept text
+    ≡ after_blank_line true
+    (kept_after (blank && list_all is_ascii_whitespace (before_first is_feed text)) (after_first is_feed text)
+    kept) (after_first is_feed text)
 line_passed blank kept [] within = absurd (omega arith)
 line_passed blank kept (b ∷ bs) within = by_feed (is_feed b) within (λ c less. line_passed c kept bs less)
   where
     by_feed : (x : Bool) → cond (not x) (1 + position_or_len is_feed bs) 0 < length (b ∷ bs)
         → ((c : Bool) → position_or_len is_feed bs < length bs
-        → after_blank_line c kept bs ≡ after_blank_line true (kept_after (c && list_all is_ascii_whitespace (before_first is_feed bs)) (after_first is_feed bs) kept) (after_first is_feed bs))
+        → after_blank_line c kept bs
+        ≡ after_blank_line true
+        (kept_after (c && list_all is_ascii_whitespace (before_first is_feed bs)) (after_first is_feed bs) kept)
+        (after_first is_feed bs))
         → cond x (after_blank_line true (kept_after blank bs kept) bs) (after_blank_line (blank && is_ascii_whitespace b) kept bs)
-        ≡ after_blank_line true (kept_after (blank && list_all is_ascii_whitespace (take (cond (not x) (1 + position_or_len is_feed bs) 0) (b ∷ bs))) (drop (cond (not x) (1 + position_or_len is_feed bs) 0 + 1) (b ∷ bs)) kept) (drop (cond (not x) (1 + position_or_len is_feed bs) 0 + 1) (b ∷ bs))
+        ≡ after_blank_line true
+        (kept_after
+        (blank && list_all is_ascii_whitespace (take (cond (not x) (1 + position_or_len is_feed bs) 0) (b ∷ bs)))
+        (drop (cond (not x) (1 + position_or_len is_feed bs) 0 + 1) (b ∷ bs)) kept)
+        (drop (cond (not x) (1 + position_or_len is_feed bs) 0 + 1) (b ∷ bs))
     by_feed true within' more_lines = ap (λ c. after_blank_line true (kept_after c bs kept) bs) (sym (and-true blank))
     by_feed false within' more_lines =
         let more : suc (position_or_len is_feed bs) ≡ 1 + position_or_len is_feed bs = omega arith in
         let next : suc (position_or_len is_feed bs + 1) ≡ 1 + position_or_len is_feed bs + 1 = omega arith in
-        let tail = λ (t : List ℕ). after_blank_line true (kept_after (blank && list_all is_ascii_whitespace (take (1 + position_or_len is_feed bs) (b ∷ bs))) t kept) t in
+        let tail =
+        λ (t : List ℕ).
+        after_blank_line true
+        (kept_after (blank && list_all is_ascii_whitespace (take (1 + position_or_len is_feed bs) (b ∷ bs)))
+        t kept) t in
         more_lines (blank && is_ascii_whitespace b) (omega (arith, within'))
-        ∙ ap (λ c. after_blank_line true (kept_after c (after_first is_feed bs) kept) (after_first is_feed bs)) (and_assoc blank (is_ascii_whitespace b) (list_all is_ascii_whitespace (before_first is_feed bs)))
-        ∙ ap (λ m. after_blank_line true (kept_after (blank && list_all is_ascii_whitespace (take m (b ∷ bs))) (after_first is_feed bs) kept) (after_first is_feed bs)) more
+        ∙ ap (λ c. after_blank_line true (kept_after c (after_first is_feed bs) kept) (after_first is_feed bs))
+        (and_assoc blank (is_ascii_whitespace b) (list_all is_ascii_whitespace (before_first is_feed bs)))
+        ∙ ap
+        (λ m.
+        after_blank_line true
+        (kept_after (blank && list_all is_ascii_whitespace (take m (b ∷ bs))) (after_first is_feed bs) kept)
+        (after_first is_feed bs)) more
         ∙ ap (λ m. tail (drop m (b ∷ bs))) next
 
 -- the last line
@@ -41,7 +60,10 @@ pub line_ends : (blank : Bool) (kept text : List ℕ) → position_or_len is_fee
 line_ends blank kept [] all = refl
 line_ends blank kept (b ∷ bs) all = by_feed (is_feed b) all (λ c whole. line_ends c kept bs whole)
   where
-    by_feed : (x : Bool) → cond (not x) (1 + position_or_len is_feed bs) 0 ≡ length (b ∷ bs) → ((c : Bool) → position_or_len is_feed bs ≡ length bs → after_blank_line c kept bs ≡ kept) → cond x (after_blank_line true (kept_after blank bs kept) bs) (after_blank_line (blank && is_ascii_whitespace b) kept bs) ≡ kept
+    by_feed : (x : Bool) → cond (not x) (1 + position_or_len is_feed bs) 0 ≡ length (b ∷ bs)
+        → ((c : Bool) → position_or_len is_feed bs ≡ length bs → after_blank_line c kept bs ≡ kept)
+        → cond x (after_blank_line true (kept_after blank bs kept) bs)
+        (after_blank_line (blank && is_ascii_whitespace b) kept bs) ≡ kept
     by_feed true whole others = absurd (let clash : 0 ≡ suc (length bs) = whole in omega arith)
     by_feed false whole others = others (blank && is_ascii_whitespace b) (omega (arith, whole))
 
@@ -57,14 +79,19 @@ at_feed : (b : ℕ) (kept bs rest : List ℕ) → b ≡ 10 → AfterFeed bs bs r
 at_feed b kept bs rest feed (inl same) = inr ([], ap (λ x. x ∷ bs) feed ∙ ap (λ t. 10 ∷ t) (sym same))
 at_feed b kept bs rest feed (inr found) = inr (b ∷ found.0, ap (λ t. b ∷ t) found.1)
 
-by_blank : (c : Bool) (b : ℕ) (kept bs : List ℕ) → b ≡ 10 → ((k : List ℕ) → AfterFeed k bs (after_blank_line true k bs)) → AfterFeed kept (b ∷ bs) (after_blank_line true (kept_after c bs kept) bs)
+by_blank : (c : Bool) (b : ℕ) (kept bs : List ℕ) → b ≡ 10 → ((k : List ℕ) → AfterFeed k bs (after_blank_line true k bs))
+    → AfterFeed kept (b ∷ bs) (after_blank_line true (kept_after c bs kept) bs)
 by_blank true b kept bs feed others = at_feed b kept bs (after_blank_line true bs bs) feed (others bs)
 by_blank false b kept bs feed others = one_more b kept bs (after_blank_line true kept bs) (others kept)
 
 by_feed : (x blank : Bool) (b : ℕ) (kept bs : List ℕ) → is_feed b ≡ x → ((c : Bool) (k : List ℕ) → AfterFeed k bs (after_blank_line c k bs))
-    → AfterFeed kept (b ∷ bs) (cond x (after_blank_line true (kept_after blank bs kept) bs) (after_blank_line (blank && is_ascii_whitespace b) kept bs))
+    → AfterFeed kept (b ∷ bs)
+    (cond x (after_blank_line true (kept_after blank bs kept) bs)
+    (after_blank_line (blank && is_ascii_whitespace b) kept bs))
 by_feed true blank b kept bs is others = by_blank blank b kept bs (eqb-true b 10 is) (others true)
-by_feed false blank b kept bs is others = one_more b kept bs (after_blank_line (blank && is_ascii_whitespace b) kept bs) (others (blank && is_ascii_whitespace b) kept)
+by_feed false blank b kept bs is others =
+    one_more b kept bs (after_blank_line (blank && is_ascii_whitespace b) kept bs)
+    (others (blank && is_ascii_whitespace b) kept)
 
 pub feed_before : (blank : Bool) (kept text : List ℕ) → AfterFeed kept text (after_blank_line blank kept text)
 feed_before blank kept [] = inl refl

@@ -21,19 +21,35 @@ use Rattle.bib_sorting.proofs.SameOrderFacts.{AreUp, same_order}
 
 -- ---- each entry begins after those before it
 
-starts_above : (all : List EntryReading) (text : List ℕ) (texts : List (List ℕ)) (index at run : ℕ) (es : List EntryReading) → AreItemsCut text index at es → (k : ℕ) (i : Item) → k < length (items_from all text texts index at run es)
+starts_above : (all : List EntryReading) (text : List ℕ) (texts : List (List ℕ)) (index at run : ℕ)
+    (es : List EntryReading) → AreItemsCut text index at es → (k : ℕ) (i : Item)
+    → k < length (items_from all text texts index at run es)
     → at ≤ (get_or (items_from all text texts index at run es) k i).entry.start
 starts_above all text texts index at run [] cut k i within = absurd (omega arith)
 starts_above all text texts index at run (e ∷ es) cut zero i within = cut.0.gap.ordered
 starts_above all text texts index at run (e ∷ es) cut (suc k) i within =
-    omega (arith, cut.0.gap.ordered, cut.0.some, starts_above all text texts (index + 1) (e.end + 1) (run_after run (gap_before text at e)) es cut.1 k i (omega arith))
+    omega (
+      arith,
+      cut.0.gap.ordered,
+      cut.0.some,
+      starts_above all text texts (index + 1) (e.end + 1) (run_after run (gap_before text at e)) es cut.1 k i
+          (omega arith),
+    )
 
-starts_rise : (all : List EntryReading) (text : List ℕ) (texts : List (List ℕ)) (index at run : ℕ) (es : List EntryReading) → AreItemsCut text index at es → (k j : ℕ) (i : Item) → k < j → j < length (items_from all text texts index at run es)
-    → (get_or (items_from all text texts index at run es) k i).entry.start < (get_or (items_from all text texts index at run es) j i).entry.start
+starts_rise : (all : List EntryReading) (text : List ℕ) (texts : List (List ℕ)) (index at run : ℕ)
+    (es : List EntryReading) → AreItemsCut text index at es → (k j : ℕ) (i : Item) → k < j
+    → j < length (items_from all text texts index at run es)
+    → (get_or (items_from all text texts index at run es) k i).entry.start
+    < (get_or (items_from all text texts index at run es) j i).entry.start
 starts_rise all text texts index at run [] cut k j i less within = absurd (omega arith)
 starts_rise all text texts index at run (e ∷ es) cut k zero i less within = absurd (omega arith)
 starts_rise all text texts index at run (e ∷ es) cut zero (suc j) i less within =
-    omega (arith, cut.0.some, starts_above all text texts (index + 1) (e.end + 1) (run_after run (gap_before text at e)) es cut.1 j i (omega arith))
+    omega (
+      arith,
+      cut.0.some,
+      starts_above all text texts (index + 1) (e.end + 1) (run_after run (gap_before text at e)) es cut.1 j i
+          (omega arith),
+    )
 starts_rise all text texts index at run (e ∷ es) cut (suc k) (suc j) i less within =
     starts_rise all text texts (index + 1) (e.end + 1) (run_after run (gap_before text at e)) es cut.1 k j i (omega arith) (omega arith)
 
@@ -41,13 +57,27 @@ starts_rise all text texts index at run (e ∷ es) cut (suc k) (suc j) i less wi
 abbrev AreOneByStart : List Item → Type 0
 AreOneByStart all = (x y : Item) → Contains all x → Contains all y → x.entry.start ≡ y.entry.start → x ≡ y
 
-one_by_start : (all : List Item) → ((k j : ℕ) (i : Item) → k < j → j < length all → (get_or all k i).entry.start < (get_or all j i).entry.start) → AreOneByStart all
+one_by_start : (all : List Item)
+    → ((k j : ℕ) (i : Item) → k < j → j < length all → (get_or all k i).entry.start < (get_or all j i).entry.start)
+    → AreOneByStart all
 one_by_start all rise x y there there' same =
     let y_is : get_or all there'.0 x ≡ y = get_or_default all there'.0 x y there'.1 ∙ there'.2 in
     elim (cases_lt there.0 there'.0) [
-      | inl before ↦ absurd (omega (arith, rise there.0 there'.0 x before there'.1, ap (λ i. i.entry.start) there.2, ap (λ i. i.entry.start) y_is))
+      | inl before ↦ absurd
+          (omega (
+            arith,
+            rise there.0 there'.0 x before there'.1,
+            ap (λ i. i.entry.start) there.2,
+            ap (λ i. i.entry.start) y_is,
+          ))
       | inr not_before ↦ elim (cases_lt there'.0 there.0) [
-        | inl after ↦ absurd (omega (arith, rise there'.0 there.0 x after there.1, ap (λ i. i.entry.start) there.2, ap (λ i. i.entry.start) y_is))
+        | inl after ↦ absurd
+            (omega (
+              arith,
+              rise there'.0 there.0 x after there.1,
+              ap (λ i. i.entry.start) there.2,
+              ap (λ i. i.entry.start) y_is,
+            ))
         | inr not_after ↦
             let index : there.0 ≡ there'.0 = omega arith in
             sym there.2 ∙ ap (λ k. get_or all k x) index ∙ y_is
@@ -66,8 +96,14 @@ tied_start x y is =
     let by_start = nat_cmp x.entry.start y.entry.start in
     let by_text = slice_cmp nat_cmp x.text y.text in
     let by_rank = nat_cmp x.rank y.rank in
-    let last : by_start ≡ Equal = then_last by_text by_start (then_last by_rank (ordering_then by_text by_start) (then_last (nat_cmp x.run y.run) (ordering_then by_rank (ordering_then by_text by_start)) is)) in
-    subst (λ o. MatchOrdering o (x.entry.start < y.entry.start) (x.entry.start ≡ y.entry.start) (y.entry.start < x.entry.start)) last (ranks x.entry.start y.entry.start)
+    let last : by_start ≡ Equal =
+    then_last by_text by_start
+    (then_last by_rank (ordering_then by_text by_start)
+    (then_last (nat_cmp x.run y.run) (ordering_then by_rank (ordering_then by_text by_start)) is)) in
+    subst
+    (λ o.
+    MatchOrdering o (x.entry.start < y.entry.start) (x.entry.start ≡ y.entry.start)
+    (y.entry.start < x.entry.start)) last (ranks x.entry.start y.entry.start)
 
 neither : (r s : Ordering) → r ≡ ordering_reverse s → is_lt r ≡ false → is_lt s ≡ false → r ≡ Equal
 neither r Less back is is' = absurd (let clash : true ≡ false = is' in cc)
@@ -86,7 +122,10 @@ all_from P (x ∷ xs) d each = (each 0 (omega arith), all_from P xs d (λ k with
 pub up_from : (xs : List Item) → IsSortedBy (λ x y. is_lt (item_cmp x y)) xs → AreUp IsNotAfter xs
 up_from [] sorted = tt
 up_from (x ∷ xs) sorted = (
-  all_from (IsNotAfter x) xs x (λ k within. sorted_far (λ y z. is_lt (item_cmp y z)) (ranks_by item_total {X = Item} (λ i. i)) (x ∷ xs) sorted 0 (suc k) x (omega arith) (omega arith)),
+  all_from (IsNotAfter x) xs x
+      (λ k within.
+      sorted_far (λ y z. is_lt (item_cmp y z)) (ranks_by item_total {X = Item} (λ i. i)) (x ∷ xs) sorted 0 (suc k) x
+      (omega arith) (omega arith)),
   up_from xs
       (λ k d from within.
       let next : suc k + 1 ≡ suc (k + 1) = omega arith in
@@ -95,14 +134,23 @@ up_from (x ∷ xs) sorted = (
 
 -- ---- the entries of a document
 
-pub starts_in_order : (d : Document) (texts : List (List ℕ)) → IsDocument d → (k j : ℕ) (i : Item) → k < j → j < length (items d texts) → (get_or (items d texts) k i).entry.start < (get_or (items d texts) j i).entry.start
+pub starts_in_order : (d : Document) (texts : List (List ℕ)) → IsDocument d → (k j : ℕ) (i : Item) → k < j
+    → j < length (items d texts) → (get_or (items d texts) k i).entry.start < (get_or (items d texts) j i).entry.start
 starts_in_order d texts read = starts_rise d.says.entries d.text texts 0 0 0 d.says.entries (document_parts d read).cut
 
-pub one_order : (d : Document) (texts : List (List ℕ)) (first second : List Item) → IsDocument d → AreEntriesInOrder (items d texts) first → AreEntriesInOrder (items d texts) second → first ≡ second
+pub one_order : (d : Document) (texts : List (List ℕ)) (first second : List Item) → IsDocument d
+    → AreEntriesInOrder (items d texts) first → AreEntriesInOrder (items d texts) second → first ≡ second
 one_order d texts first second read in_order in_order' =
     let all = items d texts in
     let one = one_by_start all (starts_in_order d texts read) in
-    let tie = λ (x y : Item) (known : Contains all x) (known' : Contains all y) (up : IsNotAfter x y) (up' : IsNotAfter y x). one x y known known' (tied_start x y (neither (item_cmp x y) (item_cmp y x) (item_total.antisymm x y) up' up)) in
-    let each = λ (order : List Item) (permutation : IsPermutation all order). recursion_from_All (Contains all) order (All-permutation (Contains all) all order permutation (All-contains_itself all)) in
-    same_order (λ i. i.entry.start) (Contains all) IsNotAfter one tie first second (up_from first in_order.sorted) (up_from second in_order'.sorted) (each first in_order.permutation) (each second in_order'.permutation)
+    let tie =
+    λ (x y : Item) (known : Contains all x) (known' : Contains all y) (up : IsNotAfter x y) (up' : IsNotAfter y x).
+    one x y known known'
+    (tied_start x y (neither (item_cmp x y) (item_cmp y x) (item_total.antisymm x y) up' up)) in
+    let each =
+    λ (order : List Item) (permutation : IsPermutation all order).
+    recursion_from_All (Contains all) order
+    (All-permutation (Contains all) all order permutation (All-contains_itself all)) in
+    same_order (λ i. i.entry.start) (Contains all) IsNotAfter one tie first second (up_from first in_order.sorted)
+    (up_from second in_order'.sorted) (each first in_order.permutation) (each second in_order'.permutation)
     (IsPermutation-trans first all second (IsPermutation-sym all first in_order.permutation) in_order'.permutation)

@@ -27,7 +27,8 @@ any_both : {A : Type 0} (p q : A → Bool) (xs : List A) → ((x : A) → p x �
 any_both p q [] both some = some
 any_both p q (x ∷ xs) both some = by_test (p x) refl some (any_both p q xs both)
   where
-    by_test : (b : Bool) → p x ≡ b → (b || list_any p xs) ≡ true → (list_any p xs ≡ true → list_any q xs ≡ true) → (q x || list_any q xs) ≡ true
+    by_test : (b : Bool) → p x ≡ b → (b || list_any p xs) ≡ true → (list_any p xs ≡ true → list_any q xs ≡ true)
+        → (q x || list_any q xs) ≡ true
     by_test true is some' later = ap (λ b. b || list_any q xs) (both x is)
     by_test false is some' later = or_later (q x) (list_any q xs) (later some')
 
@@ -45,18 +46,27 @@ IsKeyed all e = list_any (is_keyed e.key.text) all ≡ true
 
 keyed_all : (all : List EntryReading) → AllByRecursion (IsKeyed all) all
 keyed_all all =
-    all_both (Contains all) (IsKeyed all) all (λ e there. any_at (is_keyed e.key.text) all there.0 e there.1 there.2 ((bytes_eq-Decides e.key.text e.key.text).1 refl))
+    all_both (Contains all) (IsKeyed all) all
+    (λ e there.
+    any_at (is_keyed e.key.text) all there.0 e there.1 there.2 ((bytes_eq-Decides e.key.text e.key.text).1 refl))
     (recursion_from_All (Contains all) all (All-contains_itself all))
 
-known_from : (all : List EntryReading) (text : List ℕ) (texts : List (List ℕ)) (index at run : ℕ) (es : List EntryReading) → AllByRecursion (IsKeyed all) es → AllByRecursion (IsKnown all) (items_from all text texts index at run es)
+known_from : (all : List EntryReading) (text : List ℕ) (texts : List (List ℕ)) (index at run : ℕ)
+    (es : List EntryReading) → AllByRecursion (IsKeyed all) es
+    → AllByRecursion (IsKnown all) (items_from all text texts index at run es)
 known_from all text texts index at run [] keyed = tt
-known_from all text texts index at run (e ∷ es) keyed = (record { ranked = refl; keyed = keyed.0 }, known_from all text texts (index + 1) (e.end + 1) (run_after run (gap_before text at e)) es keyed.1)
+known_from all text texts index at run (e ∷ es) keyed = (
+  record { ranked = refl; keyed = keyed.0 },
+  known_from all text texts (index + 1) (e.end + 1) (run_after run (gap_before text at e)) es keyed.1,
+)
 
 -- a field that names the key of an entry names one
-named_one : (all : List EntryReading) (key : List ℕ) (f : FieldReading) → list_any (is_keyed key) all ≡ true → names_key key f ≡ true → names_one all f ≡ true
+named_one : (all : List EntryReading) (key : List ℕ) (f : FieldReading) → list_any (is_keyed key) all ≡ true
+    → names_key key f ≡ true → names_one all f ≡ true
 named_one all key f keyed names = by_field (crossref f) names
   where
-    by_field : (o : Option (List ℕ)) → option_map_or (λ named. bytes_eq named key) o false ≡ true → option_map_or (λ named. list_any (is_keyed named) all) o false ≡ true
+    by_field : (o : Option (List ℕ)) → option_map_or (λ named. bytes_eq named key) o false ≡ true
+        → option_map_or (λ named. list_any (is_keyed named) all) o false ≡ true
     by_field (Some t) is = ap (λ k. list_any (is_keyed k) all) ((bytes_eq-Decides t key).0 is) ∙ keyed
     by_field None is = absurd (let clash : false ≡ true = is in cc)
 
@@ -73,32 +83,48 @@ before_rank x y same less =
     let last = ordering_then (slice_cmp nat_cmp x.text y.text) (nat_cmp x.entry.start y.entry.start) in
     ap (λ o. is_lt (ordering_then o (ordering_then (nat_cmp x.rank y.rank) last))) run ∙ ap (λ o. is_lt (ordering_then o last)) rank
 
-pub known_items : (d : Document) (texts : List (List ℕ)) (order : List Item) → AreEntriesInOrder (items d texts) order → AllByRecursion (IsKnown d.says.entries) order
+pub known_items : (d : Document) (texts : List (List ℕ)) (order : List Item) → AreEntriesInOrder (items d texts) order
+    → AllByRecursion (IsKnown d.says.entries) order
 known_items d texts order in_order =
     let all = d.says.entries in
     recursion_from_All (IsKnown all) order
-    (All-permutation (IsKnown all) (items d texts) order in_order.permutation (All-from_recursion (IsKnown all) (items d texts) (known_from all d.text texts 0 0 0 all (keyed_all all))))
+    (All-permutation (IsKnown all) (items d texts) order in_order.permutation
+    (All-from_recursion (IsKnown all) (items d texts) (known_from all d.text texts 0 0 0 all (keyed_all all))))
 
-pub parents_follow : (d : Document) (texts : List (List ℕ)) (order : List Item) (i j : ℕ) (parent child : Item) → AreEntriesInOrder (items d texts) order → slice_get order i ≡ Some parent → slice_get order j ≡ Some child
+pub parents_follow : (d : Document) (texts : List (List ℕ)) (order : List Item) (i j : ℕ) (parent child : Item)
+    → AreEntriesInOrder (items d texts) order → slice_get order i ≡ Some parent → slice_get order j ≡ Some child
     → child.run ≡ parent.run → parent.rank ≡ 2 → refers_to parent.entry.key.text child.entry ≡ true → j < i
 parents_follow d texts order i j parent child in_order at_i at_j run last refers =
     let all = d.says.entries in
     let known = known_items d texts order in_order in
     let parent_known = known_at all order i parent known at_i in
     let child_known = known_at all order j child known at_j in
-    let has_parent = any_both (names_key parent.entry.key.text) (names_one all) child.entry.fields (λ f names. named_one all parent.entry.key.text f parent_known.keyed names) refers in
-    let less : child.rank < parent.rank = omega (arith, child_known.ranked, last, small_rank (list_any (refers_to child.entry.key.text) all) (list_any (names_one all) child.entry.fields) has_parent) in
+    let has_parent =
+    any_both (names_key parent.entry.key.text) (names_one all) child.entry.fields
+    (λ f names. named_one all parent.entry.key.text f parent_known.keyed names) refers in
+    let less : child.rank < parent.rank =
+    omega (
+      arith,
+      child_known.ranked,
+      last,
+      small_rank (list_any (refers_to child.entry.key.text) all) (list_any (names_one all) child.entry.fields)
+          has_parent,
+    ) in
     elim (cases_lt j i) [
       | inl before ↦ before
       | inr past ↦
-          let far = sorted_far (λ x y. is_lt (item_cmp x y)) (ranks_by item_total {X = Item} (λ x. x)) order in_order.sorted i j parent past (slice_get_within order j child at_j) in
+          let far =
+          sorted_far (λ x y. is_lt (item_cmp x y)) (ranks_by item_total {X = Item} (λ x. x)) order in_order.sorted i
+          j parent past (slice_get_within order j child at_j) in
           let clash : true ≡ false =
-          sym (before_rank child parent run less) ∙ ap (λ x. is_lt (item_cmp x parent)) (sym (get_or_from_slice_get order j child parent at_j))
+          sym (before_rank child parent run less)
+          ∙ ap (λ x. is_lt (item_cmp x parent)) (sym (get_or_from_slice_get order j child parent at_j))
           ∙ ap (λ x. is_lt (item_cmp (get_or order j parent) x)) (sym (get_or_from_slice_get order i parent parent at_i)) ∙ far in
           absurd (cc)
     ]
   where
-    known_at : (all : List EntryReading) (xs : List Item) (k : ℕ) (x : Item) → AllByRecursion (IsKnown all) xs → slice_get xs k ≡ Some x → IsKnown all x
+    known_at : (all : List EntryReading) (xs : List Item) (k : ℕ) (x : Item) → AllByRecursion (IsKnown all) xs
+        → slice_get xs k ≡ Some x → IsKnown all x
     known_at all [] k x known here = absurd (let clash : None ≡ Some x = here in cc)
     known_at all (y ∷ ys) zero x known here = let same : y ≡ x = cc in subst (IsKnown all) same known.0
     known_at all (y ∷ ys) (suc k) x known here = known_at all ys k x known.1 here

@@ -33,7 +33,8 @@ pub data Plain : Place → Place → Type 0 where
 pub ahead_plain : {u v : Place} → Plain u v → Ahead u v
 ahead_plain {u} Plain.none = ahead_here u
 ahead_plain (Plain.skipped char passes rest) = ahead_then (ahead_char char) (ahead_plain rest)
-ahead_plain (Plain.line_comment sign line feed rest) = ahead_then (ahead_char sign) (ahead_then (ahead_run line) (ahead_then (ahead_char feed) (ahead_plain rest)))
+ahead_plain (Plain.line_comment sign line feed rest) =
+    ahead_then (ahead_char sign) (ahead_then (ahead_run line) (ahead_then (ahead_char feed) (ahead_plain rest)))
 
 -- a character stands where it begins, if one does where it ends
 pub stood_plain : {u v : Place} → Plain u v → Stood v → Stood u
@@ -46,7 +47,9 @@ pub plain_read : {u v : Place} → Plain u v → FileBefore u empty_reading v
 plain_read Plain.none = FileBefore.none
 plain_read (Plain.skipped char passes rest) = FileBefore.skipped char passes (plain_read rest)
 plain_read (Plain.line_comment sign line feed rest) =
-    FileBefore.line_comment (record { inside = _; sign = sign; line = record { run = line; stops = stops_at in_line feed refl } }) (FileBefore.skipped feed refl (plain_read rest))
+    FileBefore.line_comment
+    (record { inside = _; sign = sign; line = record { run = line; stops = stops_at in_line feed refl } })
+    (FileBefore.skipped feed refl (plain_read rest))
 
 -- in a zone
 pub plain_there : {f : Frame} {u v : Place} → Zone f → Inside f u → Inside f v → Plain u v → Plain (there f u) (there f v)
@@ -67,33 +70,49 @@ pub or_right : (x y : Bool) → (x || y) ≡ false → y ≡ false
 or_right true y is = absurd (cc)
 or_right false y is = is
 
-none_later : {u w s : Place} → Ahead u w → Ahead w s → s.at ≤ length u.text → has_byte 64 (between u s) ≡ false → has_byte 64 (between w s) ≡ false
+none_later : {u w s : Place} → Ahead u w → Ahead w s → s.at ≤ length u.text → has_byte 64 (between u s) ≡ false
+    → has_byte 64 (between w s) ≡ false
 none_later {u} {w} {s} first rest within clear =
-    or_right (has_byte 64 (between u w)) (has_byte 64 (between w s)) (sym (list_any-append (λ b. b == 64) (between u w) (between w s)) ∙ sym (ap (has_byte 64) (parted first rest within)) ∙ clear)
+    or_right (has_byte 64 (between u w)) (has_byte 64 (between w s))
+    (sym (list_any-append (λ b. b == 64) (between u w) (between w s))
+    ∙ sym (ap (has_byte 64) (parted first rest within)) ∙ clear)
 
 sign_there : {u w s : Place} → CharAt u 64 w → Ahead w s → s.at ≤ length u.text → has_byte 64 (between u s) ≡ true
-sign_there {u} {w} {s} sign rest within = ap (has_byte 64) (parted (ahead_char sign) rest within) ∙ ap (λ t. has_byte 64 (t ++ between w s)) (one_byte 64 (omega arith) sign)
+sign_there {u} {w} {s} sign rest within =
+    ap (has_byte 64) (parted (ahead_char sign) rest within)
+    ∙ ap (λ t. has_byte 64 (t ++ between w s)) (one_byte 64 (omega arith) sign)
 
-block_there : {u w s : Place} {first : FileReading} → Block longest u first w → Ahead w s → s.at ≤ length u.text → has_byte 64 (between u s) ≡ true
+block_there : {u w s : Place} {first : FileReading} → Block longest u first w → Ahead w s → s.at ≤ length u.text
+    → has_byte 64 (between u s) ≡ true
 block_there b rest within =
     let head = b.head in
-    let from_name = ahead_then (ahead_identifier head.name) (ahead_then (ahead_run head.white.run) (ahead_then (ahead_char head.opens) (ahead_run head.white'.run))) in
+    let from_name =
+    ahead_then (ahead_identifier head.name)
+    (ahead_then (ahead_run head.white.run) (ahead_then (ahead_char head.opens) (ahead_run head.white'.run))) in
     sign_there head.sign (ahead_then from_name (ahead_then (ahead_body b.body) rest)) within
 
-pub before_plain : {u s x : Place} {says : FileReading} → FileBefore u says s → CharAt s 64 x → s.at ≤ length u.text → has_byte 64 (between u s) ≡ false → Plain u s × (says ≡ empty_reading)
+pub before_plain : {u s x : Place} {says : FileReading} → FileBefore u says s → CharAt s 64 x → s.at ≤ length u.text
+    → has_byte 64 (between u s) ≡ false → Plain u s × (says ≡ empty_reading)
 before_plain FileBefore.none sign within clear = (Plain.none, refl)
 before_plain (FileBefore.skipped char passes others) sign within clear =
-    let rest = before_plain others sign (omega (arith, within, ap length char.same)) (none_later (ahead_char char) (ahead_file_before others) within clear) in
+    let rest =
+    before_plain others sign (omega (arith, within, ap length char.same))
+    (none_later (ahead_char char) (ahead_file_before others) within clear) in
     (Plain.skipped char passes rest.0, rest.1)
 before_plain (FileBefore.line_comment m FileBefore.none) sign within clear = absurd (test_clash (in_line 64) refl (m.line.stops 64 _ sign))
 before_plain {u} {s} (FileBefore.line_comment {v = v} m (FileBefore.skipped {v = w} {c = c} char passes others)) sign within clear =
     let over = ahead_then (ahead_char m.sign) (ahead_then (ahead_run m.line.run) (ahead_char char)) in
-    let rest = before_plain others sign (omega (arith, within, ap length over.text)) (none_later over (ahead_file_before others) within clear) in
+    let rest =
+    before_plain others sign (omega (arith, within, ap length over.text))
+    (none_later over (ahead_file_before others) within clear) in
     let feed : c ≡ 10 = eqb-true c 10 (not-false (c == 10) (m.line.stops c w char)) in
     (Plain.line_comment m.sign m.line.run (subst (λ d. CharAt v d w) feed char) rest.0, rest.1)
-before_plain (FileBefore.line_comment m (FileBefore.line_comment m' others)) sign within clear = absurd (test_clash (in_line 37) refl (m.line.stops 37 _ m'.sign))
-before_plain (FileBefore.line_comment m (FileBefore.block b others)) sign within clear = absurd (test_clash (in_line 64) refl (m.line.stops 64 _ b.head.sign))
-before_plain {u} {s} (FileBefore.block b others) sign within clear = absurd (test_clash (has_byte 64 (between u s)) (block_there b (ahead_file_before others) within) clear)
+before_plain (FileBefore.line_comment m (FileBefore.line_comment m' others)) sign within clear =
+    absurd (test_clash (in_line 37) refl (m.line.stops 37 _ m'.sign))
+before_plain (FileBefore.line_comment m (FileBefore.block b others)) sign within clear =
+    absurd (test_clash (in_line 64) refl (m.line.stops 64 _ b.head.sign))
+before_plain {u} {s} (FileBefore.block b others) sign within clear =
+    absurd (test_clash (has_byte 64 (between u s)) (block_there b (ahead_file_before others) within) clear)
 
 -- ---- plain text that is cut after white space at its start
 
@@ -103,14 +122,18 @@ white_small b is = grind (arith, nat_tests)
 white_skipped : (b : ℕ) → is_ascii_whitespace b ≡ true → (not (b == 64) && not (b == 37)) ≡ true
 white_skipped b is = grind (arith, nat_tests)
 
-pub white_split : {u m s : Place} (white : List ℕ) → list_all is_ascii_whitespace white ≡ true → Stands u white m → Plain u s → m.at ≤ s.at → Plain u m × Plain m s
-white_split {u} {m} {s} [] all stands plain below = (subst (λ p. Plain u p) (nothing stands) Plain.none, subst (λ p. Plain p s) (nothing stands) plain)
+pub white_split : {u m s : Place} (white : List ℕ) → list_all is_ascii_whitespace white ≡ true → Stands u white m
+    → Plain u s → m.at ≤ s.at → Plain u m × Plain m s
+white_split {u} {m} {s} [] all stands plain below =
+    (subst (λ p. Plain u p) (nothing stands) Plain.none, subst (λ p. Plain p s) (nothing stands) plain)
 white_split (b ∷ bs) all stands Plain.none below = absurd (omega (arith, stands.next))
 white_split {u} {m} {s} (b ∷ bs) all stands (Plain.skipped char passes rest) below =
     let is = and_parts (is_ascii_whitespace b) (list_all is_ascii_whitespace bs) all in
     let here = ascii b (white_small b is.0) (first_part (b ∷ []) bs stands) in
     let same = same_char char here in
-    let others = white_split {u = past u (b ∷ [])} {m = m} {s = s} bs is.1 (last_part (b ∷ []) bs stands) (subst (λ p. Plain p s) same.1 rest) below in
+    let others =
+    white_split {u = past u (b ∷ [])} {m = m} {s = s} bs is.1 (last_part (b ∷ []) bs stands)
+    (subst (λ p. Plain p s) same.1 rest) below in
     (Plain.skipped here (white_skipped b is.0) others.0, others.1)
 white_split {u} {m} {s} (b ∷ bs) all stands (Plain.line_comment sign line feed rest) below =
     let is = and_parts (is_ascii_whitespace b) (list_all is_ascii_whitespace bs) all in

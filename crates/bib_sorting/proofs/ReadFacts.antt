@@ -39,7 +39,11 @@ pub record EntryThere (e : EntryReading) (u v : Place) : Type 0 where
 
 pub entry_there : {a b u v : Place} {e : EntryReading} → EntryBlock a e b → Stands u (between a b) v → EntryThere e u v
 entry_there {a} {b} {u} {v} {e} x s =
-    let to_brace = ahead_then (ahead_head x.head) (ahead_then (ahead_run x.key.run) (ahead_then (ahead_run x.white.run) (ahead_then (ahead_char x.comma) (ahead_then (ahead_gap x.gap) (ahead_fields x.fields))))) in
+    let to_brace =
+    ahead_then (ahead_head x.head)
+    (ahead_then (ahead_run x.key.run)
+    (ahead_then (ahead_run x.white.run)
+    (ahead_then (ahead_char x.comma) (ahead_then (ahead_gap x.gap) (ahead_fields x.fields))))) in
     let whole = ahead_then to_brace (ahead_char x.closes) in
     let within : b.at ≤ length a.text = omega (arith, char_within x.closes, ap length whole.text) in
     let cut : between a b ≡ between a x.brace ++ 125 ∷ [] =
@@ -48,7 +52,9 @@ entry_there {a} {b} {u} {v} {e} x s =
     let brace = ascii 125 (omega arith) (last_part (between a x.brace) (125 ∷ []) s') in
     let m = past u (between a x.brace) in
     let next : v.at ≡ m.at + 1 = brace.next in
-    let over = λ (p q : Place) (d : ℕ) (same : p.text ≡ u.text) (char : CharAt p d q) (low : p.at < v.at). last_char m p q v same char brace low next in
+    let over =
+    λ (p q : Place) (d : ℕ) (same : p.text ≡ u.text) (char : CharAt p d q) (low : p.at < v.at).
+    last_char m p q v same char brace low next in
     let c = copied whole within s over in
     let move = λ (n : ℕ). n - a.at + u.at in
     let last_next : b.at ≡ x.brace.at + 1 = x.closes.next in
@@ -56,7 +62,8 @@ entry_there {a} {b} {u} {v} {e} x s =
     record {
       reading = moved_entry move e;
       block = subst (λ p. Block longest p (entry_alone (moved_entry move e)) v) c.goes_start
-          (subst (λ p. Block longest (there (copy_frame a b u) a) (entry_alone (moved_entry move e)) p) c.goes_end (block_there c.zone c.start c.end (block_of x)));
+          (subst (λ p. Block longest (there (copy_frame a b u) a) (entry_alone (moved_entry move e)) p) c.goes_end
+          (block_there c.zone c.start c.end (block_of x)));
       alike = entry_placeless move e;
       starts = omega (arith, x.starts);
       ends = omega (arith, x.ends, last_next, size, to_brace.at);
@@ -65,7 +72,13 @@ entry_there {a} {b} {u} {v} {e} x s =
     last_char : (m p q v : Place) {d : ℕ} → p.text ≡ m.text → CharAt p d q → CharAt m 125 v → p.at < v.at → v.at ≡ m.at + 1 → q.at ≤ v.at
     last_char m p q v {d} same char brace low next =
         elim (cases_lt p.at m.at) [
-          | inl before ↦ omega (arith, not_over m.text m.at (inr (125, v, record { same = brace.same; here = brace.here; next = brace.next })) same char before, next)
+          | inl before ↦ omega (
+            arith,
+            not_over m.text m.at
+                (inr (125, v, record { same = brace.same; here = brace.here; next = brace.next })) same char
+                before,
+            next,
+          )
           | inr past_it ↦
               let here : p ≡ m = same_place same (omega arith) in
               let at : q ≡ v = (same_char char (subst (λ x. CharAt x 125 v) (sym here) brace)).1 in
@@ -83,13 +96,16 @@ pub record ItemThere (bytes : List ℕ) (e : EntryReading) (u v : Place) : Type 
 abbrev pub ItemReads : List ℕ → List ℕ → EntryReading → Type 0
 ItemReads comment bytes e = (u v : Place) → Stands u (comment ++ bytes) v → ItemThere comment e u v
 
-pub item_reads : {m s b : Place} {e : EntryReading} → Plain m s → s.at ≤ length m.text → EntryBlock s e b → ItemReads (between m s) (between s b) e
+pub item_reads : {m s b : Place} {e : EntryReading} → Plain m s → s.at ≤ length m.text → EntryBlock s e b
+    → ItemReads (between m s) (between s b) e
 item_reads {m} {s} {b} {e} plain within x u v both =
     let p = past u (between m s) in
     let comment = first_part (between m s) (between s b) both in
     let entry = entry_there x (last_part (between m s) (between s b) both) in
     let c = copied_before (ahead_plain plain) within comment entry.block.head.sign in
-    let here : Plain u p = subst (λ q. Plain q p) c.goes_start (subst (λ q. Plain (there (copy_frame m s u) m) q) c.goes_end (plain_there c.zone c.start c.end plain)) in
+    let here : Plain u p =
+    subst (λ q. Plain q p) c.goes_start
+    (subst (λ q. Plain (there (copy_frame m s u) m) q) c.goes_end (plain_there c.zone c.start c.end plain)) in
     record { start = p; at_start = refl; comment = plain_read here; entry = entry; stood = stood_plain here (stood entry.block.head.sign) }
 
 -- ---- what stays before an entry
@@ -106,17 +122,21 @@ SpaceReads bytes before = (u v : Place) → Stands u bytes v → Stood v → Bef
 plain_reads : {a m : Place} → Plain a m → m.at ≤ length a.text → SpaceReads (between a m) empty_reading
 plain_reads {a} {m} plain within u v s following =
     let c = copied_before (ahead_plain plain) within s following.here in
-    let here : Plain u v = subst (λ q. Plain q v) c.goes_start (subst (λ q. Plain (there (copy_frame a m u) a) q) c.goes_end (plain_there c.zone c.start c.end plain)) in
+    let here : Plain u v =
+    subst (λ q. Plain q v) c.goes_start
+    (subst (λ q. Plain (there (copy_frame a m u) a) q) c.goes_end (plain_there c.zone c.start c.end plain)) in
     record { reading = empty_reading; file = plain_read here; alike = refl }
 
-zone_reads : {a s x : Place} {before : FileReading} → FileBefore a before s → CharAt s 64 x → s.at ≤ length a.text → SpaceReads (between a s) before
+zone_reads : {a s x : Place} {before : FileReading} → FileBefore a before s → CharAt s 64 x → s.at ≤ length a.text
+    → SpaceReads (between a s) before
 zone_reads {a} {s} {x} {before} first sign within u v stands following =
     let c = copied_before (ahead_file_before first) within stands following.here in
     let move = λ (n : ℕ). n - a.at + u.at in
     record {
       reading = moved_file move before;
       file = subst (λ r. FileBefore r (moved_file move before) v) c.goes_start
-          (subst (λ r. FileBefore (there (copy_frame a s u) a) (moved_file move before) r) c.goes_end (file_before_there c.zone c.start c.end sign first));
+          (subst (λ r. FileBefore (there (copy_frame a s u) a) (moved_file move before) r) c.goes_end
+          (file_before_there c.zone c.start c.end sign first));
       alike = file_placeless move before;
     }
 
@@ -126,7 +146,8 @@ white_prefix : (p : ℕ → Bool) (xs : List ℕ) → list_all p (take (prefix_l
 white_prefix p [] = refl
 white_prefix p (x ∷ xs) = by_test (p x) refl (white_prefix p xs)
   where
-    by_test : (b : Bool) → p x ≡ b → list_all p (take (prefix_len p xs) xs) ≡ true → list_all p (take (cond b (1 + prefix_len p xs) 0) (x ∷ xs)) ≡ true
+    by_test : (b : Bool) → p x ≡ b → list_all p (take (prefix_len p xs) xs) ≡ true
+        → list_all p (take (cond b (1 + prefix_len p xs) 0) (x ∷ xs)) ≡ true
     by_test true is rest =
         let next : 1 + prefix_len p xs ≡ suc (prefix_len p xs) = omega arith in
         ap (λ n. list_all p (take n (x ∷ xs))) next ∙ ap (λ b. b && list_all p (take (prefix_len p xs) xs)) is ∙ rest
@@ -146,7 +167,9 @@ white_cut {u} {s} bytes plain stands =
     let rest = drop n bytes in
     let both : Stands u (white ++ rest) s = subst (λ t. Stands u t s) (sym (take-append-drop n bytes)) stands in
     let later : Stands (past u white) rest s = last_part white rest both in
-    let split = white_split white (white_prefix is_ascii_whitespace bytes) (first_part white rest both) plain (ahead_stands rest later).at in
+    let split =
+    white_split white (white_prefix is_ascii_whitespace bytes) (first_part white rest both) plain
+    (ahead_stands rest later).at in
     record { mid = past u white; first = split.0; rest = split.1; is = sym (between_stands rest later) }
 
 -- what stands before an entry is what stays, and a comment
@@ -158,10 +181,15 @@ pub record GapCut (is_first : Bool) (a s : Place) (before : FileReading) : Type 
   pub space : space_in is_first (between a s) ≡ between a mid
   pub reads : SpaceReads (between a mid) before
 
-space_cut : (comment : List ℕ) {a m s : Place} → Ahead a m → Ahead m s → s.at ≤ length a.text → comment ≡ between m s → take (length (between a s) - length comment) (between a s) ≡ between a m
+space_cut : (comment : List ℕ) {a m s : Place} → Ahead a m → Ahead m s → s.at ≤ length a.text → comment ≡ between m s
+    → take (length (between a s) - length comment) (between a s) ≡ between a m
 space_cut comment {a} {m} {s} first rest within is =
-    let size : length (between a s) ≡ s.at - a.at = length-take-le (s.at - a.at) (drop a.at a.text) (omega (arith, length-drop a.at a.text)) in
-    let part : length comment ≡ s.at - m.at = ap length is ∙ length-take-le (s.at - m.at) (drop m.at m.text) (omega (arith, length-drop m.at m.text, ap length first.text)) in
+    let size : length (between a s) ≡ s.at - a.at =
+    length-take-le (s.at - a.at) (drop a.at a.text) (omega (arith, length-drop a.at a.text)) in
+    let part : length comment ≡ s.at - m.at =
+    ap length is
+    ∙ length-take-le (s.at - m.at) (drop m.at m.text)
+    (omega (arith, length-drop m.at m.text, ap length first.text)) in
     let left : length (between a s) - length comment ≡ m.at - a.at = omega (arith, first.at, rest.at) in
     ap (λ n. take n (between a s)) left ∙ take-take (m.at - a.at) (s.at - a.at) (drop a.at a.text) (omega (arith, rest.at))
 
@@ -176,9 +204,16 @@ record BeforeCut (bytes : List ℕ) (a s : Place) (before : FileReading) : Type 
 stays : {a s x : Place} {before : FileReading} → FileBefore a before s → CharAt s 64 x → s.at ≤ length a.text → BeforeCut [] a s before
 stays {a} {s} first sign within =
     let size : 0 ≡ s.at - s.at = omega arith in
-    record { mid = s; first = ahead_file_before first; rest = Plain.none; is = ap (λ n. take n (drop s.at s.text)) size; reads = zone_reads first sign within }
+    record {
+      mid = s;
+      first = ahead_file_before first;
+      rest = Plain.none;
+      is = ap (λ n. take n (drop s.at s.text)) size;
+      reads = zone_reads first sign within;
+    }
 
-plain_cut : {a s x : Place} {before : FileReading} → FileBefore a before s → CharAt s 64 x → s.at ≤ length a.text → has_byte 64 (between a s) ≡ false → BeforeCut (without_white (between a s)) a s before
+plain_cut : {a s x : Place} {before : FileReading} → FileBefore a before s → CharAt s 64 x → s.at ≤ length a.text
+    → has_byte 64 (between a s) ≡ false → BeforeCut (without_white (between a s)) a s before
 plain_cut {a} {s} first sign within clear =
     let plain = before_plain first sign within clear in
     let cut = white_cut (between a s) plain.0 (stands_between (ahead_plain plain.0) within) in
@@ -191,7 +226,8 @@ plain_cut {a} {s} first sign within clear =
     }
 
 -- what stands there up to a line feed, the line feed and plain text
-feed_reads : {a l m n : Place} {before : FileReading} → FileBefore a before l → CharAt l 10 m → Plain m n → n.at ≤ length a.text → SpaceReads (between a n) before
+feed_reads : {a l m n : Place} {before : FileReading} → FileBefore a before l → CharAt l 10 m → Plain m n
+    → n.at ≤ length a.text → SpaceReads (between a n) before
 feed_reads {a} {l} {m} {n} {before} first feed plain within u v s following =
     let to_feed = ahead_file_before first in
     let from_feed = ahead_then (ahead_char feed) (ahead_plain plain) in
@@ -200,19 +236,25 @@ feed_reads {a} {l} {m} {n} {before} first feed plain within u v s following =
     let il = inside_between c.zone c.start c.end to_feed from_feed in
     let im = inside_between c.zone il c.end (ahead_char feed) (ahead_plain plain) in
     let says = moved_file f.move before in
-    let start : FileBefore (there f a) says (there f l) = file_before_inside c.zone c.start il (omega (arith, feed.next, (ahead_plain plain).at)) first in
-    let end : FileBefore (there f l) empty_reading (there f n) = FileBefore.skipped (char_there c.zone il im feed) refl (plain_read (plain_there c.zone im c.end plain)) in
+    let start : FileBefore (there f a) says (there f l) =
+    file_before_inside c.zone c.start il (omega (arith, feed.next, (ahead_plain plain).at)) first in
+    let end : FileBefore (there f l) empty_reading (there f n) =
+    FileBefore.skipped (char_there c.zone il im feed) refl (plain_read (plain_there c.zone im c.end plain)) in
     record {
       reading = says;
       file = subst (λ q. FileBefore q says v) c.goes_start (subst (λ q. FileBefore (there f a) says q) c.goes_end (before_then start end));
       alike = file_placeless f.move before;
     }
 
-cut_after_feed : {a l m s x : Place} {before : FileReading} (near : List ℕ) → FileBefore a before s → CharAt s 64 x → s.at ≤ length a.text → l.text ≡ a.text → CharAt l 10 m → a.at ≤ l.at → Stands m near s → has_block_sign near ≡ false
+cut_after_feed : {a l m s x : Place} {before : FileReading} (near : List ℕ) → FileBefore a before s → CharAt s 64 x
+    → s.at ≤ length a.text → l.text ≡ a.text → CharAt l 10 m → a.at ≤ l.at → Stands m near s
+    → has_block_sign near ≡ false
     → BeforeCut (without_white near) a s before
 cut_after_feed {a} {l} {m} {s} near first sign within same feed from stands clear =
     let within' : s.at ≤ length m.text = omega (arith, within, ap length (feed.same ∙ same)) in
-    let split = feed_cut first sign within' same feed from (ahead_stands near stands).at (clear_of (between m s) (ap has_block_sign (between_stands near stands) ∙ clear)) in
+    let split =
+    feed_cut first sign within' same feed from (ahead_stands near stands).at
+    (clear_of (between m s) (ap has_block_sign (between_stands near stands) ∙ clear)) in
     let cut = white_cut near split.1 stands in
     record {
       mid = cut.mid;
@@ -222,18 +264,22 @@ cut_after_feed {a} {l} {m} {s} near first sign within same feed from stands clea
       reads = feed_reads split.0 feed cut.first (omega (arith, (ahead_plain cut.rest).at, within));
     }
 
-after_feed : {a s x : Place} {before : FileReading} (gap near : List ℕ) → FileBefore a before s → CharAt s 64 x → s.at ≤ length a.text → gap ≡ between a s → AfterFeed gap gap near → has_block_sign near ≡ false
+after_feed : {a s x : Place} {before : FileReading} (gap near : List ℕ) → FileBefore a before s → CharAt s 64 x
+    → s.at ≤ length a.text → gap ≡ between a s → AfterFeed gap gap near → has_block_sign near ≡ false
     → BeforeCut (without_white near) a s before
 after_feed {a} {s} {before = before} gap near first sign within is (inl same) clear =
-    subst (λ t. BeforeCut (without_white t) a s before) (sym (same ∙ is)) (plain_cut first sign within (ap (has_byte 64) (sym (same ∙ is)) ∙ (clear_of near clear).at))
+    subst (λ t. BeforeCut (without_white t) a s before) (sym (same ∙ is))
+    (plain_cut first sign within (ap (has_byte 64) (sym (same ∙ is)) ∙ (clear_of near clear).at))
 after_feed {a} {s} gap near first sign within is (inr found) clear =
-    let both : Stands a (found.0 ++ 10 ∷ near) s = subst (λ t. Stands a t s) (sym is ∙ found.1) (stands_between (ahead_file_before first) within) in
+    let both : Stands a (found.0 ++ 10 ∷ near) s =
+    subst (λ t. Stands a t s) (sym is ∙ found.1) (stands_between (ahead_file_before first) within) in
     let l = past a found.0 in
     let from_feed : Stands l (10 ∷ near) s = last_part found.0 (10 ∷ near) both in
     let feed : CharAt l 10 (past l (10 ∷ [])) = ascii 10 (omega arith) (first_part (10 ∷ []) near from_feed) in
     cut_after_feed {l = l} {m = past l (10 ∷ [])} near first sign within refl feed (omega arith) (last_part (10 ∷ []) near from_feed) clear
 
-comment_cut : (is_first : Bool) {a s x : Place} {before : FileReading} → FileBefore a before s → CharAt s 64 x → s.at ≤ length a.text → BeforeCut (comment_in is_first (between a s)) a s before
+comment_cut : (is_first : Bool) {a s x : Place} {before : FileReading} → FileBefore a before s → CharAt s 64 x
+    → s.at ≤ length a.text → BeforeCut (comment_in is_first (between a s)) a s before
 comment_cut is_first {a} {s} {x} {before} first sign within = by_run (begins_run is_first gap) refl
   where
     gap : List ℕ
@@ -250,7 +296,8 @@ comment_cut is_first {a} {s} {x} {before} first sign within = by_run (begins_run
     by_run true is = by_sign (has_block_sign near) refl
     by_run false is = plain_cut first sign within (or_right is_first (has_byte 64 gap) is)
 
-pub gap_cut : (is_first : Bool) {a s x : Place} {before : FileReading} → FileBefore a before s → CharAt s 64 x → s.at ≤ length a.text → GapCut is_first a s before
+pub gap_cut : (is_first : Bool) {a s x : Place} {before : FileReading} → FileBefore a before s → CharAt s 64 x
+    → s.at ≤ length a.text → GapCut is_first a s before
 gap_cut is_first {a} {s} first sign within =
     let cut = comment_cut is_first first sign within in
     record {

@@ -60,18 +60,23 @@ module _ {A : Type 0} (key : A → ℕ) where
             (later.0, inr later.1, later.2)
       ]
 
-  module _ (Known : A → Type 0) (NotAfter : A → A → Type 0) (one : (x y : A) → Known x → Known y → key x ≡ key y → x ≡ y) (tie : (x y : A) → Known x → Known y → NotAfter x y → NotAfter y x → x ≡ y) where
+  module _ (Known : A → Type 0) (NotAfter : A → A → Type 0)
+      (one : (x y : A) → Known x → Known y → key x ≡ key y → x ≡ y)
+      (tie : (x y : A) → Known x → Known y → NotAfter x y → NotAfter y x → x ≡ y) where
     there_is : (x : A) (ys : List A) → Known x → AllByRecursion Known ys → 0 < count_of (key x) ys → IsIn x ys
     there_is x ys known each some =
         let y = found (key x) ys some in
         subst (λ z. IsIn z ys) (one y.0 x (in_all Known y.0 ys each y.1) known y.2) y.1
 
-    first_same : (x y : A) (xs ys : List A) → Known x → Known y → AllByRecursion (NotAfter x) xs → AllByRecursion (NotAfter y) ys → IsIn x (y ∷ ys) → IsIn y (x ∷ xs) → x ≡ y
+    first_same : (x y : A) (xs ys : List A) → Known x → Known y → AllByRecursion (NotAfter x) xs
+        → AllByRecursion (NotAfter y) ys → IsIn x (y ∷ ys) → IsIn y (x ∷ xs) → x ≡ y
     first_same x y xs ys known known' up up' (inl same) there' = same
     first_same x y xs ys known known' up up' (inr there) (inl same) = sym same
-    first_same x y xs ys known known' up up' (inr there) (inr there') = tie x y known known' (in_all (NotAfter x) y xs up there') (in_all (NotAfter y) x ys up' there)
+    first_same x y xs ys known known' up up' (inr there) (inr there') =
+        tie x y known known' (in_all (NotAfter x) y xs up there') (in_all (NotAfter y) x ys up' there)
 
-    by_counts : (xs ys : List A) → AreUp NotAfter xs → AreUp NotAfter ys → AllByRecursion Known xs → AllByRecursion Known ys → ((n : ℕ) → count_of n xs ≡ count_of n ys) → xs ≡ ys
+    by_counts : (xs ys : List A) → AreUp NotAfter xs → AreUp NotAfter ys → AllByRecursion Known xs
+        → AllByRecursion Known ys → ((n : ℕ) → count_of n xs ≡ count_of n ys) → xs ≡ ys
     by_counts [] [] up up' each each' counts = refl
     by_counts [] (y ∷ ys) up up' each each' counts = absurd (omega (arith, counts (key y), has_own y))
     by_counts (x ∷ xs) [] up up' each each' counts = absurd (omega (arith, counts (key x), has_own x))
@@ -82,6 +87,8 @@ module _ {A : Type 0} (key : A → ℕ) where
         let rest = by_counts xs ys up.1 up'.1 each.1 each'.1 (λ n. omega (arith, counts n, ap (has_key n) same)) in
         ap (λ z. z ∷ xs) same ∙ ap (λ l. y ∷ l) rest
 
-    pub same_order : (xs ys : List A) → AreUp NotAfter xs → AreUp NotAfter ys → AllByRecursion Known xs → AllByRecursion Known ys → IsPermutation xs ys → xs ≡ ys
+    pub same_order : (xs ys : List A) → AreUp NotAfter xs → AreUp NotAfter ys → AllByRecursion Known xs
+        → AllByRecursion Known ys → IsPermutation xs ys → xs ≡ ys
     same_order xs ys up up' each each' permutation =
-        by_counts xs ys up up' each each' (λ n. sym (count_is n xs) ∙ sym (sum_by-IsPermutation (has_key n) xs ys permutation) ∙ count_is n ys)
+        by_counts xs ys up up' each each'
+        (λ n. sym (count_is n xs) ∙ sym (sum_by-IsPermutation (has_key n) xs ys permutation) ∙ count_is n ys)

@@ -24,13 +24,16 @@ or_later true y is = refl
 or_later false y is = is
 
 -- whether a test is passed by some and one more
-pub any_more : {A B : Type 0} (p : B → Bool) (f : A → B) (xs : List A) (i : ℕ) (x : A) → i < length xs → x ≡ get_or xs i x → list_any p (map f (take (i + 1) xs)) ≡ (list_any p (map f (take i xs)) || p (f x))
+pub any_more : {A B : Type 0} (p : B → Bool) (f : A → B) (xs : List A) (i : ℕ) (x : A) → i < length xs
+    → x ≡ get_or xs i x → list_any p (map f (take (i + 1) xs)) ≡ (list_any p (map f (take i xs)) || p (f x))
 any_more p f xs i x within is =
-    ap (λ l. list_any p (map f l)) (take_more xs i x within ∙ ap (λ e. take i xs ++ e ∷ []) (sym is)) ∙ ap (list_any p) (map-append f (take i xs) (x ∷ []))
+    ap (λ l. list_any p (map f l)) (take_more xs i x within ∙ ap (λ e. take i xs ++ e ∷ []) (sym is))
+    ∙ ap (list_any p) (map-append f (take i xs) (x ∷ []))
     ∙ list_any-append p (map f (take i xs)) (f x ∷ []) ∙ ap (λ b. list_any p (map f (take i xs)) || b) (or_none (p (f x)))
 
 -- it is passed by all if by one of them
-pub any_here : {A B : Type 0} (p : B → Bool) (f : A → B) (xs : List A) (i : ℕ) (x : A) → i < length xs → x ≡ get_or xs i x → p (f x) ≡ true → list_any p (map f xs) ≡ true
+pub any_here : {A B : Type 0} (p : B → Bool) (f : A → B) (xs : List A) (i : ℕ) (x : A) → i < length xs
+    → x ≡ get_or xs i x → p (f x) ≡ true → list_any p (map f xs) ≡ true
 any_here p f [] i x within is passes = absurd (omega arith)
 any_here p f (y ∷ ys) zero x within is passes = ap (λ b. b || list_any p (map f ys)) (ap (λ z. p (f z)) (sym is) ∙ passes)
 any_here p f (y ∷ ys) (suc i) x within is passes = or_later (p (f y)) (list_any p (map f ys)) (any_here p f ys i x (omega arith) is passes)

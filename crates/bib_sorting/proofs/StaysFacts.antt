@@ -20,7 +20,8 @@ abbrev pub EndsIn : List ℕ → List ℕ → Type 0
 EndsIn text rest = (front : List ℕ) × (text ≡ front ++ rest)
 
 ends_then : (text middle rest : List ℕ) → EndsIn text middle → EndsIn middle rest → EndsIn text rest
-ends_then text middle rest first second = (first.0 ++ second.0, first.1 ∙ ap (λ t. first.0 ++ t) second.1 ∙ sym (append_assoc first.0 second.0 rest))
+ends_then text middle rest first second =
+    (first.0 ++ second.0, first.1 ∙ ap (λ t. first.0 ++ t) second.1 ∙ sym (append_assoc first.0 second.0 rest))
 
 feed_end : (gap rest : List ℕ) → AfterFeed gap gap rest → EndsIn gap rest
 feed_end gap rest (inl same) = ([], sym same)
@@ -47,31 +48,41 @@ cut_end : (text rest : List ℕ) → EndsIn text rest → take (length text - le
 cut_end text rest end =
     let size : length text ≡ length end.0 + length rest = ap length end.1 ∙ length-append end.0 rest in
     let left : length end.0 ≡ length text - length rest = omega arith in
-    ap (λ t. take (length text - length rest) t ++ rest) end.1 ∙ ap (λ t. t ++ rest) (take_at end.0 rest (length text - length rest) left) ∙ sym end.1
+    ap (λ t. take (length text - length rest) t ++ rest) end.1
+    ∙ ap (λ t. t ++ rest) (take_at end.0 rest (length text - length rest) left) ∙ sym end.1
 
 -- what stands before an entry is what stays and what moves
 pub gap_whole : (is_first : Bool) (gap : List ℕ) → space_in is_first gap ++ comment_in is_first gap ≡ gap
 gap_whole is_first gap = cut_end gap (comment_in is_first gap) (comment_end is_first gap)
 
 -- what stands from one place to another, and after it
-pub stretch_whole : (text : List ℕ) (start end : ℕ) → start ≤ end → between (place text start) (place text end) ++ drop end text ≡ drop start text
+pub stretch_whole : (text : List ℕ) (start end : ℕ) → start ≤ end
+    → between (place text start) (place text end) ++ drop end text ≡ drop start text
 stretch_whole text start end ordered =
     let sum : start + (end - start) ≡ end = omega arith in
-    ap (λ n. take (end - start) (drop start text) ++ drop n text) (sym sum) ∙ ap (λ t. take (end - start) (drop start text) ++ t) (sym (drop-drop (end - start) start text)) ∙ take-append-drop (end - start) (drop start text)
+    ap (λ n. take (end - start) (drop start text) ++ drop n text) (sym sum)
+    ∙ ap (λ t. take (end - start) (drop start text) ++ t) (sym (drop-drop (end - start) start text))
+    ∙ take-append-drop (end - start) (drop start text)
 
-stays_from : (all : List EntryReading) (text : List ℕ) (texts : List (List ℕ)) (index at run : ℕ) (es : List EntryReading) → AreItemsCut text index at es
-    → items_laid_out text (spaces_from text index at es) (items_from all text texts index at run es) (drop (place_after at es) text) ≡ drop at text
+stays_from : (all : List EntryReading) (text : List ℕ) (texts : List (List ℕ)) (index at run : ℕ)
+    (es : List EntryReading) → AreItemsCut text index at es
+    → items_laid_out text (spaces_from text index at es) (items_from all text texts index at run es)
+    (drop (place_after at es) text) ≡ drop at text
 stays_from all text texts index at run [] cut = refl
 stays_from all text texts index at run (e ∷ es) cut =
     let gap = gap_before text at e in
     let space = space_in (index == 0) gap in
     let comment = comment_in (index == 0) gap in
-    ap (λ t. space ++ (comment ++ (entry_bytes text e ++ t))) (stays_from all text texts (index + 1) (e.end + 1) (run_after run gap) es cut.1)
+    ap (λ t. space ++ (comment ++ (entry_bytes text e ++ t)))
+    (stays_from all text texts (index + 1) (e.end + 1) (run_after run gap) es cut.1)
     ∙ ap (λ t. space ++ (comment ++ t)) (stretch_whole text e.start (e.end + 1) cut.0.whole.ordered)
     ∙ sym (append_assoc space comment (drop e.start text)) ∙ ap (λ t. t ++ drop e.start text) (gap_whole (index == 0) gap)
     ∙ stretch_whole text at e.start cut.0.gap.ordered
 
-pub in_order_stays : (d : Document) (texts : List (List ℕ)) (new : List ℕ) → IsDocument d → IsSorted item_cmp (items d texts) → IsSortedText d texts new → new ≡ d.text
+pub in_order_stays : (d : Document) (texts : List (List ℕ)) (new : List ℕ) → IsDocument d
+    → IsSorted item_cmp (items d texts) → IsSortedText d texts new → new ≡ d.text
 in_order_stays d texts new read sorted text =
-    let same = one_order d texts text.order (items d texts) read text.in_order (record { permutation = IsPermutation-refl (items d texts); sorted = sorted }) in
+    let same =
+    one_order d texts text.order (items d texts) read text.in_order
+    (record { permutation = IsPermutation-refl (items d texts); sorted = sorted }) in
     text.is ∙ ap (text_in_order d) same ∙ stays_from d.says.entries d.text texts 0 0 0 d.says.entries (document_parts d read).cut

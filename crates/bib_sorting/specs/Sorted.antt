@@ -63,7 +63,8 @@ kept_after blank after kept = cond blank after kept
 abbrev pub after_blank_line : Bool → List ℕ → List ℕ → List ℕ
 after_blank_line blank kept [] = kept
 after_blank_line blank kept (b ∷ bs) =
-    cond (b == char.line_feed) (after_blank_line true (kept_after blank bs kept) bs) (after_blank_line (blank && is_ascii_whitespace b) kept bs)
+    cond (b == char.line_feed) (after_blank_line true (kept_after blank bs kept) bs)
+    (after_blank_line (blank && is_ascii_whitespace b) kept bs)
 
 -- whether a run begins with an entry: it is a file's first, or an at sign stands before it, as that of an `@string`
 abbrev pub begins_run : Bool → List ℕ → Bool
@@ -118,7 +119,13 @@ abbrev pub items_from : List EntryReading → List ℕ → List (List ℕ) → �
 items_from all text texts index at run [] = []
 items_from all text texts index at run (e ∷ es) =
     let gap = gap_before text at e in
-    record { run = run_after run gap; rank = rank all e; text = text_by_index texts index; comment = comment_in (index == 0) gap; entry = e }
+    record {
+      run = run_after run gap;
+      rank = rank all e;
+      text = text_by_index texts index;
+      comment = comment_in (index == 0) gap;
+      entry = e;
+    }
     ∷ items_from all text texts (index + 1) (e.end + 1) (run_after run gap) es
 
 -- the entries of a document, with a text for each by its index
@@ -139,7 +146,10 @@ place_after at (e ∷ es) = place_after (e.end + 1) es
 
 -- by run, rank, text and place
 abbrev pub item_cmp : Item → Item → Ordering
-item_cmp = then_cmp (on (λ i. i.run) nat_cmp) (then_cmp (on (λ i. i.rank) nat_cmp) (then_cmp (on (λ i. i.text) (slice_cmp nat_cmp)) (on (λ i. i.entry.start) nat_cmp)))
+item_cmp =
+    then_cmp (on (λ i. i.run) nat_cmp)
+    (then_cmp (on (λ i. i.rank) nat_cmp)
+    (then_cmp (on (λ i. i.text) (slice_cmp nat_cmp)) (on (λ i. i.entry.start) nat_cmp)))
 
 -- the same entries in order
 pub record AreEntriesInOrder (all order : List Item) : Type 0 where
@@ -150,7 +160,8 @@ pub record AreEntriesInOrder (all order : List Item) : Type 0 where
 abbrev pub items_laid_out : List ℕ → List (List ℕ) → List Item → List ℕ → List ℕ
 items_laid_out text [] order rest = rest
 items_laid_out text (space ∷ spaces) [] rest = rest
-items_laid_out text (space ∷ spaces) (i ∷ order) rest = space ++ (i.comment ++ (entry_bytes text i.entry ++ items_laid_out text spaces order rest))
+items_laid_out text (space ∷ spaces) (i ∷ order) rest =
+    space ++ (i.comment ++ (entry_bytes text i.entry ++ items_laid_out text spaces order rest))
 
 -- a document's text with its entries in this order
 abbrev pub text_in_order : Document → List Item → List ℕ

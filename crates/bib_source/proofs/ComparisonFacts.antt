@@ -22,30 +22,46 @@ abbrev pub no_line : Bor (List ℕ)
 no_line = record { ref_ptr = (0, 0); now = [] }
 
 -- the first `i + 1` lines are the first `i` lines and the line at `i`
-pub texts_more : (lines : List (Bor (List ℕ))) (i : ℕ) → i < length lines → map (λ l. l.now) (take (i + 1) lines) ≡ map (λ l. l.now) (take i lines) ++ (get_or lines i no_line).now ∷ []
-texts_more lines i within = ap (map (λ l. l.now)) (take_more lines i no_line within) ∙ map-append (λ l. l.now) (take i lines) (get_or lines i no_line ∷ [])
+pub texts_more : (lines : List (Bor (List ℕ))) (i : ℕ) → i < length lines
+    → map (λ l. l.now) (take (i + 1) lines) ≡ map (λ l. l.now) (take i lines) ++ (get_or lines i no_line).now ∷ []
+texts_more lines i within =
+    ap (map (λ l. l.now)) (take_more lines i no_line within)
+    ∙ map-append (λ l. l.now) (take i lines) (get_or lines i no_line ∷ [])
 
-pub old_more : (lines : List Line) (i : ℕ) → i < length lines → length (old_side (take (i + 1) lines)) ≡ length (old_side (take i lines)) + length (old_side (get_or lines i (Context no_line) ∷ []))
+pub old_more : (lines : List Line) (i : ℕ) → i < length lines
+    → length (old_side (take (i + 1) lines))
+    ≡ length (old_side (take i lines)) + length (old_side (get_or lines i (Context no_line) ∷ []))
 old_more lines i within =
     let d = Context no_line in
-    ap (λ ls. length (old_side ls)) (take_more lines i d within) ∙ ap length (old_append (take i lines) (get_or lines i d ∷ [])) ∙ length-append (old_side (take i lines)) (old_side (get_or lines i d ∷ []))
+    ap (λ ls. length (old_side ls)) (take_more lines i d within)
+    ∙ ap length (old_append (take i lines) (get_or lines i d ∷ []))
+    ∙ length-append (old_side (take i lines)) (old_side (get_or lines i d ∷ []))
 
-pub new_more : (lines : List Line) (i : ℕ) → i < length lines → length (new_side (take (i + 1) lines)) ≡ length (new_side (take i lines)) + length (new_side (get_or lines i (Context no_line) ∷ []))
+pub new_more : (lines : List Line) (i : ℕ) → i < length lines
+    → length (new_side (take (i + 1) lines))
+    ≡ length (new_side (take i lines)) + length (new_side (get_or lines i (Context no_line) ∷ []))
 new_more lines i within =
     let d = Context no_line in
-    ap (λ ls. length (new_side ls)) (take_more lines i d within) ∙ ap length (new_append (take i lines) (get_or lines i d ∷ [])) ∙ length-append (new_side (take i lines)) (new_side (get_or lines i d ∷ []))
+    ap (λ ls. length (new_side ls)) (take_more lines i d within)
+    ∙ ap length (new_append (take i lines) (get_or lines i d ∷ []))
+    ∙ length-append (new_side (take i lines)) (new_side (get_or lines i d ∷ []))
 
 -- the first `i` lines and the lines from `i` to `j` are the first `j` lines
-pub texts_up_to : (lines : List (Bor (List ℕ))) (i j : ℕ) → i ≤ j → map (λ l. l.now) (take i lines) ++ map (λ l. l.now) (take (j - i) (drop i lines)) ≡ map (λ l. l.now) (take j lines)
+pub texts_up_to : (lines : List (Bor (List ℕ))) (i j : ℕ) → i ≤ j
+    → map (λ l. l.now) (take i lines) ++ map (λ l. l.now) (take (j - i) (drop i lines))
+    ≡ map (λ l. l.now) (take j lines)
 texts_up_to lines i j low =
     let sum : i + (j - i) ≡ j = omega arith in
-    sym (map-append (λ l. l.now) (take i lines) (take (j - i) (drop i lines))) ∙ ap (map (λ l. l.now)) (sym (take-add i (j - i) lines) ∙ ap (λ n. take n lines) sum)
+    sym (map-append (λ l. l.now) (take i lines) (take (j - i) (drop i lines)))
+    ∙ ap (map (λ l. l.now)) (sym (take-add i (j - i) lines) ∙ ap (λ n. take n lines) sum)
 
 -- a property of the line in an option is a property of `line` if both are equal
-pub of_line : (option : Option (Bor (List ℕ))) (line : List ℕ) (P : List ℕ → Type 0) → IsSomeAnd option (λ other. other.now ≡ line) → IfSome option (λ other. P other.now) → P line
+pub of_line : (option : Option (Bor (List ℕ))) (line : List ℕ) (P : List ℕ → Type 0)
+    → IsSomeAnd option (λ other. other.now ≡ line) → IfSome option (λ other. P other.now) → P line
 of_line (Some other) line P same holds = subst P same holds
 of_line None line P same holds = absurd same
 
-pub at_line : (option : Option (Bor (List ℕ))) (line : List ℕ) (P : Type 0) → IsSomeAnd option (λ other. other.now ≡ line) → IfSome option (λ _. P) → P
+pub at_line : (option : Option (Bor (List ℕ))) (line : List ℕ) (P : Type 0)
+    → IsSomeAnd option (λ other. other.now ≡ line) → IfSome option (λ _. P) → P
 at_line (Some other) line P same holds = holds
 at_line None line P same holds = absurd same

@@ -32,7 +32,8 @@ valid_after bytes m n valid = record {
 }
 
 -- the first invalid byte of a file comes after its mark and the valid bytes after the mark
-pub from_rest : (bytes : List ℕ) (start n reported : ℕ) → start ≡ mark_length bytes → reported ≡ n → IsValidUpTo (slice_range bytes start (length bytes)) n → IsFirstInvalid bytes (start + reported)
+pub from_rest : (bytes : List ℕ) (start n reported : ℕ) → start ≡ mark_length bytes → reported ≡ n
+    → IsValidUpTo (slice_range bytes start (length bytes)) n → IsFirstInvalid bytes (start + reported)
 from_rest bytes start n reported is same valid =
     let to_end : slice_range bytes start (length bytes) ≡ drop start bytes = to_the_end bytes start in
     let after = subst (λ k. IsValidUpTo (drop start bytes) k) (sym same) (subst (λ rest. IsValidUpTo rest n) to_end valid) in
@@ -53,7 +54,8 @@ not_utf8 bytes i first utf8 =
     first.longest (length bytes) first.within (subst IsUtf8 (sym (to_the_end bytes (mark_length bytes))) utf8)
 
 -- a UTF-8 part with the character after it is UTF-8
-longer : (bytes rest : List ℕ) (m n c : ℕ) → IsScalar c → drop (m + n) bytes ≡ encode_utf8 c ++ rest → IsUtf8 (take n (drop m bytes)) → IsUtf8 (take (n + len_utf8 c) (drop m bytes))
+longer : (bytes rest : List ℕ) (m n c : ℕ) → IsScalar c → drop (m + n) bytes ≡ encode_utf8 c ++ rest
+    → IsUtf8 (take n (drop m bytes)) → IsUtf8 (take (n + len_utf8 c) (drop m bytes))
 longer bytes rest m n c scalar begins utf8 =
     let size : length (encode_utf8 c) ≡ len_utf8 c = length-encode c in
     let next : take (len_utf8 c) (drop n (drop m bytes)) ≡ encode_utf8 c =

@@ -12,7 +12,8 @@ after [] lines = lines
 after (byte ∷ bytes) lines = before_first_line byte (after bytes lines)
 
 -- prepending `bytes` and one more byte is prepending that byte and then `bytes`
-pub after_more : (bytes : List ℕ) (byte : ℕ) (lines : List (List ℕ)) → after (bytes ++ byte ∷ []) lines ≡ after bytes (before_first_line byte lines)
+pub after_more : (bytes : List ℕ) (byte : ℕ) (lines : List (List ℕ))
+    → after (bytes ++ byte ∷ []) lines ≡ after bytes (before_first_line byte lines)
 after_more [] byte lines = refl
 after_more (b ∷ bytes) byte lines = ap (before_first_line b) (after_more bytes byte lines)
 
@@ -34,7 +35,8 @@ concat_before : (byte : ℕ) (lines : List (List ℕ)) → concat (before_first_
 concat_before byte [] = refl
 concat_before byte (line ∷ lines) = refl
 
-concat_choice : (b : Bool) (byte : ℕ) (lines : List (List ℕ)) → concat (cond b ((byte ∷ []) ∷ lines) (before_first_line byte lines)) ≡ byte ∷ concat lines
+concat_choice : (b : Bool) (byte : ℕ) (lines : List (List ℕ))
+    → concat (cond b ((byte ∷ []) ∷ lines) (before_first_line byte lines)) ≡ byte ∷ concat lines
 concat_choice true byte lines = refl
 concat_choice false byte lines = concat_before byte lines
 
@@ -54,7 +56,8 @@ next_taken text start index low high =
 
 -- a line feed at `index` ends the line from `start`
 pub ended : (text : List ℕ) (start index : ℕ) → start ≤ index → index < length text → get_or text index 0 ≡ 10
-    → after (take (index - start) (drop start text)) (lines_of (drop index text)) ≡ take (index + 1 - start) (drop start text) ∷ lines_of (drop (index + 1) text)
+    → after (take (index - start) (drop start text)) (lines_of (drop index text))
+    ≡ take (index + 1 - start) (drop start text) ∷ lines_of (drop (index + 1) text)
 ended text start index low high is =
     let byte = get_or text index 0 in
     let rest = lines_of (drop (index + 1) text) in
@@ -65,7 +68,8 @@ ended text start index low high is =
 
 -- any other byte at `index` is in the line from `start`, which continues after it
 pub goes_on : (text : List ℕ) (start index : ℕ) → start ≤ index → index < length text → (get_or text index 0 ≡ 10 → ⊥)
-    → after (take (index - start) (drop start text)) (lines_of (drop index text)) ≡ after (take (index + 1 - start) (drop start text)) (lines_of (drop (index + 1) text))
+    → after (take (index - start) (drop start text)) (lines_of (drop index text))
+    ≡ after (take (index + 1 - start) (drop start text)) (lines_of (drop (index + 1) text))
 goes_on text start index low high is =
     let byte = get_or text index 0 in
     let rest = lines_of (drop (index + 1) text) in

@@ -21,5 +21,6 @@ whole_utf8 bytes utf8 = by (starts_with nat_eq bytes byte_order_mark) refl utf8
     by : (b : Bool) → starts_with nat_eq bytes byte_order_mark ≡ b → IsUtf8 (drop (cond b 3 0) bytes) → IsUtf8 bytes
     by true is rest =
         let mark : byte_order_mark ≡ take 3 bytes = same_text byte_order_mark (take 3 bytes) (sym is) in
-        subst IsUtf8 (ap (λ m. m ++ drop 3 bytes) mark ∙ take-append-drop 3 bytes) (IsUtf8-append byte_order_mark (drop 3 bytes) mark_utf8 rest)
+        subst IsUtf8 (ap (λ m. m ++ drop 3 bytes) mark ∙ take-append-drop 3 bytes)
+        (IsUtf8-append byte_order_mark (drop 3 bytes) mark_utf8 rest)
     by false is rest = rest

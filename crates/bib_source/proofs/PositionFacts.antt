@@ -14,15 +14,19 @@ suffix_more p xs x = ap (prefix_len p) (reverse-append xs (x ∷ []))
 -- no element comes after the last passing one, if one more element passes
 after_one : {X : Type 0} (p : X → Bool) (xs : List X) (x : X) → p x ≡ true → after_last p (xs ++ x ∷ []) ≡ []
 after_one p xs x is =
-    let none : suffix_len (λ y. not (p y)) (xs ++ x ∷ []) ≡ 0 = suffix_more (λ y. not (p y)) xs x ∙ ap (λ b. cond (not b) (1 + suffix_len (λ y. not (p y)) xs) 0) is in
+    let none : suffix_len (λ y. not (p y)) (xs ++ x ∷ []) ≡ 0 =
+    suffix_more (λ y. not (p y)) xs x ∙ ap (λ b. cond (not b) (1 + suffix_len (λ y. not (p y)) xs) 0) is in
     let all : length (xs ++ x ∷ []) - suffix_len (λ y. not (p y)) (xs ++ x ∷ []) ≡ length (xs ++ x ∷ []) = omega (arith, none) in
     ap (λ n. drop n (xs ++ x ∷ [])) all ∙ drop-length (xs ++ x ∷ [])
 
 -- one more element that fails comes after the last passing one too
 after_other : {X : Type 0} (p : X → Bool) (xs : List X) (x : X) → p x ≡ false → after_last p (xs ++ x ∷ []) ≡ after_last p xs ++ x ∷ []
 after_other p xs x isnt =
-    let one : suffix_len (λ y. not (p y)) (xs ++ x ∷ []) ≡ 1 + suffix_len (λ y. not (p y)) xs = suffix_more (λ y. not (p y)) xs x ∙ ap (λ b. cond (not b) (1 + suffix_len (λ y. not (p y)) xs) 0) isnt in
-    let left : length (xs ++ x ∷ []) - suffix_len (λ y. not (p y)) (xs ++ x ∷ []) ≡ length xs - suffix_len (λ y. not (p y)) xs = omega (arith, one, length-append xs (x ∷ []), suffix_len-le-length (λ y. not (p y)) xs) in
+    let one : suffix_len (λ y. not (p y)) (xs ++ x ∷ []) ≡ 1 + suffix_len (λ y. not (p y)) xs =
+    suffix_more (λ y. not (p y)) xs x ∙ ap (λ b. cond (not b) (1 + suffix_len (λ y. not (p y)) xs) 0) isnt in
+    let left : length (xs ++ x ∷ []) - suffix_len (λ y. not (p y)) (xs ++ x ∷ [])
+    ≡ length xs - suffix_len (λ y. not (p y)) xs =
+    omega (arith, one, length-append xs (x ∷ []), suffix_len-le-length (λ y. not (p y)) xs) in
     ap (λ n. drop n (xs ++ x ∷ [])) left ∙ drop-append-le (length xs - suffix_len (λ y. not (p y)) xs) xs (x ∷ []) (omega arith)
 
 -- the position after a line feed
@@ -34,7 +38,11 @@ after_line_feed before byte is = ap₂ (λ l c. record { line = l; column = c })
 
 -- the position after another byte
 pub after_byte : (before : List ℕ) (byte : ℕ) → is_line_feed byte ≡ false
-    → position_after (before ++ byte ∷ []) ≡ record { line = (position_after before).line; column = (position_after before).column + cond (begins_character byte) 1 0 }
+    → position_after (before ++ byte ∷ [])
+    ≡ record {
+      line = (position_after before).line;
+      column = (position_after before).column + cond (begins_character byte) 1 0;
+    }
 after_byte before byte isnt = ap₂ (λ l c. record { line = l; column = c })
     (ap (λ n. n + 1) (count_more is_line_feed before byte ∙ ap (λ b. count_by is_line_feed before + cond b 1 0) isnt ∙ omega arith))
     (ap (λ text. count_by begins_character text + 1) (after_other is_line_feed before byte isnt)

@@ -24,7 +24,8 @@ mark_after_text = refl
 cut_mark : without_byte_order_mark (0xEF ∷ 0xBB ∷ []) ≡ 0xEF ∷ 0xBB ∷ []
 cut_mark = refl
 
-assigned : map windows_1252 (0x80 ∷ (range_with_len 0x82 11 ++ 0x8E ∷ (range_with_len 0x91 12 ++ 0x9E ∷ 0x9F ∷ []))) ≡ codes "€‚ƒ„…†‡ˆ‰Š‹ŒŽ‘’“”•–—˜™š›œžŸ"
+assigned : map windows_1252 (0x80 ∷ (range_with_len 0x82 11 ++ 0x8E ∷ (range_with_len 0x91 12 ++ 0x9E ∷ 0x9F ∷ [])))
+    ≡ codes "€‚ƒ„…†‡ˆ‰Š‹ŒŽ‘’“”•–—˜™š›œžŸ"
 unfolding windows_1252
 assigned = refl
 

@@ -37,7 +37,8 @@ read_back b below =
 pub own_character : (b d : ℕ) → b < 256 → d < 256 → windows_1252 b ≡ windows_1252 d → b ≡ d
 own_character b d b_below d_below same = sym (read_back b b_below) ∙ ap byte_of same ∙ read_back d d_below
 
-own_characters : (bs ds : List ℕ) → AllByRecursion (λ b. b < 256) bs → AllByRecursion (λ b. b < 256) ds → map windows_1252 bs ≡ map windows_1252 ds → bs ≡ ds
+own_characters : (bs ds : List ℕ) → AllByRecursion (λ b. b < 256) bs → AllByRecursion (λ b. b < 256) ds
+    → map windows_1252 bs ≡ map windows_1252 ds → bs ≡ ds
 own_characters [] [] bs_below ds_below same = refl
 own_characters [] (d ∷ ds) bs_below ds_below same = absurd (cc)
 own_characters (b ∷ bs) [] bs_below ds_below same = absurd (cc)
@@ -48,5 +49,6 @@ own_characters (b ∷ bs) (d ∷ ds) bs_below ds_below same =
     let others = own_characters bs ds bs_below.1 ds_below.1 rest_same in
     cc
 
-pub own_text : (bs ds : List ℕ) → AllByRecursion (λ b. b < 256) bs → AllByRecursion (λ b. b < 256) ds → windows_1252_text bs ≡ windows_1252_text ds → bs ≡ ds
+pub own_text : (bs ds : List ℕ) → AllByRecursion (λ b. b < 256) bs → AllByRecursion (λ b. b < 256) ds
+    → windows_1252_text bs ≡ windows_1252_text ds → bs ≡ ds
 own_text bs ds bs_below ds_below same = own_characters bs ds bs_below ds_below (encodes_same _ _ same)

@@ -17,7 +17,10 @@ begins_character byte = not (is_in_range 0x80 0xBF byte)
 -- The position after `text`. Its line is one more than the number of line feeds. Its column is one more than the number of
 -- characters after the last line feed.
 abbrev pub position_after : List ℕ → Position
-position_after text = record { line = count_by is_line_feed text + 1; column = count_by begins_character (after_last is_line_feed text) + 1 }
+position_after text = record {
+  line = count_by is_line_feed text + 1;
+  column = count_by begins_character (after_last is_line_feed text) + 1;
+}
 
 -- the position of the byte offset `at` in `text`: the position after the first `at` bytes, or after all if there are fewer
 abbrev pub position_at : List ℕ → ℕ → Position

@@ -31,7 +31,10 @@ extent number count = decimal (cond (nat_eq count 0) (number - 1) number) ++ (co
 -- the header line of a hunk: the extents of its lines in the old and in the new text
 abbrev pub hunk_header : Hunk → List ℕ
 hunk_header hunk =
-    codes "@@ -" ++ (extent hunk.old (length (old_side hunk.lines)) ++ (codes " +" ++ (extent hunk.new (length (new_side hunk.lines)) ++ codes " @@\n")))
+    codes "@@ -"
+    ++
+    (extent hunk.old (length (old_side hunk.lines))
+    ++ (codes " +" ++ (extent hunk.new (length (new_side hunk.lines)) ++ codes " @@\n")))
 
 -- a hunk: its header and its lines
 abbrev pub hunk_text : Hunk → List ℕ

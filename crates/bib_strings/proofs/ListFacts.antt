@@ -8,9 +8,12 @@ module _ {A B : Type 0} (view : A → B) (xs : List A) (i : ℕ) (x : A) (within
   left = ap (map view) (drop_more xs i x within ∙ ap (λ y. y ∷ drop (i + 1) xs) (sym is))
 
   -- what comes of one more element was added
-  pub flat_step : {C : Type 0} (each : B → List C) (old new all : List C) → new ≡ old ++ each (view x) → old ++ flat_map each (map view (drop i xs)) ≡ all → new ++ flat_map each (map view (drop (i + 1) xs)) ≡ all
+  pub flat_step : {C : Type 0} (each : B → List C) (old new all : List C) → new ≡ old ++ each (view x)
+      → old ++ flat_map each (map view (drop i xs)) ≡ all → new ++ flat_map each (map view (drop (i + 1) xs)) ≡ all
   flat_step each old new all added so_far =
-      ap (λ l. l ++ flat_map each (map view (drop (i + 1) xs))) added ∙ append_assoc old (each (view x)) (flat_map each (map view (drop (i + 1) xs))) ∙ ap (λ l. old ++ flat_map each l) (sym left) ∙ so_far
+      ap (λ l. l ++ flat_map each (map view (drop (i + 1) xs))) added
+      ∙ append_assoc old (each (view x)) (flat_map each (map view (drop (i + 1) xs)))
+      ∙ ap (λ l. old ++ flat_map each l) (sym left) ∙ so_far
 
   -- what holds of all that are left holds of the next, and of those after it
   pub all_step : (P : B → Type 0) → AllByRecursion P (map view (drop i xs)) → P (view x) × AllByRecursion P (map view (drop (i + 1) xs))

@@ -30,12 +30,16 @@ lower_starts c is = (grind (arith, nat_tests), grind (arith, nat_tests), grind (
 plain_continues : (c : ℕ) → is_plain_byte c ≡ true → (c < 128) × (is_id_continue c ≡ true)
 plain_continues c is = (grind (arith, nat_tests), grind (arith, nat_tests))
 
-plain_run : (name : List ℕ) (at : ℕ) (bs : List ℕ) → drop at name ≡ bs → at + length bs ≡ length name → list_all is_plain_byte bs ≡ true → Run is_id_continue (place name at) (place name (length name))
-plain_run name at [] here size all = let same : at ≡ length name = omega arith in subst (λ n. Run is_id_continue (place name at) (place name n)) same stop
+plain_run : (name : List ℕ) (at : ℕ) (bs : List ℕ) → drop at name ≡ bs → at + length bs ≡ length name
+    → list_all is_plain_byte bs ≡ true → Run is_id_continue (place name at) (place name (length name))
+plain_run name at [] here size all =
+    let same : at ≡ length name = omega arith in
+    subst (λ n. Run is_id_continue (place name at) (place name n)) same stop
 plain_run name at (b ∷ bs) here size all =
     let both = and_parts (is_plain_byte b) (list_all is_plain_byte bs) all in
     let fits = plain_continues b both.0 in
-    step (ascii_stands name bs at b fits.0 here) fits.1 (plain_run name (at + 1) bs (sym (drop-drop 1 at name) ∙ ap (drop 1) here) (omega arith) both.1)
+    step (ascii_stands name bs at b fits.0 here) fits.1
+    (plain_run name (at + 1) bs (sym (drop-drop 1 at name) ∙ ap (drop 1) here) (omega arith) both.1)
 
 pub plain_can : (name : List ℕ) → is_plain_name name ≡ true → CanBeName name × NoDigit (place name 0)
 plain_can [] is = absurd (false≢true is)
@@ -52,8 +56,10 @@ plain_can (b ∷ bs) is =
       starts = fits.1;
       rest = record { run = run; stops = λ c v char. absurd (no_char_at_end refl char) };
       reading = refl;
-    } in
-    ((part (place name 0) (place name (length name)), i), λ c v char digit. absurd (false≢true (sym fits.2 ∙ ap is_ascii_digit (same_char first char).0 ∙ digit)))
+    } in (
+      (part (place name 0) (place name (length name)), i),
+      λ c v char digit. absurd (false≢true (sym fits.2 ∙ ap is_ascii_digit (same_char first char).0 ∙ digit)),
+    )
 
 -- ---- a name that is longer than others
 
@@ -67,15 +73,19 @@ plain_append (b ∷ bs) n all =
     let both = and_parts (is_plain_byte b) (list_all is_plain_byte bs) all in
     ap (λ x. x && list_all is_plain_byte (bs ++ replicate n 48)) both.0 ∙ plain_append bs n both.1
 
-plain_longer : (base : List ℕ) (n : ℕ) → is_plain_name base ≡ true → (is_plain_name (base ++ replicate n 48) ≡ true) × (n < length (base ++ replicate n 48))
+plain_longer : (base : List ℕ) (n : ℕ) → is_plain_name base ≡ true
+    → (is_plain_name (base ++ replicate n 48) ≡ true) × (n < length (base ++ replicate n 48))
 plain_longer [] n is = absurd (false≢true is)
 plain_longer (b ∷ bs) n is =
-    let both = and_parts (is_ascii_lowercase b) (list_all is_plain_byte bs) is in
-    (ap (λ x. x && list_all is_plain_byte (bs ++ replicate n 48)) both.0 ∙ plain_append bs n both.1, omega (arith, length-append (b ∷ bs) (replicate n 48), length-replicate {A = ℕ} n 48))
+    let both = and_parts (is_ascii_lowercase b) (list_all is_plain_byte bs) is in (
+      ap (λ x. x && list_all is_plain_byte (bs ++ replicate n 48)) both.0 ∙ plain_append bs n both.1,
+      omega (arith, length-append (b ∷ bs) (replicate n 48), length-replicate {A = ℕ} n 48),
+    )
 
 word_length : (name word : List ℕ) → is_word name word ≡ true → length name ≡ length word
 word_length name word is =
-    let same : str_to_ascii_lowercase name ≡ str_to_ascii_lowercase word = (bytes_eq-Decides (str_to_ascii_lowercase name) (str_to_ascii_lowercase word)).0 is in
+    let same : str_to_ascii_lowercase name ≡ str_to_ascii_lowercase word =
+    (bytes_eq-Decides (str_to_ascii_lowercase name) (str_to_ascii_lowercase word)).0 is in
     sym (length-map name _) ∙ ap length same ∙ length-map word _
 
 no_word : (name word : List ℕ) → 3 < length name → length word ≡ 3 → is_word name word ≡ false
@@ -86,12 +96,31 @@ no_word name word long three = by_case (is_word name word) refl
     by_case false is = is
 
 no_month : (name : List ℕ) → 3 < length name → is_month name ≡ false
-no_month name long = or_false (or_false (or_false (or_false (or_false (or_false (or_false (or_false (or_false (or_false (or_false (no_word name (codes "jan") long refl) (no_word name (codes "feb") long refl)) (no_word name (codes "mar") long refl)) (no_word name (codes "apr") long refl)) (no_word name (codes "may") long refl)) (no_word name (codes "jun") long refl)) (no_word name (codes "jul") long refl)) (no_word name (codes "aug") long refl)) (no_word name (codes "sep") long refl)) (no_word name (codes "oct") long refl)) (no_word name (codes "nov") long refl)) (no_word name (codes "dec") long refl)
+no_month name long =
+    or_false
+    (or_false
+    (or_false
+    (or_false
+    (or_false
+    (or_false
+    (or_false
+    (or_false
+    (or_false
+    (or_false
+    (or_false (no_word name (codes "jan") long refl)
+    (no_word name (codes "feb") long refl))
+    (no_word name (codes "mar") long refl))
+    (no_word name (codes "apr") long refl)) (no_word name (codes "may") long refl))
+    (no_word name (codes "jun") long refl)) (no_word name (codes "jul") long refl))
+    (no_word name (codes "aug") long refl)) (no_word name (codes "sep") long refl))
+    (no_word name (codes "oct") long refl)) (no_word name (codes "nov") long refl))
+    (no_word name (codes "dec") long refl)
   where
     or_false : {a b : Bool} → a ≡ false → b ≡ false → (a || b) ≡ false
     or_false {a} {b} first last = ap (λ x. x || b) first ∙ last
 
-pub longer_fresh : (taken : Taken) (base name : List ℕ) → IsBounded taken → 3 ≤ taken.longest → is_plain_name base ≡ true → name ≡ base ++ replicate taken.longest 48 → IsFresh taken name
+pub longer_fresh : (taken : Taken) (base name : List ℕ) → IsBounded taken → 3 ≤ taken.longest
+    → is_plain_name base ≡ true → name ≡ base ++ replicate taken.longest 48 → IsFresh taken name
 longer_fresh taken base name bounded three plain is =
     let longer = plain_longer base taken.longest plain in
     let size : taken.longest < length name = omega (arith, longer.1, ap length is) in
@@ -125,27 +154,40 @@ name_lower (b ∷ bs) is =
     plain_lower (b ∷ bs) (ap (λ x. x && list_all is_plain_byte bs) (letter_is_plain b both.0) ∙ both.1)
 
 -- a name that was looked at
-pub new_fresh : (taken : Taken) (name : List ℕ) → (is_plain_name name && (not (is_month name) && not (has_lowercase taken name))) ≡ true → IsFresh taken name
+pub new_fresh : (taken : Taken) (name : List ℕ)
+    → (is_plain_name name && (not (is_month name) && not (has_lowercase taken name))) ≡ true → IsFresh taken name
 new_fresh taken name is =
     let a = and_parts (is_plain_name name) (not (is_month name) && not (has_lowercase taken name)) is in
     let b = and_parts (not (is_month name)) (not (has_lowercase taken name)) a.1 in
-    record { plain = a.0; no_month = not_true (is_month name) b.0; free = ap (has_lowercase taken) (name_lower name a.0) ∙ not_true (has_lowercase taken name) b.1 }
+    record {
+      plain = a.0;
+      no_month = not_true (is_month name) b.0;
+      free = ap (has_lowercase taken) (name_lower name a.0) ∙ not_true (has_lowercase taken name) b.1;
+    }
 
 -- ---- names one after another
 
-pub names_more : (says : FileReading) (names : List (List ℕ)) (name : List ℕ) (taken : Taken) (initial : List ℕ → Bool) → IsFresh taken name → ((other : List ℕ) → is_taken taken other ≡ (is_one_in_any_case names other || initial other))
-    → ((other : List ℕ) → initial other ≡ is_one_in_any_case (names_of_file says) other) → AreNewNames says names → AreNewNames says (names ++ name ∷ [])
+pub names_more : (says : FileReading) (names : List (List ℕ)) (name : List ℕ) (taken : Taken) (initial : List ℕ → Bool)
+    → IsFresh taken name → ((other : List ℕ) → is_taken taken other ≡ (is_one_in_any_case names other || initial other))
+    → ((other : List ℕ) → initial other ≡ is_one_in_any_case (names_of_file says) other) → AreNewNames says names
+    → AreNewNames says (names ++ name ∷ [])
 names_more says names name taken initial fresh known file new =
     let none = or_parts (is_one_in_any_case names name) (initial name) (sym (known name) ∙ fresh.free) in
     let can = plain_can name fresh.plain in
-    AreNewNames.more names name new (record { can = can.0; no_digit = can.1; no_month = fresh.no_month; free = sym (file name) ∙ none.1 }) none.0
+    AreNewNames.more names name new
+    (record { can = can.0; no_digit = can.1; no_month = fresh.no_month; free = sym (file name) ∙ none.1 }) none.0
 
-pub taken_more : (names : List (List ℕ)) (name other : List ℕ) (new old initial : Bool) → new ≡ (is_word name other || old) → old ≡ (is_one_in_any_case names other || initial) → new ≡ (is_one_in_any_case (names ++ name ∷ []) other || initial)
+pub taken_more : (names : List (List ℕ)) (name other : List ℕ) (new old initial : Bool)
+    → new ≡ (is_word name other || old) → old ≡ (is_one_in_any_case names other || initial)
+    → new ≡ (is_one_in_any_case (names ++ name ∷ []) other || initial)
 taken_more names name other new old initial more known =
-    more ∙ ap (λ b. is_word name other || b) known ∙ or_assoc (is_word name other) (is_one_in_any_case names other) initial ∙ ap (λ b. b || initial) (sym (any_push (λ n. is_word n other) names name))
+    more ∙ ap (λ b. is_word name other || b) known
+    ∙ or_assoc (is_word name other) (is_one_in_any_case names other) initial
+    ∙ ap (λ b. b || initial) (sym (any_push (λ n. is_word n other) names name))
 
 -- a name that is taken is no longer than the longest
-pub bounded_more : (name other : List ℕ) (before after : ℕ) (new old : Bool) → new ≡ (is_word name other || old) → (old ≡ true → length other ≤ before) → length name ≤ after → before ≤ after → new ≡ true → length other ≤ after
+pub bounded_more : (name other : List ℕ) (before after : ℕ) (new old : Bool) → new ≡ (is_word name other || old)
+    → (old ≡ true → length other ≤ before) → length name ≤ after → before ≤ after → new ≡ true → length other ≤ after
 bounded_more name other before after new old more bounded own grows is = by_case (is_word name other) refl (sym more ∙ is)
   where
     by_case : (b : Bool) → is_word name other ≡ b → (b || old) ≡ true → length other ≤ after

@@ -19,9 +19,11 @@ use Rattle.bib_format.specs.declared.style.Delimiters.TheVariants.{Keep}
 use Rattle.bib_format.proofs.ElementFacts.{Ending, NotOpened, before, brace_before, identifier_until, number_until, one_byte, parted, quote_before}
 use Rattle.bib_format.proofs.StandsFacts.{Stands, copy_frame, copied_before}
 
-element_until : {f : Frame} {u v : Place} {e : Piece} → Zone f → Inside f u → Inside f v → Ending (there f v) → Element longest u e v → Element longest (there f u) (moved_piece f.move e) (there f v)
+element_until : {f : Frame} {u v : Place} {e : Piece} → Zone f → Inside f u → Inside f v → Ending (there f v)
+    → Element longest u e v → Element longest (there f u) (moved_piece f.move e) (there f v)
 element_until {f} {u} {v} z iu iv ending (element.number n) =
-    subst (λ p. Element longest (there f u) (literal p) (there f v)) (part_there z iu iv (ahead_number n)) (element.number (number_until z iu iv ending n))
+    subst (λ p. Element longest (there f u) (literal p) (there f v)) (part_there z iu iv (ahead_number n))
+    (element.number (number_until z iu iv ending n))
 element_until {f} {u} {v} z iu iv ending (element.named none i) =
     let is = inside_between z iu iv (ahead_char i.here) (ahead_run i.rest.run) in
     let below = below_char is i.here in
@@ -30,7 +32,8 @@ element_until z iu iv ending (element.braced b) = element.braced (braced_there z
 element_until z iu iv ending (element.quoted q) = element.quoted (quoted_there z iu iv q)
 
 -- an element whose bytes stand in another text
-pub element_stands : {a b u v : Place} {e : Piece} → Element longest a e b → b.at ≤ length a.text → Stands u (between a b) v → Ending v → Element longest u (moved_piece (λ n. n - a.at + u.at) e) v
+pub element_stands : {a b u v : Place} {e : Piece} → Element longest a e b → b.at ≤ length a.text
+    → Stands u (between a b) v → Ending v → Element longest u (moved_piece (λ n. n - a.at + u.at) e) v
 element_stands {a} {b} {u} {v} {e} x within s ending =
     let c = copied_before (ahead_element x) within s ending.here in
     let moved = λ (n : ℕ). n - a.at + u.at in
@@ -39,13 +42,16 @@ element_stands {a} {b} {u} {v} {e} x within s ending =
     (element_until c.zone c.start c.end (subst Ending (sym c.goes_end) ending) x))
 
 -- a text between two characters of ASCII
-enclosed : {u a b v : Place} (c d : ℕ) → c < 128 → d < 128 → CharAt u c a → Ahead a b → CharAt b d v → between u v ≡ c ∷ (between a b ++ d ∷ [])
+enclosed : {u a b v : Place} (c d : ℕ) → c < 128 → d < 128 → CharAt u c a → Ahead a b → CharAt b d v
+    → between u v ≡ c ∷ (between a b ++ d ∷ [])
 enclosed {u} {a} {b} {v} c d small small' opens inside closes =
     let over = ahead_then inside (ahead_char closes) in
     let within : v.at ≤ length v.text = char_within closes in
     let at_u : v.at ≤ length u.text = omega (arith, within, ap length over.text, ap length opens.same) in
     let at_a : v.at ≤ length a.text = omega (arith, within, ap length over.text) in
-    parted (ahead_char opens) over at_u ∙ ap (λ t. t ++ between a v) (one_byte c small opens) ∙ ap (λ t. c ∷ t) (parted inside (ahead_char closes) at_a ∙ ap (λ t. between a b ++ t) (one_byte d small' closes))
+    parted (ahead_char opens) over at_u ∙ ap (λ t. t ++ between a v) (one_byte c small opens)
+    ∙ ap (λ t. c ∷ t)
+    (parted inside (ahead_char closes) at_a ∙ ap (λ t. between a b ++ t) (one_byte d small' closes))
 
 choice : (b q : Bool) (x y z t : List ℕ) → b ≡ false → q ≡ true → y ≡ t → cond b x (cond q y z) ≡ t
 choice b q x y z t no_brace quote is = ap (λ c. cond c x (cond q y z)) no_brace ∙ ap (λ c. cond c y z) quote ∙ is
@@ -59,12 +65,19 @@ element_written (element.number n) opened = neither _ _ _ _ _ opened.no_brace op
 element_written (element.named none i) opened = ap (λ p. p.text) i.reading
 element_written {u} {v} (element.braced b) opened =
     let same : piece_as_written Keep b.inside.text (literal (part b.inside b.following)) ≡ between u v =
-    ap (λ c. cond c (123 ∷ (between b.inside b.following ++ 125 ∷ [])) (cond (ends_with eqb (before b.inside) (codes "\"")) (34 ∷ (between b.inside b.following ++ 34 ∷ [])) (between b.inside b.following))) (brace_before b.opens)
+    ap
+    (λ c.
+    cond c (123 ∷ (between b.inside b.following ++ 125 ∷ []))
+    (cond (ends_with eqb (before b.inside) (codes "\"")) (34 ∷ (between b.inside b.following ++ 34 ∷ []))
+    (between b.inside b.following))) (brace_before b.opens)
     ∙ sym (enclosed 123 125 (omega arith) (omega arith) b.opens (ahead_parts b.parts) b.closes) in
-    ap (λ p. piece_as_written Keep u.text (literal p)) b.reading ∙ ap (λ t. piece_as_written Keep t (literal (part b.inside b.following))) (sym b.opens.same) ∙ same
+    ap (λ p. piece_as_written Keep u.text (literal p)) b.reading
+    ∙ ap (λ t. piece_as_written Keep t (literal (part b.inside b.following))) (sym b.opens.same) ∙ same
 element_written {u} {v} (element.quoted q) opened =
     let is = quote_before q.opens in
     let same : piece_as_written Keep q.inside.text (literal (part q.inside q.following)) ≡ between u v =
-    choice _ _ (123 ∷ (between q.inside q.following ++ 125 ∷ [])) (34 ∷ (between q.inside q.following ++ 34 ∷ [])) (between q.inside q.following) (between u v) is.0 is.1
+    choice _ _ (123 ∷ (between q.inside q.following ++ 125 ∷ [])) (34 ∷ (between q.inside q.following ++ 34 ∷ []))
+    (between q.inside q.following) (between u v) is.0 is.1
     (sym (enclosed 34 34 (omega arith) (omega arith) q.opens (ahead_quoted_parts q.parts) q.closes)) in
-    ap (λ p. piece_as_written Keep u.text (literal p)) q.reading ∙ ap (λ t. piece_as_written Keep t (literal (part q.inside q.following))) (sym q.opens.same) ∙ same
+    ap (λ p. piece_as_written Keep u.text (literal p)) q.reading
+    ∙ ap (λ t. piece_as_written Keep t (literal (part q.inside q.following))) (sym q.opens.same) ∙ same

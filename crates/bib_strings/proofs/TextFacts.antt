@@ -18,11 +18,13 @@ module _ {A B : Type 0} (view : A → B) (xs : List A) (i : ℕ) (x : A) (within
   pub size_so_far : length (map view (take i xs)) ≡ i
   size_so_far = length-map (take i xs) view ∙ length-take-le i xs (omega arith)
 
-times_push : (text : List ℕ) (ts : List (List ℕ)) (t : List ℕ) → times_of text (ts ++ t ∷ []) ≡ times_of text ts + cond (bytes_eq t text) 1 0
+times_push : (text : List ℕ) (ts : List (List ℕ)) (t : List ℕ)
+    → times_of text (ts ++ t ∷ []) ≡ times_of text ts + cond (bytes_eq t text) 1 0
 times_push text ts t = fold_push (λ a u. a + cond (bytes_eq u text) 1 0) 0 ts t
 
 -- one more text is counted
-pub counted_more : (text t : List ℕ) (ts : List (List ℕ)) (old : Option ℕ) (count : ℕ) → count ≡ times_of t ts → option_map_or (λ n. n) old 0 ≡ times_of text ts
+pub counted_more : (text t : List ℕ) (ts : List (List ℕ)) (old : Option ℕ) (count : ℕ) → count ≡ times_of t ts
+    → option_map_or (λ n. n) old 0 ≡ times_of text ts
     → option_map_or (λ n. n) (cond (bytes_eq t text) (Some (count + 1)) old) 0 ≡ times_of text (ts ++ t ∷ [])
 counted_more text t ts old count counted before = by_case (bytes_eq t text) refl ∙ sym (times_push text ts t)
   where
@@ -31,12 +33,14 @@ counted_more text t ts old count counted before = by_case (bytes_eq t text) refl
     by_case false other = let none : times_of text ts ≡ times_of text ts + 0 = omega arith in before ∙ none
 
 -- one more line
-pub lines_push : (names texts : List (List ℕ)) (name text : List ℕ) → length names ≡ length texts → definition_lines (names ++ name ∷ []) (texts ++ text ∷ []) ≡ definition_lines names texts ++ string_line name text
+pub lines_push : (names texts : List (List ℕ)) (name text : List ℕ) → length names ≡ length texts
+    → definition_lines (names ++ name ∷ []) (texts ++ text ∷ []) ≡ definition_lines names texts ++ string_line name text
 lines_push [] [] name text same = append-nil (string_line name text)
 lines_push [] (t ∷ ts) name text same = absurd (omega arith)
 lines_push (n ∷ ns) [] name text same = absurd (omega arith)
 lines_push (n ∷ ns) (t ∷ ts) name text same =
-    ap (λ l. string_line n t ++ l) (lines_push ns ts name text (omega arith)) ∙ sym (append_assoc (string_line n t) (definition_lines ns ts) (string_line name text))
+    ap (λ l. string_line n t ++ l) (lines_push ns ts name text (omega arith))
+    ∙ sym (append_assoc (string_line n t) (definition_lines ns ts) (string_line name text))
 
 -- ---- names among names
 

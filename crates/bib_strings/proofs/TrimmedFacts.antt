@@ -27,14 +27,16 @@ trailing : (cs : List ℕ) → (ws : List ℕ) × (cs ≡ drop_trailing_whitespa
 trailing [] = ([], refl, tt)
 trailing (c ∷ cs) = let rest = trailing cs in by_case (is_whitespace c) (drop_trailing_whitespace cs) rest.0 refl rest.1 rest.2
   where
-    by_case : (w : Bool) (l ws : List ℕ) → is_whitespace c ≡ w → cs ≡ l ++ ws → NonePass is_not_whitespace ws → (vs : List ℕ) × (c ∷ cs ≡ cond (w && (length l == 0)) [] (c ∷ l) ++ vs) × NonePass is_not_whitespace vs
+    by_case : (w : Bool) (l ws : List ℕ) → is_whitespace c ≡ w → cs ≡ l ++ ws → NonePass is_not_whitespace ws
+        → (vs : List ℕ) × (c ∷ cs ≡ cond (w && (length l == 0)) [] (c ∷ l) ++ vs) × NonePass is_not_whitespace vs
     by_case true [] ws white cut none = (c ∷ ws, ap (λ xs. c ∷ xs) cut, (ap not white, none))
     by_case true (x ∷ xs) ws white cut none =
         let some : (length (x ∷ xs) == 0) ≡ false = grind arith in
         (ws, ap (λ ys. c ∷ ys) cut ∙ sym (ap (λ b. cond b [] (c ∷ x ∷ xs) ++ ws) some), none)
     by_case false l ws white cut none = (ws, ap (λ ys. c ∷ ys) cut, none)
 
-trimmed_at : (part : List ℕ) → IsUtf8 part → (length (trim_end part) ≤ length part) × NoCharPasses is_not_whitespace (drop (length (trim_end part)) part)
+trimmed_at : (part : List ℕ) → IsUtf8 part
+    → (length (trim_end part) ≤ length part) × NoCharPasses is_not_whitespace (drop (length (trim_end part)) part)
 unfolding trim_end
 trimmed_at part utf8 =
     let cs : List ℕ = utf8.0 in
@@ -42,9 +44,14 @@ trimmed_at part utf8 =
     let parts = trailing cs in
     let front : List ℕ = drop_trailing_whitespace cs in
     let trimmed : trim_end part ≡ encode_utf8_all front = ap (λ l. encode_utf8_all (drop_trailing_whitespace l)) are in
-    let whole : part ≡ encode_utf8_all front ++ encode_utf8_all parts.0 = sym utf8.1.1 ∙ ap encode_utf8_all parts.1 ∙ encodes-append front parts.0 in
-    let rest : drop (length (trim_end part)) part ≡ encode_utf8_all parts.0 = ap (λ t. drop (length t) part) trimmed ∙ ap (drop (length (encode_utf8_all front))) whole ∙ drop_at (encode_utf8_all front) (encode_utf8_all parts.0) (length (encode_utf8_all front)) refl in
-    (omega (arith, ap length whole, length-append (encode_utf8_all front) (encode_utf8_all parts.0), ap length trimmed), (parts.0, sym rest, parts.2))
+    let whole : part ≡ encode_utf8_all front ++ encode_utf8_all parts.0 =
+    sym utf8.1.1 ∙ ap encode_utf8_all parts.1 ∙ encodes-append front parts.0 in
+    let rest : drop (length (trim_end part)) part ≡ encode_utf8_all parts.0 =
+    ap (λ t. drop (length t) part) trimmed ∙ ap (drop (length (encode_utf8_all front))) whole
+    ∙ drop_at (encode_utf8_all front) (encode_utf8_all parts.0) (length (encode_utf8_all front)) refl in (
+      omega (arith, ap length whole, length-append (encode_utf8_all front) (encode_utf8_all parts.0), ap length trimmed),
+      (parts.0, sym rest, parts.2),
+    )
 
 pub trimmed_known : (text : List ℕ) (f : FieldReading) → IsUtf8 text → IsPlaced text f → IsTrimmed text f
 trimmed_known text f utf8 placed =
@@ -59,22 +66,37 @@ pub record IsFieldPlaced (text : List ℕ) (f : FieldReading) : Type 0 where
   pub placed : IsPlaced text f
   pub trimmed : IsTrimmed text f
 
-edits_earlier : (text : List ℕ) (at less : ℕ) (edits : List Edit) → less ≤ at → AreEditsInOrder text at edits → AreEditsInOrder text less edits
+edits_earlier : (text : List ℕ) (at less : ℕ) (edits : List Edit) → less ≤ at → AreEditsInOrder text at edits
+    → AreEditsInOrder text less edits
 edits_earlier text at less [] small order = tt
 edits_earlier text at less (edit ∷ edits) small order = (omega (arith, order.0), order.1, order.2, order.3, order.4)
 
-value_in_order : (text : List ℕ) (at : ℕ) (f : FieldReading) (new : Option NewValue) (later : List Edit) → at ≤ f.value.start → f.value.start ≤ f.value.end → IsFieldPlaced text f → AreEditsInOrder text f.value.end later → AreEditsInOrder text at (value_edits text f new ++ later)
+value_in_order : (text : List ℕ) (at : ℕ) (f : FieldReading) (new : Option NewValue) (later : List Edit)
+    → at ≤ f.value.start → f.value.start ≤ f.value.end → IsFieldPlaced text f → AreEditsInOrder text f.value.end later
+    → AreEditsInOrder text at (value_edits text f new ++ later)
 value_in_order text at f None later before ordered is order = edits_earlier text f.value.end at later (omega arith) order
 value_in_order text at f (Some new) later before ordered is order =
-    let end : ℕ = f.value.start + length (trim_end (value_stretch text f)) in
-    (before, omega arith, is.placed.start, run_boundary {u = place text end} {v = place text f.value.end} is.trimmed is.placed.end, edits_earlier text f.value.end end later (ahead_run is.trimmed).at order)
+    let end : ℕ = f.value.start + length (trim_end (value_stretch text f)) in (
+      before,
+      omega arith,
+      is.placed.start,
+      run_boundary {u = place text end} {v = place text f.value.end} is.trimmed is.placed.end,
+      edits_earlier text f.value.end end later (ahead_run is.trimmed).at order,
+    )
 
-fields_in_order : (exchange : Exchange) (text : List ℕ) (at end : ℕ) (fs : List FieldReading) (later : List Edit) → AreOrdered at fs end → AllByRecursion (IsFieldPlaced text) fs → AreEditsInOrder text end later → AreEditsInOrder text at (field_edits exchange text fs ++ later)
+fields_in_order : (exchange : Exchange) (text : List ℕ) (at end : ℕ) (fs : List FieldReading) (later : List Edit)
+    → AreOrdered at fs end → AllByRecursion (IsFieldPlaced text) fs → AreEditsInOrder text end later
+    → AreEditsInOrder text at (field_edits exchange text fs ++ later)
 fields_in_order exchange text at end [] later order all rest = edits_earlier text end at later order rest
 fields_in_order exchange text at end (f ∷ fs) later order all rest =
     subst (AreEditsInOrder text at) (sym (append_assoc (value_edits text f (exchange f)) (field_edits exchange text fs) later))
-    (value_in_order text at f (exchange f) (field_edits exchange text fs ++ later) order.0 order.1 all.0 (fields_in_order exchange text f.value.end end fs later order.2 all.1 rest))
+    (value_in_order text at f (exchange f) (field_edits exchange text fs ++ later) order.0 order.1 all.0
+    (fields_in_order exchange text f.value.end end fs later order.2 all.1 rest))
 
-pub edits_in_order : (exchange : Exchange) (text : List ℕ) (at : ℕ) (es : List EntryReading) → AreEntriesOrdered at es → AllByRecursion (λ e. AllByRecursion (IsFieldPlaced text) e.fields) es → AreEditsInOrder text at (entry_edits exchange text es)
+pub edits_in_order : (exchange : Exchange) (text : List ℕ) (at : ℕ) (es : List EntryReading) → AreEntriesOrdered at es
+    → AllByRecursion (λ e. AllByRecursion (IsFieldPlaced text) e.fields) es
+    → AreEditsInOrder text at (entry_edits exchange text es)
 edits_in_order exchange text at [] order all = tt
-edits_in_order exchange text at (e ∷ es) order all = fields_in_order exchange text at order.0 e.fields (entry_edits exchange text es) order.1 all.0 (edits_in_order exchange text order.0 es order.2 all.1)
+edits_in_order exchange text at (e ∷ es) order all =
+    fields_in_order exchange text at order.0 e.fields (entry_edits exchange text es) order.1 all.0
+    (edits_in_order exchange text order.0 es order.2 all.1)

@@ -52,14 +52,20 @@ pub record RepeatsInBraces (least : ℕ) (texts : List (List ℕ)) (text : List 
 -- those of some texts that have a property, each once, in the order of their first appearance
 pub data FirstOnes (Chosen : List ℕ → Type 0) : List (List ℕ) → List (List ℕ) → Type 0 where
   none : FirstOnes Chosen [] []
-  first : {found : List (List ℕ)} (texts : List (List ℕ)) (text : List ℕ) → FirstOnes Chosen texts found → is_listed texts text ≡ false → Chosen text → FirstOnes Chosen (texts ++ text ∷ []) (found ++ text ∷ [])
-  left : {found : List (List ℕ)} (texts : List (List ℕ)) (text : List ℕ) → FirstOnes Chosen texts found → is_listed texts text ≡ false → (Chosen text → ⊥) → FirstOnes Chosen (texts ++ text ∷ []) found
-  again : {found : List (List ℕ)} (texts : List (List ℕ)) (text : List ℕ) → FirstOnes Chosen texts found → is_listed texts text ≡ true → FirstOnes Chosen (texts ++ text ∷ []) found
+  first : {found : List (List ℕ)} (texts : List (List ℕ)) (text : List ℕ) → FirstOnes Chosen texts found
+      → is_listed texts text ≡ false → Chosen text → FirstOnes Chosen (texts ++ text ∷ []) (found ++ text ∷ [])
+  left : {found : List (List ℕ)} (texts : List (List ℕ)) (text : List ℕ) → FirstOnes Chosen texts found
+      → is_listed texts text ≡ false → (Chosen text → ⊥) → FirstOnes Chosen (texts ++ text ∷ []) found
+  again : {found : List (List ℕ)} (texts : List (List ℕ)) (text : List ℕ) → FirstOnes Chosen texts found
+      → is_listed texts text ≡ true → FirstOnes Chosen (texts ++ text ∷ []) found
 
 -- whether a name is the first three letters of a month, in any ASCII case
 abbrev pub is_month : List ℕ → Bool
 is_month name =
-    is_word name (codes "jan") || is_word name (codes "feb") || is_word name (codes "mar") || is_word name (codes "apr") || is_word name (codes "may") || is_word name (codes "jun") || is_word name (codes "jul") || is_word name (codes "aug") || is_word name (codes "sep") || is_word name (codes "oct") || is_word name (codes "nov") || is_word name (codes "dec")
+    is_word name (codes "jan") || is_word name (codes "feb") || is_word name (codes "mar") || is_word name (codes "apr")
+    || is_word name (codes "may") || is_word name (codes "jun") || is_word name (codes "jul")
+    || is_word name (codes "aug") || is_word name (codes "sep") || is_word name (codes "oct")
+    || is_word name (codes "nov") || is_word name (codes "dec")
 
 -- the name that an element is, if it is one
 abbrev pub piece_names : Piece → List (List ℕ)
@@ -96,7 +102,8 @@ pub record IsNewName (says : FileReading) (name : List ℕ) : Type 0 where
 -- names that a file has in no case, each another in any case
 pub data AreNewNames (says : FileReading) : List (List ℕ) → Type 0 where
   none : AreNewNames says []
-  more : (names : List (List ℕ)) (name : List ℕ) → AreNewNames says names → IsNewName says name → is_one_in_any_case names name ≡ false → AreNewNames says (names ++ name ∷ [])
+  more : (names : List (List ℕ)) (name : List ℕ) → AreNewNames says names → IsNewName says name
+      → is_one_in_any_case names name ≡ false → AreNewNames says (names ++ name ∷ [])
 
 -- for a text its index among texts, if it is one of them
 abbrev pub text_index : List (List ℕ) → Index
@@ -129,7 +136,9 @@ definition_lines (name ∷ names) (text ∷ texts) = string_line name text ++ de
 abbrev pub line_readings : List (List ℕ) → List (List ℕ) → List FieldReading
 line_readings [] texts = []
 line_readings (name ∷ names) [] = []
-line_readings (name ∷ names) (text ∷ texts) = record { name = text_at 0 name; value = record { pieces = literal (text_at 0 text) ∷ []; start = 0; end = 0 } } ∷ line_readings names texts
+line_readings (name ∷ names) (text ∷ texts) =
+    record { name = text_at 0 name; value = record { pieces = literal (text_at 0 text) ∷ []; start = 0; end = 0 } }
+    ∷ line_readings names texts
 
 -- what a file says with definitions before its own
 abbrev pub with_definitions : List FieldReading → FileReading → FileReading

@@ -42,10 +42,12 @@ piece_index index (abbreviation p) = index p.text
 -- elements of its definition are written out as
 pub data WritesOut (definitions : List FieldReading) : List Piece → List Piece → Type 0 where
   none : WritesOut definitions [] []
-  itself : {piece : Piece} {rest more : List Piece} → piece_index (definition_index definitions) piece ≡ None → WritesOut definitions rest more
+  itself : {piece : Piece} {rest more : List Piece} → piece_index (definition_index definitions) piece ≡ None
+      → WritesOut definitions rest more
       → WritesOut definitions (piece ∷ rest) (piece ∷ more)
   defined : {piece : Piece} {index : ℕ} {rest first more : List Piece} → piece_index (definition_index definitions) piece ≡ Some index
-      → WritesOut definitions (elements_at definitions index) first → WritesOut definitions rest more → WritesOut definitions (piece ∷ rest) (first ++ more)
+      → WritesOut definitions (elements_at definitions index) first → WritesOut definitions rest more
+      → WritesOut definitions (piece ∷ rest) (first ++ more)
 
 -- whether a name that is defined stands among elements
 abbrev pub has_defined : Index → List Piece → Bool
@@ -57,11 +59,15 @@ laid_out text pieces = value_laid_out [] (codes " # ") (map (piece_as_written Ke
 
 -- each value with a defined name is exchanged for what its elements are written out as
 abbrev pub expansion : List ℕ → Index → (FieldReading → List Piece) → Exchange
-expansion text index written f = if has_defined index (elements f) then Some (record { bytes = laid_out text (written f); pieces = written f }) else None
+expansion text index written f =
+    if has_defined index (elements f) then Some (record { bytes = laid_out text (written f); pieces = written f })
+    else None
 
 -- what the values of the fields of entries are written out as
 abbrev pub AreWrittenOut : FileReading → (FieldReading → List Piece) → Type 0
-AreWrittenOut says written = AllByRecursion (λ e. AllByRecursion (λ f. WritesOut says.abbreviations (elements f) (written f)) e.fields) says.entries
+AreWrittenOut says written =
+    AllByRecursion (λ e. AllByRecursion (λ f. WritesOut says.abbreviations (elements f) (written f)) e.fields)
+    says.entries
 
 -- a document's values with defined names, exchanged for what they are written out as
 abbrev pub document_expansion : Document → (FieldReading → List Piece) → Exchange

@@ -72,7 +72,9 @@ written_by index written pieces = flat_map (λ piece. written_piece written piec
 
 -- one more definition is written out, if it is used
 abbrev pub write_next : Index → List (List Piece) → List Bool → List (List Piece) → ℕ → List (List Piece)
-write_next index rows used written i = if slice_index_or used i false then slice_set written i (written_by index written (slice_index_or rows i [])) else written
+write_next index rows used written i =
+    if slice_index_or used i false then slice_set written i (written_by index written (slice_index_or rows i []))
+    else written
 
 -- the definitions that are used, written out in an order
 abbrev pub written_in_order : Index → List (List Piece) → List Bool → List ℕ → List (List Piece)
@@ -105,7 +107,8 @@ entries_refer_to index entries = flat_map (λ e. fields_refer_to index e.fields)
 
 -- marks on the definitions that fields of entries refer to, and on those that marked ones refer to
 abbrev pub used_definitions : Index → Graph → ℕ → List ℕ → List EntryReading → List Bool
-used_definitions index graph count order entries = marked_back graph (marked_all (replicate count false) (entries_refer_to index entries)) order
+used_definitions index graph count order entries =
+    marked_back graph (marked_all (replicate count false) (entries_refer_to index entries)) order
 
 -- an index has a mark
 abbrev pub HasMark : List Bool → ℕ → Type 0
@@ -115,6 +118,11 @@ HasMark marks i = slice_index_or marks i false ≡ true
 pub record AreUsedWritten (definitions : List FieldReading) (entries : List EntryReading) (written : List (List Piece)) : Type 0 where
   pub used : List Bool
   pub as_many : length written ≡ length definitions
-  pub each : (i : ℕ) → i < length definitions → HasMark used i → WritesOut definitions (elements_at definitions i) (slice_index_or written i [])
+  pub each : (i : ℕ) → i < length definitions → HasMark used i
+      → WritesOut definitions (elements_at definitions i) (slice_index_or written i [])
   pub others : (i : ℕ) → slice_index_or used i false ≡ false → slice_index_or written i [] ≡ []
-  pub fields : AllByRecursion (λ e. AllByRecursion (λ f. All (HasMark used) (definition_references (definition_index definitions) (elements f))) e.fields) entries
+  pub fields : AllByRecursion
+      (λ e.
+      AllByRecursion
+      (λ f. All (HasMark used) (definition_references (definition_index definitions) (elements f))) e.fields)
+      entries

@@ -18,7 +18,8 @@ braced_then first second = record {
 }
 
 -- if parts from `u` are parts from `v`, braces that close from `u` also close from `v`
-closes_map : {n : ℕ} {u v x y : Place} → ((a b : Place) → Parts u a → CharAt a 125 b → Parts v a) → ClosesOpen n u x → CharAt x 125 y → ClosesOpen n v x
+closes_map : {n : ℕ} {u v x y : Place} → ((a b : Place) → Parts u a → CharAt a 125 b → Parts v a) → ClosesOpen n u x
+    → CharAt x 125 y → ClosesOpen n v x
 closes_map change (last parts) brace = last (change _ _ parts brace)
 closes_map change (level parts close rest) brace = level (change _ _ parts close) close rest
 
@@ -66,7 +67,8 @@ opened_parts {u} {v} {x} brace (nested {w = w} {x = b} brace' inner close rest) 
 
 opened_back : {n : ℕ} {u v x y : Place} → CharAt u 123 v → ClosesOpen n u x → CharAt x 125 y → ClosesOpen (suc n) v x
 opened_back brace (last parts) closing = let o = opened_parts brace parts closing in level o.inner o.close (last o.rest)
-opened_back brace (level parts close' rest) closing = let o = opened_parts brace parts close' in level o.inner o.close (level o.rest close' rest)
+opened_back brace (level parts close' rest) closing =
+    let o = opened_parts brace parts close' in level o.inner o.close (level o.rest close' rest)
 
 closes_suc : {n : ℕ} {u v x : Place} → CharAt u 123 v → ClosesOpen (suc n) v x → ClosesOpen n u x
 closes_suc brace (level parts close rest) = opened_there brace parts close rest
@@ -100,7 +102,8 @@ parts_end end (nested brace inner close rest) = absurd (no_char_at_end end brace
 
 pub closes_end : {n : ℕ} {u x y : Place} → AtEnd u → ClosesOpen n u x → CharAt x 125 y → ⊥
 closes_end {n} {u} {x} {y} end (last parts) closing = no_char_at_end end (subst (λ p. CharAt p 125 y) (sym (parts_end end parts)) closing)
-closes_end {n} {u} {x} {y} end (level {w = w} parts close rest) closing = no_char_at_end end (subst (λ p. CharAt p 125 w) (sym (parts_end end parts)) close)
+closes_end {n} {u} {x} {y} end (level {w = w} parts close rest) closing =
+    no_char_at_end end (subst (λ p. CharAt p 125 w) (sym (parts_end end parts)) close)
 
 -- parts from a backslash up to a closing brace are parts from the place after the character that it escapes
 pub hidden_back : {u v w x y : Place} {c : ℕ} → CharAt u 92 v → CharAt v c w → Parts u x → CharAt x 125 y → Parts w x
@@ -114,7 +117,8 @@ hidden_back slash char (nested open' inner close rest) brace = absurd (char_clas
 hidden_end : {u v x y : Place} → CharAt u 92 v → AtEnd v → Parts u x → CharAt x 125 y → ⊥
 hidden_end slash end none brace = char_clash slash brace refl
 hidden_end slash end (plain char passes parts) brace = pass_clash is_plain char passes slash refl
-hidden_end slash end (hidden {w = w'} {c = c'} slash' char' parts) brace = no_char_at_end end (subst (λ p. CharAt p c' w') (same_char slash' slash).1 char')
+hidden_end slash end (hidden {w = w'} {c = c'} slash' char' parts) brace =
+    no_char_at_end end (subst (λ p. CharAt p c' w') (same_char slash' slash).1 char')
 hidden_end slash end (nested open' inner close rest) brace = char_clash slash open' refl
 
 closes_hidden_end : {n : ℕ} {u v x y : Place} → CharAt u 92 v → AtEnd v → ClosesOpen n u x → CharAt x 125 y → ⊥
@@ -122,7 +126,8 @@ closes_hidden_end slash end (last parts) brace = hidden_end slash end parts brac
 closes_hidden_end slash end (level parts close rest) brace = hidden_end slash end parts close
 
 -- moving past a backslash and the character after it, if there is one, closes and opens no brace
-pub braced_hidden : {u v w : Place} (n : ℕ) (taken : Option ℕ) → CharAt u 92 v → MatchOption taken (AtEnd v × (w ≡ v)) (λ c. CharAt v c w) → SameBraced n u n w
+pub braced_hidden : {u v w : Place} (n : ℕ) (taken : Option ℕ) → CharAt u 92 v
+    → MatchOption taken (AtEnd v × (w ≡ v)) (λ c. CharAt v c w) → SameBraced n u n w
 braced_hidden {u} {v} {w} n None slash ended = record {
   there = λ x y p c. absurd (closes_end ended.0 (subst (λ q. ClosesOpen n q x) ended.1 p) c);
   back = λ x y p c. absurd (closes_hidden_end slash ended.0 p c);
@@ -132,14 +137,16 @@ braced_hidden n (Some c) slash char = record {
   back = λ x y p q. closes_map (λ a b parts close. hidden_back slash char parts close) p q;
 }
 
-parts_stuck : {u x y : Place} → Stops is_plain u → ((v : Place) → CharAt u 123 v → ⊥) → ((v : Place) → CharAt u 125 v → ⊥) → ((v : Place) → CharAt u 92 v → ⊥) → Parts u x → CharAt x 125 y → ⊥
+parts_stuck : {u x y : Place} → Stops is_plain u → ((v : Place) → CharAt u 123 v → ⊥)
+    → ((v : Place) → CharAt u 125 v → ⊥) → ((v : Place) → CharAt u 92 v → ⊥) → Parts u x → CharAt x 125 y → ⊥
 parts_stuck stops brace close slash none closing = close _ closing
 parts_stuck stops brace close slash (plain char passes parts) closing = pass_clash is_plain char passes char (stops _ _ char)
 parts_stuck stops brace close slash (hidden char any parts) closing = slash _ char
 parts_stuck stops brace close slash (nested char inner end rest) closing = brace _ char
 
 -- no brace closes from a place without a plain character, a brace or a backslash
-pub braced_stuck : {n : ℕ} {u x y : Place} → Stops is_plain u → ((v : Place) → CharAt u 123 v → ⊥) → ((v : Place) → CharAt u 125 v → ⊥) → ((v : Place) → CharAt u 92 v → ⊥) → ClosesOpen n u x → CharAt x 125 y → ⊥
+pub braced_stuck : {n : ℕ} {u x y : Place} → Stops is_plain u → ((v : Place) → CharAt u 123 v → ⊥)
+    → ((v : Place) → CharAt u 125 v → ⊥) → ((v : Place) → CharAt u 92 v → ⊥) → ClosesOpen n u x → CharAt x 125 y → ⊥
 braced_stuck stops brace close slash (last parts) closing = parts_stuck stops brace close slash parts closing
 braced_stuck stops brace close slash (level parts end rest) closing = parts_stuck stops brace close slash parts end
 

@@ -12,50 +12,76 @@ use Rattle.bib_syntax.specs.declared.raw.closings.Closing.{Closing}
 use Rattle.bib_syntax.proofs.BraceFacts.{same_braced, braced_then, braced_run, braced_open, braced_close, braced_hidden, found_parts, closes_end}
 
 -- moving past text that opens and closes no brace
-open_over : {u v : Place} (text : List ℕ) (n : ℕ) (starts : List ℕ) → ((m : ℕ) → SameBraced m u m v) → AreOpen text n starts u → AreOpen text n starts v
+open_over : {u v : Place} (text : List ℕ) (n : ℕ) (starts : List ℕ) → ((m : ℕ) → SameBraced m u m v)
+    → AreOpen text n starts u → AreOpen text n starts v
 open_over text n [] over opened = _
 open_over text n (start ∷ more) over opened = (braced_then opened.0 (over n), open_over text (suc n) more over opened.1)
 
 -- moving past an opening brace, and past a closing one
-open_more : {u v : Place} (text : List ℕ) (n : ℕ) (starts : List ℕ) → CharAt u 123 v → AreOpen text n starts u → AreOpen text (suc n) starts v
+open_more : {u v : Place} (text : List ℕ) (n : ℕ) (starts : List ℕ) → CharAt u 123 v → AreOpen text n starts u
+    → AreOpen text (suc n) starts v
 open_more text n [] brace opened = _
 open_more text n (start ∷ more) brace opened = (braced_then opened.0 (braced_open n brace), open_more text (suc n) more brace opened.1)
 
-open_less : {u v : Place} (text : List ℕ) (n : ℕ) (starts : List ℕ) → CharAt u 125 v → AreOpen text (suc n) starts u → AreOpen text n starts v
+open_less : {u v : Place} (text : List ℕ) (n : ℕ) (starts : List ℕ) → CharAt u 125 v → AreOpen text (suc n) starts u
+    → AreOpen text n starts v
 open_less text n [] brace opened = _
 open_less text n (start ∷ more) brace opened = (braced_then opened.0 (braced_close n brace), open_less text (suc n) more brace opened.1)
 
 reverse_push : (opened : List ℕ) (start : ℕ) → reverse (opened ++ start ∷ []) ≡ start ∷ reverse opened
 reverse_push opened start = reverse-append opened (start ∷ [])
 
-pub noted_run : {u v : Place} (text opened : List ℕ) (found : List Closing) → Run is_plain u v → AreNoted text opened found u → AreNoted text opened found v
+pub noted_run : {u v : Place} (text opened : List ℕ) (found : List Closing) → Run is_plain u v
+    → AreNoted text opened found u → AreNoted text opened found v
 noted_run text opened found run noted = record {
   same = (ahead_run run).text ∙ noted.same;
   closings = noted.closings;
   opens = open_over text zero (reverse opened) (λ m. braced_run m run) noted.opens;
 }
 
-pub noted_open : {u v : Place} (text opened opened' : List ℕ) (found : List Closing) (start : ℕ) → CharAt u 123 v → start ≡ v.at → opened' ≡ opened ++ start ∷ [] → AreNoted text opened found u → AreNoted text opened' found v
+pub noted_open : {u v : Place} (text opened opened' : List ℕ) (found : List Closing) (start : ℕ) → CharAt u 123 v
+    → start ≡ v.at → opened' ≡ opened ++ start ∷ [] → AreNoted text opened found u → AreNoted text opened' found v
 noted_open {u} {v} text opened opened' found start brace here grown noted =
     let same : v.text ≡ text = brace.same ∙ noted.same in
     let first : place text start ≡ v = same_place {u = place text start} {v = v} (sym same) here in
-    let opens : AreOpen text zero (start ∷ reverse opened) v = (subst (λ p. SameBraced zero p zero v) (sym first) (same_braced zero v), open_more text zero (reverse opened) brace noted.opens) in
-    record { same = same; closings = noted.closings; opens = subst (λ starts. AreOpen text zero starts v) (sym (ap reverse grown ∙ reverse_push opened start)) opens }
+    let opens : AreOpen text zero (start ∷ reverse opened) v = (
+      subst (λ p. SameBraced zero p zero v) (sym first) (same_braced zero v),
+      open_more text zero (reverse opened) brace noted.opens,
+    ) in
+    record {
+      same = same;
+      closings = noted.closings;
+      opens = subst (λ starts. AreOpen text zero starts v) (sym (ap reverse grown ∙ reverse_push opened start)) opens;
+    }
 
 -- moving past a closing brace, which closes the last open brace
-pub noted_close : {u v : Place} (text opened opened' : List ℕ) (found found' : List Closing) (at : ℕ) → CharAt u 125 v → at ≡ u.at → Closed opened found at opened' found' → AreNoted text opened found u → AreNoted text opened' found' v
+pub noted_close : {u v : Place} (text opened opened' : List ℕ) (found found' : List Closing) (at : ℕ) → CharAt u 125 v
+    → at ≡ u.at → Closed opened found at opened' found' → AreNoted text opened found u → AreNoted text opened' found' v
 noted_close {u} {v} text opened opened' found found' at brace here (inl (none, none', same)) noted =
     let opens : AreOpen text zero (reverse []) v = _ in
-    record { same = brace.same ∙ noted.same; closings = subst (AreClosings text) (sym same) noted.closings; opens = subst (λ o. AreOpen text zero (reverse o) v) (sym none') opens }
+    record {
+      same = brace.same ∙ noted.same;
+      closings = subst (AreClosings text) (sym same) noted.closings;
+      opens = subst (λ o. AreOpen text zero (reverse o) v) (sym none') opens;
+    }
 noted_close {u} {v} text opened opened' found found' at brace here (inr (start, was, grown)) noted =
-    let opens : AreOpen text zero (start ∷ reverse opened') u = subst (λ starts. AreOpen text zero starts u) (ap reverse was ∙ reverse_push opened' start) noted.opens in
+    let opens : AreOpen text zero (start ∷ reverse opened') u =
+    subst (λ starts. AreOpen text zero starts u) (ap reverse was ∙ reverse_push opened' start) noted.opens in
     let there : place text at ≡ u = same_place {u = place text at} {v = u} (sym noted.same) here in
-    let closes : ClosesAt (place text start) (place text at) = subst (λ p. ClosesAt (place text start) p) (sym there) (found_parts opens.0 refl brace, (v, brace)) in
-    let closings : AreClosings text (found ++ record { start = start; close = Some at } ∷ []) = All-push (IsClosing text) found (record { start = start; close = Some at }) noted.closings closes in
-    record { same = brace.same ∙ noted.same; closings = subst (AreClosings text) (sym grown) closings; opens = open_less text zero (reverse opened') brace opens.1 }
+    let closes : ClosesAt (place text start) (place text at) =
+    subst (λ p. ClosesAt (place text start) p) (sym there) (found_parts opens.0 refl brace, (v, brace)) in
+    let closings : AreClosings text (found ++ record { start = start; close = Some at } ∷ []) =
+    All-push (IsClosing text) found (record { start = start; close = Some at }) noted.closings closes in
+    record {
+      same = brace.same ∙ noted.same;
+      closings = subst (AreClosings text) (sym grown) closings;
+      opens = open_less text zero (reverse opened') brace opens.1;
+    }
 
 -- moving past a backslash and the character after it, if there is one
-pub noted_hidden : {u v w : Place} (text opened : List ℕ) (found : List Closing) (taken : Option ℕ) → CharAt u 92 v → MatchOption taken (AtEnd v × (w ≡ v)) (λ c. CharAt v c w) → AreNoted text opened found u → AreNoted text opened found w
+pub noted_hidden : {u v w : Place} (text opened : List ℕ) (found : List Closing) (taken : Option ℕ) → CharAt u 92 v
+    → MatchOption taken (AtEnd v × (w ≡ v)) (λ c. CharAt v c w) → AreNoted text opened found u
+    → AreNoted text opened found w
 noted_hidden {u} {v} {w} text opened found taken slash is noted = record {
   same = taken_text taken is ∙ (slash.same ∙ noted.same);
   closings = noted.closings;
@@ -66,14 +92,21 @@ noted_hidden {u} {v} {w} text opened found taken slash is noted = record {
   taken_text (Some c) char = char.same
 
 -- at the end of the text, an open brace never closes
-pub noted_end : (u : Place) (text opened opened' : List ℕ) (found found' : List Closing) (n start : ℕ) → AtEnd u → AreClosings text found → AreOpen text n (reverse opened) u → opened ≡ opened' ++ start ∷ [] → found' ≡ found ++ record { start = start; close = None } ∷ []
+pub noted_end : (u : Place) (text opened opened' : List ℕ) (found found' : List Closing) (n start : ℕ) → AtEnd u
+    → AreClosings text found → AreOpen text n (reverse opened) u → opened ≡ opened' ++ start ∷ []
+    → found' ≡ found ++ record { start = start; close = None } ∷ []
     → AreClosings text found' × AreOpen text (suc n) (reverse opened') u
 noted_end u text opened opened' found found' n start end closings noted was grown =
-    let opens : AreOpen text n (start ∷ reverse opened') u = subst (λ starts. AreOpen text n starts u) (ap reverse was ∙ reverse_push opened' start) noted in
-    let never : NeverCloses (place text start) = λ v w parts close. closes_end end (opens.0.back v w (last parts) close) close in
-    (subst (AreClosings text) (sym grown) (All-push (IsClosing text) found (record { start = start; close = None }) closings never), opens.1)
+    let opens : AreOpen text n (start ∷ reverse opened') u =
+    subst (λ starts. AreOpen text n starts u) (ap reverse was ∙ reverse_push opened' start) noted in
+    let never : NeverCloses (place text start) = λ v w parts close. closes_end end (opens.0.back v w (last parts) close) close in (
+      subst (AreClosings text) (sym grown)
+          (All-push (IsClosing text) found (record { start = start; close = None }) closings never),
+      opens.1,
+    )
 
-pub noted_same : {u v : Place} (text opened : List ℕ) (found : List Closing) → v ≡ u → AreNoted text opened found u → AreNoted text opened found v
+pub noted_same : {u v : Place} (text opened : List ℕ) (found : List Closing) → v ≡ u → AreNoted text opened found u
+    → AreNoted text opened found v
 noted_same {u} {v} text opened found same noted = subst (λ p. AreNoted text opened found p) (sym same) noted
 
 -- at the start of a text, no brace is open and there are no notes

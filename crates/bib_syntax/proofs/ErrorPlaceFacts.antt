@@ -77,11 +77,20 @@ record IsLater (u : Place) (kind : ParseErrorKind) (v : Place) : Type 0 where
 later_here : (u : Place) (kind : ParseErrorKind) → IsTrue (is_syntax kind) → IsLater u kind u
 later_here u kind syntax = record { syntax = syntax; ahead = ahead_here u; inside = λ i. i }
 
-later_at_end : (u : Place) (kind : ParseErrorKind) → IsTrue (is_syntax kind) → u.at ≤ length u.text → IsLater u kind (place u.text (length u.text))
-later_at_end u kind syntax i = record { syntax = syntax; ahead = record { text = refl; at = i }; inside = λ j. record { bound = omega arith } }
+later_at_end : (u : Place) (kind : ParseErrorKind) → IsTrue (is_syntax kind) → u.at ≤ length u.text
+    → IsLater u kind (place u.text (length u.text))
+later_at_end u kind syntax i = record {
+  syntax = syntax;
+  ahead = record { text = refl; at = i };
+  inside = λ j. record { bound = omega arith };
+}
 
 later_from : {u v w : Place} {kind : ParseErrorKind} → Ahead u v → (Inside u → Inside v) → IsLater v kind w → IsLater u kind w
-later_from ahead inside later = record { syntax = later.syntax; ahead = ahead_then ahead later.ahead; inside = λ i. later.inside (inside i) }
+later_from ahead inside later = record {
+  syntax = later.syntax;
+  ahead = ahead_then ahead later.ahead;
+  inside = λ i. later.inside (inside i);
+}
 
 -- the place of a character isn't after the end of the text
 stands_inside : {u v : Place} {c : ℕ} → CharAt u c v → u.at ≤ length u.text
@@ -94,7 +103,8 @@ identifier_later (identifier_fail.missing stops) = later_here _ _ refl
 
 number_later : {u v : Place} {k : ParseErrorKind} → NumberFails u k v → IsLater u k v
 number_later (number_fail.second_point run point more second) =
-    later_from (ahead_then (ahead_run run.run) (ahead_then (ahead_char point) (ahead_run more.run))) (λ i. run_inside more.run (char_inside point)) (later_here _ _ refl)
+    later_from (ahead_then (ahead_run run.run) (ahead_then (ahead_char point) (ahead_run more.run)))
+    (λ i. run_inside more.run (char_inside point)) (later_here _ _ refl)
 
 quoted_later : {u v : Place} {k : ParseErrorKind} → QuotedFails u k v → IsLater u k v
 quoted_later (quoted_fail.missing stops) = later_here _ _ refl
@@ -112,43 +122,61 @@ element_later (element_fail.quoted quote f) = quoted_later f
 elements_later : {u v : Place} {k : ParseErrorKind} → ElementsFails u k v → IsLater u k v
 elements_later (elements_fail.first f) = element_later f
 elements_later (elements_fail.more e white sign white' f) =
-    later_from (ahead_then (ahead_element e) (ahead_then (ahead_run white.run) (ahead_then (ahead_char sign) (ahead_run white'.run)))) (λ i. run_inside white'.run (char_inside sign)) (elements_later f)
+    later_from
+    (ahead_then (ahead_element e)
+    (ahead_then (ahead_run white.run) (ahead_then (ahead_char sign) (ahead_run white'.run))))
+    (λ i. run_inside white'.run (char_inside sign)) (elements_later f)
 
 name_inside : {u v : Place} {p : Part} → Identifier longest u p v → Inside v
 name_inside name = run_inside name.rest.run (char_inside name.here)
 
 field_later : {u v : Place} {k : ParseErrorKind} → FieldFails u k v → IsLater u k v
 field_later (field_fail.equals name white stops) =
-    later_from (ahead_then (ahead_identifier name) (ahead_run white.run)) (λ i. run_inside white.run (name_inside name)) (later_here _ _ refl)
+    later_from (ahead_then (ahead_identifier name) (ahead_run white.run)) (λ i. run_inside white.run (name_inside name))
+    (later_here _ _ refl)
 field_later (field_fail.value name white sign white' f) =
-    later_from (ahead_then (ahead_identifier name) (ahead_then (ahead_run white.run) (ahead_then (ahead_char sign) (ahead_run white'.run)))) (λ i. run_inside white'.run (char_inside sign)) (elements_later f)
+    later_from
+    (ahead_then (ahead_identifier name)
+    (ahead_then (ahead_run white.run) (ahead_then (ahead_char sign) (ahead_run white'.run))))
+    (λ i. run_inside white'.run (char_inside sign)) (elements_later f)
 
 fields_later : {u v : Place} {k : ParseErrorKind} → FieldsFails u k v → IsLater u k v
 fields_later (fields_fail.first f) = field_later f
 fields_later (fields_fail.more x g sign h f) =
-    later_from (ahead_then (ahead_field x) (ahead_then (ahead_gap g) (ahead_then (ahead_char sign) (ahead_gap h)))) (λ i. gap_inside h (char_inside sign)) (fields_later f)
-fields_later (fields_fail.comma x g stops) = later_from (ahead_then (ahead_field x) (ahead_gap g)) (λ i. gap_inside g (elements_inside x.elements)) (later_here _ _ refl)
+    later_from (ahead_then (ahead_field x) (ahead_then (ahead_gap g) (ahead_then (ahead_char sign) (ahead_gap h))))
+    (λ i. gap_inside h (char_inside sign)) (fields_later f)
+fields_later (fields_fail.comma x g stops) =
+    later_from (ahead_then (ahead_field x) (ahead_gap g)) (λ i. gap_inside g (elements_inside x.elements))
+    (later_here _ _ refl)
 fields_later (fields_fail.name none white stops more) = later_from (ahead_run white.run) (λ i. run_inside white.run i) (later_here _ _ refl)
 fields_later (fields_fail.ended none white end) = later_from (ahead_run white.run) (λ i. run_inside white.run i) (later_here _ _ refl)
 
 head_later : {u v : Place} {k : ParseErrorKind} → HeadFails u k v → IsLater u k v
 head_later (head_fail.name sign f) = later_from (ahead_char sign) (λ i. char_inside sign) (identifier_later f)
 head_later (head_fail.brace sign name white stops) =
-    later_from (ahead_then (ahead_char sign) (ahead_then (ahead_identifier name) (ahead_run white.run))) (λ i. run_inside white.run (name_inside name)) (later_here _ _ refl)
+    later_from (ahead_then (ahead_char sign) (ahead_then (ahead_identifier name) (ahead_run white.run)))
+    (λ i. run_inside white.run (name_inside name)) (later_here _ _ refl)
 
 body_later : {b : BlockKind} {u v : Place} {k : ParseErrorKind} → BodyFails b u k v → IsLater u k v
 body_later (body_fail.comment run end) = later_from (ahead_run run.run) (λ i. run_inside run.run i) (later_here _ _ refl)
 body_later (body_fail.preamble f) = quoted_later f
-body_later (body_fail.preamble_end q white stops) = later_from (ahead_then (ahead_quoted q) (ahead_run white.run)) (λ i. run_inside white.run (char_inside q.closes)) (later_here _ _ refl)
+body_later (body_fail.preamble_end q white stops) =
+    later_from (ahead_then (ahead_quoted q) (ahead_run white.run)) (λ i. run_inside white.run (char_inside q.closes))
+    (later_here _ _ refl)
 body_later (body_fail.strings f) = fields_later f
 body_later (body_fail.comma key white stops) =
-    later_from (ahead_then (ahead_run key.run) (ahead_run white.run)) (λ i. run_inside white.run (run_inside key.run i)) (later_here _ _ refl)
+    later_from (ahead_then (ahead_run key.run) (ahead_run white.run)) (λ i. run_inside white.run (run_inside key.run i))
+    (later_here _ _ refl)
 body_later (body_fail.fields key white comma gap f) =
-    later_from (ahead_then (ahead_run key.run) (ahead_then (ahead_run white.run) (ahead_then (ahead_char comma) (ahead_gap gap)))) (λ i. gap_inside gap (char_inside comma)) (fields_later f)
+    later_from
+    (ahead_then (ahead_run key.run)
+    (ahead_then (ahead_run white.run) (ahead_then (ahead_char comma) (ahead_gap gap))))
+    (λ i. gap_inside gap (char_inside comma)) (fields_later f)
 
 block_later : {u v : Place} {k : ParseErrorKind} → BlockFails u k v → IsLater u k v
 block_later (block_fail.head f) = head_later f
-block_later (block_fail.body head f) = later_from (ahead_head head) (λ i. run_inside head.white'.run (char_inside head.opens)) (body_later f)
+block_later (block_fail.body head f) =
+    later_from (ahead_head head) (λ i. run_inside head.white'.run (char_inside head.opens)) (body_later f)
 
 file_later : {u v : Place} {k : ParseErrorKind} → FileFails u k v → IsLater u k v
 file_later (file_fail.skipped char passes f) = later_from (ahead_char char) (λ i. char_inside char) (file_later f)
@@ -161,4 +189,9 @@ pub reported_syntax : (text : List ℕ) (e : ParseError) → IsReported text e �
 reported_syntax text e r =
     let later = file_later r.fails in
     let end = later.inside (record { bound = omega arith }) in
-    subst (λ x. IsSyntaxError text x) (sym r.is) (record { kind = later.syntax; ordered = omega arith; within = subst (λ t. r.place.at ≤ length t) later.ahead.text end.bound })
+    subst (λ x. IsSyntaxError text x) (sym r.is)
+    (record {
+      kind = later.syntax;
+      ordered = omega arith;
+      within = subst (λ t. r.place.at ≤ length t) later.ahead.text end.bound;
+    })

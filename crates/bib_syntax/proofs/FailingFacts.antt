@@ -22,12 +22,14 @@ pub none_more : (text before : List ℕ) (here : Place) → FailBefore text befo
 none_more text before here = record { each = λ e error fails all. all }
 
 -- parsing fields fails from the offset of a place as it does from the place
-fails_at : {text : List ℕ} {here : Place} {e : ParseError} (at : ℕ) → here.text ≡ text → at ≡ here.at → IsSyntaxError text e → Reports (FieldsFails here) e → FailsAt text e at
+fails_at : {text : List ℕ} {here : Place} {e : ParseError} (at : ℕ) → here.text ≡ text → at ≡ here.at
+    → IsSyntaxError text e → Reports (FieldsFails here) e → FailsAt text e at
 fails_at {text} {here} {e} at same is error fails =
     record { error = error; fails = subst (λ u. Reports (FieldsFails u) e) (same_place {u = here} {v = place text at} same (sym is)) fails }
 
 -- the offset of the current place can be added
-pub here_fails : {text before starts : List ℕ} {here : Place} (at : ℕ) → FailBefore text before starts here → here.text ≡ text → at ≡ here.at
+pub here_fails : {text before starts : List ℕ} {here : Place} (at : ℕ) → FailBefore text before starts here
+    → here.text ≡ text → at ≡ here.at
     → FailBefore text before (starts ++ at ∷ []) here
 here_fails {text} {starts = starts} at read same is = record {
   each = λ e error fails all. All-push (FailsAt text e) starts at (read.each e error fails all) (fails_at at same is error fails);
@@ -39,29 +41,39 @@ pub further_fails : {text before starts : List ℕ} {here there : Place} → Fai
 further_fails read implies = record { each = λ e error fails all. read.each e error (reports_as implies fails) all }
 
 -- if parsing fails with an error of the grammar, it fails with this error from each of the offsets
-pub each_fails : {text before starts : List ℕ} {here : Place} {e : ParseError} (P : Type 0) → FailBefore text before starts here → here.text ≡ text → (P → Reports (FieldsFails here) e)
+pub each_fails : {text before starts : List ℕ} {here : Place} {e : ParseError} (P : Type 0)
+    → FailBefore text before starts here → here.text ≡ text → (P → Reports (FieldsFails here) e)
     → Refuses here.text e P → e ≢ out_of_memory → AllFail text e before → AllFail text e starts
 each_fails P read same implies (inl memory) some all = absurd (some memory)
-each_fails {e = e} P read same implies (inr refused) some all = read.each e (subst (λ t. IsSyntaxError t e) same refused.0) (implies refused.1) all
+each_fails {e = e} P read same implies (inr refused) some all =
+    read.each e (subst (λ t. IsSyntaxError t e) same refused.0) (implies refused.1) all
 
 -- failures in the text of a place ahead are failures in the text of the place
-pub each_back : {u v : Place} {e : ParseError} (before starts : List ℕ) → Ahead u v → (e ≢ out_of_memory → AllFail v.text e before → AllFail v.text e starts)
+pub each_back : {u v : Place} {e : ParseError} (before starts : List ℕ) → Ahead u v
+    → (e ≢ out_of_memory → AllFail v.text e before → AllFail v.text e starts)
     → e ≢ out_of_memory → AllFail u.text e before → AllFail u.text e starts
 each_back {e = e} before starts ahead each some = subst (λ t. AllFail t e before → AllFail t e starts) ahead.text (each some)
 
 -- the same if there are no offsets before
-pub each_of_none : {u v : Place} {e : ParseError} (before starts : List ℕ) → before ≡ [] → Ahead u v → (e ≢ out_of_memory → AllFail v.text e before → AllFail v.text e starts)
+pub each_of_none : {u v : Place} {e : ParseError} (before starts : List ℕ) → before ≡ [] → Ahead u v
+    → (e ≢ out_of_memory → AllFail v.text e before → AllFail v.text e starts)
     → e ≢ out_of_memory → AllFail u.text e starts
-each_of_none {u} {e = e} before starts none ahead each some = each_back before starts ahead each some (All-same (FailsAt u.text e) before [] none (All-nil (FailsAt u.text e)))
+each_of_none {u} {e = e} before starts none ahead each some =
+    each_back before starts ahead each some (All-same (FailsAt u.text e) before [] none (All-nil (FailsAt u.text e)))
 
 -- a noted error is reported for fields from here
 pub noted_here : {here : Place} {e : ParseError} → FailsAt here.text e here.at → Reports (FieldsFails here) e
-noted_here {here} {e} noted = subst (λ u. Reports (FieldsFails u) e) (same_place {u = place here.text here.at} {v = here} refl refl) noted.fails
+noted_here {here} {e} noted =
+    subst (λ u. Reports (FieldsFails u) e) (same_place {u = place here.text here.at} {v = here} refl refl) noted.fails
 
 -- all notes stay true after the error of one more offset is noted
-pub failure_noted : (text : List ℕ) (m n : BTreeMap ℕ ParseError) (start : ℕ) (e : ParseError) → tree.Updates nat_cmp m n start (Some e) → FailsAt text e start
-    → ((at : ℕ) → IfSome (tree.get nat_cmp m at) (λ x. FailsAt text x at)) → (at : ℕ) → IfSome (tree.get nat_cmp n at) (λ x. FailsAt text x at)
-failure_noted text m n start e updates fails before at = subst (λ found. IfSome found (λ x. FailsAt text x at)) (sym (updates.0 at)) (either (tree.is_at (nat_cmp start) at) refl) where
-  either : (b : Bool) → tree.is_at (nat_cmp start) at ≡ b → IfSome (cond b (Some e) (tree.get nat_cmp m at)) (λ x. FailsAt text x at)
-  either true is = subst (FailsAt text e) (tells_apart exact_unsigned start at is) fails
-  either false is = before at
+pub failure_noted : (text : List ℕ) (m n : BTreeMap ℕ ParseError) (start : ℕ) (e : ParseError)
+    → tree.Updates nat_cmp m n start (Some e) → FailsAt text e start
+    → ((at : ℕ) → IfSome (tree.get nat_cmp m at) (λ x. FailsAt text x at)) → (at : ℕ)
+    → IfSome (tree.get nat_cmp n at) (λ x. FailsAt text x at)
+failure_noted text m n start e updates fails before at =
+    subst (λ found. IfSome found (λ x. FailsAt text x at)) (sym (updates.0 at))
+    (either (tree.is_at (nat_cmp start) at) refl) where
+      either : (b : Bool) → tree.is_at (nat_cmp start) at ≡ b → IfSome (cond b (Some e) (tree.get nat_cmp m at)) (λ x. FailsAt text x at)
+      either true is = subst (FailsAt text e) (tells_apart exact_unsigned start at is) fails
+      either false is = before at

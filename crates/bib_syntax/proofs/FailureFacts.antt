@@ -69,10 +69,12 @@ start_passes false false true d passes = refl
 start_passes false false false d passes = passes
 
 digit_begins : {u v : Place} {c : ℕ} → Stops begins_element u → CharAt u c v → is_ascii_digit c ≡ true → ⊥
-digit_begins {c = c} stops char digit = test_clash _ (digit_passes (c == 123) (c == 34) (is_ascii_digit c) (is_id_start c) digit) (stops _ _ char)
+digit_begins {c = c} stops char digit =
+    test_clash _ (digit_passes (c == 123) (c == 34) (is_ascii_digit c) (is_id_start c) digit) (stops _ _ char)
 
 start_begins : {u v : Place} {c : ℕ} → Stops begins_element u → CharAt u c v → is_id_start c ≡ true → ⊥
-start_begins {c = c} stops char starts = test_clash _ (start_passes (c == 123) (c == 34) (is_ascii_digit c) (is_id_start c) starts) (stops _ _ char)
+start_begins {c = c} stops char starts =
+    test_clash _ (start_passes (c == 123) (c == 34) (is_ascii_digit c) (is_id_start c) starts) (stops _ _ char)
 
 number_begins : {u v : Place} → Stops begins_element u → Number longest u v → ⊥
 number_begins stops (Number.whole char digit run ends) = digit_begins stops char digit
@@ -92,7 +94,8 @@ element_unread (element_fail.number char digit f) (element.braced b) = pass_clas
 element_unread (element_fail.number char digit f) (element.quoted q) = pass_clash is_ascii_digit char digit q.opens refl
 element_unread (element_fail.braced (braced_fail.unclosed brace none)) (element.number n) = not_number brace refl _ n
 element_unread (element_fail.braced (braced_fail.unclosed brace none)) (element.named none' i) = not_name brace refl _ _ i
-element_unread (element_fail.braced (braced_fail.unclosed brace none)) (element.braced b) = none _ _ (moved Parts (same_char b.opens brace).1 b.parts) b.closes
+element_unread (element_fail.braced (braced_fail.unclosed brace none)) (element.braced b) =
+    none _ _ (moved Parts (same_char b.opens brace).1 b.parts) b.closes
 element_unread (element_fail.braced (braced_fail.unclosed brace none)) (element.quoted q) = char_clash brace q.opens refl
 element_unread (element_fail.quoted quote f) (element.number n) = not_number quote refl _ n
 element_unread (element_fail.quoted quote f) (element.named none i) = not_name quote refl _ _ i
@@ -102,14 +105,18 @@ element_unread (element_fail.quoted quote f) (element.quoted q) = quoted_unread 
 element_once : {u v w : Place} {k l : ParseErrorKind} → ElementFails u k v → ElementFails u l w → OneError k v l w
 element_once (element_fail.missing stops) (element_fail.missing stops') = (refl, refl)
 element_once (element_fail.missing stops) (element_fail.number char digit f) = absurd (digit_begins stops char digit)
-element_once (element_fail.missing stops) (element_fail.braced (braced_fail.unclosed brace none)) = absurd (test_clash true refl (stops _ _ brace))
+element_once (element_fail.missing stops) (element_fail.braced (braced_fail.unclosed brace none)) =
+    absurd (test_clash true refl (stops _ _ brace))
 element_once (element_fail.missing stops) (element_fail.quoted quote f) = absurd (test_clash true refl (stops _ _ quote))
 element_once (element_fail.number char digit f) (element_fail.missing stops) = absurd (digit_begins stops char digit)
 element_once (element_fail.number char digit f) (element_fail.number char' digit' g) = number_once f g
-element_once (element_fail.number char digit f) (element_fail.braced (braced_fail.unclosed brace none)) = absurd (pass_clash is_ascii_digit char digit brace refl)
+element_once (element_fail.number char digit f) (element_fail.braced (braced_fail.unclosed brace none)) =
+    absurd (pass_clash is_ascii_digit char digit brace refl)
 element_once (element_fail.number char digit f) (element_fail.quoted quote g) = absurd (pass_clash is_ascii_digit char digit quote refl)
-element_once (element_fail.braced (braced_fail.unclosed brace none)) (element_fail.missing stops) = absurd (test_clash true refl (stops _ _ brace))
-element_once (element_fail.braced (braced_fail.unclosed brace none)) (element_fail.number char digit g) = absurd (pass_clash is_ascii_digit char digit brace refl)
+element_once (element_fail.braced (braced_fail.unclosed brace none)) (element_fail.missing stops) =
+    absurd (test_clash true refl (stops _ _ brace))
+element_once (element_fail.braced (braced_fail.unclosed brace none)) (element_fail.number char digit g) =
+    absurd (pass_clash is_ascii_digit char digit brace refl)
 element_once (element_fail.braced f) (element_fail.braced g) = braced_once f g
 element_once (element_fail.braced (braced_fail.unclosed brace none)) (element_fail.quoted quote g) = absurd (char_clash brace quote refl)
 element_once (element_fail.quoted quote f) (element_fail.missing stops) = absurd (test_clash true refl (stops _ _ quote))
@@ -118,7 +125,8 @@ element_once (element_fail.quoted quote f) (element_fail.braced (braced_fail.unc
 element_once (element_fail.quoted quote f) (element_fail.quoted quote' g) = quoted_once f g
 
 -- two matches of a piece, the # after it and white space end at the same place
-next_element : {u a b c d a' b' c' d' : Place} {e e' : Piece} → Element longest u e a → Longest is_whitespace a b → CharAt b 35 c → Longest is_whitespace c d
+next_element : {u a b c d a' b' c' d' : Place} {e e' : Piece} → Element longest u e a → Longest is_whitespace a b
+    → CharAt b 35 c → Longest is_whitespace c d
     → Element longest u e' a' → Longest is_whitespace a' b' → CharAt b' 35 c' → Longest is_whitespace c' d' → d ≡ d'
 next_element e white sign white' f w s w' =
     let end = longest_same (moved (Longest is_whitespace) (element_same e f).1 white) w in
@@ -144,10 +152,12 @@ elements_once {w = v} {l = l} (elements_fail.more e white sign white' f) (elemen
 -- ---- fields
 
 -- two matches of a name and white space end at the same place, and so do two that continue to the value of a field
-sign_place : {u a b a' b' : Place} {p q : Part} → Identifier longest u p a → Longest is_whitespace a b → Identifier longest u q a' → Longest is_whitespace a' b' → b ≡ b'
+sign_place : {u a b a' b' : Place} {p q : Part} → Identifier longest u p a → Longest is_whitespace a b
+    → Identifier longest u q a' → Longest is_whitespace a' b' → b ≡ b'
 sign_place name white name' white' = longest_same (moved (Longest is_whitespace) (identifier_same name name').1 white) white'
 
-value_place : {u a b c d a' b' c' d' : Place} {p q : Part} → Identifier longest u p a → Longest is_whitespace a b → CharAt b 61 c → Longest is_whitespace c d
+value_place : {u a b c d a' b' c' d' : Place} {p q : Part} → Identifier longest u p a → Longest is_whitespace a b
+    → CharAt b 61 c → Longest is_whitespace c d
     → Identifier longest u q a' → Longest is_whitespace a' b' → CharAt b' 61 c' → Longest is_whitespace c' d' → d ≡ d'
 value_place name white sign more name' white' sign' more' =
     let following = (same_char (moved (λ x y. CharAt x 61 y) (sign_place name white name' white') sign) sign').1 in
@@ -158,14 +168,19 @@ pub missing_clash : {u v w : Place} (test : ℕ → Bool) (c : ℕ) → test c �
 missing_clash {u} {v} {w} test c passes stops same char = test_clash (test c) passes (stops c w (subst (λ x. CharAt x c w) (sym same) char))
 
 field_unread : {u v w : Place} {k : ParseErrorKind} {f : FieldReading} → FieldFails u k v → Field longest u f w → ⊥
-field_unread (field_fail.equals name white stops) x = missing_clash (λ c. c == 61) 61 refl stops (sign_place name white x.name x.white) x.sign
+field_unread (field_fail.equals name white stops) x =
+    missing_clash (λ c. c == 61) 61 refl stops (sign_place name white x.name x.white) x.sign
 field_unread {w = w} {f = f} (field_fail.value name white sign more fails) x =
-    elements_unread fails (subst (λ y. Elements longest y f.value.pieces w) (sym (value_place name white sign more x.name x.white x.sign x.white')) x.elements)
+    elements_unread fails
+    (subst (λ y. Elements longest y f.value.pieces w)
+    (sym (value_place name white sign more x.name x.white x.sign x.white')) x.elements)
 
 field_once : {u v w : Place} {k l : ParseErrorKind} → FieldFails u k v → FieldFails u l w → OneError k v l w
 field_once (field_fail.equals name white stops) (field_fail.equals name' white' stops') = (refl, sign_place name white name' white')
-field_once (field_fail.equals name white stops) (field_fail.value name' white' sign more g) = absurd (missing_clash (λ c. c == 61) 61 refl stops (sign_place name white name' white') sign)
-field_once (field_fail.value name' white' sign more g) (field_fail.equals name white stops) = absurd (missing_clash (λ c. c == 61) 61 refl stops (sign_place name white name' white') sign)
+field_once (field_fail.equals name white stops) (field_fail.value name' white' sign more g) =
+    absurd (missing_clash (λ c. c == 61) 61 refl stops (sign_place name white name' white') sign)
+field_once (field_fail.value name' white' sign more g) (field_fail.equals name white stops) =
+    absurd (missing_clash (λ c. c == 61) 61 refl stops (sign_place name white name' white') sign)
 field_once {w = w} {l = l} (field_fail.value name white sign more f) (field_fail.value name' white' sign' more' g) =
     elements_once f (subst (λ x. ElementsFails x l w) (sym (value_place name white sign more name' white' sign' more')) g)
 
@@ -179,7 +194,12 @@ field_named x none = test_clash _ x.name.starts (none _ _ x.name.here)
 
 name_not_closed : {u a v w : Place} {p : Part} → Identifier longest u p a → Longest is_whitespace u v → CharAt v 125 w → ⊥
 name_not_closed name white close =
-    let first_white = longest_same (record { run = Run.stop; stops = stops_at is_whitespace name.here (start_not_white name.first name.starts) }) white in
+    let first_white =
+    longest_same
+    (record {
+      run = Run.stop;
+      stops = stops_at is_whitespace name.here (start_not_white name.first name.starts);
+    }) white in
     pass_clash is_id_start name.here name.starts (moved (λ x y. CharAt x 125 y) (sym first_white) close) refl
 
 fail_not_closed : {u z v w : Place} {k : ParseErrorKind} → FieldFails u k z → Longest is_whitespace u v → CharAt v 125 w → ⊥
@@ -187,7 +207,8 @@ fail_not_closed (field_fail.equals name more stops) white close = name_not_close
 fail_not_closed (field_fail.value name more sign more' f) white close = name_not_closed name white close
 
 -- two matches of a field and a gap end at the same place, and so do two that continue to the next field
-comma_place : {u a b a' b' : Place} {f g : FieldReading} → Field longest u f a → Gap longest a b → Field longest u g a' → Gap longest a' b' → b ≡ b'
+comma_place : {u a b a' b' : Place} {f g : FieldReading} → Field longest u f a → Gap longest a b → Field longest u g a'
+    → Gap longest a' b' → b ≡ b'
 comma_place f g f' g' = gap_same (moved (Gap longest) (field_same f f').1 g) g'
 
 next_field : {u a b c d a' b' c' d' : Place} {f g : FieldReading} → Field longest u f a → Gap longest a b → CharAt b 44 c → Gap longest c d
@@ -199,28 +220,35 @@ next_field f g sign h f' g' sign' h' =
 abbrev ends_field : ℕ → Bool
 ends_field c = c == 44 || c == 125
 
-pub fields_unread : {u z v w : Place} {k : ParseErrorKind} {fs : List FieldReading} → FieldsFails u k z → Fields longest u fs v → CharAt v 125 w → ⊥
+pub fields_unread : {u z v w : Place} {k : ParseErrorKind} {fs : List FieldReading} → FieldsFails u k z
+    → Fields longest u fs v → CharAt v 125 w → ⊥
 fields_unread (fields_fail.first f) (fields.none white) close = fail_not_closed f white close
 fields_unread (fields_fail.first f) (fields.last x g) close = field_unread f x
 fields_unread (fields_fail.first f) (fields.more x g sign h rest) close = field_unread f x
 fields_unread (fields_fail.more x g sign h f) (fields.none white) close = no_field_closes white close x
-fields_unread (fields_fail.more x g sign h f) (fields.last y g') close = char_clash close (moved (λ p q. CharAt p 44 q) (comma_place x g y g') sign) refl
+fields_unread (fields_fail.more x g sign h f) (fields.last y g') close =
+    char_clash close (moved (λ p q. CharAt p 44 q) (comma_place x g y g') sign) refl
 fields_unread {v = v} (fields_fail.more x g sign h f) (fields.more {fs = fs} y g' sign' h' rest) close =
     fields_unread f (subst (λ p. Fields longest p fs v) (sym (next_field x g sign h y g' sign' h')) rest) close
 fields_unread (fields_fail.comma x g stops) (fields.none white) close = no_field_closes white close x
 fields_unread (fields_fail.comma x g stops) (fields.last y g') close = missing_clash ends_field 125 refl stops (comma_place x g y g') close
-fields_unread (fields_fail.comma x g stops) (fields.more y g' sign h rest) close = missing_clash ends_field 44 refl stops (comma_place x g y g') sign
-fields_unread (fields_fail.name none white stops more) (fields.none white') close = missing_clash (λ c. c == 125) 125 refl stops (longest_same white white') close
+fields_unread (fields_fail.comma x g stops) (fields.more y g' sign h rest) close =
+    missing_clash ends_field 44 refl stops (comma_place x g y g') sign
+fields_unread (fields_fail.name none white stops more) (fields.none white') close =
+    missing_clash (λ c. c == 125) 125 refl stops (longest_same white white') close
 fields_unread (fields_fail.name none white stops more) (fields.last x g) close = field_named x none
 fields_unread (fields_fail.name none white stops more) (fields.more x g sign h rest) close = field_named x none
-fields_unread (fields_fail.ended none white end) (fields.none white') close = no_char_at_end end (moved (λ x y. CharAt x 125 y) (longest_same white' white) close)
+fields_unread (fields_fail.ended none white end) (fields.none white') close =
+    no_char_at_end end (moved (λ x y. CharAt x 125 y) (longest_same white' white) close)
 fields_unread (fields_fail.ended none white end) (fields.last x g) close = field_named x none
 fields_unread (fields_fail.ended none white end) (fields.more x g sign h rest) close = field_named x none
 
 -- fields that fail after a field and a comma fail in the same way as the rest after them
-fails_after : {u a b c d v : Place} {k : ParseErrorKind} {f : FieldReading} → Field longest u f a → Gap longest a b → CharAt b 44 c → Gap longest c d → FieldsFails u k v → FieldsFails d k v
+fails_after : {u a b c d v : Place} {k : ParseErrorKind} {f : FieldReading} → Field longest u f a → Gap longest a b
+    → CharAt b 44 c → Gap longest c d → FieldsFails u k v → FieldsFails d k v
 fails_after x g sign h (fields_fail.first f) = absurd (field_unread f x)
-fails_after {v = v} {k = k} x g sign h (fields_fail.more y g' sign' h' f) = subst (λ p. FieldsFails p k v) (sym (next_field x g sign h y g' sign' h')) f
+fails_after {v = v} {k = k} x g sign h (fields_fail.more y g' sign' h' f) =
+    subst (λ p. FieldsFails p k v) (sym (next_field x g sign h y g' sign' h')) f
 fails_after x g sign h (fields_fail.comma y g' stops) = absurd (missing_clash ends_field 44 refl stops (comma_place y g' x g) sign)
 fails_after x g sign h (fields_fail.name none white stops more) = absurd (field_named x none)
 fails_after x g sign h (fields_fail.ended none white end) = absurd (field_named x none)
@@ -233,7 +261,8 @@ fields_once (fields_fail.first f) (fields_fail.comma x g stops) = absurd (field_
 fields_once (fields_fail.first f) (fields_fail.name none white stops more) = absurd (fail_named f none)
 fields_once (fields_fail.first f) (fields_fail.ended none white end) = absurd (fail_named f none)
 fields_once (fields_fail.comma x g stops) (fields_fail.first f) = absurd (field_unread f x)
-fields_once (fields_fail.comma x g stops) (fields_fail.more y g' sign h f) = absurd (missing_clash ends_field 44 refl stops (comma_place x g y g') sign)
+fields_once (fields_fail.comma x g stops) (fields_fail.more y g' sign h f) =
+    absurd (missing_clash ends_field 44 refl stops (comma_place x g y g') sign)
 fields_once (fields_fail.comma x g stops) (fields_fail.comma y g' stops') = (refl, comma_place x g y g')
 fields_once (fields_fail.comma x g stops) (fields_fail.name none white stops' more) = absurd (field_named x none)
 fields_once (fields_fail.comma x g stops) (fields_fail.ended none white end) = absurd (field_named x none)
@@ -241,9 +270,11 @@ fields_once (fields_fail.name none white stops more) (fields_fail.first f) = abs
 fields_once (fields_fail.name none white stops more) (fields_fail.more x g sign h f) = absurd (field_named x none)
 fields_once (fields_fail.name none white stops more) (fields_fail.comma x g stops') = absurd (field_named x none)
 fields_once (fields_fail.name none white stops more) (fields_fail.name none' white' stops' more') = (refl, longest_same white white')
-fields_once (fields_fail.name none white stops more) (fields_fail.ended none' white' end) = absurd (more (subst AtEnd (longest_same white' white) end))
+fields_once (fields_fail.name none white stops more) (fields_fail.ended none' white' end) =
+    absurd (more (subst AtEnd (longest_same white' white) end))
 fields_once (fields_fail.ended none white end) (fields_fail.first f) = absurd (fail_named f none)
 fields_once (fields_fail.ended none white end) (fields_fail.more x g sign h f) = absurd (field_named x none)
 fields_once (fields_fail.ended none white end) (fields_fail.comma x g stops') = absurd (field_named x none)
-fields_once (fields_fail.ended none white end) (fields_fail.name none' white' stops more) = absurd (more (subst AtEnd (longest_same white white') end))
+fields_once (fields_fail.ended none white end) (fields_fail.name none' white' stops more) =
+    absurd (more (subst AtEnd (longest_same white white') end))
 fields_once (fields_fail.ended none white end) (fields_fail.ended none' white' end') = (refl, longest_same white white')

@@ -39,7 +39,8 @@ pub no_elements_read : (start : Place) → ElementsRead start [] start
 no_elements_read start = record { there = λ es v x. x; fails = λ kind v f. f }
 
 -- one more piece, with the # after it
-pub element_read : {start u a b c d : Place} {ps : List Piece} (e : Piece) → ElementsRead start ps u → Element longest u e a → Longest is_whitespace a b → CharAt b 35 c → Longest is_whitespace c d
+pub element_read : {start u a b c d : Place} {ps : List Piece} (e : Piece) → ElementsRead start ps u
+    → Element longest u e a → Longest is_whitespace a b → CharAt b 35 c → Longest is_whitespace c d
     → ElementsRead start (ps ++ e ∷ []) d
 element_read {start} {u} {a} {b} {c} {d} {ps} e read one white sign white' = record {
   there = λ es v x. rw append_assoc (read.there (e ∷ es) v (elements.more one white sign white' x));
@@ -47,7 +48,8 @@ element_read {start} {u} {a} {b} {c} {d} {ps} e read one white sign white' = rec
 }
 
 -- the last piece
-pub elements_found : {start u a b : Place} {ps : List Piece} (e : Piece) → ElementsRead start ps u → Element longest u e a → Longest is_whitespace a b → ((x : Place) → CharAt b 35 x → ⊥)
+pub elements_found : {start u a b : Place} {ps : List Piece} (e : Piece) → ElementsRead start ps u
+    → Element longest u e a → Longest is_whitespace a b → ((x : Place) → CharAt b 35 x → ⊥)
     → Elements longest start (ps ++ e ∷ []) b
 elements_found e read one white no_sign = read.there _ _ (elements.last one white (stops_without 35 no_sign))
 
@@ -60,7 +62,8 @@ pub no_fields_read : (start : Place) → FieldsRead start [] start
 no_fields_read start = record { there = λ gs v x. x; fails = λ kind v f. f }
 
 -- one more field, with the comma after it
-pub field_read : {start u a b c d : Place} {fs : List FieldReading} (f : FieldReading) → FieldsRead start fs u → Field longest u f a → Gap longest a b → CharAt b 44 c → Gap longest c d
+pub field_read : {start u a b c d : Place} {fs : List FieldReading} (f : FieldReading) → FieldsRead start fs u
+    → Field longest u f a → Gap longest a b → CharAt b 44 c → Gap longest c d
     → FieldsRead start (fs ++ f ∷ []) d
 field_read f read one g sign h = record {
   there = λ gs v x. rw append_assoc (read.there (f ∷ gs) v (fields.more one g sign h x));
@@ -68,11 +71,13 @@ field_read f read one g sign h = record {
 }
 
 -- the last field, without a comma after it
-pub fields_last : {start u a b : Place} {fs : List FieldReading} (f : FieldReading) → FieldsRead start fs u → Field longest u f a → Gap longest a b → Fields longest start (fs ++ f ∷ []) b
+pub fields_last : {start u a b : Place} {fs : List FieldReading} (f : FieldReading) → FieldsRead start fs u
+    → Field longest u f a → Gap longest a b → Fields longest start (fs ++ f ∷ []) b
 fields_last f read one g = read.there _ _ (fields.last one g)
 
 -- the fields end after white space
-pub fields_end : {start u v : Place} {fs : List FieldReading} → FieldsRead start fs u → Longest is_whitespace u v → Fields longest start fs v
+pub fields_end : {start u v : Place} {fs : List FieldReading} → FieldsRead start fs u → Longest is_whitespace u v
+    → Fields longest start fs v
 fields_end {start} {u} {v} {fs} read white = subst (λ gs. Fields longest start gs v) (append-nil fs) (read.there _ _ (fields.none white))
 
 pub ahead_identifier : {u v : Place} {p : Part} → Identifier longest u p v → Ahead u v
@@ -87,7 +92,8 @@ pub ahead_parts : {u v : Place} → Parts u v → Ahead u v
 ahead_parts {u} parts.none = ahead_here u
 ahead_parts (parts.plain c p rest) = ahead_then (ahead_char c) (ahead_parts rest)
 ahead_parts (parts.hidden s c rest) = ahead_then (ahead_char s) (ahead_then (ahead_char c) (ahead_parts rest))
-ahead_parts (parts.nested o inner c rest) = ahead_then (ahead_char o) (ahead_then (ahead_parts inner) (ahead_then (ahead_char c) (ahead_parts rest)))
+ahead_parts (parts.nested o inner c rest) =
+    ahead_then (ahead_char o) (ahead_then (ahead_parts inner) (ahead_then (ahead_char c) (ahead_parts rest)))
 
 pub ahead_quoted : {u v : Place} {p : Part} → Quoted u p v → Ahead u v
 ahead_quoted q = ahead_then (ahead_char q.opens) (ahead_then (ahead_quoted_parts q.parts) (ahead_char q.closes))
@@ -100,19 +106,27 @@ ahead_element (element.quoted q) = ahead_quoted q
 
 pub ahead_elements : {u v : Place} {es : List Piece} → Elements longest u es v → Ahead u v
 ahead_elements (elements.last e w ends) = ahead_then (ahead_element e) (ahead_run w.run)
-ahead_elements (elements.more e w s w' rest) = ahead_then (ahead_element e) (ahead_then (ahead_run w.run) (ahead_then (ahead_char s) (ahead_then (ahead_run w'.run) (ahead_elements rest))))
+ahead_elements (elements.more e w s w' rest) =
+    ahead_then (ahead_element e)
+    (ahead_then (ahead_run w.run) (ahead_then (ahead_char s) (ahead_then (ahead_run w'.run) (ahead_elements rest))))
 
 pub ahead_field : {u v : Place} {f : FieldReading} → Field longest u f v → Ahead u v
-ahead_field f = ahead_then (ahead_identifier f.name) (ahead_then (ahead_run f.white.run) (ahead_then (ahead_char f.sign) (ahead_then (ahead_run f.white'.run) (ahead_elements f.elements))))
+ahead_field f =
+    ahead_then (ahead_identifier f.name)
+    (ahead_then (ahead_run f.white.run)
+    (ahead_then (ahead_char f.sign) (ahead_then (ahead_run f.white'.run) (ahead_elements f.elements))))
 
 pub ahead_gap : {u v : Place} → Gap longest u v → Ahead u v
 ahead_gap (gap.white w ends) = ahead_run w.run
-ahead_gap (gap.line_comment w r w') = ahead_then (ahead_run w.run) (ahead_then (ahead_char r.sign) (ahead_then (ahead_run r.line.run) (ahead_run w'.run)))
+ahead_gap (gap.line_comment w r w') =
+    ahead_then (ahead_run w.run) (ahead_then (ahead_char r.sign) (ahead_then (ahead_run r.line.run) (ahead_run w'.run)))
 
 pub ahead_fields : {u v : Place} {fs : List FieldReading} → Fields longest u fs v → Ahead u v
 ahead_fields (fields.none w) = ahead_run w.run
 ahead_fields (fields.last f g) = ahead_then (ahead_field f) (ahead_gap g)
-ahead_fields (fields.more f g s h rest) = ahead_then (ahead_field f) (ahead_then (ahead_gap g) (ahead_then (ahead_char s) (ahead_then (ahead_gap h) (ahead_fields rest))))
+ahead_fields (fields.more f g s h rest) =
+    ahead_then (ahead_field f)
+    (ahead_then (ahead_gap g) (ahead_then (ahead_char s) (ahead_then (ahead_gap h) (ahead_fields rest))))
 
 -- an error at a place ahead is an error at an earlier place
 pub refuses_from : {u v : Place} {e : ParseError} (P Q : Type 0) → Ahead u v → (P → Q) → Refuses v.text e P → Refuses u.text e Q

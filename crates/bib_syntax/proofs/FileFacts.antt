@@ -27,13 +27,17 @@ head_same a b =
     (name.0, longest_same (moved (Longest is_whitespace) brace a.white') b.white')
 
 pub ahead_head : {u v : Place} {p : Part} → Head longest u p v → Ahead u v
-ahead_head h = ahead_then (ahead_char h.sign) (ahead_then (ahead_identifier h.name) (ahead_then (ahead_run h.white.run) (ahead_then (ahead_char h.opens) (ahead_run h.white'.run))))
+ahead_head h =
+    ahead_then (ahead_char h.sign)
+    (ahead_then (ahead_identifier h.name)
+    (ahead_then (ahead_run h.white.run) (ahead_then (ahead_char h.opens) (ahead_run h.white'.run))))
 
 -- whether a character isn't a closing brace
 abbrev pub not_close : ℕ → Bool
 not_close c = not (c == 125)
 
-pub body_same : {start u v w : Place} {p : Part} {k : BlockKind} {r s : FileReading} → Body longest start p k u r v → Body longest start p k u s w → (r ≡ s) × (v ≡ w)
+pub body_same : {start u v w : Place} {p : Part} {k : BlockKind} {r s : FileReading} → Body longest start p k u r v
+    → Body longest start p k u s w → (r ≡ s) × (v ≡ w)
 body_same (body.comment a inside close) (body.comment b inside' close') =
     (refl, (same_char (moved (λ x y. CharAt x 125 y) (longest_same inside inside') close) close').1)
 body_same {u = u} {v = v} (body.preamble {c = c} quoted white close is_close) (body.preamble quoted' white' close' is_close') =
@@ -47,38 +51,52 @@ body_same (body.strings fields close) (body.strings fields' close') =
       ap (λ fs. let r : FileReading = record { preamble = []; entries = []; abbreviations = fs } in r) same.0,
       (same_char (moved (λ x y. CharAt x 125 y) same.1 close) close').1,
     )
-body_same {start} {u} {p = p} (body.entry {z = z} {fs = fs} a key white comma gap fields close) (body.entry {z = z'} {fs = fs'} b key' white' comma' gap' fields' close') =
+body_same {start} {u} {p = p} (body.entry {z = z} {fs = fs} a key white comma gap fields close)
+    (body.entry {z = z'} {fs = fs'} b key' white' comma' gap' fields' close') =
     let end = longest_same key key' in
     let there = longest_same (moved (Longest is_whitespace) end white) white' in
     let following = (same_char (moved (λ x y. CharAt x 44 y) there comma) comma').1 in
     let begin = gap_same (moved (Gap longest) following gap) gap' in
     let same = fields_same (subst (λ x. Fields longest x fs z) begin fields) close fields' close' in
-    let says : Place → List FieldReading → Place → FileReading = λ x gs y. record { preamble = []; entries = record { key = part u x; kind = p; fields = gs; start = start.at; end = y.at } ∷ []; abbreviations = [] } in (
+    let says : Place → List FieldReading → Place → FileReading =
+    λ x gs y.
+    record {
+      preamble = [];
+      entries = record { key = part u x; kind = p; fields = gs; start = start.at; end = y.at } ∷ [];
+      abbreviations = [];
+    } in (
       ap (λ x. says x fs z) end ∙ ap (λ gs. says b gs z) same.0 ∙ ap (says b fs') same.1,
       (same_char (moved (λ x y. CharAt x 125 y) same.1 close) close').1,
     )
 
 pub ahead_body : {start u v : Place} {p : Part} {k : BlockKind} {r : FileReading} → Body longest start p k u r v → Ahead u v
 ahead_body (body.comment a inside close) = ahead_then (ahead_run inside.run) (ahead_char close)
-ahead_body (body.preamble quoted white close is_close) = ahead_then (ahead_quoted quoted) (ahead_then (ahead_run white.run) (ahead_char close))
+ahead_body (body.preamble quoted white close is_close) =
+    ahead_then (ahead_quoted quoted) (ahead_then (ahead_run white.run) (ahead_char close))
 ahead_body (body.strings fields close) = ahead_then (ahead_fields fields) (ahead_char close)
 ahead_body (body.entry a key white comma gap fields close) =
-    ahead_then (ahead_run key.run) (ahead_then (ahead_run white.run) (ahead_then (ahead_char comma) (ahead_then (ahead_gap gap) (ahead_then (ahead_fields fields) (ahead_char close)))))
+    ahead_then (ahead_run key.run)
+    (ahead_then (ahead_run white.run)
+    (ahead_then (ahead_char comma)
+    (ahead_then (ahead_gap gap) (ahead_then (ahead_fields fields) (ahead_char close)))))
 
 pub ahead_block : {u v : Place} {r : FileReading} → Block longest u r v → Ahead u v
 ahead_block b = ahead_then (ahead_head b.head) (ahead_body b.body)
 
 -- the body of a block comes after its head
-pub body_at : {u a v : Place} {p : Part} {r : FileReading} → Head longest u p a → (b : Block longest u r v) → Body longest u p (block_kind p.text) a r v
+pub body_at : {u a v : Place} {p : Part} {r : FileReading} → Head longest u p a → (b : Block longest u r v)
+    → Body longest u p (block_kind p.text) a r v
 body_at {u} {a} {v} {p} {r} head b =
     let same = head_same b.head head in
-    subst (λ x. Body longest u p (block_kind p.text) x r v) same.1 (subst (λ q. Body longest u q (block_kind q.text) b.inside r v) same.0 b.body)
+    subst (λ x. Body longest u p (block_kind p.text) x r v) same.1
+    (subst (λ q. Body longest u q (block_kind q.text) b.inside r v) same.0 b.body)
 
 pub block_same : {u v w : Place} {r s : FileReading} → Block longest u r v → Block longest u s w → (r ≡ s) × (v ≡ w)
 block_same a b = body_same a.body (body_at a.head b)
 
 -- a block fails if its body fails after its head
-pub body_fails : {u a v : Place} {p : Part} {kind : ParseErrorKind} (k : BlockKind) → Head longest u p a → k ≡ block_kind p.text → BodyFails k a kind v → BlockFails u kind v
+pub body_fails : {u a v : Place} {p : Part} {kind : ParseErrorKind} (k : BlockKind) → Head longest u p a
+    → k ≡ block_kind p.text → BodyFails k a kind v → BlockFails u kind v
 body_fails {u} {a} {v} {p} {kind} k head is f = block_fail.body head (subst (λ b. BodyFails b a kind v) is f)
 
 -- joining preambles is associative, and an empty preamble at the end adds nothing
@@ -89,7 +107,8 @@ joined_preambles-nil (b ∷ bs) = refl
 texts-joined_preambles : (p sign q r : List ℕ) → p ++ sign ++ q ++ sign ++ r ≡ p ++ sign ++ (q ++ sign ++ r)
 texts-joined_preambles p sign q r = simp append_assoc
 
-pub joined_preambles-joined_preambles : (p q r : List ℕ) → joined_preambles (joined_preambles p q) r ≡ joined_preambles p (joined_preambles q r)
+pub joined_preambles-joined_preambles : (p q r : List ℕ)
+    → joined_preambles (joined_preambles p q) r ≡ joined_preambles p (joined_preambles q r)
 joined_preambles-joined_preambles [] q r = refl
 joined_preambles-joined_preambles (b ∷ bs) [] r = refl
 joined_preambles-joined_preambles (b ∷ bs) (c ∷ cs) [] = refl
@@ -98,16 +117,28 @@ joined_preambles-joined_preambles (b ∷ bs) (c ∷ cs) (d ∷ ds) = texts-joine
 pub then-then : (a b c : FileReading) → then (then a b) c ≡ then a (then b c)
 then-then a b c =
     let entries : (a.entries ++ b.entries) ++ c.entries ≡ a.entries ++ (b.entries ++ c.entries) = simp append_assoc in
-    let abbreviations : (a.abbreviations ++ b.abbreviations) ++ c.abbreviations ≡ a.abbreviations ++ (b.abbreviations ++ c.abbreviations) = simp append_assoc in
-    let build : List ℕ → List EntryReading → List FieldReading → FileReading = λ p es fs. record { preamble = p; entries = es; abbreviations = fs } in
-    ap (λ p. build p ((a.entries ++ b.entries) ++ c.entries) ((a.abbreviations ++ b.abbreviations) ++ c.abbreviations)) (joined_preambles-joined_preambles a.preamble b.preamble c.preamble)
-    ∙ ap (λ es. build (joined_preambles a.preamble (joined_preambles b.preamble c.preamble)) es ((a.abbreviations ++ b.abbreviations) ++ c.abbreviations)) entries
-    ∙ ap (build (joined_preambles a.preamble (joined_preambles b.preamble c.preamble)) (a.entries ++ (b.entries ++ c.entries))) abbreviations
+    let abbreviations : (a.abbreviations ++ b.abbreviations) ++ c.abbreviations ≡ a.abbreviations
+    ++ (b.abbreviations ++ c.abbreviations) =
+    simp append_assoc in
+    let build : List ℕ → List EntryReading → List FieldReading → FileReading =
+    λ p es fs. record { preamble = p; entries = es; abbreviations = fs } in
+    ap (λ p. build p ((a.entries ++ b.entries) ++ c.entries) ((a.abbreviations ++ b.abbreviations) ++ c.abbreviations))
+    (joined_preambles-joined_preambles a.preamble b.preamble c.preamble)
+    ∙ ap
+    (λ es.
+    build (joined_preambles a.preamble (joined_preambles b.preamble c.preamble)) es
+    ((a.abbreviations ++ b.abbreviations) ++ c.abbreviations)) entries
+    ∙ ap
+    (build (joined_preambles a.preamble (joined_preambles b.preamble c.preamble))
+    (a.entries ++ (b.entries ++ c.entries))) abbreviations
 
 pub then-empty_reading : (a : FileReading) → then a empty_reading ≡ a
 then-empty_reading a =
-    let build : List ℕ → List EntryReading → List FieldReading → FileReading = λ p es fs. record { preamble = p; entries = es; abbreviations = fs } in
-    ap (λ p. build p (a.entries ++ []) (a.abbreviations ++ [])) (joined_preambles-nil a.preamble) ∙ ap (λ es. build a.preamble es (a.abbreviations ++ [])) (append-nil a.entries) ∙ ap (build a.preamble a.entries) (append-nil a.abbreviations)
+    let build : List ℕ → List EntryReading → List FieldReading → FileReading =
+    λ p es fs. record { preamble = p; entries = es; abbreviations = fs } in
+    ap (λ p. build p (a.entries ++ []) (a.abbreviations ++ [])) (joined_preambles-nil a.preamble)
+    ∙ ap (λ es. build a.preamble es (a.abbreviations ++ [])) (append-nil a.entries)
+    ∙ ap (build a.preamble a.entries) (append-nil a.abbreviations)
 
 pub empty_reading-then : (a : FileReading) → then empty_reading a ≡ a
 empty_reading-then a = refl
@@ -172,7 +203,8 @@ line_comment_read read m = record {
   fails = λ kind v f. read.fails kind v (file_fail.line_comment m f);
 }
 
-pub block_read : {start u v : Place} {says first : FileReading} → FileRead start says u → Block longest u first v → FileRead start (then says first) v
+pub block_read : {start u v : Place} {says first : FileReading} → FileRead start says u → Block longest u first v
+    → FileRead start (then says first) v
 block_read {start} {u} {v} {says} {first} read b = record {
   there = λ r x. subst (λ s. File longest start s) (sym (then-then says first r)) (read.there (then first r) (file.block b x));
   fails = λ kind w f. read.fails kind w (file_fail.more b f);
@@ -180,7 +212,8 @@ block_read {start} {u} {v} {says} {first} read b = record {
 
 -- the whole file
 pub file_found : {start u : Place} {says : FileReading} → FileRead start says u → AtEnd u → File longest start says
-file_found {start} {u} {says} read end = subst (λ r. File longest start r) (then-empty_reading says) (read.there empty_reading (file.end end))
+file_found {start} {u} {says} read end =
+    subst (λ r. File longest start r) (then-empty_reading says) (read.there empty_reading (file.end end))
 
 -- a file from one place has at most one raw reading
 pub file_same : {u : Place} {r s : FileReading} → File longest u r → File longest u s → r ≡ s
@@ -206,14 +239,20 @@ closes_preamble c = c == 125 || c == 34
 
 -- the reading of a block with an entry of these parts
 abbrev pub says_entry : Part → Part → List FieldReading → ℕ → ℕ → FileReading
-says_entry key kind fs start end = record { preamble = []; entries = record { key = key; kind = kind; fields = fs; start = start; end = end } ∷ []; abbreviations = [] }
+says_entry key kind fs start end = record {
+  preamble = [];
+  entries = record { key = key; kind = kind; fields = fs; start = start; end = end } ∷ [];
+  abbreviations = [];
+}
 
 -- the body of an entry from its parts
-pub entry_found : {u s a b c d z w : Place} {fs : List FieldReading} (kind key : Part) (start end : ℕ) → u.at ≡ start → end ≡ z.at → key ≡ part s a → Longest is_key s a → Longest is_whitespace a b → CharAt b 44 c → Gap longest c d
+pub entry_found : {u s a b c d z w : Place} {fs : List FieldReading} (kind key : Part) (start end : ℕ) → u.at ≡ start
+    → end ≡ z.at → key ≡ part s a → Longest is_key s a → Longest is_whitespace a b → CharAt b 44 c → Gap longest c d
     → Fields longest d fs z → CharAt z 125 w → Body longest u kind BlockKind.entry s (says_entry key kind fs start end) w
 entry_found {u} {s} {a} {b} {c} {d} {z} {w} {fs} kind key start end starts ends reading run white comma gap fields close =
     let same : says_entry (part s a) kind fs u.at z.at ≡ says_entry key kind fs start end =
-    ap (λ k. says_entry k kind fs u.at z.at) (sym reading) ∙ ap (λ n. says_entry key kind fs n z.at) starts ∙ ap (says_entry key kind fs start) (sym ends) in
+    ap (λ k. says_entry k kind fs u.at z.at) (sym reading) ∙ ap (λ n. says_entry key kind fs n z.at) starts
+    ∙ ap (says_entry key kind fs start) (sym ends) in
     subst (λ r. Body longest u kind BlockKind.entry s r w) same (body.entry a run white comma gap fields close)
 
 -- fewer bytes are left after a block, after a line comment, and after a run of skipped characters
@@ -221,7 +260,9 @@ pub block_smaller : {u v : Place} {r : FileReading} → Block longest u r v → 
 block_smaller {u} b =
     let h = b.head in
     left_smaller (ahead_here u) h.sign
-    (ahead_then (ahead_identifier h.name) (ahead_then (ahead_run h.white.run) (ahead_then (ahead_char h.opens) (ahead_then (ahead_run h.white'.run) (ahead_body b.body)))))
+    (ahead_then (ahead_identifier h.name)
+    (ahead_then (ahead_run h.white.run)
+    (ahead_then (ahead_char h.opens) (ahead_then (ahead_run h.white'.run) (ahead_body b.body)))))
 
 pub ahead_line_comment : {u v : Place} → LineComment u v → Ahead u v
 ahead_line_comment m = ahead_then (ahead_char m.sign) (ahead_run m.line.run)
@@ -233,5 +274,6 @@ line_comment_smaller {u} m = left_smaller (ahead_here u) m.sign (ahead_run m.lin
 pub is_skipped_from : (c : ℕ) → (c ≡ 64 → ⊥) → (c ≡ 37 → ⊥) → is_skipped c ≡ true
 is_skipped_from c no_at no_percent = rw (ne_eqb c 64 no_at, ne_eqb c 37 no_percent)
 
-pub skip_smaller : {u x v : Place} {c : ℕ} → CharAt u c x → is_skipped c ≡ true → Longest is_skipped u v → length v.text - v.at < length u.text - u.at
+pub skip_smaller : {u x v : Place} {c : ℕ} → CharAt u c x → is_skipped c ≡ true → Longest is_skipped u v
+    → length v.text - v.at < length u.text - u.at
 skip_smaller {u} char passes run = left_smaller (ahead_here u) char (ahead_run (longest_rest run char passes).run)

@@ -20,7 +20,8 @@ use Rattle.bib_syntax.proofs.FileFacts.{head_same, body_at, block_same, is_skipp
 use Rattle.bib_syntax.proofs.FailureFacts.{OneError, identifier_once, identifier_unread, quoted_once, quoted_unread, fields_once, fields_unread, missing_clash}
 
 -- two matches of an at sign, a name and white space end at the same place
-brace_place : {u x a b x' a' b' : Place} {p q : Part} → CharAt u 64 x → Identifier longest x p a → Longest is_whitespace a b → CharAt u 64 x' → Identifier longest x' q a' → Longest is_whitespace a' b' → b ≡ b'
+brace_place : {u x a b x' a' b' : Place} {p q : Part} → CharAt u 64 x → Identifier longest x p a
+    → Longest is_whitespace a b → CharAt u 64 x' → Identifier longest x' q a' → Longest is_whitespace a' b' → b ≡ b'
 brace_place {a' = a'} {q = q} sign name white sign' name' white' =
     let there = identifier_same name (subst (λ y. Identifier longest y q a') (same_char sign' sign).1 name') in
     longest_same (moved (Longest is_whitespace) there.1 white) white'
@@ -30,17 +31,24 @@ passes_clash : {u v w : Place} {c : ℕ} (test : ℕ → Bool) → Stops test u 
 passes_clash {c = c} test stops same char passes = missing_clash test c passes stops same char
 
 head_unread : {u v w : Place} {k : ParseErrorKind} {p : Part} → HeadFails u k v → Head longest u p w → ⊥
-head_unread {p = p} (head_fail.name sign f) h = identifier_unread f (subst (λ y. Identifier longest y p h.name_end) (same_char h.sign sign).1 h.name)
-head_unread (head_fail.brace sign name white stops) h = passes_clash opens_body stops (brace_place sign name white h.sign h.name h.white) h.opens h.is_brace
+head_unread {p = p} (head_fail.name sign f) h =
+    identifier_unread f (subst (λ y. Identifier longest y p h.name_end) (same_char h.sign sign).1 h.name)
+head_unread (head_fail.brace sign name white stops) h =
+    passes_clash opens_body stops (brace_place sign name white h.sign h.name h.white) h.opens h.is_brace
 
 head_once : {u v w : Place} {k l : ParseErrorKind} → HeadFails u k v → HeadFails u l w → OneError k v l w
-head_once {w = w} {l = l} (head_fail.name sign f) (head_fail.name sign' g) = identifier_once f (subst (λ x. IdentifierFails x l w) (same_char sign' sign).1 g)
-head_once (head_fail.name sign f) (head_fail.brace {w = a} {name = p} sign' name white stops) = absurd (identifier_unread f (subst (λ y. Identifier longest y p a) (same_char sign' sign).1 name))
-head_once (head_fail.brace {w = a} {name = p} sign' name white stops) (head_fail.name sign f) = absurd (identifier_unread f (subst (λ y. Identifier longest y p a) (same_char sign' sign).1 name))
-head_once (head_fail.brace sign name white stops) (head_fail.brace sign' name' white' stops') = (refl, brace_place sign name white sign' name' white')
+head_once {w = w} {l = l} (head_fail.name sign f) (head_fail.name sign' g) =
+    identifier_once f (subst (λ x. IdentifierFails x l w) (same_char sign' sign).1 g)
+head_once (head_fail.name sign f) (head_fail.brace {w = a} {name = p} sign' name white stops) =
+    absurd (identifier_unread f (subst (λ y. Identifier longest y p a) (same_char sign' sign).1 name))
+head_once (head_fail.brace {w = a} {name = p} sign' name white stops) (head_fail.name sign f) =
+    absurd (identifier_unread f (subst (λ y. Identifier longest y p a) (same_char sign' sign).1 name))
+head_once (head_fail.brace sign name white stops) (head_fail.brace sign' name' white' stops') =
+    (refl, brace_place sign name white sign' name' white')
 
 -- two matches of a key and white space end at the same place, and so do two that continue to the fields
-comma_place : {u a b a' b' : Place} → Longest is_key u a → Longest is_whitespace a b → Longest is_key u a' → Longest is_whitespace a' b' → b ≡ b'
+comma_place : {u a b a' b' : Place} → Longest is_key u a → Longest is_whitespace a b → Longest is_key u a'
+    → Longest is_whitespace a' b' → b ≡ b'
 comma_place key white key' white' = longest_same (moved (Longest is_whitespace) (longest_same key key') white) white'
 
 fields_place : {u a b c d a' b' c' d' : Place} → Longest is_key u a → Longest is_whitespace a b → CharAt b 44 c → Gap longest c d
@@ -50,15 +58,20 @@ fields_place key white comma gap key' white' comma' gap' =
     gap_same (moved (Gap longest) following gap) gap'
 
 -- two matches of a quoted text and white space end at the same place
-end_place : {u a b a' b' : Place} {p q : Part} → Quoted u p a → Longest is_whitespace a b → Quoted u q a' → Longest is_whitespace a' b' → b ≡ b'
+end_place : {u a b a' b' : Place} {p q : Part} → Quoted u p a → Longest is_whitespace a b → Quoted u q a'
+    → Longest is_whitespace a' b' → b ≡ b'
 end_place q white q' white' = longest_same (moved (Longest is_whitespace) (quoted_same q q').1 white) white'
 
-body_unread : {start u v w : Place} {p : Part} {b : BlockKind} {k : ParseErrorKind} {r : FileReading} → BodyFails b u k v → Body longest start p b u r w → ⊥
-body_unread (body_fail.comment run end) (body.comment a inside close) = no_char_at_end end (moved (λ x y. CharAt x 125 y) (longest_same inside run) close)
+body_unread : {start u v w : Place} {p : Part} {b : BlockKind} {k : ParseErrorKind} {r : FileReading}
+    → BodyFails b u k v → Body longest start p b u r w → ⊥
+body_unread (body_fail.comment run end) (body.comment a inside close) =
+    no_char_at_end end (moved (λ x y. CharAt x 125 y) (longest_same inside run) close)
 body_unread (body_fail.preamble f) (body.preamble q white close is_close) = quoted_unread f q
-body_unread (body_fail.preamble_end q' white' stops) (body.preamble q white close is_close) = passes_clash closes_preamble stops (end_place q' white' q white) close is_close
+body_unread (body_fail.preamble_end q' white' stops) (body.preamble q white close is_close) =
+    passes_clash closes_preamble stops (end_place q' white' q white) close is_close
 body_unread (body_fail.strings f) (body.strings fields close) = fields_unread f fields close
-body_unread (body_fail.comma key white stops) (body.entry a key' white' comma gap fields close) = missing_clash (λ c. c == 44) 44 refl stops (comma_place key white key' white') comma
+body_unread (body_fail.comma key white stops) (body.entry a key' white' comma gap fields close) =
+    missing_clash (λ c. c == 44) 44 refl stops (comma_place key white key' white') comma
 body_unread (body_fail.fields key white comma gap f) (body.entry {z = z} {fs = fs} a key' white' comma' gap' fields close) =
     fields_unread f (subst (λ x. Fields longest x fs z) (sym (fields_place key white comma gap key' white' comma' gap')) fields) close
 
@@ -70,8 +83,10 @@ body_once (body_fail.preamble_end q white stops) (body_fail.preamble f) = absurd
 body_once (body_fail.preamble_end q white stops) (body_fail.preamble_end q' white' stops') = (refl, end_place q white q' white')
 body_once (body_fail.strings f) (body_fail.strings g) = fields_once f g
 body_once (body_fail.comma key white stops) (body_fail.comma key' white' stops') = (refl, comma_place key white key' white')
-body_once (body_fail.comma key white stops) (body_fail.fields key' white' comma gap g) = absurd (missing_clash (λ c. c == 44) 44 refl stops (comma_place key white key' white') comma)
-body_once (body_fail.fields key' white' comma gap g) (body_fail.comma key white stops) = absurd (missing_clash (λ c. c == 44) 44 refl stops (comma_place key white key' white') comma)
+body_once (body_fail.comma key white stops) (body_fail.fields key' white' comma gap g) =
+    absurd (missing_clash (λ c. c == 44) 44 refl stops (comma_place key white key' white') comma)
+body_once (body_fail.fields key' white' comma gap g) (body_fail.comma key white stops) =
+    absurd (missing_clash (λ c. c == 44) 44 refl stops (comma_place key white key' white') comma)
 body_once {w = w} {l = l} (body_fail.fields key white comma gap f) (body_fail.fields key' white' comma' gap' g) =
     fields_once f (subst (λ x. FieldsFails x l w) (sym (fields_place key white comma gap key' white' comma' gap')) g)
 

@@ -129,9 +129,11 @@ elements_same {u} {v} {w} (elements.more {es = es} e white sign white2 rest) (el
     (ap (λ x. x ∷ es) same.0 ∙ ap (λ x. f ∷ x) more.0, more.1)
 
 -- two fields are equal if their parts are equal
-field_equal : (f g : FieldReading) → f.name ≡ g.name → f.value.pieces ≡ g.value.pieces → f.value.start ≡ g.value.start → f.value.end ≡ g.value.end → f ≡ g
+field_equal : (f g : FieldReading) → f.name ≡ g.name → f.value.pieces ≡ g.value.pieces → f.value.start ≡ g.value.start
+    → f.value.end ≡ g.value.end → f ≡ g
 field_equal f g names pieces starts ends =
-    let build : Part → List Piece → ℕ → ℕ → FieldReading = λ n ps s e. record { name = n; value = record { pieces = ps; start = s; end = e } } in
+    let build : Part → List Piece → ℕ → ℕ → FieldReading =
+    λ n ps s e. record { name = n; value = record { pieces = ps; start = s; end = e } } in
     ap (λ n. build n f.value.pieces f.value.start f.value.end) names
     ∙ ap (λ ps. build g.name ps f.value.start f.value.end) pieces
     ∙ ap (λ n. build g.name g.value.pieces n f.value.end) starts
@@ -151,8 +153,10 @@ line_comment_same a b = longest_same (moved (Longest (λ c. not (c == 10))) (sam
 
 pub gap_same : {u v w : Place} → Gap longest u v → Gap longest u w → v ≡ w
 gap_same (gap.white a ends) (gap.white b ends') = longest_same a b
-gap_same (gap.white a ends) (gap.line_comment b r c) = absurd (test_clash true refl (ends _ _ (moved (λ x y. CharAt x 37 y) (longest_same b a) r.sign)))
-gap_same (gap.line_comment a r c) (gap.white b ends) = absurd (test_clash true refl (ends _ _ (moved (λ x y. CharAt x 37 y) (longest_same a b) r.sign)))
+gap_same (gap.white a ends) (gap.line_comment b r c) =
+    absurd (test_clash true refl (ends _ _ (moved (λ x y. CharAt x 37 y) (longest_same b a) r.sign)))
+gap_same (gap.line_comment a r c) (gap.white b ends) =
+    absurd (test_clash true refl (ends _ _ (moved (λ x y. CharAt x 37 y) (longest_same a b) r.sign)))
 gap_same (gap.line_comment a r c) (gap.line_comment b s d) =
     longest_same (moved (Longest is_whitespace) (line_comment_same (moved (LineComment) (longest_same a b) r) s) c) d
 
@@ -162,7 +166,9 @@ start_plain c starts = ne_eqb c 37 (λ same. test_clash (is_id_start 37) (subst 
 
 -- a character of a key is not white space
 pub key_dark : (c : ℕ) → is_key c ≡ true → is_whitespace c ≡ false
-key_dark c passes = not-true (is_whitespace c) (and_parts (not (c == 44 || c == 125) && not (is_control c)) (not (is_whitespace c)) passes).1
+key_dark c passes =
+    not-true (is_whitespace c)
+    (and_parts (not (c == 44 || c == 125) && not (is_control c)) (not (is_whitespace c)) passes).1
 
 -- the first character of an identifier isn't white space
 pub start_not_white : (c : ℕ) → is_id_start c ≡ true → is_whitespace c ≡ false
@@ -174,13 +180,18 @@ start_not_white c starts =
 -- no white space is at the place where a field begins
 pub white_none : {u v : Place} {f : FieldReading} {w : Place} → Longest is_whitespace u v → Field longest u f w → u ≡ v
 white_none {u} {v} white field =
-    longest_same (record { run = stop; stops = stops_at is_whitespace field.name.here (start_not_white field.name.first field.name.starts) }) white
+    longest_same
+    (record {
+      run = stop;
+      stops = stops_at is_whitespace field.name.here (start_not_white field.name.first field.name.starts);
+    }) white
 
 pub no_field_closes : {u v w x : Place} {f : FieldReading} → Longest is_whitespace u v → CharAt v 125 x → Field longest u f w → ⊥
 no_field_closes white close field =
     pass_clash is_id_start field.name.here field.name.starts (moved (λ a b. CharAt a 125 b) (sym (white_none white field)) close) refl
 
-pub fields_same : {u v w x y : Place} {fs gs : List FieldReading} → Fields longest u fs v → CharAt v 125 x → Fields longest u gs w → CharAt w 125 y → (fs ≡ gs) × (v ≡ w)
+pub fields_same : {u v w x y : Place} {fs gs : List FieldReading} → Fields longest u fs v → CharAt v 125 x
+    → Fields longest u gs w → CharAt w 125 y → (fs ≡ gs) × (v ≡ w)
 fields_same (fields.none a) c (fields.none b) d = (refl, longest_same a b)
 fields_same (fields.none a) c (fields.last f g) d = absurd (no_field_closes a c f)
 fields_same (fields.none a) c (fields.more f g sign h rest) d = absurd (no_field_closes a c f)

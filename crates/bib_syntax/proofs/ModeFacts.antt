@@ -89,7 +89,9 @@ pub file_any : {u : Place} {r : FileReading} → File longest u r → File any u
 file_any (file.end end) = file.end end
 file_any (file.skipped char passes x) = file.skipped char passes (file_any x)
 file_any (file.line_comment m x) = file.line_comment m (file_any x)
-file_any (file.block b x) = file.block (record { inside = b.inside; kind = b.kind; head = head_any b.head; body = body_any b.body }) (file_any x)
+file_any (file.block b x) =
+    file.block (record { inside = b.inside; kind = b.kind; head = head_any b.head; body = body_any b.body })
+    (file_any x)
 
 -- white space isn't in any other class of characters that the grammar has runs of
 
@@ -106,7 +108,8 @@ white_not_point : (c : ℕ) → is_whitespace c ≡ true → c == 46 ≡ false
 white_not_point c white = grind (arith, nat_tests)
 
 -- no character of a class without white space is at the start of white space with a failing character after it
-stops_before : (test : ℕ → Bool) {u v x : Place} {c : ℕ} → ((d : ℕ) → is_whitespace d ≡ true → test d ≡ false) → Run is_whitespace u v → CharAt v c x → test c ≡ false → Stops test u
+stops_before : (test : ℕ → Bool) {u v x : Place} {c : ℕ} → ((d : ℕ) → is_whitespace d ≡ true → test d ≡ false)
+    → Run is_whitespace u v → CharAt v c x → test c ≡ false → Stops test u
 stops_before test apart stop char fails = stops_at test char fails
 stops_before test apart (step first white rest) char fails = stops_at test first (apart _ white)
 
@@ -155,7 +158,10 @@ element_longest (element.named none i) b =
       here = i.here;
       starts = i.starts;
       reading = i.reading;
-      rest = record { run = i.rest; stops = stops_before is_id_continue white_not_continue b.white b.here (end_not_continue b.char b.ends) };
+      rest = record {
+        run = i.rest;
+        stops = stops_before is_id_continue white_not_continue b.white b.here (end_not_continue b.char b.ends);
+      };
     })
 element_longest (element.braced x) b = element.braced x
 element_longest (element.quoted q) b = element.quoted q
@@ -222,10 +228,22 @@ start_no_percent : (c : ℕ) → is_id_start c ≡ true → c == 37 ≡ false
 start_no_percent c starts = ne_eqb c 37 (λ same. test_clash (is_id_start 37) (subst (λ x. is_id_start x ≡ true) same starts) refl)
 
 digit_first : {u x : Place} {c : ℕ} → CharAt u c x → is_ascii_digit c ≡ true → Visible u
-digit_first {u} {x} {c} char digit = record { char = c; following = x; here = char; visible = digit_visible c digit; no_line_comment = digit_no_percent c digit }
+digit_first {u} {x} {c} char digit = record {
+  char = c;
+  following = x;
+  here = char;
+  visible = digit_visible c digit;
+  no_line_comment = digit_no_percent c digit;
+}
 
 name_first : {u v : Place} {p : Part} → Identifier any u p v → Visible u
-name_first i = record { char = i.first; following = i.second; here = i.here; visible = start_not_white i.first i.starts; no_line_comment = start_no_percent i.first i.starts }
+name_first i = record {
+  char = i.first;
+  following = i.second;
+  here = i.here;
+  visible = start_not_white i.first i.starts;
+  no_line_comment = start_no_percent i.first i.starts;
+}
 
 element_first : {u v : Place} {e : Piece} → Element any u e v → Visible u
 element_first (element.number (number.whole c d r e)) = digit_first c d
@@ -244,7 +262,8 @@ record ElementsLongest (u : Place) (es : List Piece) (x : Place) : Type 0 where
   elements : Elements longest u es end
   rest : Gap longest end x
 
-elements_longest : {u w x y : Place} {k : ℕ} {es : List Piece} → Elements any u es w → Gap any w x → CharAt x k y → is_close k ≡ true → ElementsLongest u es x
+elements_longest : {u w x y : Place} {k : ℕ} {es : List Piece} → Elements any u es w → Gap any w x → CharAt x k y
+    → is_close k ≡ true → ElementsLongest u es x
 elements_longest (elements.last e white ends) g char close =
     let cut = white_gap white g char close in
     record { end = cut.end; elements = elements.last (element_longest e cut.following) cut.white cut.no_sign; rest = cut.rest }
@@ -259,7 +278,8 @@ elements_longest (elements.more {w = w} {x = b} e white sign white' rest) g char
     }
 
 -- a name followed by white space and a character that can't continue a name
-name_longest : {u v w x : Place} {p : Part} {c : ℕ} → Identifier any u p v → Run is_whitespace v w → CharAt w c x → is_id_continue c ≡ false → Identifier longest u p v
+name_longest : {u v w x : Place} {p : Part} {c : ℕ} → Identifier any u p v → Run is_whitespace v w → CharAt w c x
+    → is_id_continue c ≡ false → Identifier longest u p v
 name_longest i white char fails = record {
   second = i.second;
   first = i.first;
@@ -276,7 +296,8 @@ record FieldLongest (u x : Place) : Type 0 where
   field : Field longest u says end
   rest : Gap longest end x
 
-field_longest : {u w x y : Place} {k : ℕ} {f : FieldReading} → Field any u f w → Gap any w x → CharAt x k y → is_close k ≡ true → FieldLongest u x
+field_longest : {u w x y : Place} {k : ℕ} {f : FieldReading} → Field any u f w → Gap any w x → CharAt x k y
+    → is_close k ≡ true → FieldLongest u x
 field_longest {f = f} a g char close =
     let more = elements_longest a.elements g char close in
     let first = elements_first a.elements in
@@ -301,8 +322,11 @@ field_longest {f = f} a g char close =
 
 -- a gap is as long as possible before a character that is neither white space nor a percent sign
 gap_longest : {u v : Place} → Gap any u v → Visible v → Gap longest u v
-gap_longest (gap.white r e) first = gap.white (longest_to is_whitespace r first.here first.visible) (stops_at (λ c. c == 37) first.here first.no_line_comment)
-gap_longest (gap.line_comment r m r') first = gap.line_comment (longest_to is_whitespace r m.sign refl) m (longest_to is_whitespace r' first.here first.visible)
+gap_longest (gap.white r e) first =
+    gap.white (longest_to is_whitespace r first.here first.visible)
+    (stops_at (λ c. c == 37) first.here first.no_line_comment)
+gap_longest (gap.line_comment r m r') first =
+    gap.line_comment (longest_to is_whitespace r m.sign refl) m (longest_to is_whitespace r' first.here first.visible)
 
 -- a gap and the white space after it are one gap, as long as possible, before such a character
 gap_white : {u v w : Place} → Gap any u v → Run is_whitespace v w → Visible w → Gap longest u w
@@ -310,7 +334,13 @@ gap_white (gap.white r e) white first = gap_longest (gap.white (run_append r whi
 gap_white (gap.line_comment r m r') white first = gap_longest (gap.line_comment r m (run_append r' white)) first
 
 close_visible : {v y : Place} {k : ℕ} → CharAt v k y → is_close k ≡ true → Visible v
-close_visible {v} {y} {k} char close = record { char = k; following = y; here = char; visible = close_not_white k close; no_line_comment = close_not_percent k close }
+close_visible {v} {y} {k} char close = record {
+  char = k;
+  following = y;
+  here = char;
+  visible = close_not_white k close;
+  no_line_comment = close_not_percent k close;
+}
 
 -- fields that begin after the longest white space
 record FieldsLongest (v : Place) : Type 0 where
@@ -326,14 +356,31 @@ record GapFields (a v : Place) : Type 0 where
 gap_fields : {a u v y : Place} {fs : List FieldReading} → Gap any a u → Fields any u fs v → CharAt v 125 y → GapFields a v
 gap_fields {v = v} g (fields.none white) close =
     let visible = close_visible close refl in
-    record { fields = record { start = v; says = []; fields = fields.none (record { run = stop; stops = stops_at is_whitespace close refl }) }; before = gap_white g white visible }
+    record {
+      fields = record {
+        start = v;
+        says = [];
+        fields = fields.none (record { run = stop; stops = stops_at is_whitespace close refl });
+      };
+      before = gap_white g white visible;
+    }
 gap_fields {u = u} g (fields.last f h) close =
     let one = field_longest f h close refl in
-    record { fields = record { start = u; says = one.says ∷ []; fields = fields.last one.field one.rest }; before = gap_longest g (name_first f.name) }
+    record {
+      fields = record { start = u; says = one.says ∷ []; fields = fields.last one.field one.rest };
+      before = gap_longest g (name_first f.name);
+    }
 gap_fields {u = u} g (fields.more f h comma h' rest) close =
     let one = field_longest f h comma refl in
     let more = gap_fields h' rest close in
-    record { fields = record { start = u; says = one.says ∷ more.fields.says; fields = fields.more one.field one.rest comma more.before more.fields.fields }; before = gap_longest g (name_first f.name) }
+    record {
+      fields = record {
+        start = u;
+        says = one.says ∷ more.fields.says;
+        fields = fields.more one.field one.rest comma more.before more.fields.fields;
+      };
+      before = gap_longest g (name_first f.name);
+    }
 
 -- the longest white space from `a`, and fields after it up to `v`
 record WhiteFields (a v : Place) : Type 0 where
@@ -342,16 +389,33 @@ record WhiteFields (a v : Place) : Type 0 where
 
 white_fields : {a u v y : Place} {fs : List FieldReading} → Run is_whitespace a u → Fields any u fs v → CharAt v 125 y → WhiteFields a v
 white_fields {v = v} run (fields.none white) close =
-    record { fields = record { start = v; says = []; fields = fields.none (record { run = stop; stops = stops_at is_whitespace close refl }) }; before = longest_to is_whitespace (run_append run white) close refl }
+    record {
+      fields = record {
+        start = v;
+        says = [];
+        fields = fields.none (record { run = stop; stops = stops_at is_whitespace close refl });
+      };
+      before = longest_to is_whitespace (run_append run white) close refl;
+    }
 white_fields {u = u} run (fields.last f h) close =
     let one = field_longest f h close refl in
     let first = name_first f.name in
-    record { fields = record { start = u; says = one.says ∷ []; fields = fields.last one.field one.rest }; before = longest_to is_whitespace run first.here first.visible }
+    record {
+      fields = record { start = u; says = one.says ∷ []; fields = fields.last one.field one.rest };
+      before = longest_to is_whitespace run first.here first.visible;
+    }
 white_fields {u = u} run (fields.more f h comma h' rest) close =
     let one = field_longest f h comma refl in
     let more = gap_fields h' rest close in
     let first = name_first f.name in
-    record { fields = record { start = u; says = one.says ∷ more.fields.says; fields = fields.more one.field one.rest comma more.before more.fields.fields }; before = longest_to is_whitespace run first.here first.visible }
+    record {
+      fields = record {
+        start = u;
+        says = one.says ∷ more.fields.says;
+        fields = fields.more one.field one.rest comma more.before more.fields.fields;
+      };
+      before = longest_to is_whitespace run first.here first.visible;
+    }
 
 -- white space and a run after it, cut where the longest white space ends
 record WhiteRun (test : ℕ → Bool) (u w : Place) : Type 0 where
@@ -359,7 +423,8 @@ record WhiteRun (test : ℕ → Bool) (u w : Place) : Type 0 where
   white : Longest is_whitespace u end
   rest : Run test end w
 
-white_run : (test : ℕ → Bool) {u v w x : Place} {k : ℕ} → Run is_whitespace u v → Run test v w → CharAt w k x → is_whitespace k ≡ false → WhiteRun test u w
+white_run : (test : ℕ → Bool) {u v w x : Place} {k : ℕ} → Run is_whitespace u v → Run test v w → CharAt w k x
+    → is_whitespace k ≡ false → WhiteRun test u w
 white_run test {v = v} white stop char visible = record { end = v; white = longest_to is_whitespace white char visible; rest = stop }
 white_run test {u} {v} {w} {x} {k} white (step {c = c} first passes rest) char visible =
     elim (cases_Bool (is_whitespace c)) [
@@ -401,10 +466,16 @@ record WhiteBody (start : Place) (p : Part) (k : BlockKind) (u v : Place) : Type
   white : Longest is_whitespace u inside
   body : Body longest start p k inside says v
 
-body_longest : {start a u v : Place} {p : Part} {k : BlockKind} {r : FileReading} → Run is_whitespace a u → Body any start p k u r v → WhiteBody start p k a v
+body_longest : {start a u v : Place} {p : Part} {k : BlockKind} {r : FileReading} → Run is_whitespace a u
+    → Body any start p k u r v → WhiteBody start p k a v
 body_longest run (body.comment b inside close) =
     let cut = white_run (λ c. not (c == 125)) run inside close refl in
-    record { inside = cut.end; says = empty_reading; white = cut.white; body = body.comment b (longest_to (λ c. not (c == 125)) cut.rest close refl) close }
+    record {
+      inside = cut.end;
+      says = empty_reading;
+      white = cut.white;
+      body = body.comment b (longest_to (λ c. not (c == 125)) cut.rest close refl) close;
+    }
 body_longest {u = u} run (body.preamble {c = c} quoted white close shuts) =
     record {
       inside = u;
@@ -422,7 +493,9 @@ body_longest run (body.entry b stop white comma g inner close) =
       inside = _;
       says = _;
       white = all;
-      body = body.entry _ (longest_to is_key stop comma refl) (longest_to is_whitespace stop comma refl) comma cut.before cut.fields.fields close;
+      body =
+          body.entry _ (longest_to is_key stop comma refl) (longest_to is_whitespace stop comma refl) comma cut.before
+          cut.fields.fields close;
     }
 body_longest {u = u} run (body.entry b (step {c = c} first passes rest) white comma g inner close) =
     let cut = gap_fields g inner close in

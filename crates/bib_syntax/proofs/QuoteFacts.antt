@@ -60,10 +60,12 @@ hidden_back {u} {v} {w} {x} slash char (hidden {w = w'} {c = c'} slash' char' pa
 hidden_end_back : {u v x y : Place} → CharAt u 92 v → AtEnd v → QuotedParts u x → CharAt x 34 y → ⊥
 hidden_end_back slash end none quote = char_clash slash quote refl
 hidden_end_back slash end (plain char passes parts) quote = pass_clash is_quotable char passes slash refl
-hidden_end_back slash end (hidden {w = w'} {c = c'} slash' char' parts) quote = no_char_at_end end (subst (λ p. CharAt p c' w') (same_char slash' slash).1 char')
+hidden_end_back slash end (hidden {w = w'} {c = c'} slash' char' parts) quote =
+    no_char_at_end end (subst (λ p. CharAt p c' w') (same_char slash' slash).1 char')
 
 -- moving past a backslash and the character after it, if there is one
-pub quoted_hidden : {u v w : Place} (taken : Option ℕ) → CharAt u 92 v → MatchOption taken (AtEnd v × (w ≡ v)) (λ c. CharAt v c w) → SameQuoted u w
+pub quoted_hidden : {u v w : Place} (taken : Option ℕ) → CharAt u 92 v
+    → MatchOption taken (AtEnd v × (w ≡ v)) (λ c. CharAt v c w) → SameQuoted u w
 quoted_hidden {u} {v} {w} None slash ended = record {
   there = λ x y p c. absurd (quoted_end ended.0 (subst (λ q. QuotedParts q x) ended.1 p) c);
   back = λ x y p c. absurd (hidden_end_back slash ended.0 p c);
@@ -71,7 +73,8 @@ quoted_hidden {u} {v} {w} None slash ended = record {
 quoted_hidden (Some c) slash char = record { there = λ x y p q. hidden slash char p; back = λ x y p q. hidden_back slash char p q }
 
 -- no quote closes a quoted text from a place without a plain character, a backslash or a quote
-pub quoted_stuck : {u x y : Place} → Stops is_quotable u → ((v : Place) → CharAt u 34 v → ⊥) → ((v : Place) → CharAt u 92 v → ⊥) → QuotedParts u x → CharAt x 34 y → ⊥
+pub quoted_stuck : {u x y : Place} → Stops is_quotable u → ((v : Place) → CharAt u 34 v → ⊥)
+    → ((v : Place) → CharAt u 92 v → ⊥) → QuotedParts u x → CharAt x 34 y → ⊥
 quoted_stuck stops quote slash none closing = quote _ closing
 quoted_stuck stops quote slash (plain char passes parts) closing = pass_clash is_quotable char passes char (stops _ _ char)
 quoted_stuck stops quote slash (hidden char any parts) closing = slash _ char

@@ -11,10 +11,12 @@ pub error_back : {u v : Place} {e : ParseError} → Ahead u v → IsSyntaxError 
 error_back {u} {v} {e} ahead error = subst (λ t. IsSyntaxError t e) ahead.text error
 
 -- the bytes from a place up to a later one, with their ends, are the part between the two
-pub part_from : {u v : Place} (start end : ℕ) (bytes : List ℕ) → Ahead u v → start ≡ u.at → end ≡ v.at → bytes ≡ between (place v.text start) v
+pub part_from : {u v : Place} (start end : ℕ) (bytes : List ℕ) → Ahead u v → start ≡ u.at → end ≡ v.at
+    → bytes ≡ between (place v.text start) v
     → (let p : Part = record { text = bytes; start = start; end = end } in p) ≡ part u v
 part_from {u} {v} start end bytes ahead starts ends is =
-    let text : bytes ≡ between u v = is ∙ ap (λ s. take (v.at - s) (drop s v.text)) starts ∙ ap (λ t. take (v.at - u.at) (drop u.at t)) ahead.text in
+    let text : bytes ≡ between u v =
+    is ∙ ap (λ s. take (v.at - s) (drop s v.text)) starts ∙ ap (λ t. take (v.at - u.at) (drop u.at t)) ahead.text in
     ap (λ t. let p : Part = record { text = t; start = start; end = end } in p) text
     ∙ ap (λ s. let p : Part = record { text = between u v; start = s; end = end } in p) starts
     ∙ ap (λ e. let p : Part = record { text = between u v; start = u.at; end = e } in p) ends
@@ -24,7 +26,9 @@ pub not_after : {u v : Place} (start : ℕ) → Ahead u v → start ≡ u.at →
 not_after start ahead starts = omega (arith, ahead.at, starts)
 
 -- a character that is at the place is taken
-pub taken_if : {u v : Place} (c : ℕ) (b : Bool) → MatchBool b (CharAt u c v) ((v ≡ u) × ((w : Place) → CharAt u c w → ⊥)) → ((w : Place) × CharAt u c w) → CharAt u c v
+pub taken_if : {u v : Place} (c : ℕ) (b : Bool)
+    → MatchBool b (CharAt u c v) ((v ≡ u) × ((w : Place) → CharAt u c w → ⊥)) → ((w : Place) × CharAt u c w)
+    → CharAt u c v
 taken_if c true char here = char
 taken_if c false absent here = absurd (absent.1 here.0 here.1)
 

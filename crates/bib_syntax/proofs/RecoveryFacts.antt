@@ -61,28 +61,38 @@ goes_on_same first second = passed_same first.passed first.stands second.passed 
 pub nothing_recovered : (start : Place) → RecoveredTo start empty_reading [] start
 nothing_recovered start more others x = x
 
-run_recovered : {u v : Place} {r : FileReading} {errors : List SkippedBlock} → Run is_skipped u v → Recovered v r errors → Recovered u r errors
+run_recovered : {u v : Place} {r : FileReading} {errors : List SkippedBlock} → Run is_skipped u v → Recovered v r errors
+    → Recovered u r errors
 run_recovered stop x = x
 run_recovered (step char passes rest) x = recovered.skipped char passes (run_recovered rest x)
 
-pub skip_recovered : {start u v : Place} (says : FileReading) (errors : List SkippedBlock) → RecoveredTo start says errors u → Longest is_skipped u v → RecoveredTo start says errors v
+pub skip_recovered : {start u v : Place} (says : FileReading) (errors : List SkippedBlock)
+    → RecoveredTo start says errors u → Longest is_skipped u v → RecoveredTo start says errors v
 skip_recovered says errors read run more others x = read more others (run_recovered run.run x)
 
-pub comment_recovered : {start u v : Place} (says : FileReading) (errors : List SkippedBlock) → RecoveredTo start says errors u → LineComment u v → RecoveredTo start says errors v
+pub comment_recovered : {start u v : Place} (says : FileReading) (errors : List SkippedBlock)
+    → RecoveredTo start says errors u → LineComment u v → RecoveredTo start says errors v
 comment_recovered says errors read m more others x = read more others (recovered.line_comment m x)
 
-pub block_recovered : {start u v : Place} (says : FileReading) {first : FileReading} (errors : List SkippedBlock) → RecoveredTo start says errors u → Block longest u first v → RecoveredTo start (then says first) errors v
+pub block_recovered : {start u v : Place} (says : FileReading) {first : FileReading} (errors : List SkippedBlock)
+    → RecoveredTo start says errors u → Block longest u first v → RecoveredTo start (then says first) errors v
 block_recovered {start} says {first} errors read b more others x =
-    subst (λ r. Recovered start r (errors ++ others)) (sym (then-then says first more)) (read (then first more) others (recovered.block b x))
+    subst (λ r. Recovered start r (errors ++ others)) (sym (then-then says first more))
+    (read (then first more) others (recovered.block b x))
 
-pub unread_recovered : {start u v w : Place} {e : ParseError} (says : FileReading) (errors : List SkippedBlock) → RecoveredTo start says errors u → CharAt u 64 v → IsUnreadBlock u e → GoesOnAt v w
+pub unread_recovered : {start u v w : Place} {e : ParseError} (says : FileReading) (errors : List SkippedBlock)
+    → RecoveredTo start says errors u → CharAt u 64 v → IsUnreadBlock u e → GoesOnAt v w
     → RecoveredTo start says (errors ++ skipped_block e u w ∷ []) w
 unread_recovered {start} {u} {w = w} {e = e} says errors read sign none on more others x =
-    subst (λ es. Recovered start (then says more) es) (sym (append_assoc errors (skipped_block e u w ∷ []) others)) (read more (skipped_block e u w ∷ others) (recovered.unread sign none on x))
+    subst (λ es. Recovered start (then says more) es) (sym (append_assoc errors (skipped_block e u w ∷ []) others))
+    (read more (skipped_block e u w ∷ others) (recovered.unread sign none on x))
 
-pub all_recovered : {start u : Place} (says : FileReading) (errors : List SkippedBlock) → RecoveredTo start says errors u → AtEnd u → Recovered start says errors
+pub all_recovered : {start u : Place} (says : FileReading) (errors : List SkippedBlock)
+    → RecoveredTo start says errors u → AtEnd u → Recovered start says errors
 all_recovered {start} says errors read end =
-    subst (λ r. Recovered start r errors) (then-empty_reading says) (subst (λ es. Recovered start (then says empty_reading) es) (append-nil errors) (read empty_reading [] (recovered.end end)))
+    subst (λ r. Recovered start r errors) (then-empty_reading says)
+    (subst (λ es. Recovered start (then says empty_reading) es) (append-nil errors)
+    (read empty_reading [] (recovered.end end)))
 
 -- fewer bytes are left after a skipped block
 pub unread_smaller : {u v w : Place} {c : ℕ} → CharAt u c v → GoesOnAt v w → length w.text - w.at < length u.text - u.at
@@ -115,17 +125,20 @@ at_sign_here : {u v : Place} (c : ℕ) → CharAt u c v → false ≡ not (c == 
 at_sign_here {u} {v} c char other = (v, subst (λ x. CharAt u x v) (eqb-true c 64 (no_other (c == 64) other)) char)
 
 -- recovery continues where the search stops, at the end of the text or at an at sign that begins a line
-stands_here : {u : Place} → EndsOr (λ c. false ≡ not (c == 64)) u → AtEnd u ⊎ (ends_blank (take u.at u.text) ≡ true) → AtEnd u ⊎ BeginsLine u
+stands_here : {u : Place} → EndsOr (λ c. false ≡ not (c == 64)) u → AtEnd u ⊎ (ends_blank (take u.at u.text) ≡ true)
+    → AtEnd u ⊎ BeginsLine u
 stands_here (inl end) blank = inl end
 stands_here (inr here) (inl end) = inl end
 stands_here (inr here) (inr blank) = let sign = at_sign_here here.0 here.2 here.3 in inr (sign.0, sign.1, blank)
 
 -- recovery continues where the search stops
-pub search_ends : {start u v : Place} → Passed start u → Longest (λ c. not (c == 64)) u v → EndsOr (λ c. false ≡ not (c == 64)) v → AtEnd v ⊎ (ends_blank (take v.at v.text) ≡ true) → GoesOnAt start v
+pub search_ends : {start u v : Place} → Passed start u → Longest (λ c. not (c == 64)) u v
+    → EndsOr (λ c. false ≡ not (c == 64)) v → AtEnd v ⊎ (ends_blank (take v.at v.text) ≡ true) → GoesOnAt start v
 search_ends before run here blank = record { passed = passed_then before (other_passed run.run); stands = stands_here here blank }
 
 -- taking a character before the end of the text returns one
-taken_here : {u v : Place} (taken : Option ℕ) → MatchOption taken (AtEnd u × (v ≡ u)) (λ c. CharAt u c v) → (AtEnd u → ⊥) → (c : ℕ) × CharAt u c v
+taken_here : {u v : Place} (taken : Option ℕ) → MatchOption taken (AtEnd u × (v ≡ u)) (λ c. CharAt u c v)
+    → (AtEnd u → ⊥) → (c : ℕ) × CharAt u c v
 taken_here None ended going = absurd (going ended.0)
 taken_here (Some c) char going = (c, char)
 
@@ -133,13 +146,20 @@ taken_here (Some c) char going = (c, char)
 no_line : (b : Bool) → b ≡ false → b ≡ true → ⊥
 no_line b fails passes = cc
 
-pub search_more : {start u v w : Place} (taken : Option ℕ) → Passed start u → Longest (λ c. not (c == 64)) u v → (AtEnd v → ⊥) × (ends_blank (take v.at v.text) ≡ false) → MatchOption taken (AtEnd v × (w ≡ v)) (λ c. CharAt v c w) → Passed start w
+pub search_more : {start u v w : Place} (taken : Option ℕ) → Passed start u → Longest (λ c. not (c == 64)) u v
+    → (AtEnd v → ⊥) × (ends_blank (take v.at v.text) ≡ false)
+    → MatchOption taken (AtEnd v × (w ≡ v)) (λ c. CharAt v c w) → Passed start w
 search_more {v = v} taken before run (going, blank) is =
     let char = taken_here taken is going in
-    passed_then before (passed_then (other_passed run.run) (passed.step char.1 (λ line. no_line (ends_blank (take v.at v.text)) blank line.2) passed.stop))
+    passed_then before
+    (passed_then (other_passed run.run)
+    (passed.step char.1 (λ line. no_line (ends_blank (take v.at v.text)) blank line.2) passed.stop))
 
-pub search_smaller : {u v : Place} (w : Place) (taken : Option ℕ) → Longest (λ c. not (c == 64)) u v → (AtEnd v → ⊥) × (ends_blank (take v.at v.text) ≡ false) → MatchOption taken (AtEnd v × (w ≡ v)) (λ c. CharAt v c w) → length w.text - w.at < length u.text - u.at
-search_smaller w taken run (going, blank) is = let char = taken_here taken is going in left_smaller (ahead_run run.run) char.1 (ahead_here _)
+pub search_smaller : {u v : Place} (w : Place) (taken : Option ℕ) → Longest (λ c. not (c == 64)) u v
+    → (AtEnd v → ⊥) × (ends_blank (take v.at v.text) ≡ false)
+    → MatchOption taken (AtEnd v × (w ≡ v)) (λ c. CharAt v c w) → length w.text - w.at < length u.text - u.at
+search_smaller w taken run (going, blank) is =
+    let char = taken_here taken is going in left_smaller (ahead_run run.run) char.1 (ahead_here _)
 
 -- ---- one more block, or one more skipped block
 
@@ -155,7 +175,8 @@ pub all_ok : {E P Q R S : Type 0} (r : Result (Unit {0}) E) → OnOk r P → OnO
 all_ok (Ok done) p q r f = f p q r
 all_ok (Err e) p q r f = p
 
-pub at_sign_taken : {u v w : Place} (taken : Option ℕ) → CharAt u 64 w → MatchOption taken (AtEnd u × (v ≡ u)) (λ c. CharAt u c v) → CharAt u 64 v
+pub at_sign_taken : {u v w : Place} (taken : Option ℕ) → CharAt u 64 w
+    → MatchOption taken (AtEnd u × (v ≡ u)) (λ c. CharAt u c v) → CharAt u 64 v
 at_sign_taken None sign ended = absurd (no_char_at_end ended.0 sign)
 at_sign_taken {u} {v} (Some c) sign char = subst (λ x. CharAt u x v) (same_char char sign).0 char
 
@@ -163,20 +184,28 @@ pub unread_from : {u : Place} {e : ParseError} → Refuses u.text e (IsUnreadBlo
 unread_from (inl no_room) some = absurd (some (ap (λ error. error.kind) no_room))
 unread_from (inr refused) some = refused.1
 
-pub block_found : {u v : Place} {first : FileReading} (says all : FileReading) (errors : List SkippedBlock) → Block longest u first v → all ≡ then says first → (start : Place) → RecoveredTo start says errors u → RecoveredTo start all errors v
-block_found {u} {v} {first} says all errors b same start read = subst (λ r. RecoveredTo start r errors v) (sym same) (block_recovered says errors read b)
+pub block_found : {u v : Place} {first : FileReading} (says all : FileReading) (errors : List SkippedBlock)
+    → Block longest u first v → all ≡ then says first → (start : Place) → RecoveredTo start says errors u
+    → RecoveredTo start all errors v
+block_found {u} {v} {first} says all errors b same start read =
+    subst (λ r. RecoveredTo start r errors v) (sym same) (block_recovered says errors read b)
 
-pub unread_found : {u w : Place} {e : ParseError} (says all : FileReading) (errors more : List SkippedBlock) → IsUnreadBlock u e → ((v : Place) × CharAt u 64 v × GoesOnAt v w) → all ≡ says → more ≡ errors ++ skipped_block e u w ∷ []
+pub unread_found : {u w : Place} {e : ParseError} (says all : FileReading) (errors more : List SkippedBlock)
+    → IsUnreadBlock u e → ((v : Place) × CharAt u 64 v × GoesOnAt v w) → all ≡ says
+    → more ≡ errors ++ skipped_block e u w ∷ []
     → (start : Place) → RecoveredTo start says errors u → RecoveredTo start all more w
 unread_found {u} {w} {e} says all errors more none (v, sign, on) same grown start read =
-    subst (λ r. RecoveredTo start r more w) (sym same) (subst (λ es. RecoveredTo start says es w) (sym grown) (unread_recovered says errors read sign none on))
+    subst (λ r. RecoveredTo start r more w) (sym same)
+    (subst (λ es. RecoveredTo start says es w) (sym grown) (unread_recovered says errors read sign none on))
 
 -- ---- a text has at most one recovery
 
 -- the recovery of the rest after a skipped character, after a line comment and after a block
-skipped_left : {u v : Place} {c : ℕ} {r : FileReading} {errors : List SkippedBlock} → CharAt u c v → is_skipped c ≡ true → Recovered u r errors → Recovered v r errors
+skipped_left : {u v : Place} {c : ℕ} {r : FileReading} {errors : List SkippedBlock} → CharAt u c v → is_skipped c ≡ true
+    → Recovered u r errors → Recovered v r errors
 skipped_left char passes (recovered.end end) = absurd (no_char_at_end end char)
-skipped_left {r = r} {errors = errors} char passes (recovered.skipped char' passes' x) = subst (λ y. Recovered y r errors) (same_char char' char).1 x
+skipped_left {r = r} {errors = errors} char passes (recovered.skipped char' passes' x) =
+    subst (λ y. Recovered y r errors) (same_char char' char).1 x
 skipped_left char passes (recovered.line_comment m x) = absurd (pass_clash is_skipped char passes m.sign refl)
 skipped_left char passes (recovered.block b x) = absurd (pass_clash is_skipped char passes b.head.sign refl)
 skipped_left char passes (recovered.unread sign none on x) = absurd (pass_clash is_skipped char passes sign refl)
@@ -194,7 +223,8 @@ record BlockLeft (u v : Place) (first says : FileReading) (errors : List Skipped
   left : Recovered v rest errors
   whole : says ≡ then first rest
 
-block_left : {u v : Place} {first says : FileReading} {errors : List SkippedBlock} → Block longest u first v → Recovered u says errors → BlockLeft u v first says errors
+block_left : {u v : Place} {first says : FileReading} {errors : List SkippedBlock} → Block longest u first v
+    → Recovered u says errors → BlockLeft u v first says errors
 block_left b (recovered.end end) = absurd (no_char_at_end end b.head.sign)
 block_left b (recovered.skipped char passes x) = absurd (pass_clash is_skipped char passes b.head.sign refl)
 block_left b (recovered.line_comment m x) = absurd (char_clash b.head.sign m.sign refl)
@@ -211,14 +241,21 @@ record UnreadLeft (u w : Place) (says : FileReading) (errors : List SkippedBlock
   left : Recovered w says rest
   whole : errors ≡ skipped_block error u w ∷ rest
 
-unread_left : {u v w : Place} {e : ParseError} {says : FileReading} {errors : List SkippedBlock} → CharAt u 64 v → IsUnreadBlock u e → GoesOnAt v w → Recovered u says errors → UnreadLeft u w says errors
+unread_left : {u v w : Place} {e : ParseError} {says : FileReading} {errors : List SkippedBlock} → CharAt u 64 v
+    → IsUnreadBlock u e → GoesOnAt v w → Recovered u says errors → UnreadLeft u w says errors
 unread_left sign none on (recovered.end end) = absurd (no_char_at_end end sign)
 unread_left sign none on (recovered.skipped char passes x) = absurd (pass_clash is_skipped char passes sign refl)
 unread_left sign none on (recovered.line_comment m x) = absurd (char_clash sign m.sign refl)
 unread_left sign none on (recovered.block b x) = absurd (block_unread none.fails b)
 unread_left {u} {w = w} {says = says} sign none on (recovered.unread {w = w'} {e = e} {errors = errors} sign' none' on' x) =
     let same : w' ≡ w = goes_on_same (subst (λ y. GoesOnAt y w') (same_char sign' sign).1 on') on in
-    record { error = e; rest = errors; none = none'; left = subst (λ y. Recovered y says errors) same x; whole = ap (λ y. skipped_block e u y ∷ errors) same }
+    record {
+      error = e;
+      rest = errors;
+      none = none';
+      left = subst (λ y. Recovered y says errors) same x;
+      whole = ap (λ y. skipped_block e u y ∷ errors) same;
+    }
 
 pub recovery_same : {u : Place} {r s : FileReading} {f g : List SkippedBlock} → Recovered u r f → Recovered u s g → (r ≡ s) × (f ≡ g)
 recovery_same (recovered.end end) (recovered.end end') = (refl, refl)
@@ -240,18 +277,22 @@ recovery_same {u} (recovered.unread {w = w} {e = e} sign none on x) second =
 
 -- ---- each recovered entry is a block of the file grammar
 
-entry_block : {start a v : Place} {p : Part} {k : BlockKind} {r : FileReading} → Body longest start p k a r v → Block longest start r v → AllByRecursion (IsBlockOf start.text) r.entries
+entry_block : {start a v : Place} {p : Part} {k : BlockKind} {r : FileReading} → Body longest start p k a r v
+    → Block longest start r v → AllByRecursion (IsBlockOf start.text) r.entries
 entry_block (body.comment v inside close) b = _
 entry_block (body.preamble quoted white close is_close) b = _
 entry_block (body.strings fields close) b = _
 entry_block (body.entry v key white comma gap fields close) b = ((_, b), _)
 
-pub entries_stand : {u : Place} {says : FileReading} {errors : List SkippedBlock} (text : List ℕ) → u.text ≡ text → Recovered u says errors → AllByRecursion (IsBlockOf text) says.entries
+pub entries_stand : {u : Place} {says : FileReading} {errors : List SkippedBlock} (text : List ℕ) → u.text ≡ text
+    → Recovered u says errors → AllByRecursion (IsBlockOf text) says.entries
 entries_stand text same (recovered.end end) = _
 entries_stand text same (recovered.skipped char passes x) = entries_stand text (char.same ∙ same) x
 entries_stand text same (recovered.line_comment m x) = entries_stand text ((ahead_line_comment m).text ∙ same) x
 entries_stand text same (recovered.block {first = first} {rest = rest} b x) =
-    all_append (IsBlockOf text) first.entries rest.entries (subst (λ t. AllByRecursion (IsBlockOf t) first.entries) same (entry_block b.body b)) (entries_stand text ((ahead_block b).text ∙ same) x)
+    all_append (IsBlockOf text) first.entries rest.entries
+    (subst (λ t. AllByRecursion (IsBlockOf t) first.entries) same (entry_block b.body b))
+    (entries_stand text ((ahead_block b).text ∙ same) x)
 entries_stand text same (recovered.unread sign none on x) = entries_stand text ((ahead_passed on.passed).text ∙ (sign.same ∙ same)) x
 
 -- ---- each entry that could be parsed is recovered, or it is inside a block, a line comment or a skipped block
@@ -259,7 +300,9 @@ entries_stand text same (recovered.unread sign none on x) = entries_stand text (
 -- an at sign isn't inside another character
 in_character : {w v u x : Place} {c : ℕ} → CharAt w c v → CharAt u 64 x → u.text ≡ w.text → w.at ≤ u.at → u.at < v.at → c ≡ 64
 in_character {w} {v} {u} {x} {c} char sign same before inside =
-    let byte : get_or w.text u.at 0 ≡ 64 = ap (λ t. get_or t u.at 0) (sym same) ∙ sym (first_byte u.text u.at) ∙ byte_from_char (drop u.at u.text) (drop x.at u.text) 64 sign.here (lit< tt) in
+    let byte : get_or w.text u.at 0 ≡ 64 =
+    ap (λ t. get_or t u.at 0) (sym same) ∙ sym (first_byte u.text u.at)
+    ∙ byte_from_char (drop u.at u.text) (drop x.at u.text) 64 sign.here (lit< tt) in
     byte_in u.at char before inside (subst (λ b. b < 128) (sym byte) (lit< tt)) ∙ byte
 
 -- an at sign at `u` is at the start `w` of the next step of recovery, inside the step, or not before its end `v`
@@ -281,17 +324,20 @@ Found errors u says e = Contains says.entries e ⊎ LiesInside u ⊎ IsPassedOve
 passed_later : (u : Place) (block : SkippedBlock) (errors : List SkippedBlock) → IsPassedOver errors u → IsPassedOver (block ∷ errors) u
 passed_later u block errors (k, s, below, is, lies) = (suc k, s, omega (arith, below), is, lies)
 
-found_later : {u : Place} (first rest : FileReading) (errors : List SkippedBlock) (e : EntryReading) → Found errors u rest e → Found errors u (then first rest) e
+found_later : {u : Place} (first rest : FileReading) (errors : List SkippedBlock) (e : EntryReading)
+    → Found errors u rest e → Found errors u (then first rest) e
 found_later first rest errors e (inl read) = inl (Contains-append_right first.entries rest.entries e read)
 found_later first rest errors e (inr other) = inr other
 
-found_past : (u : Place) (says : FileReading) (block : SkippedBlock) (errors : List SkippedBlock) (e : EntryReading) → Found errors u says e → Found (block ∷ errors) u says e
+found_past : (u : Place) (says : FileReading) (block : SkippedBlock) (errors : List SkippedBlock) (e : EntryReading)
+    → Found errors u says e → Found (block ∷ errors) u says e
 found_past u says block errors e (inl read) = inl read
 found_past u says block errors e (inr (inl inside)) = inr (inl inside)
 found_past u says block errors e (inr (inr lost)) = inr (inr (passed_later u block errors lost))
 
 -- an entry that could be parsed at the start of a block is in the reading of the block
-same_entry : {u v : Place} {r : FileReading} (text : List ℕ) (e : EntryReading) → u ≡ place text e.start → Block longest u r v → IsBlockOf text e → Contains r.entries e
+same_entry : {u v : Place} {r : FileReading} (text : List ℕ) (e : EntryReading) → u ≡ place text e.start
+    → Block longest u r v → IsBlockOf text e → Contains r.entries e
 same_entry {u} {r = r} text e here b at =
     let same : r ≡ entry_alone e = (block_same b (subst (λ y. Block longest y (entry_alone e) at.0) (sym here) at.1)).0 in
     subst (λ q. Contains q.entries e) (sym same) (0, lit< tt, refl)
@@ -300,28 +346,37 @@ at_not_skipped : (c : ℕ) → is_skipped c ≡ true → c ≡ 64 → ⊥
 at_not_skipped c passes is = let fails : is_skipped 64 ≡ true = subst (λ d. is_skipped d ≡ true) is passes in cc
 
 -- recovery from a reached place on finds each entry that could be parsed and doesn't begin before it
-pub nothing_lost : {w : Place} {says : FileReading} {errors : List SkippedBlock} (text : List ℕ) (e : EntryReading) → Reached (place text 0) w → w.text ≡ text → w.at ≤ e.start → IsBlockOf text e → Recovered w says errors
+pub nothing_lost : {w : Place} {says : FileReading} {errors : List SkippedBlock} (text : List ℕ) (e : EntryReading)
+    → Reached (place text 0) w → w.text ≡ text → w.at ≤ e.start → IsBlockOf text e → Recovered w says errors
     → Found errors (place text e.start) says e
 nothing_lost {w} text e onward same before at (recovered.end end) =
     let left = char_left at.1.head.sign in
     absurd (omega (arith, before, left, end, ap length same, (len_utf8_bounds 64).0))
-nothing_lost {w} text e onward same before at (recovered.skipped {v = v} {c = c} char passes x) = elim (next w v (place text e.start) same (ahead_char char) before) [
-  | Next.reached here ↦ absurd (pass_clash is_skipped char passes (subst (λ y. CharAt y 64 at.1.head.name_start) (sym here) at.1.head.sign) refl)
-  | Next.begun below inside ↦ absurd (at_not_skipped c passes (in_character char at.1.head.sign (sym same) before inside))
-  | Next.ended later text' ↦ nothing_lost text e (Reached.skipped onward char passes) text' later at x
-]
-nothing_lost {w} text e onward same before at (recovered.line_comment {v = v} m x) = elim (next w v (place text e.start) same (ahead_line_comment m) before) [
-  | Next.reached here ↦ absurd (char_clash m.sign (subst (λ y. CharAt y 64 at.1.head.name_start) (sym here) at.1.head.sign) refl)
-  | Next.begun below inside ↦ inr (inl (record { start = w; end = v; reached = onward; is = inr m; before = below; following = inside }))
-  | Next.ended later text' ↦ nothing_lost text e (Reached.line_comment onward m) text' later at x
-]
-nothing_lost {w} {errors = errors} text e onward same before at (recovered.block {v = v} {first = first} {rest = rest} b x) = elim (next w v (place text e.start) same (ahead_block b) before) [
-  | Next.reached here ↦ inl (Contains-append_left first.entries rest.entries e (same_entry text e here b at))
-  | Next.begun below inside ↦ inr (inl (record { start = w; end = v; reached = onward; is = inl (first, b); before = below; following = inside }))
-  | Next.ended later text' ↦ found_later first rest errors e (nothing_lost text e (Reached.block onward b) text' later at x)
-]
-nothing_lost {w} {says = says} text e onward same before at (recovered.unread {w = z} {e = error} {errors = errors} sign none on x) = elim (next w z (place text e.start) same (ahead_then (ahead_char sign) (ahead_passed on.passed)) before) [
-  | Next.reached here ↦ absurd (block_unread none.fails (subst (λ y. Block longest y (entry_alone e) at.0) (sym here) at.1))
-  | Next.begun below inside ↦ inr (inr (zero, skipped_block error w z, omega arith, refl, (below, inside)))
-  | Next.ended later text' ↦ found_past _ says (skipped_block error w z) errors e (nothing_lost text e (Reached.unread onward sign none on) text' later at x)
-]
+nothing_lost {w} text e onward same before at (recovered.skipped {v = v} {c = c} char passes x) =
+    elim (next w v (place text e.start) same (ahead_char char) before) [
+      | Next.reached here ↦ absurd
+          (pass_clash is_skipped char passes (subst (λ y. CharAt y 64 at.1.head.name_start) (sym here) at.1.head.sign) refl)
+      | Next.begun below inside ↦ absurd (at_not_skipped c passes (in_character char at.1.head.sign (sym same) before inside))
+      | Next.ended later text' ↦ nothing_lost text e (Reached.skipped onward char passes) text' later at x
+    ]
+nothing_lost {w} text e onward same before at (recovered.line_comment {v = v} m x) =
+    elim (next w v (place text e.start) same (ahead_line_comment m) before) [
+      | Next.reached here ↦ absurd (char_clash m.sign (subst (λ y. CharAt y 64 at.1.head.name_start) (sym here) at.1.head.sign) refl)
+      | Next.begun below inside ↦ inr
+          (inl (record { start = w; end = v; reached = onward; is = inr m; before = below; following = inside }))
+      | Next.ended later text' ↦ nothing_lost text e (Reached.line_comment onward m) text' later at x
+    ]
+nothing_lost {w} {errors = errors} text e onward same before at (recovered.block {v = v} {first = first} {rest = rest} b x) =
+    elim (next w v (place text e.start) same (ahead_block b) before) [
+      | Next.reached here ↦ inl (Contains-append_left first.entries rest.entries e (same_entry text e here b at))
+      | Next.begun below inside ↦ inr
+          (inl (record { start = w; end = v; reached = onward; is = inl (first, b); before = below; following = inside }))
+      | Next.ended later text' ↦ found_later first rest errors e (nothing_lost text e (Reached.block onward b) text' later at x)
+    ]
+nothing_lost {w} {says = says} text e onward same before at (recovered.unread {w = z} {e = error} {errors = errors} sign none on x) =
+    elim (next w z (place text e.start) same (ahead_then (ahead_char sign) (ahead_passed on.passed)) before) [
+      | Next.reached here ↦ absurd (block_unread none.fails (subst (λ y. Block longest y (entry_alone e) at.0) (sym here) at.1))
+      | Next.begun below inside ↦ inr (inr (zero, skipped_block error w z, omega arith, refl, (below, inside)))
+      | Next.ended later text' ↦ found_past _ says (skipped_block error w z) errors e
+          (nothing_lost text e (Reached.unread onward sign none on) text' later at x)
+    ]

@@ -90,7 +90,8 @@ element_stands text same (element.named none i) = identifier_stands text same i
 element_stands text same (element.braced b) = braced_stands text same b
 element_stands text same (element.quoted q) = quoted_stands text same q
 
-elements_stand : {u v : Place} {es : List Piece} (text : List ℕ) → u.text ≡ text → Elements longest u es v → AllByRecursion (PieceStandsIn text) es
+elements_stand : {u v : Place} {es : List Piece} (text : List ℕ) → u.text ≡ text → Elements longest u es v
+    → AllByRecursion (PieceStandsIn text) es
 elements_stand text same (elements.last e w ends) = (element_stands text same e, tt)
 elements_stand text same (elements.more e w sign w' rest) =
     let next = ahead_then (ahead_element e) (ahead_then (ahead_run w.run) (ahead_then (ahead_char sign) (ahead_run w'.run))) in
@@ -98,10 +99,13 @@ elements_stand text same (elements.more e w sign w' rest) =
 
 field_stands : {u v : Place} {f : FieldReading} (text : List ℕ) → u.text ≡ text → Field longest u f v → FieldStandsIn text f
 field_stands text same f =
-    let value = ahead_then (ahead_identifier f.name) (ahead_then (ahead_run f.white.run) (ahead_then (ahead_char f.sign) (ahead_run f.white'.run))) in
+    let value =
+    ahead_then (ahead_identifier f.name)
+    (ahead_then (ahead_run f.white.run) (ahead_then (ahead_char f.sign) (ahead_run f.white'.run))) in
     record { name = identifier_stands text same f.name; pieces = elements_stand text (value.text ∙ same) f.elements }
 
-fields_stand : {u v : Place} {fs : List FieldReading} (text : List ℕ) → u.text ≡ text → Fields longest u fs v → AllByRecursion (FieldStandsIn text) fs
+fields_stand : {u v : Place} {fs : List FieldReading} (text : List ℕ) → u.text ≡ text → Fields longest u fs v
+    → AllByRecursion (FieldStandsIn text) fs
 fields_stand text same (fields.none w) = tt
 fields_stand text same (fields.last f g) = (field_stands text same f, tt)
 fields_stand text same (fields.more f g sign h rest) =
@@ -109,10 +113,12 @@ fields_stand text same (fields.more f g sign h rest) =
     (field_stands text same f, fields_stand text (next.text ∙ same) rest)
 
 -- a reading with only a preamble has no other parts
-nothing_stands : (text : List ℕ) (preamble : List ℕ) → ReadingStandsIn text (record { preamble = preamble; entries = []; abbreviations = [] })
+nothing_stands : (text : List ℕ) (preamble : List ℕ)
+    → ReadingStandsIn text (record { preamble = preamble; entries = []; abbreviations = [] })
 nothing_stands text preamble = record { entries = tt; abbreviations = tt }
 
-body_stands : {start u v : Place} {p : Part} {k : BlockKind} {r : FileReading} (text : List ℕ) → u.text ≡ text → start.at ≤ u.at → StandsIn text p → Body longest start p k u r v → ReadingStandsIn text r
+body_stands : {start u v : Place} {p : Part} {k : BlockKind} {r : FileReading} (text : List ℕ) → u.text ≡ text
+    → start.at ≤ u.at → StandsIn text p → Body longest start p k u r v → ReadingStandsIn text r
 body_stands text same before kind (body.comment a inside close) = nothing_stands text []
 body_stands text same before kind (body.preamble quoted white close is_close) = nothing_stands text _
 body_stands text same before kind (body.strings fs close) = record { entries = tt; abbreviations = fields_stand text same fs }
@@ -144,7 +150,8 @@ block_stands text same b =
     let kind = identifier_stands text (b.head.sign.same ∙ same) b.head.name in
     body_stands text (head.text ∙ same) head.at kind b.body
 
-then_stands : (text : List ℕ) (first rest : FileReading) → ReadingStandsIn text first → ReadingStandsIn text rest → ReadingStandsIn text (then first rest)
+then_stands : (text : List ℕ) (first rest : FileReading) → ReadingStandsIn text first → ReadingStandsIn text rest
+    → ReadingStandsIn text (then first rest)
 then_stands text first rest one more = record {
   entries = all_append (EntryStandsIn text) first.entries rest.entries one.entries more.entries;
   abbreviations = all_append (FieldStandsIn text) first.abbreviations rest.abbreviations one.abbreviations more.abbreviations;

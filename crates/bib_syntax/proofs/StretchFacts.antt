@@ -26,7 +26,8 @@ first_byte text at = let sum : at + 0 ≡ at = omega arith in get_or-drop at tex
 pub byte_in : {u v : Place} {c : ℕ} (k : ℕ) → CharAt u c v → u.at ≤ k → k < v.at → get_or u.text k 0 < 128 → c ≡ get_or u.text k 0
 byte_in {u} {v} {c} k char before inside ascii =
     let left : u.at + (k - u.at) ≡ k = omega (arith, before) in
-    let byte : get_or (drop u.at u.text) (k - u.at) 0 ≡ get_or u.text k 0 = get_or-drop u.at u.text (k - u.at) 0 ∙ ap (λ n. get_or u.text n 0) left in
+    let byte : get_or (drop u.at u.text) (k - u.at) 0 ≡ get_or u.text k 0 =
+    get_or-drop u.at u.text (k - u.at) 0 ∙ ap (λ n. get_or u.text n 0) left in
     let width : k - u.at < length (encode_utf8 c) = omega (arith, char.next, length-encode c, before, inside) in
     inside_one c (drop v.at u.text) (drop u.at u.text) (k - u.at) char.here width (omega (arith, byte, ascii)) ∙ byte
 
@@ -34,7 +35,8 @@ passes_other : (c sign : ℕ) → not (c == sign) ≡ true → c ≡ sign → �
 passes_other c sign passes is = let fails : not true ≡ true = subst (λ b. not b ≡ true) (eq-eqb c sign is) passes in cc
 
 -- no byte of a run without an ASCII character is this character
-no_sign : (sign : ℕ) {u v : Place} (k : ℕ) → sign < 128 → Run (λ c. not (c == sign)) u v → u.at ≤ k → k < v.at → get_or u.text k 0 ≡ sign → ⊥
+no_sign : (sign : ℕ) {u v : Place} (k : ℕ) → sign < 128 → Run (λ c. not (c == sign)) u v → u.at ≤ k → k < v.at
+    → get_or u.text k 0 ≡ sign → ⊥
 no_sign sign k ascii stop before inside is = absurd (omega (arith, before, inside))
 no_sign sign k ascii (step {v = v} {c = c} char passes rest) before inside is = ⊎_elim
     (λ here. passes_other c sign passes (byte_in k char before here (subst (λ b. b < 128) (sym is) ascii) ∙ is))
@@ -49,14 +51,18 @@ ends_at : (sign : ℕ) (text : List ℕ) (end : ℕ) → sign < 128 → EndsOr (
 ends_at sign text end ascii (inl ended) = inl ended
 ends_at sign text end ascii (inr (c, v, char, is)) =
     let same : c ≡ sign = eqb-true c sign is in
-    inr (sym (first_byte text end) ∙ byte_from_char (drop end text) (drop v.at text) c char.here (subst (λ d. d < 128) (sym same) ascii) ∙ same)
+    inr
+    (sym (first_byte text end)
+    ∙ byte_from_char (drop end text) (drop v.at text) c char.here (subst (λ d. d < 128) (sym same) ascii) ∙ same)
 
 -- no byte from the offset `at` to `end` is `sign`
 abbrev Others : ℕ → List ℕ → ℕ → ℕ → Type 0
 Others sign text at end = (k : ℕ) → at ≤ k → k < end → get_or text k 0 ≡ sign → ⊥
 
 -- a character other than `sign` before the end of a stretch ends at or before it
-not_past : (sign : ℕ) (text : List ℕ) (at end c : ℕ) → sign < 128 → at < end → CharAt (place text at) c (place text (at + len_utf8 c)) → (c ≡ sign → ⊥) → EndsAt sign text end → at + len_utf8 c ≤ end
+not_past : (sign : ℕ) (text : List ℕ) (at end c : ℕ) → sign < 128 → at < end
+    → CharAt (place text at) c (place text (at + len_utf8 c)) → (c ≡ sign → ⊥) → EndsAt sign text end
+    → at + len_utf8 c ≤ end
 not_past sign text at end c ascii below char other (inl ended) = omega (arith, ended, char_left char)
 not_past sign text at end c ascii below char other (inr is) = ⊎_elim
     (λ inside. absurd (other (byte_in end char (omega (arith, below)) inside (subst (λ b. b < 128) (sym is) ascii) ∙ is)))
@@ -64,7 +70,8 @@ not_past sign text at end c ascii below char other (inr is) = ⊎_elim
     (order end (at + len_utf8 c))
 
 -- the characters from an offset to the end of a stretch are a run without `sign`
-to_sign : (sign : ℕ) (text cs : List ℕ) (at end : ℕ) → sign < 128 → encode_utf8_all cs ≡ drop at text → at ≤ end → end ≤ length text → Others sign text at end → EndsAt sign text end
+to_sign : (sign : ℕ) (text cs : List ℕ) (at end : ℕ) → sign < 128 → encode_utf8_all cs ≡ drop at text → at ≤ end
+    → end ≤ length text → Others sign text at end → EndsAt sign text end
     → Run (λ c. not (c == sign)) (place text at) (place text end)
 to_sign sign text [] at end ascii left to within others ends =
     let none : 0 ≡ length text - at = ap length left ∙ length-drop at text in
@@ -73,28 +80,45 @@ to_sign sign text [] at end ascii left to within others ends =
 to_sign sign text (c ∷ cs) at end ascii left to within others ends = ⊎_elim
     (λ below.
     let char : CharAt (place text at) c (place text (at + len_utf8 c)) = char_here text (encode_utf8_all cs) at c (sym left) in
-    let other : c ≡ sign → ⊥ = λ is. others at (omega arith) below (sym (first_byte text at) ∙ byte_from_char (drop at text) (encode_utf8_all cs) c (sym left) (subst (λ d. d < 128) (sym is) ascii) ∙ is) in
+    let other : c ≡ sign → ⊥ =
+    λ is.
+    others at (omega arith) below
+    (sym (first_byte text at)
+    ∙ byte_from_char (drop at text) (encode_utf8_all cs) c (sym left)
+    (subst (λ d. d < 128) (sym is) ascii) ∙ is) in
     let following : at + len_utf8 c ≤ end = not_past sign text at end c ascii below char other ends in
-    step char (ap not (ne_eqb c sign other)) (to_sign sign text cs (at + len_utf8 c) end ascii (sym (drop_past_char text (encode_utf8_all cs) at c (sym left))) following within (λ k from. others k (omega (arith, from))) ends))
-    (λ above. let same : at ≡ end = omega (arith, to, above) in subst (λ n. Run (λ c. not (c == sign)) (place text at) (place text n)) same stop)
+    step char (ap not (ne_eqb c sign other))
+    (to_sign sign text cs (at + len_utf8 c) end ascii (sym (drop_past_char text (encode_utf8_all cs) at c (sym left)))
+    following within (λ k from. others k (omega (arith, from))) ends))
+    (λ above.
+    let same : at ≡ end = omega (arith, to, above) in
+    subst (λ n. Run (λ c. not (c == sign)) (place text at) (place text n)) same stop)
     (order at end)
 
 -- a stretch continues from each place in it to its end
-pub from_inside : (sign : ℕ) (u : Place) (noted : Stretch) → sign < 128 → IsStretch sign u.text noted → noted.start ≤ u.at → u.at ≤ noted.end → IsCharBoundary u.text u.at → IsStretchFrom sign u noted.end
+pub from_inside : (sign : ℕ) (u : Place) (noted : Stretch) → sign < 128 → IsStretch sign u.text noted
+    → noted.start ≤ u.at → u.at ≤ noted.end → IsCharBoundary u.text u.at → IsStretchFrom sign u noted.end
 from_inside sign u noted ascii is from to may =
     let rest : IsUtf8 (drop u.at u.text) = IsUtf8-drop u.text u.at is.utf8 may in
-    let run = to_sign sign u.text rest.0 u.at noted.end ascii rest.1.1 to is.may_end.0 (λ k before inside. no_sign sign k ascii is.longest.run (omega (arith, from, before)) inside) (ends_at sign u.text noted.end ascii is.stopped) in
+    let run =
+    to_sign sign u.text rest.0 u.at noted.end ascii rest.1.1 to is.may_end.0
+    (λ k before inside. no_sign sign k ascii is.longest.run (omega (arith, from, before)) inside)
+    (ends_at sign u.text noted.end ascii is.stopped) in
     record { longest = record { run = run; stops = is.longest.stops }; stopped = is.stopped; may_end = is.may_end }
 
 -- the longest run without `sign` from one place to another is a stretch
-pub stretch_made : (sign start end : ℕ) (text : List ℕ) (u v : Place) → IsUtf8 text → u.text ≡ text → v.text ≡ text → start ≡ u.at → end ≡ v.at → Longest (λ c. not (c == sign)) u v → EndsOr (λ c. c == sign ≡ true) v → IsCharBoundary v.text end
+pub stretch_made : (sign start end : ℕ) (text : List ℕ) (u v : Place) → IsUtf8 text → u.text ≡ text → v.text ≡ text
+    → start ≡ u.at → end ≡ v.at → Longest (λ c. not (c == sign)) u v → EndsOr (λ c. c == sign ≡ true) v
+    → IsCharBoundary v.text end
     → IsStretch sign text (record { start = start; end = end })
 stretch_made sign start end text u v utf8 before after from to longest stopped may =
     let first : u ≡ place text start = same_place before (sym from) in
     let last : v ≡ place text end = same_place after (sym to) in
     record {
       utf8 = utf8;
-      longest = subst (λ p. Longest (λ c. not (c == sign)) p (place text end)) first (subst (λ p. Longest (λ c. not (c == sign)) u p) last longest);
+      longest =
+          subst (λ p. Longest (λ c. not (c == sign)) p (place text end)) first
+          (subst (λ p. Longest (λ c. not (c == sign)) u p) last longest);
       stopped = subst (λ p. EndsOr (λ c. c == sign ≡ true) p) last stopped;
       may_end = subst (λ t. IsCharBoundary t end) after may;
     }

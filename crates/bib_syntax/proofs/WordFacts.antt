@@ -27,7 +27,8 @@ id_start_continues : (c : ℕ) → is_id_start c ≡ true → is_id_continue c �
 id_start_continues c starts = (and_parts (not (c == 58 || c == 60 || c == 45 || c == 62)) (is_id_continue c) starts).1
 
 -- an identifier, from its first character and the longest run that begins with it
-pub identifier_from : {u v w : Place} {c : ℕ} {p : Part} → CharAt u c v → is_id_start c ≡ true → Longest is_id_continue u w → p ≡ part u w → Identifier longest u p w
+pub identifier_from : {u v w : Place} {c : ℕ} {p : Part} → CharAt u c v → is_id_start c ≡ true
+    → Longest is_id_continue u w → p ≡ part u w → Identifier longest u p w
 identifier_from {u} {v} {w} {c} char starts run reading = record {
   second = v;
   first = c;
@@ -38,16 +39,19 @@ identifier_from {u} {v} {w} {c} char starts run reading = record {
 }
 
 -- a number without a point
-pub number_whole : {u v w : Place} {c : ℕ} → CharAt u c v → is_ascii_digit c ≡ true → Longest is_ascii_digit u w → ((x : Place) → CharAt w 46 x → ⊥) → Number longest u w
+pub number_whole : {u v w : Place} {c : ℕ} → CharAt u c v → is_ascii_digit c ≡ true → Longest is_ascii_digit u w
+    → ((x : Place) → CharAt w 46 x → ⊥) → Number longest u w
 number_whole char digit run no_point = whole char digit (longest_rest run char digit) (stops_without 46 no_point)
 
 -- a number with a point
-pub number_broken : {u v w x y : Place} {c : ℕ} → CharAt u c v → is_ascii_digit c ≡ true → Longest is_ascii_digit u w → CharAt w 46 x → Longest is_ascii_digit x y
+pub number_broken : {u v w x y : Place} {c : ℕ} → CharAt u c v → is_ascii_digit c ≡ true → Longest is_ascii_digit u w
+    → CharAt w 46 x → Longest is_ascii_digit x y
     → ((z : Place) → CharAt y 46 z → ⊥) → Number longest u y
 number_broken char digit run point run' no_point = broken char digit (longest_rest run char digit) point run' (stops_without 46 no_point)
 
 -- no number matches before a second point
-pub number_points : {u w x y z : Place} → Longest is_ascii_digit u w → CharAt w 46 x → Longest is_ascii_digit x y → CharAt y 46 z → (v : Place) → Number longest u v → ⊥
+pub number_points : {u w x y z : Place} → Longest is_ascii_digit u w → CharAt w 46 x → Longest is_ascii_digit x y
+    → CharAt y 46 z → (v : Place) → Number longest u v → ⊥
 number_points {u} {w} {x} {y} {z} run point more again v (whole char digit rest ends) =
     let moved = subst (λ p. CharAt p 46 x) (longest_same (longest_rest run char digit) rest) point in
     test_clash true refl (ends 46 x moved)
@@ -58,7 +62,8 @@ number_points {u} {w} {x} {y} {z} run point more again v (broken char digit rest
     test_clash true refl (ends 46 z moved)
 
 -- an identifier, from a first character that passes the test and the longest run
-pub identifier_found : {u w : Place} {p : Part} → ((c : ℕ) × (v : Place) × CharAt u c v × (is_id_start c ≡ true)) → Longest is_id_continue u w → p ≡ part u w → Identifier longest u p w
+pub identifier_found : {u w : Place} {p : Part} → ((c : ℕ) × (v : Place) × CharAt u c v × (is_id_start c ≡ true))
+    → Longest is_id_continue u w → p ≡ part u w → Identifier longest u p w
 identifier_found (c, v, char, starts) run reading = identifier_from char starts run reading
 
 pub not_number : {u x : Place} {c : ℕ} → CharAt u c x → is_ascii_digit c ≡ false → (v : Place) → Number longest u v → ⊥
@@ -74,19 +79,24 @@ number_element {u} {v} p n same = subst (λ q. Element longest u (literal q) v) 
 
 pub ahead_number : {u v : Place} → Number longest u v → Ahead u v
 ahead_number (whole first digit rest ends) = ahead_then (ahead_char first) (ahead_run rest.run)
-ahead_number (broken first digit rest dot rest2 ends) = ahead_then (ahead_char first) (ahead_then (ahead_run rest.run) (ahead_then (ahead_char dot) (ahead_run rest2.run)))
+ahead_number (broken first digit rest dot rest2 ends) =
+    ahead_then (ahead_char first) (ahead_then (ahead_run rest.run) (ahead_then (ahead_char dot) (ahead_run rest2.run)))
 
 -- the pieces of the code for a braced text, a quoted text, a number and a name are pieces of the grammar
-pub braced_element : {u v : Place} (s : Spanned RawChunk) (t : Spanned (Bor (List ℕ))) → s.v ≡ Normal t.v → s.span ≡ t.span → Braced u (part_of t) v → Element longest u (piece_of s) v
+pub braced_element : {u v : Place} (s : Spanned RawChunk) (t : Spanned (Bor (List ℕ))) → s.v ≡ Normal t.v
+    → s.span ≡ t.span → Braced u (part_of t) v → Element longest u (piece_of s) v
 braced_element {u} {v} s t same spans b = rw (same, spans) (braced b)
 
-pub quoted_element : {u v : Place} (s : Spanned RawChunk) (t : Spanned (Bor (List ℕ))) → s.v ≡ Normal t.v → s.span ≡ t.span → Quoted u (part_of t) v → Element longest u (piece_of s) v
+pub quoted_element : {u v : Place} (s : Spanned RawChunk) (t : Spanned (Bor (List ℕ))) → s.v ≡ Normal t.v
+    → s.span ≡ t.span → Quoted u (part_of t) v → Element longest u (piece_of s) v
 quoted_element {u} {v} s t same spans q = rw (same, spans) (quoted q)
 
-pub number_piece : {u v : Place} (s : Spanned RawChunk) (t : Spanned (Bor (List ℕ))) → s.v ≡ Normal t.v → s.span ≡ t.span → Number longest u v → part_of t ≡ part u v → Element longest u (piece_of s) v
+pub number_piece : {u v : Place} (s : Spanned RawChunk) (t : Spanned (Bor (List ℕ))) → s.v ≡ Normal t.v
+    → s.span ≡ t.span → Number longest u v → part_of t ≡ part u v → Element longest u (piece_of s) v
 number_piece {u} {v} s t same spans n reading = rw (same, spans) (number_element _ n reading)
 
-pub named_piece : {u v : Place} (s : Spanned RawChunk) (t : Spanned (Bor (List ℕ))) → s.v ≡ Abbreviation t.v → s.span ≡ t.span → NoDigit u → Identifier longest u (part_of t) v → Element longest u (piece_of s) v
+pub named_piece : {u v : Place} (s : Spanned RawChunk) (t : Spanned (Bor (List ℕ))) → s.v ≡ Abbreviation t.v
+    → s.span ≡ t.span → NoDigit u → Identifier longest u (part_of t) v → Element longest u (piece_of s) v
 named_piece {u} {v} s t same spans no_digit i = rw (same, spans) (named no_digit i)
 
 pub no_digit_without : {u : Place} → ((c : ℕ) (v : Place) → CharAt u c v → is_ascii_digit c ≡ false) → NoDigit u

@@ -11,7 +11,9 @@ is_key c = not (c == char.comma || c == char.close_brace) && not (is_control c) 
 -- whether `c` is one of  @ { } " # ' ( ) , = % \ ~
 abbrev pub is_delimiter : ℕ → Bool
 is_delimiter c =
-    c == char.at || c == char.open_brace || c == char.close_brace || c == char.quote || c == char.hash || c == char.apostrophe || c == char.open_parenthesis || c == char.close_parenthesis || c == char.comma || c == char.equals || c == char.percent || c == char.backslash || c == char.tilde
+    c == char.at || c == char.open_brace || c == char.close_brace || c == char.quote || c == char.hash
+    || c == char.apostrophe || c == char.open_parenthesis || c == char.close_parenthesis || c == char.comma
+    || c == char.equals || c == char.percent || c == char.backslash || c == char.tilde
 
 -- whether `c` is allowed in an identifier: any character except delimiters, control characters and white space
 abbrev pub is_id_continue : ℕ → Bool

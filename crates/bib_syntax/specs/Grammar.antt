@@ -52,7 +52,8 @@ pub data Number (mode : Mode) : Place → Place → Type 0 where
 -- the text in quotes: characters except quotes and backslashes, and backslashes with the character that each escapes
 pub data QuotedParts : Place → Place → Type 0 where
   none : {u : Place} → QuotedParts u u
-  plain : {u v w : Place} {c : ℕ} → CharAt u c v → not (c == char.quote) && not (c == char.backslash) ≡ true → QuotedParts v w → QuotedParts u w
+  plain : {u v w : Place} {c : ℕ} → CharAt u c v → not (c == char.quote) && not (c == char.backslash) ≡ true
+      → QuotedParts v w → QuotedParts u w
   hidden : {u v w x : Place} {c : ℕ} → CharAt u char.backslash v → CharAt v c w → QuotedParts w x → QuotedParts u x
 
 -- a quoted text, from its first quote to after its last; `content` is the text between them
@@ -156,15 +157,22 @@ pub record Head (mode : Mode) (u : Place) (kind : Part) (v : Place) : Type 0 whe
 
 -- the rest of a block after its head, and the reading of the block; the block begins at `start` and has the name `kind`
 pub data Body (mode : Mode) (start : Place) (kind : Part) : BlockKind → Place → FileReading → Place → Type 0 where
-  comment : {u w : Place} (v : Place) → Chars mode (λ c. not (c == char.close_brace)) u v → CharAt v char.close_brace w → Body mode start kind BlockKind.comment u empty_reading w
-  preamble : {u v w x : Place} {p : Part} {c : ℕ} → Quoted u p v → White mode v w → CharAt w c x → c == char.close_brace || c == char.quote ≡ true
+  comment : {u w : Place} (v : Place) → Chars mode (λ c. not (c == char.close_brace)) u v → CharAt v char.close_brace w
+      → Body mode start kind BlockKind.comment u empty_reading w
+  preamble : {u v w x : Place} {p : Part} {c : ℕ} → Quoted u p v → White mode v w → CharAt w c x
+      → c == char.close_brace || c == char.quote ≡ true
       → Body mode start kind BlockKind.preamble u (record { preamble = between u v; entries = []; abbreviations = [] }) x
   strings : {u v w : Place} {fs : List FieldReading} → Fields mode u fs v → CharAt v char.close_brace w
       → Body mode start kind BlockKind.strings u (record { preamble = []; entries = []; abbreviations = fs }) w
-  entry : {u w x y z end : Place} {fs : List FieldReading} (v : Place) → Chars mode is_key u v → White mode v w → CharAt w char.comma x → Gap mode x y
+  entry : {u w x y z end : Place} {fs : List FieldReading} (v : Place) → Chars mode is_key u v → White mode v w
+      → CharAt w char.comma x → Gap mode x y
       → Fields mode y fs z → CharAt z char.close_brace end
       → Body mode start kind BlockKind.entry u
-      (record { preamble = []; entries = record { key = part u v; kind = kind; fields = fs; start = start.at; end = z.at } ∷ []; abbreviations = [] }) end
+      (record {
+        preamble = [];
+        entries = record { key = part u v; kind = kind; fields = fs; start = start.at; end = z.at } ∷ [];
+        abbreviations = [];
+      }) end
 
 -- a block, from its at sign to after the brace or quote that ends it
 pub record Block (mode : Mode) (u : Place) (says : FileReading) (v : Place) : Type 0 where
@@ -176,7 +184,8 @@ pub record Block (mode : Mode) (u : Place) (says : FileReading) (v : Place) : Ty
 -- the rest of a file from a place: blocks, line comments, and other characters, which are skipped
 pub data File (mode : Mode) : Place → FileReading → Type 0 where
   end : {u : Place} → AtEnd u → File mode u empty_reading
-  skipped : {u v : Place} {c : ℕ} {says : FileReading} → CharAt u c v → not (c == char.at) && not (c == char.percent) ≡ true → File mode v says → File mode u says
+  skipped : {u v : Place} {c : ℕ} {says : FileReading} → CharAt u c v
+      → not (c == char.at) && not (c == char.percent) ≡ true → File mode v says → File mode u says
   line_comment : {u v : Place} {says : FileReading} → LineComment u v → File mode v says → File mode u says
   block : {u v : Place} {first rest : FileReading} → Block mode u first v → File mode v rest → File mode u (then first rest)
 

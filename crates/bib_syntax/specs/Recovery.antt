@@ -50,12 +50,15 @@ skipped_block e u w = record { error = e; span = record { start = u.at; end = w.
 -- error is kept, and recovery continues at the next at sign that begins a line.
 pub data Recovered : Place → FileReading → List SkippedBlock → Type 0 where
   end : {u : Place} → AtEnd u → Recovered u empty_reading []
-  skipped : {u v : Place} {c : ℕ} {says : FileReading} {errors : List SkippedBlock} → CharAt u c v → not (c == char.at) && not (c == char.percent) ≡ true
+  skipped : {u v : Place} {c : ℕ} {says : FileReading} {errors : List SkippedBlock} → CharAt u c v
+      → not (c == char.at) && not (c == char.percent) ≡ true
       → Recovered v says errors → Recovered u says errors
-  line_comment : {u v : Place} {says : FileReading} {errors : List SkippedBlock} → LineComment u v → Recovered v says errors → Recovered u says errors
+  line_comment : {u v : Place} {says : FileReading} {errors : List SkippedBlock} → LineComment u v
+      → Recovered v says errors → Recovered u says errors
   block : {u v : Place} {first rest : FileReading} {errors : List SkippedBlock} → Block longest u first v → Recovered v rest errors
       → Recovered u (then first rest) errors
-  unread : {u v w : Place} {e : ParseError} {says : FileReading} {errors : List SkippedBlock} → CharAt u char.at v → IsUnreadBlock u e → GoesOnAt v w
+  unread : {u v w : Place} {e : ParseError} {says : FileReading} {errors : List SkippedBlock} → CharAt u char.at v
+      → IsUnreadBlock u e → GoesOnAt v w
       → Recovered w says errors → Recovered u says (skipped_block e u w ∷ errors)
 
 -- the recovery of `text` has the reading `says` and the skipped blocks `errors`

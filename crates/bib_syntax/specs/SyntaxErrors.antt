@@ -48,7 +48,8 @@ begins_element c = c == char.open_brace || c == char.quote || is_ascii_digit c |
 -- a piece is missing, or a piece fails; a missing piece is reported as `UnexpectedEof` even before the end of the text
 pub data ElementFails : Place → ParseErrorKind → Place → Type 0 where
   missing : {u : Place} → Stops begins_element u → ElementFails u UnexpectedEof u
-  number : {u v w : Place} {c : ℕ} {kind : ParseErrorKind} → CharAt u c v → is_ascii_digit c ≡ true → NumberFails u kind w → ElementFails u kind w
+  number : {u v w : Place} {c : ℕ} {kind : ParseErrorKind} → CharAt u c v → is_ascii_digit c ≡ true
+      → NumberFails u kind w → ElementFails u kind w
   braced : {u v : Place} {kind : ParseErrorKind} → BracedFails u kind v → ElementFails u kind v
   quoted : {u v w : Place} {kind : ParseErrorKind} → CharAt u char.quote v → QuotedFails u kind w → ElementFails u kind w
 
@@ -62,7 +63,8 @@ pub data ElementsFails : Place → ParseErrorKind → Place → Type 0 where
 pub data FieldFails : Place → ParseErrorKind → Place → Type 0 where
   equals : {u v w : Place} {name : Part} → Identifier longest u name v → White longest v w → Stops (λ c. c == char.equals) w
       → FieldFails u (Expected token.Equals) w
-  value : {u v w x y z : Place} {name : Part} {kind : ParseErrorKind} → Identifier longest u name v → White longest v w → CharAt w char.equals x
+  value : {u v w x y z : Place} {name : Part} {kind : ParseErrorKind} → Identifier longest u name v → White longest v w
+      → CharAt w char.equals x
       → White longest x y → ElementsFails y kind z → FieldFails u kind z
 
 -- Fields up to the closing brace of their block fail after zero or more fields, each with a comma after it, in four cases:
@@ -71,7 +73,8 @@ pub data FieldsFails : Place → ParseErrorKind → Place → Type 0 where
   first : {u v : Place} {kind : ParseErrorKind} → FieldFails u kind v → FieldsFails u kind v
   more : {u v w x y z : Place} {f : FieldReading} {kind : ParseErrorKind} → Field longest u f v → Gap longest v w → CharAt w char.comma x
       → Gap longest x y → FieldsFails y kind z → FieldsFails u kind z
-  comma : {u v w : Place} {f : FieldReading} → Field longest u f v → Gap longest v w → Stops (λ c. c == char.comma || c == char.close_brace) w
+  comma : {u v w : Place} {f : FieldReading} → Field longest u f v → Gap longest v w
+      → Stops (λ c. c == char.comma || c == char.close_brace) w
       → FieldsFails u (Expected token.Comma) w
   name : {u v : Place} → Stops is_id_start u → White longest u v → Stops (λ c. c == char.close_brace) v → (AtEnd v → ⊥)
       → FieldsFails u (Expected token.Identifier) v

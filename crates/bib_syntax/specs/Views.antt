@@ -26,10 +26,19 @@ abbrev pub piece_of : Spanned RawChunk → Piece
 piece_of s = piece_at s.span.start s.span.end s.v
 
 abbrev pub field_of : Pair → FieldReading
-field_of p = record { name = part_of p.key; value = record { pieces = map piece_of p.value.v.items; start = p.value.span.start; end = p.value.span.end } }
+field_of p = record {
+  name = part_of p.key;
+  value = record { pieces = map piece_of p.value.v.items; start = p.value.span.start; end = p.value.span.end };
+}
 
 abbrev pub entry_reading_of : Spanned RawEntry → EntryReading
-entry_reading_of e = record { key = part_of e.v.key; kind = part_of e.v.kind; fields = map field_of e.v.fields.items; start = e.span.start; end = e.span.end }
+entry_reading_of e = record {
+  key = part_of e.v.key;
+  kind = part_of e.v.kind;
+  fields = map field_of e.v.fields.items;
+  start = e.span.start;
+  end = e.span.end;
+}
 
 -- the reading of a raw bibliography
 abbrev pub file_of : RawBibliography → FileReading

@@ -16,26 +16,33 @@ abbrev pub is_lowered : {A : Type 0} → List (List ℕ × A) → Bool
 is_lowered = list_all (λ row. bytes_eq (map to_ascii_lowercase row.0) row.0)
 
 -- a text that is a name in such a table is in ASCII lowercase
-pub named_is_lowered : {A : Type 0} (rows : List (List ℕ × A)) (text : List ℕ) (value : A) → is_lowered rows ≡ true → named rows text ≡ Some value → map to_ascii_lowercase text ≡ text
+pub named_is_lowered : {A : Type 0} (rows : List (List ℕ × A)) (text : List ℕ) (value : A) → is_lowered rows ≡ true
+    → named rows text ≡ Some value → map to_ascii_lowercase text ≡ text
 named_is_lowered [] text value lowered found = cc
 named_is_lowered (row ∷ rows) text value lowered found =
     let parts = and_parts (bytes_eq (map to_ascii_lowercase row.0) row.0) (is_lowered rows) lowered in
     elim (cases_Bool (bytes_eq row.0 text)) [
-      | inl here ↦ let same : row.0 ≡ text = (bytes_eq-Decides row.0 text).0 here in subst (λ t. map to_ascii_lowercase t ≡ t) same ((bytes_eq-Decides (map to_ascii_lowercase row.0) row.0).0 parts.0)
+      | inl here ↦ let same : row.0 ≡ text =
+          (bytes_eq-Decides row.0 text).0 here in subst (λ t. map to_ascii_lowercase t ≡ t) same
+          ((bytes_eq-Decides (map to_ascii_lowercase row.0) row.0).0 parts.0)
       | inr elsewhere ↦ named_is_lowered rows text value parts.1 (later (bytes_eq row.0 text) (named rows text) row.1 elsewhere found)
     ]
   where
-    later : {A : Type 0} (is_here : Bool) (rest : Option A) (this : A) {value : A} → is_here ≡ false → cond is_here (Some this) rest ≡ Some value → rest ≡ Some value
+    later : {A : Type 0} (is_here : Bool) (rest : Option A) (this : A) {value : A} → is_here ≡ false
+        → cond is_here (Some this) rest ≡ Some value → rest ≡ Some value
     later true rest this here found = cc
     later false rest this here found = found
 
 -- a name that is a name or alias of a type in ASCII lowercase means this type
-pub type_as_lowered : (name lowered : List ℕ) (type : EntryType) → lowered ≡ map to_ascii_lowercase name → named_or_alias lowered ≡ Some type → entry_type_of name ≡ type
+pub type_as_lowered : (name lowered : List ℕ) (type : EntryType) → lowered ≡ map to_ascii_lowercase name
+    → named_or_alias lowered ≡ Some type → entry_type_of name ≡ type
 unfolding entry_type_of
-type_as_lowered name lowered type is found = ap (λ found'. unwrap_or found' (Unknown (map to_ascii_lowercase name))) (ap named_or_alias (sym is) ∙ found)
+type_as_lowered name lowered type is found =
+    ap (λ found'. unwrap_or found' (Unknown (map to_ascii_lowercase name))) (ap named_or_alias (sym is) ∙ found)
 
 -- any other name means the unknown type with the name in ASCII lowercase
-pub type_unknown : (name lowered : List ℕ) → lowered ≡ map to_ascii_lowercase name → named_or_alias lowered ≡ None → entry_type_of name ≡ Unknown lowered
+pub type_unknown : (name lowered : List ℕ) → lowered ≡ map to_ascii_lowercase name → named_or_alias lowered ≡ None
+    → entry_type_of name ≡ Unknown lowered
 unfolding entry_type_of
 type_unknown name lowered is none =
     ap (λ found'. unwrap_or found' (Unknown (map to_ascii_lowercase name))) (ap named_or_alias (sym is) ∙ none) ∙ ap Unknown (sym is)

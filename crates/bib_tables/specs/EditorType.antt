@@ -20,7 +20,9 @@ editor_type_name (Unknown text) = text
 
 -- the table of the known roles and their names
 abbrev pub editor_types : List (List ℕ × EditorType)
-editor_types = by_name editor_type_name (Editor ∷ Compiler ∷ Founder ∷ Continuator ∷ Redactor ∷ Reviser ∷ Collaborator ∷ Organizer ∷ Director ∷ [])
+editor_types =
+    by_name editor_type_name
+    (Editor ∷ Compiler ∷ Founder ∷ Continuator ∷ Redactor ∷ Reviser ∷ Collaborator ∷ Organizer ∷ Director ∷ [])
 
 -- the known role with exactly this name, or `None`
 abbrev pub named_editor_type : List ℕ → Option EditorType

@@ -62,7 +62,9 @@ rules required optional author pages needs_date =
 abbrev pub article_rules : Rules
 article_rules =
     rules (fields "title journaltitle")
-    (unplaced ++ fields "number series version volume annotator commentator translator origlanguage journalsubtitle issue issuetitle issuesubtitle eid issn")
+    (unplaced
+    ++ fields
+    "number series version volume annotator commentator translator origlanguage journalsubtitle issue issuetitle issuesubtitle eid issn")
     author.AuthorRequiredEditorOptional pages.PagesOptional true
 
 abbrev pub in_book_rules : Rules
@@ -116,7 +118,9 @@ rules_of InBook = in_book_rules
 rules_of InCollection = in_collection_rules
 rules_of InProceedings =
     rules (fields "title booktitle")
-    (base ++ main_title ++ book_title ++ fields "number organization series volume volumes part publisher eventtitle eventsubtitle eventtitleaddon venue isbn")
+    (base ++ main_title ++ book_title
+    ++ fields
+    "number organization series volume volumes part publisher eventtitle eventsubtitle eventtitleaddon venue isbn")
     author.AuthorRequiredEditorOptional pages.BothOptional true
 rules_of Manual =
     rules (fields "title")

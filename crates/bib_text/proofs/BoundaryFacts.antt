@@ -17,22 +17,36 @@ head_of : (x : Bool) (a b rest : List ℕ) → get_or (cond x a b ++ rest) 0 0 �
 head_of true a b rest = refl
 head_of false a b rest = refl
 
-lead_value : (x y z : Bool) (c i j k : ℕ) → (x ≡ true → c < 128) → 128 ≤ cond x c (cond y (192 + i) (cond z (224 + j) (240 + k))) → 192 ≤ cond x c (cond y (192 + i) (cond z (224 + j) (240 + k)))
+lead_value : (x y z : Bool) (c i j k : ℕ) → (x ≡ true → c < 128)
+    → 128 ≤ cond x c (cond y (192 + i) (cond z (224 + j) (240 + k)))
+    → 192 ≤ cond x c (cond y (192 + i) (cond z (224 + j) (240 + k)))
 lead_value true y z c i j k small high = absurd (omega (arith, small refl, high))
 lead_value false true z c i j k small high = omega arith
 lead_value false false true c i j k small high = omega arith
 lead_value false false false c i j k small high = omega arith
 
-lead_is : (c : ℕ) (rest : List ℕ) → get_or (encode c ++ rest) 0 0 ≡ cond (ltb c 128) c (cond (ltb c 2048) (192 + c / 64) (cond (ltb c 65536) (224 + c / 4096) (240 + c / 262144)))
+lead_is : (c : ℕ) (rest : List ℕ)
+    → get_or (encode c ++ rest) 0 0
+    ≡ cond (ltb c 128) c (cond (ltb c 2048) (192 + c / 64) (cond (ltb c 65536) (224 + c / 4096) (240 + c / 262144)))
 unfolding encode
-lead_is c rest = head_of (ltb c 128) _ _ rest ∙ ap (cond (ltb c 128) c) (head_of (ltb c 2048) _ _ rest ∙ ap (cond (ltb c 2048) (192 + c / 64)) (head_of (ltb c 65536) _ _ rest))
+lead_is c rest =
+    head_of (ltb c 128) _ _ rest
+    ∙ ap (cond (ltb c 128) c)
+    (head_of (ltb c 2048) _ _ rest ∙ ap (cond (ltb c 2048) (192 + c / 64)) (head_of (ltb c 65536) _ _ rest))
 
 -- a text may be cut where a character stands
 pub char_boundary : {u v : Place} {c : ℕ} → CharAt u c v → IsCharBoundary u.text u.at
 char_boundary {u} {v} {c} char =
-    let same : get_or u.text u.at 0 ≡ get_or (encode c ++ drop v.at u.text) 0 0 = sym (ap (λ n. get_or u.text n 0) (omega arith)) ∙ sym (get_or-drop u.at u.text 0 0) ∙ ap (λ t. get_or t 0 0) char.here in
-    let lead = same ∙ lead_is c (drop v.at u.text) in
-    (omega (arith, char_left char), λ below high. subst (λ b. 192 ≤ b) (sym lead) (lead_value (ltb c 128) (ltb c 2048) (ltb c 65536) c (c / 64) (c / 4096) (c / 262144) (ltb-true c 128) (subst (λ b. 128 ≤ b) lead high)))
+    let same : get_or u.text u.at 0 ≡ get_or (encode c ++ drop v.at u.text) 0 0 =
+    sym (ap (λ n. get_or u.text n 0) (omega arith)) ∙ sym (get_or-drop u.at u.text 0 0)
+    ∙ ap (λ t. get_or t 0 0) char.here in
+    let lead = same ∙ lead_is c (drop v.at u.text) in (
+      omega (arith, char_left char),
+      λ below high.
+          subst (λ b. 192 ≤ b) (sym lead)
+          (lead_value (ltb c 128) (ltb c 2048) (ltb c 65536) c (c / 64) (c / 4096) (c / 262144) (ltb-true c 128)
+          (subst (λ b. 128 ≤ b) lead high)),
+    )
 
 -- a text can be cut where a run begins, if it can be cut where the run ends
 pub run_boundary : {test : ℕ → Bool} {u v : Place} → Run test u v → IsCharBoundary v.text v.at → IsCharBoundary u.text u.at
@@ -45,7 +59,11 @@ abbrev GoOn : List ℕ → Type 0
 GoOn [] = Unit {0}
 GoOn (b ∷ bs) = (128 ≤ b) × (b < 192) × GoOn bs
 
-tails : (x y z : Bool) (c i j k : ℕ) (n m l : ℕ) → GoOn (drop 1 (cond x (c ∷ []) (cond y (i ∷ next n ∷ []) (cond z (j ∷ next m ∷ next n ∷ []) (k ∷ next l ∷ next m ∷ next n ∷ [])))))
+tails : (x y z : Bool) (c i j k : ℕ) (n m l : ℕ)
+    → GoOn
+    (drop 1
+    (cond x (c ∷ [])
+    (cond y (i ∷ next n ∷ []) (cond z (j ∷ next m ∷ next n ∷ []) (k ∷ next l ∷ next m ∷ next n ∷ [])))))
 tails true y z c i j k n m l = tt
 tails false true z c i j k n m l = (omega arith, omega arith, tt)
 tails false false true c i j k n m l = (omega arith, omega arith, (omega arith, omega arith, tt))
@@ -64,7 +82,8 @@ inner_byte : (c k : ℕ) → 1 ≤ k → k < len_utf8 c → (128 ≤ get_or (enc
 inner_byte c k some within =
     let size : length (drop 1 (encode_utf8 c)) ≡ len_utf8 c - 1 = length-drop 1 (encode_utf8 c) ∙ ap (λ n. n - 1) (length-encode c) in
     let index : 1 + (k - 1) ≡ k = omega arith in
-    let same : get_or (drop 1 (encode_utf8 c)) (k - 1) 0 ≡ get_or (encode_utf8 c) k 0 = get_or-drop 1 (encode_utf8 c) (k - 1) 0 ∙ ap (λ n. get_or (encode_utf8 c) n 0) index in
+    let same : get_or (drop 1 (encode_utf8 c)) (k - 1) 0 ≡ get_or (encode_utf8 c) k 0 =
+    get_or-drop 1 (encode_utf8 c) (k - 1) 0 ∙ ap (λ n. get_or (encode_utf8 c) n 0) index in
     let each = each_goes_on (drop 1 (encode_utf8 c)) (k - 1) (tail_of c) (omega arith) in
     (subst (λ b. 128 ≤ b) same each.0, subst (λ b. b < 192) same each.1)
 
@@ -84,14 +103,16 @@ lead_clash {a} {u} {v} {w} {c} {d} lead same char before over =
     let within : k < len_utf8 c = omega (arith, char.next) in
     let index : u.at + k ≡ a.at = omega arith in
     let inner = inner_byte c k (omega arith) within in
-    let byte : get_or a.text a.at 0 ≡ get_or (encode_utf8 c) k 0 = ap (λ t. get_or t a.at 0) (sym same) ∙ ap (λ n. get_or u.text n 0) (sym index) ∙ byte_of k char within in
+    let byte : get_or a.text a.at 0 ≡ get_or (encode_utf8 c) k 0 =
+    ap (λ t. get_or t a.at 0) (sym same) ∙ ap (λ n. get_or u.text n 0) (sym index) ∙ byte_of k char within in
     let boundary = char_boundary lead in
     let high : 128 ≤ get_or a.text a.at 0 = subst (λ b. 128 ≤ b) (sym byte) inner.0 in
     let inside : a.at < length a.text = omega (arith, char_left lead, (len_utf8_bounds d).0) in
     omega (arith, boundary.1 inside high, inner.1, byte)
 
 -- no character goes over such a place
-pub not_over : (text : List ℕ) (at : ℕ) {u v : Place} {c : ℕ} → Border (place text at) → u.text ≡ text → CharAt u c v → u.at < at → v.at ≤ at
+pub not_over : (text : List ℕ) (at : ℕ) {u v : Place} {c : ℕ} → Border (place text at) → u.text ≡ text → CharAt u c v
+    → u.at < at → v.at ≤ at
 not_over text at {u} {v} {c} (inl end) same char before =
     let size : length u.text ≡ length text = ap length same in
     omega (arith, char_left char, char.next)

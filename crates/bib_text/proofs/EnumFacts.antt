@@ -14,7 +14,8 @@ named_none [] text none = refl
 named_none (row ∷ rows) text none = search (arith, none.0, named_none rows text none.1, bytes_eq-Decides)
 
 -- of two concatenated tables, the value in the first one is found
-pub named-append-some : {A : Type 0} (rows more : List (List ℕ × A)) (text : List ℕ) (value : A) → named rows text ≡ Some value → named (rows ++ more) text ≡ Some value
+pub named-append-some : {A : Type 0} (rows more : List (List ℕ × A)) (text : List ℕ) (value : A)
+    → named rows text ≡ Some value → named (rows ++ more) text ≡ Some value
 named-append-some [] more text value found = cc
 named-append-some (row ∷ rows) more text value found =
     here (bytes_eq row.0 text) (named rows text) (named (rows ++ more) text) row.1 value (named-append-some rows more text value) found
@@ -24,7 +25,8 @@ named-append-some (row ∷ rows) more text value found =
     here true first all this value following found = found
     here false first all this value following found = following found
 
-pub named-append-none : {A : Type 0} (rows more : List (List ℕ × A)) (text : List ℕ) → named rows text ≡ None → named (rows ++ more) text ≡ named more text
+pub named-append-none : {A : Type 0} (rows more : List (List ℕ × A)) (text : List ℕ) → named rows text ≡ None
+    → named (rows ++ more) text ≡ named more text
 named-append-none [] more text none = refl
 named-append-none (row ∷ rows) more text none =
     here (bytes_eq row.0 text) (named rows text) (named (rows ++ more) text) (named more text) row.1 (named-append-none rows more text) none

@@ -24,7 +24,8 @@ all_push P (y ∷ ys) x all here = (all.0, all_push P ys x all.1 here)
 pub found_any : {A : Type 0} (test : A → Bool) (xs : List A) (x : A) → find test xs ≡ Some x → list_any test xs ≡ true
 found_any test [] x found = cc
 found_any {A} test (y ∷ xs) x found = go (test y) (find test xs) found (found_any test xs x) where
-  go : (b : Bool) (rest : Option A) → cond b (Some y) rest ≡ Some x → (rest ≡ Some x → list_any test xs ≡ true) → (b || list_any test xs) ≡ true
+  go : (b : Bool) (rest : Option A) → cond b (Some y) rest ≡ Some x → (rest ≡ Some x → list_any test xs ≡ true)
+      → (b || list_any test xs) ≡ true
   go true rest is later = refl
   go false rest is later = later is
 

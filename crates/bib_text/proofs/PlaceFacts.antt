@@ -15,7 +15,8 @@ pub same_place : {u v : Place} → u.text ≡ v.text → u.at ≡ v.at → u ≡
 same_place {u} {v} texts places = ap (λ t. place t u.at) texts ∙ ap (place v.text) places
 
 -- if the text from an offset begins with the bytes of a character, this character is there
-pub char_here : (text rest : List ℕ) (at c : ℕ) → drop at text ≡ encode_utf8 c ++ rest → CharAt (place text at) c (place text (at + len_utf8 c))
+pub char_here : (text rest : List ℕ) (at c : ℕ) → drop at text ≡ encode_utf8 c ++ rest
+    → CharAt (place text at) c (place text (at + len_utf8 c))
 char_here text rest at c here = record {
   same = refl;
   here = here ∙ ap (λ r. encode_utf8 c ++ r) (sym (drop_past_char text rest at c here));
@@ -23,10 +24,12 @@ char_here text rest at c here = record {
 }
 
 -- an ASCII byte is a character
-pub ascii_here : (text : List ℕ) (at : ℕ) → at < length text → get_or text at 0 < 128 → CharAt (place text at) (get_or text at 0) (place text (at + 1))
+pub ascii_here : (text : List ℕ) (at : ℕ) → at < length text → get_or text at 0 < 128
+    → CharAt (place text at) (get_or text at 0) (place text (at + 1))
 ascii_here text at within ascii =
     let width : len_utf8 (get_or text at 0) ≡ 1 = len_utf8_ascii _ ascii in
-    let here : drop at text ≡ encode_utf8 (get_or text at 0) ++ drop (at + 1) text = rw (encode_ascii (get_or text at 0) ascii) (drop_more text at 0 within) in
+    let here : drop at text ≡ encode_utf8 (get_or text at 0) ++ drop (at + 1) text =
+    rw (encode_ascii (get_or text at 0) ascii) (drop_more text at 0 within) in
     subst (λ n. CharAt (place text at) (get_or text at 0) (place text (at + n))) width (char_here text (drop (at + 1) text) at _ here)
 
 -- at most one character is at a place, with one place after it
@@ -38,7 +41,10 @@ same_char {u} {v} {w} {c} {d} first second =
 -- a text has at least the bytes of a character from the place of this character on
 pub char_left : {u v : Place} {c : ℕ} → CharAt u c v → u.at + len_utf8 c ≤ length u.text
 char_left {u} {v} {c} char =
-    let sizes : length u.text - u.at ≡ len_utf8 c + (length u.text - v.at) = sym (length-drop u.at u.text) ∙ ap length char.here ∙ length-append (encode_utf8 c) _ ∙ ap (λ n. n + length (drop v.at u.text)) (length-encode c) ∙ ap (λ n. len_utf8 c + n) (length-drop v.at u.text) in
+    let sizes : length u.text - u.at ≡ len_utf8 c + (length u.text - v.at) =
+    sym (length-drop u.at u.text) ∙ ap length char.here ∙ length-append (encode_utf8 c) _
+    ∙ ap (λ n. n + length (drop v.at u.text)) (length-encode c)
+    ∙ ap (λ n. len_utf8 c + n) (length-drop v.at u.text) in
     let width : 1 ≤ len_utf8 c = (len_utf8_bounds c).0 in
     let next : v.at ≡ u.at + len_utf8 c = char.next in
     omega arith
@@ -83,7 +89,8 @@ pub one_white : {u v w : Place} {d : ℕ} → CharAt u 32 v → CharAt v d w →
 one_white space char dark = record { run = step space refl stop; stops = stops_at is_whitespace char dark }
 
 -- the offset after a character is a character boundary if the offset of the character is one
-pub boundary_after : (text : List ℕ) (at : ℕ) {u v : Place} {c : ℕ} → place text at ≡ u → IsUtf8 text → IsCharBoundary text at → CharAt u c v → IsCharBoundary text (at + len_utf8 c)
+pub boundary_after : (text : List ℕ) (at : ℕ) {u v : Place} {c : ℕ} → place text at ≡ u → IsUtf8 text
+    → IsCharBoundary text at → CharAt u c v → IsCharBoundary text (at + len_utf8 c)
 boundary_after text at {u} {v} {c} here utf8 boundary char =
     let at_place : CharAt (place text at) c v = subst (λ p. CharAt p c v) (sym here) char in
     IsCharBoundary-past_char text (drop v.at text) at c boundary.0 (IsUtf8-drop text at utf8 boundary) at_place.here
@@ -95,11 +102,14 @@ run_push run char passes = run_append run (run_one char passes)
 -- ---- a property of each character between two places
 
 -- one more ASCII character
-pub all_push_ascii : {Holds : ℕ → Type 0} {u : Place} (text : List ℕ) (at : ℕ) → AllBetween Holds u (place text at) → at < length text → get_or text at 0 < 128 → Holds (get_or text at 0) → AllBetween Holds u (place text (at + 1))
+pub all_push_ascii : {Holds : ℕ → Type 0} {u : Place} (text : List ℕ) (at : ℕ) → AllBetween Holds u (place text at)
+    → at < length text → get_or text at 0 < 128 → Holds (get_or text at 0) → AllBetween Holds u (place text (at + 1))
 all_push_ascii text at all within ascii holds = each.step all (ascii_here text at within ascii) holds
 
 -- one more character
-pub all_push_char : {Holds : ℕ → Type 0} {u v : Place} {c : ℕ} (text : List ℕ) (at : ℕ) → AllBetween Holds u (place text at) → CharAt (place text at) c v → Holds c → AllBetween Holds u (place text (at + len_utf8 c))
+pub all_push_char : {Holds : ℕ → Type 0} {u v : Place} {c : ℕ} (text : List ℕ) (at : ℕ)
+    → AllBetween Holds u (place text at) → CharAt (place text at) c v → Holds c
+    → AllBetween Holds u (place text (at + len_utf8 c))
 all_push_char {Holds} {u} text at all char holds = subst (λ p. AllBetween Holds u p) (place_after char) (each.step all char holds)
 
 -- a property that follows from the property of each character
@@ -125,7 +135,8 @@ all_forward {Holds} {u} {v = w} (each.step {v = v} {c = c} all char holds) =
     omega arith
 
 -- the characters are a run if each character with the property passes the test
-pub run_of_all : {Holds : ℕ → Type 0} {test : ℕ → Bool} {u v : Place} → ((c : ℕ) → Holds c → test c ≡ true) → AllBetween Holds u v → Run test u v
+pub run_of_all : {Holds : ℕ → Type 0} {test : ℕ → Bool} {u v : Place} → ((c : ℕ) → Holds c → test c ≡ true)
+    → AllBetween Holds u v → Run test u v
 run_of_all passes each.stop = stop
 run_of_all passes (each.step all char holds) = run_push (run_of_all passes all) char (passes _ holds)
 
@@ -135,7 +146,8 @@ stops_of_end test fails (inl end) = stops_at_end test end
 stops_of_end test fails (inr here) = stops_at test here.2 (fails _ here.3)
 
 -- comparing the character at a place with `d` decides whether `d` is there
-pub stands_cases : {u v : Place} (c d : ℕ) → CharAt u c v → MatchBool (nat_eq c d) ((w : Place) × CharAt u d w) ((w : Place) → CharAt u d w → ⊥)
+pub stands_cases : {u v : Place} (c d : ℕ) → CharAt u c v
+    → MatchBool (nat_eq c d) ((w : Place) × CharAt u d w) ((w : Place) → CharAt u d w → ⊥)
 stands_cases {u} {v} c d char =
     elim (cases_eq c d) [
       | inl same ↦ rw (eq-eqb c d same) (v, rw (← same) char)
@@ -143,7 +155,8 @@ stands_cases {u} {v} c d char =
     ]
 
 -- the first character of the text from a place, if there is one, is the character at this place
-pub char_at_prefix : (B : Type 0) (text : List ℕ) (at : ℕ) → at ≤ length text → (found : Option ℕ) (now following : List ℕ) → now ≡ drop at text
+pub char_at_prefix : (B : Type 0) (text : List ℕ) (at : ℕ) → at ≤ length text
+    → (found : Option ℕ) (now following : List ℕ) → now ≡ drop at text
     → MatchOption found ((length now ≡ 0) × B) (λ c. now ≡ encode_utf8 c ++ following)
     → MatchOption found (AtEnd (place text at)) (λ c. (v : Place) × CharAt (place text at) c v)
 char_at_prefix B text at within None now following rest none =
@@ -204,7 +217,8 @@ char_clash {u} {v} {w} {c} {d} first second differ = eqb-false c d differ (same_
 
 -- a character that passes a test and one that fails it aren't at the same place
 pub pass_clash : (test : ℕ → Bool) {u v w : Place} {c d : ℕ} → CharAt u c v → test c ≡ true → CharAt u d w → test d ≡ false → ⊥
-pass_clash test {u} {v} {w} {c} {d} first passes second fails = test_clash (test d) (subst (λ x. test x ≡ true) (same_char first second).0 passes) fails
+pass_clash test {u} {v} {w} {c} {d} first passes second fails =
+    test_clash (test d) (subst (λ x. test x ≡ true) (same_char first second).0 passes) fails
 
 -- if `k` isn't at a place, any character there is another one
 pub stops_without : (k : ℕ) {u : Place} → ((v : Place) → CharAt u k v → ⊥) → Stops (λ c. c == k) u

@@ -6,17 +6,22 @@ use Rattle.std.specs.List.{find}
 use denote.Ref.{Bor}
 
 -- the first of mapped items that passes
-pub find_of_map : {A B : Type 0} (f : A → B) (p : B → Bool) (items : List A) → find p (map f items) ≡ option_map f (find (λ item. p (f item)) items)
+pub find_of_map : {A B : Type 0} (f : A → B) (p : B → Bool) (items : List A)
+    → find p (map f items) ≡ option_map f (find (λ item. p (f item)) items)
 find_of_map f p [] = refl
 find_of_map f p (item ∷ items) =
     ap (cond (p (f item)) (Some (f item))) (find_of_map f p items)
-    ∙ elim (p (f item)) as (λ passes. cond passes (Some (f item)) (option_map f (find (λ i. p (f i)) items)) ≡ option_map f (cond passes (Some item) (find (λ i. p (f i)) items))) [ true ↦ refl | false ↦ refl ]
+    ∙ elim (p (f item)) as
+    (λ passes.
+    cond passes (Some (f item)) (option_map f (find (λ i. p (f i)) items))
+    ≡ option_map f (cond passes (Some item) (find (λ i. p (f i)) items))) [ true ↦ refl | false ↦ refl ]
 
 reversed_onto : {A B : Type 0} (f : A → B) (items onto : List A) → reverse_aux (map f items) (map f onto) ≡ map f (reverse_aux items onto)
 reversed_onto f [] onto = refl
 reversed_onto f (item ∷ items) onto = reversed_onto f items (item ∷ onto)
 
-twice : {A B : Type 0} (f : A → B) (found : Option (Bor A)) → option_map (λ item. f item.now) found ≡ option_map f (option_map (λ item. item.now) found)
+twice : {A B : Type 0} (f : A → B) (found : Option (Bor A))
+    → option_map (λ item. f item.now) found ≡ option_map f (option_map (λ item. item.now) found)
 twice f None = refl
 twice f (Some item) = refl
 
@@ -24,7 +29,8 @@ pub reverse_of_map : {A B : Type 0} (f : A → B) (items : List A) → reverse (
 reverse_of_map f items = reversed_onto f items []
 
 -- the last of mapped items that passes, from the last of the items
-pub last_of_map : {A B : Type 0} (f : A → B) (p : B → Bool) (items : List A) (found : Option (Bor A)) → option_map (λ item. item.now) found ≡ find (λ item. p (f item)) (reverse items)
+pub last_of_map : {A B : Type 0} (f : A → B) (p : B → Bool) (items : List A) (found : Option (Bor A))
+    → option_map (λ item. item.now) found ≡ find (λ item. p (f item)) (reverse items)
     → option_map (λ item. f item.now) found ≡ find p (reverse (map f items))
 last_of_map f p items found is =
     twice f found ∙ ap (option_map f) is ∙ sym (find_of_map f p (reverse items)) ∙ ap (find p) (sym (reverse_of_map f items))

@@ -13,20 +13,23 @@ use Rattle.bib_text.proofs.TextFacts.{ahead, Passed, passed_run, passed_between,
 use Rattle.bib_text.specs.Runs.{leading_run, rest_after}
 
 -- if all of `run` passes the test and `rest` doesn't begin with a passing character, the leading run of both is `run`
-pub split_prefix : (test : ℕ → Bool) (run rest : List ℕ) → list_all test run ≡ true → (leading_run test rest ≡ []) → leading_run test (run ++ rest) ≡ run
+pub split_prefix : (test : ℕ → Bool) (run rest : List ℕ) → list_all test run ≡ true → (leading_run test rest ≡ [])
+    → leading_run test (run ++ rest) ≡ run
 split_prefix test [] rest all stops = stops
 split_prefix test (c ∷ run) rest all stops =
     let parts = and_parts (test c) (list_all test run) all in
     cond-true (test c) (c ∷ leading_run test (run ++ rest)) [] parts.0 ∙ ap (λ xs. c ∷ xs) (split_prefix test run rest parts.1 stops)
 
-pub split_after : (test : ℕ → Bool) (run rest : List ℕ) → list_all test run ≡ true → (rest_after test rest ≡ rest) → rest_after test (run ++ rest) ≡ rest
+pub split_after : (test : ℕ → Bool) (run rest : List ℕ) → list_all test run ≡ true → (rest_after test rest ≡ rest)
+    → rest_after test (run ++ rest) ≡ rest
 split_after test [] rest all stops = stops
 split_after test (c ∷ run) rest all stops =
     let parts = and_parts (test c) (list_all test run) all in
     cond-true (test c) (rest_after test (run ++ rest)) (c ∷ run ++ rest) parts.0 ∙ split_after test run rest parts.1 stops
 
 -- if a run stops at a place, the leading run of the characters from there is empty
-stopped : (test : ℕ → Bool) (v : Place) (cs : List ℕ) → IsUtf8 (ahead v) → cs ≡ chars (ahead v) → Stops test v → (leading_run test cs ≡ []) × (rest_after test cs ≡ cs)
+stopped : (test : ℕ → Bool) (v : Place) (cs : List ℕ) → IsUtf8 (ahead v) → cs ≡ chars (ahead v) → Stops test v
+    → (leading_run test cs ≡ []) × (rest_after test cs ≡ cs)
 stopped test v [] utf8 is stops = (refl, refl)
 stopped test v (c ∷ cs) utf8 is stops =
     let spelt : ahead v ≡ encode_utf8_all (c ∷ cs) = sym (encodes-chars (ahead v) utf8) ∙ ap encode_utf8_all (sym is) in
@@ -47,7 +50,12 @@ eaten test {u} {v} longest utf8 =
     let stops = stopped test v (chars (ahead v)) passed.1.utf8 refl longest.stops in
     record {
       same = passed.1.same;
-      run = passed_between passed.1 ∙ ap encode_utf8_all (sym (ap (leading_run test) passed.1.spelt ∙ split_prefix test passed.0 (chars (ahead v)) passed.2 stops.0));
+      run =
+          passed_between passed.1
+          ∙ ap encode_utf8_all
+          (sym
+          (ap (leading_run test) passed.1.spelt
+          ∙ split_prefix test passed.0 (chars (ahead v)) passed.2 stops.0));
       utf8 = passed.1.utf8;
       rest = sym (ap (rest_after test) passed.1.spelt ∙ split_after test passed.0 (chars (ahead v)) passed.2 stops.1);
     }
@@ -67,20 +75,27 @@ unfolding trim_start
 trimmed_chars bs trimmed utf8 is = sym (chars_from_encodes (skip_leading_whitespace (chars bs)) trimmed utf8 (sym is)) ∙ white (chars bs)
 
 -- `eaten` from the start of a text
-pub eaten_new : (test : ℕ → Bool) (text : List ℕ) {u v : Place} → u ≡ place text 0 → IsUtf8 text → Longest test u v → (v.text ≡ text) × (between u v ≡ encode_utf8_all (leading_run test (chars text))) × (chars (ahead v) ≡ rest_after test (chars text))
+pub eaten_new : (test : ℕ → Bool) (text : List ℕ) {u v : Place} → u ≡ place text 0 → IsUtf8 text → Longest test u v
+    → (v.text ≡ text) × (between u v ≡ encode_utf8_all (leading_run test (chars text)))
+    × (chars (ahead v) ≡ rest_after test (chars text))
 eaten_new test text {u} {v} is utf8 longest =
     let here : ahead u ≡ text = ap ahead is in
-    let ate : Eaten test u v = eaten test longest (rw here utf8) in
-    (ate.same ∙ ap (λ p. p.text) is, ate.run ∙ ap (λ bs. encode_utf8_all (leading_run test (chars bs))) here, ate.rest ∙ ap (λ bs. rest_after test (chars bs)) here)
+    let ate : Eaten test u v = eaten test longest (rw here utf8) in (
+      ate.same ∙ ap (λ p. p.text) is,
+      ate.run ∙ ap (λ bs. encode_utf8_all (leading_run test (chars bs))) here,
+      ate.rest ∙ ap (λ bs. rest_after test (chars bs)) here,
+    )
 
 -- the characters from the offset after the longest run are those after the leading run
-pub eaten_rest : (test : ℕ → Bool) (text : List ℕ) (at : ℕ) {u v : Place} → u ≡ place text 0 → IsUtf8 text → Longest test u v → at ≡ v.at → chars (drop at text) ≡ rest_after test (chars text)
+pub eaten_rest : (test : ℕ → Bool) (text : List ℕ) (at : ℕ) {u v : Place} → u ≡ place text 0 → IsUtf8 text
+    → Longest test u v → at ≡ v.at → chars (drop at text) ≡ rest_after test (chars text)
 eaten_rest test text at {u} {v} is utf8 longest there =
     let ate = eaten_new test text is utf8 longest in
     ap (λ n. chars (drop n text)) there ∙ ap (λ bs. chars (drop v.at bs)) (sym ate.0) ∙ ate.2
 
 -- a character boundary of the text at the end of a run is one of the text at its start
-pub boundary_there : {test : ℕ → Bool} (at : ℕ) (text : List ℕ) {u v : Place} → u ≡ place text 0 → IsUtf8 text → Longest test u v → IsCharBoundary v.text at → IsCharBoundary text at
+pub boundary_there : {test : ℕ → Bool} (at : ℕ) (text : List ℕ) {u v : Place} → u ≡ place text 0 → IsUtf8 text
+    → Longest test u v → IsCharBoundary v.text at → IsCharBoundary text at
 boundary_there {test} at text is utf8 longest boundary = rw (sym (eaten_new test text is utf8 longest).0) boundary
 
 -- leading ASCII digits are ASCII
@@ -96,18 +111,21 @@ prefix_ascii (c ∷ cs) = here (is_ascii_digit c) c (leading_run is_ascii_digit 
 digits_encode : (cs : List ℕ) → encode_utf8_all (leading_run is_ascii_digit cs) ≡ leading_run is_ascii_digit cs
 digits_encode cs = encodes-IsAscii (leading_run is_ascii_digit cs) (prefix_ascii cs)
 
-pub eaten_digits : (text : List ℕ) {u v : Place} → u ≡ place text 0 → IsUtf8 text → Longest is_ascii_digit u v → between u v ≡ leading_run is_ascii_digit (chars text)
+pub eaten_digits : (text : List ℕ) {u v : Place} → u ≡ place text 0 → IsUtf8 text → Longest is_ascii_digit u v
+    → between u v ≡ leading_run is_ascii_digit (chars text)
 eaten_digits text is utf8 longest = (eaten_new is_ascii_digit text is utf8 longest).1 ∙ digits_encode (chars text)
 
 -- the characters of a text are the first one and those from the offset after it
-pub eaten_char : (text : List ℕ) (at : ℕ) {u v : Place} {c : ℕ} → u ≡ place text 0 → IsUtf8 text → CharAt u c v → at ≡ v.at → chars text ≡ c ∷ chars (drop at text)
+pub eaten_char : (text : List ℕ) (at : ℕ) {u v : Place} {c : ℕ} → u ≡ place text 0 → IsUtf8 text → CharAt u c v
+    → at ≡ v.at → chars text ≡ c ∷ chars (drop at text)
 eaten_char text at {u} {v} {c} is utf8 char there =
     let here : ahead u ≡ text = ap ahead is in
     let passed : Passed u (c ∷ []) v = passed_char char (rw here utf8) in
     let same : v.text ≡ text = char.same ∙ ap (λ p. p.text) is in
     ap chars (sym here) ∙ passed.spelt ∙ ap (λ bs. c ∷ chars (drop v.at bs)) same ∙ ap (λ n. c ∷ chars (drop n text)) (sym there)
 
-pub boundary_char : (at : ℕ) (text : List ℕ) {u v : Place} {c : ℕ} → u ≡ place text 0 → CharAt u c v → IsCharBoundary v.text at → IsCharBoundary text at
+pub boundary_char : (at : ℕ) (text : List ℕ) {u v : Place} {c : ℕ} → u ≡ place text 0 → CharAt u c v
+    → IsCharBoundary v.text at → IsCharBoundary text at
 boundary_char at text is char boundary = rw (sym (char.same ∙ ap (λ p. p.text) is)) boundary
 
 -- a text has no characters if its start is its end

@@ -43,12 +43,15 @@ passed_char {u} {v} {c} char utf8 =
 pub passed_append : {u v w : Place} {cs ds : List ℕ} → Passed u cs v → Passed v ds w → Passed u (cs ++ ds) w
 passed_append {u} {v} {w} {cs} {ds} first second =
     let joined : encode_utf8_all (cs ++ ds) ≡ encode_utf8_all cs ++ encode_utf8_all ds = encodes-append cs ds in
-    let sizes : length (encode_utf8_all (cs ++ ds)) ≡ length (encode_utf8_all cs) + length (encode_utf8_all ds) = ap length joined ∙ length-append (encode_utf8_all cs) _ in
+    let sizes : length (encode_utf8_all (cs ++ ds)) ≡ length (encode_utf8_all cs) + length (encode_utf8_all ds) =
+    ap length joined ∙ length-append (encode_utf8_all cs) _ in
     let next_first : v.at ≡ u.at + length (encode_utf8_all cs) = first.next in
     let next_second : w.at ≡ v.at + length (encode_utf8_all ds) = second.next in
     record {
       same = second.same ∙ first.same;
-      here = first.here ∙ ap (λ bs. encode_utf8_all cs ++ bs) second.here ∙ sym (append_assoc (encode_utf8_all cs) _ _) ∙ ap (λ bs. bs ++ ahead w) (sym joined);
+      here =
+          first.here ∙ ap (λ bs. encode_utf8_all cs ++ bs) second.here ∙ sym (append_assoc (encode_utf8_all cs) _ _)
+          ∙ ap (λ bs. bs ++ ahead w) (sym joined);
       next = omega arith;
       spelt = first.spelt ∙ ap (λ bs. cs ++ bs) second.spelt ∙ sym (append_assoc cs ds _);
       utf8 = second.utf8;
@@ -62,7 +65,8 @@ passed_between {u} {v} {cs} passed =
     ap (take (v.at - u.at)) passed.here ∙ take_at (encode_utf8_all cs) (ahead v) (v.at - u.at) size
 
 -- a run moves a cursor past characters that all pass the test
-pub passed_run : {test : ℕ → Bool} {u v : Place} → Run test u v → IsUtf8 (ahead u) → (cs : List ℕ) × Passed u cs v × (list_all test cs ≡ true)
+pub passed_run : {test : ℕ → Bool} {u v : Place} → Run test u v → IsUtf8 (ahead u)
+    → (cs : List ℕ) × Passed u cs v × (list_all test cs ≡ true)
 passed_run {test} {u} stop utf8 = ([], passed_none u utf8, refl)
 passed_run (step char passes rest) utf8 =
     let first = passed_char char utf8 in
@@ -74,14 +78,16 @@ pub ahead_at_end : (u : Place) → AtEnd u → ahead u ≡ []
 ahead_at_end u end = drop_all u.at u.text (omega (arith, end))
 
 -- if `spelled` maps each character that passes the test to itself, it maps a list of such characters to itself
-pub flat_map_same : (test : ℕ → Bool) (spelled : ℕ → List ℕ) → ((c : ℕ) → test c ≡ true → spelled c ≡ c ∷ []) → (cs : List ℕ) → list_all test cs ≡ true → flat_map spelled cs ≡ cs
+pub flat_map_same : (test : ℕ → Bool) (spelled : ℕ → List ℕ) → ((c : ℕ) → test c ≡ true → spelled c ≡ c ∷ [])
+    → (cs : List ℕ) → list_all test cs ≡ true → flat_map spelled cs ≡ cs
 flat_map_same test spelled same [] all = refl
 flat_map_same test spelled same (c ∷ cs) all =
     let parts = and_parts (test c) (list_all test cs) all in
     ap (λ xs. xs ++ flat_map spelled cs) (same c parts.0) ∙ ap (λ xs. c ∷ xs) (flat_map_same test spelled same cs parts.1)
 
 -- after one more part was written, the output and the remaining characters still make up the same text
-pub written_more : (out more total part all rest : List ℕ) → more ≡ out ++ encode_utf8_all part → all ≡ part ++ rest → out ++ encode_utf8_all all ≡ total → more ++ encode_utf8_all rest ≡ total
+pub written_more : (out more total part all rest : List ℕ) → more ≡ out ++ encode_utf8_all part → all ≡ part ++ rest
+    → out ++ encode_utf8_all all ≡ total → more ++ encode_utf8_all rest ≡ total
 written_more out more total part all rest written cut before =
     ap (λ bs. bs ++ encode_utf8_all rest) written
     ∙ append_assoc out (encode_utf8_all part) (encode_utf8_all rest)
@@ -97,11 +103,13 @@ pub chars_at_end : (u : Place) → AtEnd u → chars (ahead u) ≡ []
 chars_at_end u end = ap chars (ahead_at_end u end) ∙ chars-nil
 
 -- a successful `push` or `push_str` appends these characters in UTF-8
-pub pushed_chars : {T E : Type 0} (was now added : List ℕ) (r : Result T E) {x : T} (cs : List ℕ) → r ≡ Ok x → now ≡ cond (is_ok r) (was ++ added) was → added ≡ encode_utf8_all cs → now ≡ was ++ encode_utf8_all cs
+pub pushed_chars : {T E : Type 0} (was now added : List ℕ) (r : Result T E) {x : T} (cs : List ℕ) → r ≡ Ok x
+    → now ≡ cond (is_ok r) (was ++ added) was → added ≡ encode_utf8_all cs → now ≡ was ++ encode_utf8_all cs
 pushed_chars was now added r cs ok after same = pushed added refl ok after ∙ ap (λ bs. was ++ bs) same
 
 -- a successful `push_str` appends this text
-pub pushed_part : {T E : Type 0} (was now added : List ℕ) (r : Result T E) {x : T} (part : List ℕ) → r ≡ Ok x → now ≡ cond (is_ok r) (was ++ added) was → added ≡ part → now ≡ was ++ part
+pub pushed_part : {T E : Type 0} (was now added : List ℕ) (r : Result T E) {x : T} (part : List ℕ) → r ≡ Ok x
+    → now ≡ cond (is_ok r) (was ++ added) was → added ≡ part → now ≡ was ++ part
 pushed_part was now added r part ok after same = pushed added refl ok after ∙ ap (λ bs. was ++ bs) same
 
 -- the bytes of a character are those of the list of only this character
@@ -129,18 +137,24 @@ less_left {u = u} {v} {w} {c} run char =
     omega arith
 
 -- two parts written one after the other append the characters of both
-pub two_parts : (out one two xs ys : List ℕ) → one ≡ out ++ encode_utf8_all xs → two ≡ one ++ encode_utf8_all ys → two ≡ out ++ encode_utf8_all (xs ++ ys)
+pub two_parts : (out one two xs ys : List ℕ) → one ≡ out ++ encode_utf8_all xs → two ≡ one ++ encode_utf8_all ys
+    → two ≡ out ++ encode_utf8_all (xs ++ ys)
 two_parts out one two xs ys first second =
-    second ∙ ap (λ bs. bs ++ encode_utf8_all ys) first ∙ append_assoc out (encode_utf8_all xs) (encode_utf8_all ys) ∙ ap (λ bs. out ++ bs) (sym (encodes-append xs ys))
+    second ∙ ap (λ bs. bs ++ encode_utf8_all ys) first ∙ append_assoc out (encode_utf8_all xs) (encode_utf8_all ys)
+    ∙ ap (λ bs. out ++ bs) (sym (encodes-append xs ys))
 
-pub three_parts : (out one two three xs ys zs : List ℕ) → one ≡ out ++ encode_utf8_all xs → two ≡ one ++ encode_utf8_all ys → three ≡ two ++ encode_utf8_all zs → three ≡ out ++ encode_utf8_all (xs ++ ys ++ zs)
-three_parts out one two three xs ys zs first second third = two_parts out two three (xs ++ ys) zs (two_parts out one two xs ys first second) third
+pub three_parts : (out one two three xs ys zs : List ℕ) → one ≡ out ++ encode_utf8_all xs
+    → two ≡ one ++ encode_utf8_all ys → three ≡ two ++ encode_utf8_all zs
+    → three ≡ out ++ encode_utf8_all (xs ++ ys ++ zs)
+three_parts out one two three xs ys zs first second third =
+    two_parts out two three (xs ++ ys) zs (two_parts out one two xs ys first second) third
 
 -- the characters of a text that begins with `cs` are `cs` and those of the rest, and the rest is UTF-8
 pub chars_past : (cs bs rest : List ℕ) → IsUtf8 bs → bs ≡ encode_utf8_all cs ++ rest → (chars bs ≡ cs ++ chars rest) × IsUtf8 rest
 chars_past [] bs rest utf8 begins = (ap chars begins, rw begins at utf8)
 chars_past (c ∷ cs) bs rest utf8 begins =
-    let leading_run : bs ≡ encode_utf8 c ++ (encode_utf8_all cs ++ rest) = begins ∙ append_assoc (encode_utf8 c) (encode_utf8_all cs) rest in
+    let leading_run : bs ≡ encode_utf8 c ++ (encode_utf8_all cs ++ rest) =
+    begins ∙ append_assoc (encode_utf8 c) (encode_utf8_all cs) rest in
     let more = chars_past cs (encode_utf8_all cs ++ rest) rest (IsUtf8-past_char bs (encode_utf8_all cs ++ rest) c utf8 leading_run) refl in
     (chars_past_char bs (encode_utf8_all cs ++ rest) c utf8 leading_run ∙ ap (λ xs. c ∷ xs) more.0, more.1)
 

@@ -19,21 +19,34 @@ not_passed true fails = absurd (fails refl)
 not_passed false fails = refl
 
 -- characters without a byte that ends a run are a run
-run_of_chars : (ends passes : ℕ → Bool) → ((c : ℕ) → passes c ≡ not (ends c)) → ((c : ℕ) → ends c ≡ true → c < 128) → (text : List ℕ) (at : ℕ) (cs rest : List ℕ) → drop at text ≡ encode_utf8_all cs ++ rest
+run_of_chars : (ends passes : ℕ → Bool) → ((c : ℕ) → passes c ≡ not (ends c)) → ((c : ℕ) → ends c ≡ true → c < 128)
+    → (text : List ℕ) (at : ℕ) (cs rest : List ℕ) → drop at text ≡ encode_utf8_all cs ++ rest
     → ((k : ℕ) → k < length (encode_utf8_all cs) → ends (get_or (encode_utf8_all cs) k 0) ≡ true → ⊥)
     → Run passes (place text at) (place text (at + length (encode_utf8_all cs)))
 run_of_chars ends passes split ascii text at [] rest here none =
     let same : at ≡ at + 0 = omega arith in
     subst (λ n. Run passes (place text at) (place text n)) same stop
 run_of_chars ends passes split ascii text at (c ∷ cs) rest here none =
-    let begins : drop at text ≡ encode_utf8 c ++ (encode_utf8_all cs ++ rest) = here ∙ append_assoc (encode_utf8 c) (encode_utf8_all cs) rest in
+    let begins : drop at text ≡ encode_utf8 c ++ (encode_utf8_all cs ++ rest) =
+    here ∙ append_assoc (encode_utf8 c) (encode_utf8_all cs) rest in
     let size : length (encode_utf8 c) ≡ len_utf8 c = length-encode c in
-    let sizes : length (encode_utf8_all (c ∷ cs)) ≡ length (encode_utf8 c) + length (encode_utf8_all cs) = length-append (encode_utf8 c) (encode_utf8_all cs) in
+    let sizes : length (encode_utf8_all (c ∷ cs)) ≡ length (encode_utf8 c) + length (encode_utf8_all cs) =
+    length-append (encode_utf8 c) (encode_utf8_all cs) in
     let width : 1 ≤ len_utf8 c = (len_utf8_bounds c).0 in
-    let fails : ends c ≡ true → ⊥ = λ is. none 0 (omega arith) (subst (λ x. ends x ≡ true) (sym (byte_from_char (encode_utf8_all (c ∷ cs)) (encode_utf8_all cs) c refl (ascii c is))) is) in
-    let more = run_of_chars ends passes split ascii text (at + len_utf8 c) cs rest (drop_past_char text (encode_utf8_all cs ++ rest) at c begins) (λ k within is. none (length (encode_utf8 c) + k) (omega arith) (subst (λ x. ends x ≡ true) (sym (get_or-append-add (encode_utf8 c) (encode_utf8_all cs) k 0)) is)) in
+    let fails : ends c ≡ true → ⊥ =
+    λ is.
+    none 0 (omega arith)
+    (subst (λ x. ends x ≡ true)
+    (sym (byte_from_char (encode_utf8_all (c ∷ cs)) (encode_utf8_all cs) c refl (ascii c is))) is) in
+    let more =
+    run_of_chars ends passes split ascii text (at + len_utf8 c) cs rest
+    (drop_past_char text (encode_utf8_all cs ++ rest) at c begins)
+    (λ k within is.
+    none (length (encode_utf8 c) + k) (omega arith)
+    (subst (λ x. ends x ≡ true) (sym (get_or-append-add (encode_utf8 c) (encode_utf8_all cs) k 0)) is)) in
     let next : at + len_utf8 c + length (encode_utf8_all cs) ≡ at + length (encode_utf8_all (c ∷ cs)) = omega arith in
-    step (char_here text (encode_utf8_all cs ++ rest) at c begins) (split c ∙ ap not (not_passed (ends c) fails)) (subst (λ n. Run passes (place text (at + len_utf8 c)) (place text n)) next more)
+    step (char_here text (encode_utf8_all cs ++ rest) at c begins) (split c ∙ ap not (not_passed (ends c) fails))
+    (subst (λ n. Run passes (place text (at + len_utf8 c)) (place text n)) next more)
 
 -- the longest run from `u` ends at `v`, a character boundary, at the end of the text or at a failing character
 pub record Until (passes : ℕ → Bool) (u v : Place) : Type 0 where
@@ -42,20 +55,26 @@ pub record Until (passes : ℕ → Bool) (u v : Place) : Type 0 where
   pub boundary : IsCharBoundary u.text v.at
 
 -- `n` bytes from the offset `at`, none of which ends a run, are a run
-run_of_bytes : (ends passes : ℕ → Bool) → ((c : ℕ) → passes c ≡ not (ends c)) → ((c : ℕ) → ends c ≡ true → c < 128) → (text : List ℕ) (at n : ℕ) → IsUtf8 (drop at text) → IsCharBoundary (drop at text) n
+run_of_bytes : (ends passes : ℕ → Bool) → ((c : ℕ) → passes c ≡ not (ends c)) → ((c : ℕ) → ends c ≡ true → c < 128)
+    → (text : List ℕ) (at n : ℕ) → IsUtf8 (drop at text) → IsCharBoundary (drop at text) n
     → ((k : ℕ) → k < n → ends (get_or (drop at text) k 0) ≡ true → ⊥)
     → Run passes (place text at) (place text (at + n))
 run_of_bytes ends passes split ascii text at n utf8 boundary none =
-    let taken : encode_utf8_all (chars (take n (drop at text))) ≡ take n (drop at text) = encodes-chars (take n (drop at text)) (IsUtf8-take (drop at text) n utf8 boundary) in
-    let cut : drop at text ≡ encode_utf8_all (chars (take n (drop at text))) ++ drop n (drop at text) = sym (ap (λ bs. bs ++ drop n (drop at text)) taken ∙ take-append-drop n (drop at text)) in
-    let size : length (encode_utf8_all (chars (take n (drop at text)))) ≡ n = ap length taken ∙ length-take-le n (drop at text) boundary.0 in
+    let taken : encode_utf8_all (chars (take n (drop at text))) ≡ take n (drop at text) =
+    encodes-chars (take n (drop at text)) (IsUtf8-take (drop at text) n utf8 boundary) in
+    let cut : drop at text ≡ encode_utf8_all (chars (take n (drop at text))) ++ drop n (drop at text) =
+    sym (ap (λ bs. bs ++ drop n (drop at text)) taken ∙ take-append-drop n (drop at text)) in
+    let size : length (encode_utf8_all (chars (take n (drop at text)))) ≡ n =
+    ap length taken ∙ length-take-le n (drop at text) boundary.0 in
     let run = run_of_chars ends passes split ascii text at (chars (take n (drop at text))) (drop n (drop at text)) cut (λ k within is.
     let low : k < n = omega arith in
     none k low (subst (λ x. ends x ≡ true) (ap (λ bs. get_or bs k 0) taken ∙ get_or-take n (drop at text) k 0 low) is)) in
     subst (λ m. Run passes (place text at) (place text (at + m))) size run
 
 -- the longest run goes up to the first byte that ends it, or to the end of the text
-pub until_found : (ends passes : ℕ → Bool) → ((c : ℕ) → passes c ≡ not (ends c)) → ((c : ℕ) → ends c ≡ true → c < 128) → (text : List ℕ) (at : ℕ) → IsUtf8 text → IsCharBoundary text at → (found : Option ℕ) (n : ℕ) → IsFirstByte ends (drop at text) found → n ≡ unwrap_or found (length (drop at text))
+pub until_found : (ends passes : ℕ → Bool) → ((c : ℕ) → passes c ≡ not (ends c)) → ((c : ℕ) → ends c ≡ true → c < 128)
+    → (text : List ℕ) (at : ℕ) → IsUtf8 text → IsCharBoundary text at → (found : Option ℕ) (n : ℕ)
+    → IsFirstByte ends (drop at text) found → n ≡ unwrap_or found (length (drop at text))
     → Until passes (place text at) (place text (at + n))
 until_found ends passes split ascii text at utf8 boundary None n nowhere is =
     let hay : IsUtf8 (drop at text) = IsUtf8-drop text at utf8 boundary in
@@ -63,7 +82,9 @@ until_found ends passes split ascii text at utf8 boundary None n nowhere is =
     let end : AtEnd (place text (at + n)) = omega (arith, is, length-drop at text) in
     record {
       longest = record {
-        run = run_of_bytes ends passes split ascii text at n hay (rw is (IsCharBoundary-end (drop at text))) (λ k low. nowhere k (omega arith) (omega arith));
+        run =
+            run_of_bytes ends passes split ascii text at n hay (rw is (IsCharBoundary-end (drop at text)))
+            (λ k low. nowhere k (omega arith) (omega arith));
         stops = stops_at_end passes end;
       };
       stopped = inl end;
@@ -75,11 +96,14 @@ until_found ends passes split ascii text at utf8 boundary (Some k) n first is =
     let high : k < length (drop at text) = first.0.high in
     let low : get_or (drop at text) k 0 < 128 = ascii _ first.1 in
     let same : get_or (drop at text) k 0 ≡ get_or text (at + k) 0 = get_or-drop at text k 0 in
-    let here : CharAt (place text (at + k)) (get_or text (at + k) 0) (place text (at + k + 1)) = ascii_here text (at + k) (omega (arith, length-drop at text)) (omega arith) in
+    let here : CharAt (place text (at + k)) (get_or text (at + k) 0) (place text (at + k + 1)) =
+    ascii_here text (at + k) (omega (arith, length-drop at text)) (omega arith) in
     let fails : passes (get_or text (at + k) 0) ≡ false = split _ ∙ ap not (subst (λ x. ends x ≡ true) same first.1) in
     rw is record {
       longest = record {
-        run = run_of_bytes ends passes split ascii text at k hay (IsCharBoundary-before_ascii (drop at text) k high low) (λ j lower. first.0.before j (omega arith) lower);
+        run =
+            run_of_bytes ends passes split ascii text at k hay (IsCharBoundary-before_ascii (drop at text) k high low)
+            (λ j lower. first.0.before j (omega arith) lower);
         stops = stops_at passes here fails;
       };
       stopped = inr (_, _, here, fails);
@@ -111,17 +135,27 @@ none_of true q r = refl
 none_of false true r = refl
 none_of false false r = refl
 
-pub until_byte : (a : ℕ) → a < 128 → (text : List ℕ) (at : ℕ) → IsUtf8 text → IsCharBoundary text at → (found : Option ℕ) (n : ℕ) → IsFirstByte (is_byte a) (drop at text) found → n ≡ unwrap_or found (length (drop at text))
+pub until_byte : (a : ℕ) → a < 128 → (text : List ℕ) (at : ℕ) → IsUtf8 text → IsCharBoundary text at
+    → (found : Option ℕ) (n : ℕ) → IsFirstByte (is_byte a) (drop at text) found
+    → n ≡ unwrap_or found (length (drop at text))
     → Until (λ c. not (c == a)) (place text at) (place text (at + n))
 until_byte a low = until_found (is_byte a) (λ c. not (c == a)) (λ c. refl) (one_ascii a low)
 
-pub until_either : (a b : ℕ) → (a < 128) × (b < 128) → (text : List ℕ) (at : ℕ) → IsUtf8 text → IsCharBoundary text at → (found : Option ℕ) (n : ℕ) → IsFirstByte (is_byte2 a b) (drop at text) found → n ≡ unwrap_or found (length (drop at text))
+pub until_either : (a b : ℕ) → (a < 128) × (b < 128) → (text : List ℕ) (at : ℕ) → IsUtf8 text → IsCharBoundary text at
+    → (found : Option ℕ) (n : ℕ) → IsFirstByte (is_byte2 a b) (drop at text) found
+    → n ≡ unwrap_or found (length (drop at text))
     → Until (λ c. not (c == a) && not (c == b)) (place text at) (place text (at + n))
-until_either a b low = until_found (is_byte2 a b) (λ c. not (c == a) && not (c == b)) (λ c. neither (c == a) (c == b)) (two_ascii a b low.0 low.1)
+until_either a b low =
+    until_found (is_byte2 a b) (λ c. not (c == a) && not (c == b)) (λ c. neither (c == a) (c == b))
+    (two_ascii a b low.0 low.1)
 
-pub until_any : (a b d : ℕ) → (a < 128) × (b < 128) × (d < 128) → (text : List ℕ) (at : ℕ) → IsUtf8 text → IsCharBoundary text at → (found : Option ℕ) (n : ℕ) → IsFirstByte (is_byte3 a b d) (drop at text) found → n ≡ unwrap_or found (length (drop at text))
+pub until_any : (a b d : ℕ) → (a < 128) × (b < 128) × (d < 128) → (text : List ℕ) (at : ℕ) → IsUtf8 text
+    → IsCharBoundary text at → (found : Option ℕ) (n : ℕ) → IsFirstByte (is_byte3 a b d) (drop at text) found
+    → n ≡ unwrap_or found (length (drop at text))
     → Until (λ c. not (c == a) && not (c == b) && not (c == d)) (place text at) (place text (at + n))
-until_any a b d low = until_found (is_byte3 a b d) (λ c. not (c == a) && not (c == b) && not (c == d)) (λ c. none_of (c == a) (c == b) (c == d)) (three_ascii a b d low.0 low.1 low.2)
+until_any a b d low =
+    until_found (is_byte3 a b d) (λ c. not (c == a) && not (c == b) && not (c == d))
+    (λ c. none_of (c == a) (c == b) (c == d)) (three_ascii a b d low.0 low.1 low.2)
 
 -- if the property holds nowhere before `n` and not at `n`, it holds nowhere before `n + 1`
 pub nowhere_more : (P : ℕ → Type 0) (n : ℕ) → Nowhere P 0 n → (P n → ⊥) → Nowhere P 0 (n + 1)
@@ -132,8 +166,14 @@ nowhere_more P n none here k low high holds = elim (cases_lt k n) [
 
 -- two tests with the same results have the same first passing byte
 pub first_same : (p q : ℕ → Bool) → ((x : ℕ) → p x ≡ q x) → (hay : List ℕ) (n : ℕ) → IsFirstByte p hay (Some n) → IsFirstByte q hay (Some n)
-first_same p q same hay n first =
-    (record { low = first.0.low; high = first.0.high; before = λ k low high holds. first.0.before k low high (same _ ∙ holds) }, sym (same _) ∙ first.1)
+first_same p q same hay n first = (
+  record {
+    low = first.0.low;
+    high = first.0.high;
+    before = λ k low high holds. first.0.before k low high (same _ ∙ holds);
+  },
+  sym (same _) ∙ first.1,
+)
 
 or_same : (p q : Bool) → (p || q || q) ≡ (p || q)
 or_same true q = refl

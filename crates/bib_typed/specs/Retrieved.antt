@@ -36,7 +36,11 @@ field_as reads field = option_and_then reads field
 abbrev pub IsRetrieved : {V : Type 0} → Ghosts V → Option Value → List ℕ → Result V RetrievalError → Type 0
 IsRetrieved type field name (Ok v) = field_as type.reads field ≡ Some (type.meaning v)
 IsRetrieved type field name (Err (Missing reported)) = (field ≡ None) × (reported ≡ name)
-IsRetrieved type field name (Err (TypeError e)) = IsSomeAnd field (λ chunks. (e.kind ≢ kind.OutOfMemory) × (type.reads chunks ≡ None) × type.may_refuse chunks e.kind × (e.span ≡ whole_span chunks))
+IsRetrieved type field name (Err (TypeError e)) =
+    IsSomeAnd field
+    (λ chunks.
+    (e.kind ≢ kind.OutOfMemory) × (type.reads chunks ≡ None) × type.may_refuse chunks e.kind
+    × (e.span ≡ whole_span chunks))
 IsRetrieved type field name (Err OutOfMemory) = ⊤
 
 -- the result of getting the chunks of a field: its chunks; `Missing` with this name, if there is no field; or out of memory

@@ -20,11 +20,14 @@ use Rattle.bib_values.specs.Lists.{strings_read, strings_written, is_plain_in_li
 use Rattle.bib_chunks.specs.Separated.{after_separator}
 
 -- a test that all elements of two lists pass, all of the appended lists pass
-all-append : {A : Type 0} (test : A → Bool) (xs ys : List A) → list_all test xs ≡ true → list_all test ys ≡ true → list_all test (xs ++ ys) ≡ true
+all-append : {A : Type 0} (test : A → Bool) (xs ys : List A) → list_all test xs ≡ true → list_all test ys ≡ true
+    → list_all test (xs ++ ys) ≡ true
 all-append test [] ys one two = two
-all-append test (x ∷ xs) ys one two = let parts = and_parts (test x) (list_all test xs) one in and_from _ _ parts.0 (all-append test xs ys parts.1 two)
+all-append test (x ∷ xs) ys one two =
+    let parts = and_parts (test x) (list_all test xs) one in and_from _ _ parts.0 (all-append test xs ys parts.1 two)
 
-all-parts : {A : Type 0} (test : A → Bool) (xs ys : List A) → list_all test (xs ++ ys) ≡ true → (list_all test xs ≡ true) × (list_all test ys ≡ true)
+all-parts : {A : Type 0} (test : A → Bool) (xs ys : List A) → list_all test (xs ++ ys) ≡ true
+    → (list_all test xs ≡ true) × (list_all test ys ≡ true)
 all-parts test [] ys all = (refl, all)
 all-parts test (x ∷ xs) ys all =
     let parts = and_parts (test x) (list_all test (xs ++ ys)) all in
@@ -47,7 +50,8 @@ letter (Atom.normal c) is other = and_from _ _ is (ap not other)
 letter (Atom.verbatim c) is other = is
 letter (Atom.math text) is other = is
 
-letters : (atoms : List Atom) → list_all is_normal_scalar atoms ≡ true → list_any is_normal_comma atoms ≡ false → list_all is_letter atoms ≡ true
+letters : (atoms : List Atom) → list_all is_normal_scalar atoms ≡ true → list_any is_normal_comma atoms ≡ false
+    → list_all is_letter atoms ≡ true
 letters [] all none = refl
 letters (atom ∷ atoms) all none =
     let parts = and_parts (is_normal_scalar atom) (list_all is_normal_scalar atoms) all in
@@ -55,7 +59,8 @@ letters (atom ∷ atoms) all none =
     and_from _ _ (letter atom parts.0 others.0) (letters atoms parts.1 others.1)
 
 -- a test that all atoms of a list pass, all atoms of its parts pass
-parts_all : (test : Atom → Bool) {separator : List Atom} {parts : List (List Atom)} {atoms : List Atom} → IsList separator parts atoms → list_all test atoms ≡ true
+parts_all : (test : Atom → Bool) {separator : List Atom} {parts : List (List Atom)} {atoms : List Atom}
+    → IsList separator parts atoms → list_all test atoms ≡ true
     → AllByRecursion (λ part. list_all test part ≡ true) parts
 parts_all test last all = (all, tt)
 parts_all test {separator = separator} {parts = part ∷ parts} (next left right white blank rest) all =
@@ -85,13 +90,15 @@ flowing_stays : (space : Bool) (cs : List ℕ) → list_all is_letter (map Atom.
 flowing_stays space [] all = refl
 flowing_stays space (c ∷ cs) all =
     let parts = and_parts (scalar c && not (c == 44)) (list_all is_letter (map Atom.normal cs)) all in
-    all-append stays (unbroken space c) _ (unbroken_stays space c parts.0) (flowing_stays (ends_in_space space (unbroken space c)) cs parts.1)
+    all-append stays (unbroken space c) _ (unbroken_stays space c parts.0)
+    (flowing_stays (ends_in_space space (unbroken space c)) cs parts.1)
 
 no_verbatim : (cs : List ℕ) → list_all is_letter (map Atom.verbatim cs) ≡ true → list_all stays cs ≡ true
 no_verbatim [] all = refl
 no_verbatim (c ∷ cs) all = absurd (false≢true all)
 
-chunk_stays : (space : Bool) (v : Chunk) → list_all is_letter (atoms_of v) ≡ true → list_all stays (formatted_chunk (λ cs. cs) space v) ≡ true
+chunk_stays : (space : Bool) (v : Chunk) → list_all is_letter (atoms_of v) ≡ true
+    → list_all stays (formatted_chunk (λ cs. cs) space v) ≡ true
 chunk_stays space (Normal t) all = flowing_stays space (chars t) all
 chunk_stays space (Verbatim t) all = no_verbatim (chars t) all
 chunk_stays space (Math t) all = absurd (false≢true all)
@@ -100,7 +107,8 @@ part_stays : (space : Bool) (part : Value) → list_all is_letter (styled part) 
 part_stays space [] all = refl
 part_stays space (c ∷ part) all =
     let both = all-parts is_letter (atoms_of c.v) (styled part) all in
-    all-append stays (formatted_chunk (λ cs. cs) space c.v) _ (chunk_stays space c.v both.0) (part_stays (space_after space c.v) part both.1)
+    all-append stays (formatted_chunk (λ cs. cs) space c.v) _ (chunk_stays space c.v both.0)
+    (part_stays (space_after space c.v) part both.1)
 
 staying : (cs : List ℕ) → list_all stays cs ≡ true → (scalars cs ≡ true) × (list_all is_plain_in_list cs ≡ true)
 staying [] all = (refl, refl)
@@ -111,17 +119,24 @@ staying (c ∷ cs) all =
     (and_from _ _ one.0 rest.0, and_from _ _ one.1 rest.1)
 
 -- a text that parses from such a part is plain
-part_plain : (part : Value) (t : List ℕ) → IsUtf8 t → text part ≡ t → list_all is_normal_scalar (styled part) ≡ true → HoldsNoComma part → IsPlain t
+part_plain : (part : Value) (t : List ℕ) → IsUtf8 t → text part ≡ t → list_all is_normal_scalar (styled part) ≡ true
+    → HoldsNoComma part → IsPlain t
 part_plain part t utf8 is all none =
     let both = staying (formatted part) (part_stays false part (letters (styled part) all none)) in
-    record { utf8 = utf8; plain = ap (λ u. list_all is_plain_in_list (chars u)) (sym is) ∙ ap (list_all is_plain_in_list) (chars-encodes (formatted part) both.0) ∙ both.1 }
+    record {
+      utf8 = utf8;
+      plain =
+          ap (λ u. list_all is_plain_in_list (chars u)) (sym is)
+          ∙ ap (list_all is_plain_in_list) (chars-encodes (formatted part) both.0) ∙ both.1;
+    }
 
 -- the comma is UTF-8
 comma_text : IsUtf8 (codes ",")
 unfolding lib.Utf8.encode
 comma_text = (44 ∷ [], (refl, refl))
 
-written_texts : (texts : List (List ℕ)) → AllByRecursion IsUtf8 texts → AreTexts (flat_map (after_separator (codes ",")) (map (λ t. alone (Normal t)) texts))
+written_texts : (texts : List (List ℕ)) → AllByRecursion IsUtf8 texts
+    → AreTexts (flat_map (after_separator (codes ",")) (map (λ t. alone (Normal t)) texts))
 written_texts [] utf8 = tt
 written_texts (t ∷ texts) utf8 = (comma_text, (utf8.0, written_texts texts utf8.1))
 
@@ -129,13 +144,18 @@ scalar_atoms : (cs : List ℕ) → scalars cs ≡ true → list_all is_normal_sc
 scalar_atoms [] all = refl
 scalar_atoms (c ∷ cs) all = let parts = and_parts (scalar c) (scalars cs) all in and_from _ _ parts.0 (scalar_atoms cs parts.1)
 
-written_normal : (texts : List (List ℕ)) → AllByRecursion IsUtf8 texts → list_all is_normal_scalar (styled (flat_map (after_separator (codes ",")) (map (λ t. alone (Normal t)) texts))) ≡ true
+written_normal : (texts : List (List ℕ)) → AllByRecursion IsUtf8 texts
+    → list_all is_normal_scalar (styled (flat_map (after_separator (codes ",")) (map (λ t. alone (Normal t)) texts)))
+    ≡ true
 unfolding chars
 written_normal [] utf8 = refl
-written_normal (t ∷ texts) utf8 = all-append is_normal_scalar (map Atom.normal (chars t)) _ (scalar_atoms (chars t) (scalars-chars t utf8.0)) (written_normal texts utf8.1)
+written_normal (t ∷ texts) utf8 =
+    all-append is_normal_scalar (map Atom.normal (chars t)) _ (scalar_atoms (chars t) (scalars-chars t utf8.0))
+    (written_normal texts utf8.1)
 
 all_plain : (parts : List Value) (texts : List (List ℕ)) → AllByRecursion IsUtf8 texts → map text parts ≡ texts
-    → AllByRecursion (λ part. list_all is_normal_scalar part ≡ true) (map styled parts) → AllByRecursion HoldsNoComma parts → AllByRecursion IsPlain texts
+    → AllByRecursion (λ part. list_all is_normal_scalar part ≡ true) (map styled parts)
+    → AllByRecursion HoldsNoComma parts → AllByRecursion IsPlain texts
 all_plain [] [] utf8 same all none = tt
 all_plain [] (t ∷ texts) utf8 same all none = absurd (omega (arith, ap length same))
 all_plain (part ∷ parts) [] utf8 same all none = absurd (omega (arith, ap length same))
@@ -150,5 +170,10 @@ kept_alone (t ∷ texts) utf8 same =
     let written = strings_written (t ∷ texts) in
     let are_texts : AreTexts written = (utf8.0, written_texts texts utf8.1) in
     let normal : list_all is_normal_scalar (styled written) ≡ true =
-    all-append is_normal_scalar (map Atom.normal (chars t)) _ (scalar_atoms (chars t) (scalars-chars t utf8.0)) (written_normal texts utf8.1) in
-    (omega arith, all_plain (comma_list written) (t ∷ texts) utf8 same (parts_all is_normal_scalar (comma_list_whole written are_texts) normal) (comma_list_no_comma written are_texts))
+    all-append is_normal_scalar (map Atom.normal (chars t)) _ (scalar_atoms (chars t) (scalars-chars t utf8.0))
+    (written_normal texts utf8.1) in (
+      omega arith,
+      all_plain (comma_list written) (t ∷ texts) utf8 same
+          (parts_all is_normal_scalar (comma_list_whole written are_texts) normal)
+          (comma_list_no_comma written are_texts),
+    )

@@ -18,7 +18,9 @@ use Rattle.bib_chunks.proofs.AndListFacts.{parts_format}
 use Rattle.bib_values.proofs.EnumFacts.{name_utf8}
 
 -- permissive values parse from their written form if the kept values of the type do
-pub permissive_survives : {M : Type 0} (reads : Value → Option M) (writes : M → Value) (kept : M → Type 0) → ((m : M) → kept m → reads (writes m) ≡ Some m) → (p : Permissive M) → PermissiveKept kept reads p → Some (permissive (reads (permissive_written writes p)) (permissive_written writes p)) ≡ Some p
+pub permissive_survives : {M : Type 0} (reads : Value → Option M) (writes : M → Value) (kept : M → Type 0)
+    → ((m : M) → kept m → reads (writes m) ≡ Some m) → (p : Permissive M) → PermissiveKept kept reads p
+    → Some (permissive (reads (permissive_written writes p)) (permissive_written writes p)) ≡ Some p
 permissive_survives reads writes kept law (typed m) k = ap (λ read. Some (permissive read (writes m))) (law m k)
 permissive_survives reads writes kept law (as_chunks chunks) k = ap (λ read. Some (permissive read chunks)) k
 
@@ -34,13 +36,17 @@ other_texts [] = []
 other_texts (t ∷ rest) = rest
 
 -- chunks that format to the name of a language parse as it
-read_one : (part : Value) (language : Language) → formatted part ≡ chars (name language) → permissive (language_read part) part ≡ typed language
+read_one : (part : Value) (language : Language) → formatted part ≡ chars (name language)
+    → permissive (language_read part) part ≡ typed language
 unfolding language_read
 read_one part language formats =
-    let named : language_named (text part) ≡ Some language = ap language_named (ap encode_utf8_all formats ∙ encodes-chars (name language) (name_utf8 language)) ∙ language_named-name language in
+    let named : language_named (text part) ≡ Some language =
+    ap language_named (ap encode_utf8_all formats ∙ encodes-chars (name language) (name_utf8 language))
+    ∙ language_named-name language in
     ap (λ found. permissive found part) named
 
-read_all : (parts : List Value) (languages : List Language) → map formatted parts ≡ map chars (map name languages) → map (λ part. permissive (language_read part) part) parts ≡ map (λ language. typed language) languages
+read_all : (parts : List Value) (languages : List Language) → map formatted parts ≡ map chars (map name languages)
+    → map (λ part. permissive (language_read part) part) parts ≡ map (λ language. typed language) languages
 unfolding first_text other_texts
 read_all [] [] formats = refl
 read_all [] (l ∷ languages) formats = absurd (omega (arith, ap length formats))
@@ -50,24 +56,29 @@ read_all (p ∷ parts) (l ∷ languages) formats =
     ∙ ap (λ xs. typed l ∷ xs) (read_all parts languages (ap other_texts formats))
 
 -- a list of languages without chunks is a list of typed values
-languages_of : (values : List (Permissive Language)) → AllByRecursion IsLanguage values → (languages : List Language) × (values ≡ map (λ language. typed language) languages)
+languages_of : (values : List (Permissive Language)) → AllByRecursion IsLanguage values
+    → (languages : List Language) × (values ≡ map (λ language. typed language) languages)
 languages_of [] all = ([], refl)
 languages_of (typed language ∷ rest) all =
     let more = languages_of rest all.1 in
     (language ∷ more.0, ap (λ xs. typed language ∷ xs) more.1)
 languages_of (as_chunks chunks ∷ rest) all = absurd all.0
 
-written_names : (languages : List Language) → map (permissive_written language_written) (map (λ language. typed language) languages) ≡ map (λ t. alone (Verbatim t)) (map name languages)
+written_names : (languages : List Language)
+    → map (permissive_written language_written) (map (λ language. typed language) languages)
+    ≡ map (λ t. alone (Verbatim t)) (map name languages)
 written_names [] = refl
 written_names (l ∷ languages) = ap (λ xs. language_written l ∷ xs) (written_names languages)
 
-typed_survive : (language : Language) (rest : List Language) → languages_read (languages_written (map (λ l. typed l) (language ∷ rest))) ≡ map (λ l. typed l) (language ∷ rest)
+typed_survive : (language : Language) (rest : List Language)
+    → languages_read (languages_written (map (λ l. typed l) (language ∷ rest))) ≡ map (λ l. typed l) (language ∷ rest)
 unfolding languages_read
 typed_survive language rest =
     ap (λ parts. languages_read (parts_written parts)) (written_names (language ∷ rest))
     ∙ read_all _ (language ∷ rest) (parts_format (name language) (map name rest))
 
-pub languages_survive : (values : List (Permissive Language)) → LanguagesKept values → Some (languages_read (languages_written values)) ≡ Some values
+pub languages_survive : (values : List (Permissive Language)) → LanguagesKept values
+    → Some (languages_read (languages_written values)) ≡ Some values
 languages_survive [] kept = absurd (omega (arith, kept.0))
 languages_survive (typed language ∷ rest) kept =
     let more = languages_of rest kept.1.1 in

@@ -21,7 +21,8 @@ prefix_digits : (cs : List ℕ) → all_ascii_digits (leading_run is_ascii_digit
 prefix_digits [] = refl
 prefix_digits (c ∷ cs) = here (is_ascii_digit c) c (leading_run is_ascii_digit cs) refl (prefix_digits cs)
   where
-    here : (b : Bool) (c : ℕ) (ds : List ℕ) → is_ascii_digit c ≡ b → all_ascii_digits ds ≡ true → all_ascii_digits (cond b (c ∷ ds) []) ≡ true
+    here : (b : Bool) (c : ℕ) (ds : List ℕ) → is_ascii_digit c ≡ b → all_ascii_digits ds ≡ true
+        → all_ascii_digits (cond b (c ∷ ds) []) ≡ true
     here true c ds is more = and_from _ _ is more
     here false c ds is more = refl
 
@@ -38,18 +39,22 @@ small_no ds fails = false_from_ne_true (is_small ds) (λ holds.
     fails (some, fits))
 
 -- the result of `parse` for the digits
-pub number_parsed : {E : Type 0} (cs ds rest : List ℕ) (r : Result ℕ E) → ds ≡ leading_run is_ascii_digit cs → rest ≡ rest_after is_ascii_digit cs → ParsesUnsigned 32 10 ds r → MatchResult r (λ n. leading_number cs ≡ Some (n, rest)) (λ e. leading_number cs ≡ None)
+pub number_parsed : {E : Type 0} (cs ds rest : List ℕ) (r : Result ℕ E) → ds ≡ leading_run is_ascii_digit cs
+    → rest ≡ rest_after is_ascii_digit cs → ParsesUnsigned 32 10 ds r
+    → MatchResult r (λ n. leading_number cs ≡ Some (n, rest)) (λ e. leading_number cs ≡ None)
 unfolding leading_number
 number_parsed {E} cs ds rest (Ok n) is left parses =
     let reported = parse_digits digits_model {E = E} 32 ds (Ok n) parses (ap all_ascii_digits is ∙ prefix_digits cs) in
     cond-true (is_small (leading_run is_ascii_digit cs)) _ _ (ap is_small (sym is) ∙ small_yes ds reported.0)
-    ∙ ap (λ xs. Some (digits_value 10 xs, rest_after is_ascii_digit cs)) (sym is) ∙ ap (λ m. Some (m, rest_after is_ascii_digit cs)) (sym reported.1) ∙ ap (λ xs. Some (n, xs)) (sym left)
+    ∙ ap (λ xs. Some (digits_value 10 xs, rest_after is_ascii_digit cs)) (sym is)
+    ∙ ap (λ m. Some (m, rest_after is_ascii_digit cs)) (sym reported.1) ∙ ap (λ xs. Some (n, xs)) (sym left)
 number_parsed {E} cs ds rest (Err e) is left parses =
     let reported = parse_digits digits_model {E = E} 32 ds (Err e) parses (ap all_ascii_digits is ∙ prefix_digits cs) in
     cond-false (is_small (leading_run is_ascii_digit cs)) _ _ (ap is_small (sym is) ∙ small_no ds reported)
 
 -- the text after a dash
-pub dashed : (cs rest : List ℕ) (c : ℕ) (left : List ℕ) → cs ≡ c ∷ rest → left ≡ rest_after (λ d. d == 45) rest → is_dash c ≡ true → after_dash cs ≡ Some left
+pub dashed : (cs rest : List ℕ) (c : ℕ) (left : List ℕ) → cs ≡ c ∷ rest → left ≡ rest_after (λ d. d == 45) rest
+    → is_dash c ≡ true → after_dash cs ≡ Some left
 unfolding after_dash
 dashed cs rest c left is leaves dash = ap after_dash is ∙ cond-true (is_dash c) _ _ dash ∙ ap (λ x. Some x) (sym leaves)
 
@@ -76,11 +81,13 @@ chars_some bs utf8 some = here (chars bs) refl
     here (c ∷ cs) is = (c, cs, is)
 
 -- a range whose end is at the end of the text
-pub ended : (a b : ℕ) (rest : List ℕ) (found : Option (ℕ × List ℕ)) → found ≡ Some (b, chars rest) → length rest ≡ 0 → Some (record { start = a; end = b }) ≡ ends_at a found
+pub ended : (a b : ℕ) (rest : List ℕ) (found : Option (ℕ × List ℕ)) → found ≡ Some (b, chars rest) → length rest ≡ 0
+    → Some (record { start = a; end = b }) ≡ ends_at a found
 ended a b rest found is none = sym (ap (ends_at a) is ∙ ap (λ cs. ends_at a (Some (b, cs))) (chars_empty rest none))
 
 -- there is no range if text comes after its end
-pub unended : (a b : ℕ) (rest : List ℕ) (found : Option (ℕ × List ℕ)) → found ≡ Some (b, chars rest) → IsUtf8 rest → 0 < length rest → None ≡ ends_at a found
+pub unended : (a b : ℕ) (rest : List ℕ) (found : Option (ℕ × List ℕ)) → found ≡ Some (b, chars rest) → IsUtf8 rest
+    → 0 < length rest → None ≡ ends_at a found
 unended a b rest found is utf8 some =
     let more = chars_some rest utf8 some in
     sym (ap (ends_at a) is ∙ ap (λ cs. ends_at a (Some (b, cs))) more.2)
@@ -90,13 +97,16 @@ pub lone : (a : ℕ) (text : List ℕ) → length text ≡ 0 → Some (record { 
 lone a text none = sym (ap (goes_on_with a) (chars_empty text none))
 
 -- a range that goes on after its first number
-pub parted : (a : ℕ) (text : List ℕ) (dash : Option (List ℕ)) → IsUtf8 text → 0 < length text → after_dash (chars text) ≡ dash → up_to a dash ≡ goes_on_with a (chars text)
+pub parted : (a : ℕ) (text : List ℕ) (dash : Option (List ℕ)) → IsUtf8 text → 0 < length text
+    → after_dash (chars text) ≡ dash → up_to a dash ≡ goes_on_with a (chars text)
 parted a text dash utf8 some is =
     let more = chars_some text utf8 some in
     ap (up_to a) (sym is ∙ ap after_dash more.2) ∙ sym (ap (goes_on_with a) more.2)
 
 -- one more value
-joined_first : {A : Type 0} (a r : A) (found : Option (List A)) → with_first (Some a) (option_map (λ rs. rs ++ r ∷ []) found) ≡ option_map (λ rs. rs ++ r ∷ []) (with_first (Some a) found)
+joined_first : {A : Type 0} (a r : A) (found : Option (List A))
+    → with_first (Some a) (option_map (λ rs. rs ++ r ∷ []) found)
+    ≡ option_map (λ rs. rs ++ r ∷ []) (with_first (Some a) found)
 joined_first a r None = refl
 joined_first a r (Some rs) = refl
 
@@ -111,19 +121,28 @@ all_without (Some a ∷ xs) ys = ap (with_first (Some a)) (all_without xs ys)
 all_without (None ∷ xs) ys = refl
 
 -- one more value exists
-pub all_step : {X A : Type 0} (f : X → Option A) (xs : List X) (i : ℕ) (x : X) (rs : List A) (r : A) → i < length xs → x ≡ get_or xs i x → all_of (map f (take i xs)) ≡ Some rs → f x ≡ Some r → all_of (map f (take (i + 1) xs)) ≡ Some (rs ++ r ∷ [])
+pub all_step : {X A : Type 0} (f : X → Option A) (xs : List X) (i : ℕ) (x : X) (rs : List A) (r : A) → i < length xs
+    → x ≡ get_or xs i x → all_of (map f (take i xs)) ≡ Some rs → f x ≡ Some r
+    → all_of (map f (take (i + 1) xs)) ≡ Some (rs ++ r ∷ [])
 all_step f xs i x rs r within is before found =
     let more : map f (take (i + 1) xs) ≡ map f (take i xs) ++ f (get_or xs i x) ∷ [] = map_more f xs i x within in
-    ap all_of (more ∙ ap (λ y. map f (take i xs) ++ y ∷ []) (ap f (sym is) ∙ found)) ∙ all_push (map f (take i xs)) r ∙ ap (option_map (λ ys. ys ++ r ∷ [])) before
+    ap all_of (more ∙ ap (λ y. map f (take i xs) ++ y ∷ []) (ap f (sym is) ∙ found)) ∙ all_push (map f (take i xs)) r
+    ∙ ap (option_map (λ ys. ys ++ r ∷ [])) before
 
 -- if a value does not exist, not all do
-pub all_stop : {X A : Type 0} (f : X → Option A) (xs : List X) (i : ℕ) (x : X) → i < length xs → x ≡ get_or xs i x → f x ≡ None → all_of (map f xs) ≡ None
+pub all_stop : {X A : Type 0} (f : X → Option A) (xs : List X) (i : ℕ) (x : X) → i < length xs → x ≡ get_or xs i x
+    → f x ≡ None → all_of (map f xs) ≡ None
 all_stop f xs i x within is none =
-    let split : xs ≡ take i xs ++ x ∷ drop (i + 1) xs = sym (take-append-drop i xs) ∙ ap (λ ys. take i xs ++ ys) (drop_more xs i x within ∙ ap (λ y. y ∷ drop (i + 1) xs) (sym is)) in
-    ap (λ ys. all_of (map f ys)) split ∙ ap all_of (map-append f (take i xs) (x ∷ drop (i + 1) xs)) ∙ ap (λ y. all_of (map f (take i xs) ++ y ∷ map f (drop (i + 1) xs))) none ∙ all_without (map f (take i xs)) (map f (drop (i + 1) xs))
+    let split : xs ≡ take i xs ++ x ∷ drop (i + 1) xs =
+    sym (take-append-drop i xs)
+    ∙ ap (λ ys. take i xs ++ ys) (drop_more xs i x within ∙ ap (λ y. y ∷ drop (i + 1) xs) (sym is)) in
+    ap (λ ys. all_of (map f ys)) split ∙ ap all_of (map-append f (take i xs) (x ∷ drop (i + 1) xs))
+    ∙ ap (λ y. all_of (map f (take i xs) ++ y ∷ map f (drop (i + 1) xs))) none
+    ∙ all_without (map f (take i xs)) (map f (drop (i + 1) xs))
 
 -- all values exist
-pub all_done : {X A : Type 0} (f : X → Option A) (xs : List X) (i : ℕ) (rs : List A) → length xs ≤ i → all_of (map f (take i xs)) ≡ Some rs → Some rs ≡ all_of (map f xs)
+pub all_done : {X A : Type 0} (f : X → Option A) (xs : List X) (i : ℕ) (rs : List A) → length xs ≤ i
+    → all_of (map f (take i xs)) ≡ Some rs → Some rs ≡ all_of (map f xs)
 all_done f xs i rs end before = sym before ∙ ap (λ ys. all_of (map f ys)) (take_all i xs end)
 
 -- the characters of a part's formatted text

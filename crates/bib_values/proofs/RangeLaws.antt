@@ -75,11 +75,13 @@ byte_simple : (c : ℕ) → is_byte c ≡ true → is_simple c ≡ true
 byte_simple c is = grind (arith, nat_tests)
 
 -- a number parses from its digits if no digit follows
-number_decimal : (n : ℕ) (rest : List ℕ) → n < 2 ^ 32 → leading_run is_ascii_digit rest ≡ [] → rest_after is_ascii_digit rest ≡ rest → leading_number (decimal n ++ rest) ≡ Some (n, rest)
+number_decimal : (n : ℕ) (rest : List ℕ) → n < 2 ^ 32 → leading_run is_ascii_digit rest ≡ []
+    → rest_after is_ascii_digit rest ≡ rest → leading_number (decimal n ++ rest) ≡ Some (n, rest)
 unfolding leading_number
 number_decimal n rest small none left =
     let spelt = decimal_is_IsNumeral n (omega arith) in
-    let digits : leading_run is_ascii_digit (decimal n ++ rest) ≡ decimal n = split_prefix is_ascii_digit (decimal n) rest (decimal_digits n small) none in
+    let digits : leading_run is_ascii_digit (decimal n ++ rest) ≡ decimal n =
+    split_prefix is_ascii_digit (decimal n) rest (decimal_digits n small) none in
     let value : digits_value 10 (decimal n) ≡ n = spelt.1 in
     let fits : digits_value 10 (decimal n) < 2 ^ 32 = omega arith in
     cond-true (is_small (leading_run is_ascii_digit (decimal n ++ rest))) _ _ (ap is_small digits ∙ small_yes (decimal n) (spelt.0.0, fits))
@@ -90,25 +92,38 @@ number_decimal n rest small none left =
 range_bytes : (r : Range ℕ) → RangeKept r → list_all is_byte (range_text r) ≡ true
 range_bytes r kept =
     all_both is_byte (decimal r.start ++ codes "-") (decimal r.end)
-    (all_both is_byte (decimal r.start) (codes "-") (weaken is_ascii_digit is_byte digit_byte (decimal r.start) (decimal_digits r.start kept.0)) refl)
+    (all_both is_byte (decimal r.start) (codes "-")
+    (weaken is_ascii_digit is_byte digit_byte (decimal r.start) (decimal_digits r.start kept.0)) refl)
     (weaken is_ascii_digit is_byte digit_byte (decimal r.end) (decimal_digits r.end kept.1))
 
 dash_passed : (b : ℕ) → b < 2 ^ 32 → after_dash (45 ∷ decimal b) ≡ Some (decimal b)
 unfolding after_dash
-dash_passed b small = ap (λ xs. Some xs) (stays (λ d. d == 45) (decimal b) (weaken is_ascii_digit (λ c. not (c == 45)) digit_hyphen (decimal b) (decimal_digits b small)))
+dash_passed b small =
+    ap (λ xs. Some xs)
+    (stays (λ d. d == 45) (decimal b)
+    (weaken is_ascii_digit (λ c. not (c == 45)) digit_hyphen (decimal b) (decimal_digits b small)))
 
 pub range_text_read : (r : Range ℕ) → RangeKept r → range_of (range_text r) ≡ Some r
 unfolding range_of
 range_text_read r kept =
-    let solid : rest_after is_whitespace (range_text r) ≡ range_text r = stays is_whitespace (range_text r) (weaken is_byte (λ c. not (is_whitespace c)) byte_white (range_text r) (range_bytes r kept)) in
+    let solid : rest_after is_whitespace (range_text r) ≡ range_text r =
+    stays is_whitespace (range_text r)
+    (weaken is_byte (λ c. not (is_whitespace c)) byte_white (range_text r) (range_bytes r kept)) in
     let shape : range_text r ≡ decimal r.start ++ (45 ∷ decimal r.end) = append_assoc (decimal r.start) (codes "-") (decimal r.end) in
-    let first : leading_number (rest_after is_whitespace (range_text r)) ≡ Some (r.start, 45 ∷ decimal r.end) = ap leading_number (solid ∙ shape) ∙ number_decimal r.start (45 ∷ decimal r.end) kept.0 refl refl in
-    let white : rest_after is_whitespace (decimal r.end) ≡ decimal r.end = stays is_whitespace (decimal r.end) (weaken is_ascii_digit (λ c. not (is_whitespace c)) digit_white (decimal r.end) (decimal_digits r.end kept.1)) in
-    let last : leading_number (rest_after is_whitespace (decimal r.end)) ≡ Some (r.end, []) = ap leading_number (white ∙ sym (append-nil (decimal r.end))) ∙ number_decimal r.end [] kept.1 refl refl in
+    let first : leading_number (rest_after is_whitespace (range_text r)) ≡ Some (r.start, 45 ∷ decimal r.end) =
+    ap leading_number (solid ∙ shape) ∙ number_decimal r.start (45 ∷ decimal r.end) kept.0 refl refl in
+    let white : rest_after is_whitespace (decimal r.end) ≡ decimal r.end =
+    stays is_whitespace (decimal r.end)
+    (weaken is_ascii_digit (λ c. not (is_whitespace c)) digit_white (decimal r.end)
+    (decimal_digits r.end kept.1)) in
+    let last : leading_number (rest_after is_whitespace (decimal r.end)) ≡ Some (r.end, []) =
+    ap leading_number (white ∙ sym (append-nil (decimal r.end))) ∙ number_decimal r.end [] kept.1 refl refl in
     ap starts_with first ∙ ap (up_to r.start) (dash_passed r.end kept.1) ∙ ap (ends_at r.start) last
 
 range_chars : (r : Range ℕ) → RangeKept r → chars (range_text r) ≡ range_text r
-range_chars r kept = chars-IsAscii (range_text r) (simple_ascii (range_text r) (weaken is_byte is_simple byte_simple (range_text r) (range_bytes r kept)))
+range_chars r kept =
+    chars-IsAscii (range_text r)
+    (simple_ascii (range_text r) (weaken is_byte is_simple byte_simple (range_text r) (range_bytes r kept)))
 
 range_plain : (r : Range ℕ) → RangeKept r → IsPlain (range_text r)
 range_plain r kept =
@@ -129,10 +144,12 @@ texts_kept (r ∷ rest) kept = (omega arith, texts_plain (r ∷ rest) kept.1)
 one_read : (r : Range ℕ) → RangeKept r → range_of (chars (range_text r)) ≡ Some r
 one_read r kept = ap range_of (range_chars r kept) ∙ range_text_read r kept
 
-all_read : (ranges : List (Range ℕ)) → AllByRecursion RangeKept ranges → all_of (map range_of (map chars (map range_text ranges))) ≡ Some ranges
+all_read : (ranges : List (Range ℕ)) → AllByRecursion RangeKept ranges
+    → all_of (map range_of (map chars (map range_text ranges))) ≡ Some ranges
 all_read [] kept = refl
 all_read (r ∷ rest) kept =
-    ap (λ x. with_first x (all_of (map range_of (map chars (map range_text rest))))) (one_read r kept.0) ∙ ap (with_first (Some r)) (all_read rest kept.1)
+    ap (λ x. with_first x (all_of (map range_of (map chars (map range_text rest))))) (one_read r kept.0)
+    ∙ ap (with_first (Some r)) (all_read rest kept.1)
 
 composed : (parts : List Value) → map (λ part. range_of (formatted part)) parts ≡ map range_of (map formatted parts)
 composed [] = refl
@@ -141,7 +158,9 @@ composed (p ∷ parts) = ap (λ xs. range_of (formatted p) ∷ xs) (composed par
 pub ranges_survive : (ranges : List (Range ℕ)) → RangesKept ranges → ranges_read (ranges_written ranges) ≡ Some ranges
 unfolding ranges_read
 ranges_survive ranges kept =
-    ap all_of (composed (comma_list (ranges_written ranges)) ∙ ap (map range_of) (parts_format (map range_text ranges) (texts_kept ranges kept)))
+    ap all_of
+    (composed (comma_list (ranges_written ranges))
+    ∙ ap (map range_of) (parts_format (map range_text ranges) (texts_kept ranges kept)))
     ∙ all_read ranges kept.1
 
 pub range_survives : (r : Range ℕ) → RangeKept r → range_read (range_written r) ≡ Some r

@@ -13,7 +13,9 @@ use Rattle.bib_values.specs.Roman.{roman_of}
 
 -- whether a text is the decimal digits, with or without a sign, of a number that fits in 64 bits
 abbrev pub is_decimal : List ℕ → Bool
-is_decimal bs = (nat_lt 0 (length (without_leading_sign bs)) && all_ascii_digits (without_leading_sign bs)) && nat_lt (mag (signed_digits_value 10 bs)) (2 ^ 63)
+is_decimal bs =
+    (nat_lt 0 (length (without_leading_sign bs)) && all_ascii_digits (without_leading_sign bs))
+    && nat_lt (mag (signed_digits_value 10 bs)) (2 ^ 63)
 
 -- the number that a text spells in such digits
 unfoldable pub decimal_of : List ℕ → Option ℤ

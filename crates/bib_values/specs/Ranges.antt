@@ -53,7 +53,8 @@ is_small digits = nat_lt 0 (length digits) && nat_lt (digits_value 10 digits) (2
 -- bits
 unfoldable pub leading_number : List ℕ → Option (ℕ × List ℕ)
 leading_number cs =
-    if is_small (leading_run is_ascii_digit cs) then Some (digits_value 10 (leading_run is_ascii_digit cs), rest_after is_ascii_digit cs) else None
+    if is_small (leading_run is_ascii_digit cs)
+    then Some (digits_value 10 (leading_run is_ascii_digit cs), rest_after is_ascii_digit cs) else None
 
 -- the text after a dash and any `-` after that, if the text begins with a dash
 unfoldable pub after_dash : List ℕ → Option (List ℕ)

@@ -26,7 +26,8 @@ letters_at table digit = unwrap_or (slice_get table digit) []
 unfoldable pub roman : ℕ → List ℕ
 roman n =
     letters_at thousands (n / 1000) ++ letters_at (digit_letters char.upper_c char.upper_d char.upper_m) (n / 100 % 10)
-    ++ letters_at (digit_letters char.upper_x char.upper_l char.upper_c) (n / 10 % 10) ++ letters_at (digit_letters char.upper_i char.upper_v char.upper_x) (n % 10)
+    ++ letters_at (digit_letters char.upper_x char.upper_l char.upper_c) (n / 10 % 10)
+    ++ letters_at (digit_letters char.upper_i char.upper_v char.upper_x) (n % 10)
 
 -- whether a text is the numeral of a number, all in upper case or all in lower case
 abbrev pub spells : List ℕ → ℕ → Bool

@@ -7,8 +7,10 @@ use Rattle.bib_text.specs.Characters as char
 -- the value of a letter by itself, in upper or lower case; 0 if it is no roman digit
 abbrev pub letter_value : ℕ → ℕ
 letter_value c =
-    if c == char.upper_i || c == char.letter_i then 1 else if c == char.upper_v || c == char.letter_v then 5 else if c == char.upper_x || c == char.letter_x then 10
-    else if c == char.upper_l || c == char.letter_l then 50 else if c == char.upper_c || c == char.letter_c then 100 else if c == char.upper_d || c == char.letter_d then 500
+    if c == char.upper_i || c == char.letter_i then 1 else if c == char.upper_v || c == char.letter_v then 5
+    else if c == char.upper_x || c == char.letter_x then 10
+    else if c == char.upper_l || c == char.letter_l then 50 else if c == char.upper_c || c == char.letter_c then 100
+    else if c == char.upper_d || c == char.letter_d then 500
     else if c == char.upper_m || c == char.letter_m then 1000 else 0
 
 -- the value of the first letter; 0 if there is none

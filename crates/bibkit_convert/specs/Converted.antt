@@ -64,7 +64,8 @@ is_first_after target is_first [] = is_first
 is_first_after target is_first (e ∷ es) = is_first_after target (is_still_first target is_first e) es
 
 -- the output takes the entries of the bibliography that a text is
-pub record IsExported {K : Type 0} (taken : K → Option (List ℕ)) (target : Target) (is_first : Bool) (text : List ℕ) (old new : K) (is_first' : Bool) : Type 0 where
+pub record IsExported {K : Type 0} (taken : K → Option (List ℕ)) (target : Target) (is_first : Bool) (text : List ℕ)
+    (old new : K) (is_first' : Bool) : Type 0 where
   pub bibliography : Bibliography
   pub of_text : IsBibliographyOf text bibliography
   pub printed : Appends (taken old) (taken new) (texts_after target is_first bibliography.entries)

@@ -22,54 +22,81 @@ use Rattle.bibkit_core.specs.declared.run.Stop.{Stop}
 use Rattle.bibkit_core.specs.declared.run.Stop.TheVariants.{Refused, NoDocument, OutOfMemory}
 
 -- the output of each task is the output of its request
-pub findings_answer : {F : Type 0} {reads : F → List ℕ → Option (List ℕ) → F → Type 0} {files : F} {names : List (List ℕ)} {lint : Lint} → lint.cited ≡ None → (text : List ℕ) (status : Option ℕ)
+pub findings_answer : {F : Type 0} {reads : F → List ℕ → Option (List ℕ) → F → Type 0} {files : F}
+    {names : List (List ℕ)} {lint : Lint} → lint.cited ≡ None → (text : List ℕ) (status : Option ℕ)
     → AreFindingsPrinted reads lint files names text status → IsCallAnswer reads files names (request.Lint lint) text status
 findings_answer none text status are = IsCallAnswer.findings are.task none are.begins are.printed
 
-pub compared_answer : {F : Type 0} {reads : F → List ℕ → Option (List ℕ) → F → Type 0} {files : F} {names : List (List ℕ)} {lint : Lint} (cited : Cited) → lint.cited ≡ Some cited → (text : List ℕ) (status : Option ℕ)
+pub compared_answer : {F : Type 0} {reads : F → List ℕ → Option (List ℕ) → F → Type 0} {files : F}
+    {names : List (List ℕ)} {lint : Lint} (cited : Cited) → lint.cited ≡ Some cited
+    → (text : List ℕ) (status : Option ℕ)
     → AreComparedPrinted reads lint cited files names text status → IsCallAnswer reads files names (request.Lint lint) text status
 compared_answer cited some text status are = IsCallAnswer.compared cited are.found are.document are.files' some are.read are.printed
 
-pub entries_answer : {F : Type 0} {reads : F → List ℕ → Option (List ℕ) → F → Type 0} {files : F} {names : List (List ℕ)} {asked : Excerpts} (text : List ℕ) (status : Option ℕ)
+pub entries_answer : {F : Type 0} {reads : F → List ℕ → Option (List ℕ) → F → Type 0} {files : F}
+    {names : List (List ℕ)} {asked : Excerpts} (text : List ℕ) (status : Option ℕ)
     → AreEntriesPrinted reads asked files names text status → IsCallAnswer reads files names (request.Entries asked) text status
 entries_answer text status are = IsCallAnswer.entries are.task are.begins are.printed
 
-pub cited_answer : {F : Type 0} {reads : F → List ℕ → Option (List ℕ) → F → Type 0} {files files' : F} {names : List (List ℕ)} (name : Bor (List ℕ)) (found : Citations) (document : List ℕ) (asked : CitedKeys)
+pub cited_answer : {F : Type 0} {reads : F → List ℕ → Option (List ℕ) → F → Type 0} {files files' : F}
+    {names : List (List ℕ)} (name : Bor (List ℕ)) (found : Citations) (document : List ℕ) (asked : CitedKeys)
     → ReadsDocument reads files name.now files' document found → AsksForCited found asked → (text : List ℕ) (status : Option ℕ)
-    → AreEntriesPrinted reads (excerpts.Cited asked) files' names text status → IsCallAnswer reads files names (request.Cited name) text status
-cited_answer {files' = files'} name found document asked read asks text status are = IsCallAnswer.cited found document files' asked are.task read asks are.begins are.printed
+    → AreEntriesPrinted reads (excerpts.Cited asked) files' names text status
+    → IsCallAnswer reads files names (request.Cited name) text status
+cited_answer {files' = files'} name found document asked read asks text status are =
+    IsCallAnswer.cited found document files' asked are.task read asks are.begins are.printed
 
-pub meaning_answer : {F : Type 0} {reads : F → List ℕ → Option (List ℕ) → F → Type 0} {files : F} {names : List (List ℕ)} {c : Code} (text : List ℕ) (status : Option ℕ)
+pub meaning_answer : {F : Type 0} {reads : F → List ℕ → Option (List ℕ) → F → Type 0} {files : F}
+    {names : List (List ℕ)} {c : Code} (text : List ℕ) (status : Option ℕ)
     → IsMeaningPrinted c text status → IsCallAnswer reads files names (request.Explain c) text status
 meaning_answer text status IsMeaningPrinted.nothing = IsCallAnswer.no_meaning
 meaning_answer text status (IsMeaningPrinted.all meaning) = IsCallAnswer.meaning meaning
 
 -- a file that is read and decoded to a text with these citations is the file of a document
-pub document_read : {F : Type 0} {reads : F → List ℕ → Option (List ℕ) → F → Type 0} {files files' : F} {name text : List ℕ} {found : Citations} (document : List ℕ) → document ≡ text → ReadsText reads files name files' text
+pub document_read : {F : Type 0} {reads : F → List ℕ → Option (List ℕ) → F → Type 0} {files files' : F}
+    {name text : List ℕ} {found : Citations} (document : List ℕ) → document ≡ text
+    → ReadsText reads files name files' text
     → AreCitedBy name document found → ReadsDocument reads files name files' document found
-document_read document same read cited = record { bytes = read.bytes; decoded = read.decoded; read = read.read; of_bytes = read.of_bytes; text_is = same ∙ read.text_is; cited = cited }
+document_read document same read cited = record {
+  bytes = read.bytes;
+  decoded = read.decoded;
+  read = read.read;
+  of_bytes = read.of_bytes;
+  text_is = same ∙ read.text_is;
+  cited = cited;
+}
 
 -- a run stops if the text of its document is missing
-pub stopped_without_text : {F K : Type 0} (reads : F → List ℕ → Option (List ℕ) → F → Type 0) {taken : K → Option (List ℕ)} {refusals : K → ℕ} {hands_over : K → List ℕ → Bool → K → Type 0} {P : List ℕ → Option ℕ → Type 0} {Unread : Type 0}
-    (files files' : F) (name : List ℕ) (k : K) (stop : Stop) → (reads files name None files' → Unread) → HasNoText reads files name files' stop → HasStopped taken refusals hands_over P Unread k k stop
+pub stopped_without_text : {F K : Type 0} (reads : F → List ℕ → Option (List ℕ) → F → Type 0)
+    {taken : K → Option (List ℕ)} {refusals : K → ℕ} {hands_over : K → List ℕ → Bool → K → Type 0}
+    {P : List ℕ → Option ℕ → Type 0} {Unread : Type 0}
+    (files files' : F) (name : List ℕ) (k : K) (stop : Stop) → (reads files name None files' → Unread)
+    → HasNoText reads files name files' stop → HasStopped taken refusals hands_over P Unread k k stop
 stopped_without_text reads files files' name k Refused so none = absurd none
 stopped_without_text reads files files' name k NoDocument so none = HasStopped.no_document (so none) refl
 stopped_without_text reads files files' name k OutOfMemory so none = HasStopped.no_memory refl
 
 -- a run that stops because the output refused a text has failed
-pub refused_failed : {F K : Type 0} {reads : F → List ℕ → Option (List ℕ) → F → Type 0} {taken : K → Option (List ℕ)} {refusals : K → ℕ} {hands_over : K → List ℕ → Bool → K → Type 0} {files : F} {names : List (List ℕ)}
-    {asked : Request} {old new : K} → HasStopped taken refusals hands_over (IsCallAnswer reads files names asked) (CantReadDocument reads files asked) old new Refused
+pub refused_failed : {F K : Type 0} {reads : F → List ℕ → Option (List ℕ) → F → Type 0} {taken : K → Option (List ℕ)}
+    {refusals : K → ℕ} {hands_over : K → List ℕ → Bool → K → Type 0} {files : F} {names : List (List ℕ)}
+    {asked : Request} {old new : K}
+    → HasStopped taken refusals hands_over (IsCallAnswer reads files names asked)
+    (CantReadDocument reads files asked) old new Refused
     → HasFailed reads taken refusals hands_over files names asked old new
 refused_failed (HasStopped.refused text prints after) = HasFailed.refused text prints after
 
 -- a run that stops because the file of the document can't be read has failed
-pub unread_failed : {F K : Type 0} {reads : F → List ℕ → Option (List ℕ) → F → Type 0} {taken : K → Option (List ℕ)} {refusals : K → ℕ} {hands_over : K → List ℕ → Bool → K → Type 0} {files : F} {names : List (List ℕ)}
-    {asked : Request} {old new : K} → HasStopped taken refusals hands_over (IsCallAnswer reads files names asked) (CantReadDocument reads files asked) old new NoDocument
+pub unread_failed : {F K : Type 0} {reads : F → List ℕ → Option (List ℕ) → F → Type 0} {taken : K → Option (List ℕ)}
+    {refusals : K → ℕ} {hands_over : K → List ℕ → Bool → K → Type 0} {files : F} {names : List (List ℕ)}
+    {asked : Request} {old new : K}
+    → HasStopped taken refusals hands_over (IsCallAnswer reads files names asked)
+    (CantReadDocument reads files asked) old new NoDocument
     → HasFailed reads taken refusals hands_over files names asked old new
 unread_failed (HasStopped.no_document unread same) = HasFailed.no_document unread same
 
 -- a run that stops out of memory leaves the count of refusals unchanged
-pub memory_same : {K : Type 0} {taken : K → Option (List ℕ)} {refusals : K → ℕ} {hands_over : K → List ℕ → Bool → K → Type 0} {P : List ℕ → Option ℕ → Type 0} {Unread : Type 0} {old new : K}
+pub memory_same : {K : Type 0} {taken : K → Option (List ℕ)} {refusals : K → ℕ}
+    {hands_over : K → List ℕ → Bool → K → Type 0} {P : List ℕ → Option ℕ → Type 0} {Unread : Type 0} {old new : K}
     → HasStopped taken refusals hands_over P Unread old new OutOfMemory → refusals new ≡ refusals old
 memory_same (HasStopped.no_memory same) = same
 
@@ -82,26 +109,39 @@ lint_bounded : (tally : Tally) → lint_status tally ≤ 2
 lint_bounded tally = elim (is_none tally) as (λ b. (if b then 0 else 1) ≤ 2) [ true ↦ omega arith | false ↦ omega arith ]
 
 entries_bounded : (asked : Excerpts) (is_found : Bool) → entries_status asked is_found ≤ 2
-entries_bounded asked is_found = elim (is_search asked && not is_found) as (λ b. (if b then 1 else 0) ≤ 2) [ true ↦ omega arith | false ↦ omega arith ]
+entries_bounded asked is_found =
+    elim (is_search asked && not is_found) as (λ b. (if b then 1 else 0) ≤ 2)
+    [ true ↦ omega arith | false ↦ omega arith ]
 
 -- the status of a task is at most 2 if each end of the task has such a status
-task_bounded : {F T : Type 0} {reads : F → List ℕ → Option (List ℕ) → F → Type 0} {begins : T → List ℕ} {prints : T → List ℕ → List ℕ → List ℕ → T → Type 0} {ends : T → List ℕ → ℕ → Type 0} {files : F} {task : T} {names : List (List ℕ)} {text : List ℕ} {status : Option ℕ}
-    → ((t : T) (last : List ℕ) (s : ℕ) → ends t last s → s ≤ 2) → IsTaskPrinted reads begins prints ends files task names text status → IfSome status (λ s. s ≤ 2)
+task_bounded : {F T : Type 0} {reads : F → List ℕ → Option (List ℕ) → F → Type 0} {begins : T → List ℕ}
+    {prints : T → List ℕ → List ℕ → List ℕ → T → Type 0} {ends : T → List ℕ → ℕ → Type 0} {files : F} {task : T}
+    {names : List (List ℕ)} {text : List ℕ} {status : Option ℕ}
+    → ((t : T) (last : List ℕ) (s : ℕ) → ends t last s → s ≤ 2)
+    → IsTaskPrinted reads begins prints ends files task names text status → IfSome status (λ s. s ≤ 2)
 task_bounded bound IsTaskPrinted.nothing = tt
 task_bounded bound (IsTaskPrinted.first done rest parts run) = tt
 task_bounded bound (IsTaskPrinted.all answer) =
-    subst (λ s. s ≤ 2) (sym answer.status_is) (bounded_if answer.are_read answer.end_status (bound answer.task' answer.last answer.end_status answer.ended))
+    subst (λ s. s ≤ 2) (sym answer.status_is)
+    (bounded_if answer.are_read answer.end_status (bound answer.task' answer.last answer.end_status answer.ended))
 
-call_bounded : {F : Type 0} {reads : F → List ℕ → Option (List ℕ) → F → Type 0} {files : F} {names : List (List ℕ)} {asked : Request} {text : List ℕ} {status : Option ℕ} → IsCallAnswer reads files names asked text status → IfSome status (λ s. s ≤ 2)
-call_bounded (IsCallAnswer.findings task none begins printed) = task_bounded (λ t last s e. subst (λ n. n ≤ 2) (sym e.1) (lint_bounded t.tally)) printed
-call_bounded (IsCallAnswer.compared cited found document files' some read printed) = task_bounded (λ t last s e. subst (λ n. n ≤ 2) (sym e.status_is) (lint_bounded e.after)) printed
+call_bounded : {F : Type 0} {reads : F → List ℕ → Option (List ℕ) → F → Type 0} {files : F} {names : List (List ℕ)}
+    {asked : Request} {text : List ℕ} {status : Option ℕ} → IsCallAnswer reads files names asked text status
+    → IfSome status (λ s. s ≤ 2)
+call_bounded (IsCallAnswer.findings task none begins printed) =
+    task_bounded (λ t last s e. subst (λ n. n ≤ 2) (sym e.1) (lint_bounded t.tally)) printed
+call_bounded (IsCallAnswer.compared cited found document files' some read printed) =
+    task_bounded (λ t last s e. subst (λ n. n ≤ 2) (sym e.status_is) (lint_bounded e.after)) printed
 call_bounded (IsCallAnswer.meaning text) = omega arith
 call_bounded IsCallAnswer.no_meaning = tt
-call_bounded (IsCallAnswer.entries task begins printed) = task_bounded (λ t last s e. subst (λ n. n ≤ 2) (sym e.1) (entries_bounded t.request.now t.is_found)) printed
-call_bounded (IsCallAnswer.cited found document files' asked task read asks begins printed) = task_bounded (λ t last s e. subst (λ n. n ≤ 2) (sym e.1) (entries_bounded t.request.now t.is_found)) printed
+call_bounded (IsCallAnswer.entries task begins printed) =
+    task_bounded (λ t last s e. subst (λ n. n ≤ 2) (sym e.1) (entries_bounded t.request.now t.is_found)) printed
+call_bounded (IsCallAnswer.cited found document files' asked task read asks begins printed) =
+    task_bounded (λ t last s e. subst (λ n. n ≤ 2) (sym e.1) (entries_bounded t.request.now t.is_found)) printed
 call_bounded (IsCallAnswer.counts printed) = task_bounded (λ t last s e. subst (λ n. n ≤ 2) (sym e.done) (omega arith)) printed
 
 -- the status of a whole output is at most 2
-pub printed_bound : {F K : Type 0} {reads : F → List ℕ → Option (List ℕ) → F → Type 0} {files : F} {names : List (List ℕ)} {asked : Request} {taken : K → Option (List ℕ)} {old new : K} {status : ℕ}
+pub printed_bound : {F K : Type 0} {reads : F → List ℕ → Option (List ℕ) → F → Type 0} {files : F}
+    {names : List (List ℕ)} {asked : Request} {taken : K → Option (List ℕ)} {old new : K} {status : ℕ}
     → HasPrinted taken (IsCallAnswer reads files names asked) old new status → status ≤ 2
 printed_bound has = call_bounded has.prints

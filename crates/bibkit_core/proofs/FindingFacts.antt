@@ -56,23 +56,33 @@ none_counted t (f ∷ rest) =
     ∙ ap (λ b. is_first_after b rest) (not_none t (severity_of f.code)) ∙ never_first rest
 
 -- the text of findings, followed by that of one more finding
-shown_more : {style : Style} {name bytes : List ℕ} {is_first : Bool} {xs : List Finding} {t : List ℕ} (f : Finding) (u : List ℕ) → AreShown style name bytes is_first xs t
-    → IsShown style (is_first_after is_first xs) name (position_at bytes f.span.start) f u → AreShown style name bytes is_first (xs ++ f ∷ []) (t ++ u)
+shown_more : {style : Style} {name bytes : List ℕ} {is_first : Bool} {xs : List Finding} {t : List ℕ} (f : Finding)
+    (u : List ℕ) → AreShown style name bytes is_first xs t
+    → IsShown style (is_first_after is_first xs) name (position_at bytes f.span.start) f u
+    → AreShown style name bytes is_first (xs ++ f ∷ []) (t ++ u)
 unfolding is_first_after
-shown_more {style} {name} {bytes} {is_first} f u none shown = subst (λ t. AreShown style name bytes is_first (f ∷ []) t) (append-nil u) (next u shown none)
+shown_more {style} {name} {bytes} {is_first} f u none shown =
+    subst (λ t. AreShown style name bytes is_first (f ∷ []) t) (append-nil u) (next u shown none)
 shown_more {style} {name} {bytes} {is_first} f u (next {f = g} {rest = rest} text {texts} s more) shown =
     let later : IsShown style (is_first_after false rest) name (position_at bytes f.span.start) f u
     = subst (λ b. IsShown style b name (position_at bytes f.span.start) f u) (sym (never_first rest)) shown in
-    subst (λ t. AreShown style name bytes is_first (g ∷ (rest ++ f ∷ [])) t) (sym (append_assoc text texts u)) (next text s (shown_more f u more later))
+    subst (λ t. AreShown style name bytes is_first (g ∷ (rest ++ f ∷ [])) t) (sym (append_assoc text texts u))
+    (next text s (shown_more f u more later))
 
 -- the output for findings, followed by that for one more finding
-pub one_added : {style : Style} {name bytes : List ℕ} {xs : List Finding} {a b c : Printed} (f : Finding) → IsAdded (ArePrinted style name bytes xs) a b
+pub one_added : {style : Style} {name bytes : List ℕ} {xs : List Finding} {a b c : Printed} (f : Finding)
+    → IsAdded (ArePrinted style name bytes xs) a b
     → IsAdded (IsPrintedOne style name (position_at bytes f.span.start) f) b c → IsAdded (ArePrinted style name bytes (xs ++ f ∷ [])) a c
 one_added {style} {name} {bytes} {xs} {a} {b} {c} f before one = record {
   text = before.text ++ one.text;
   are = record {
-    shown = shown_more f one.text before.are.shown (subst (λ d. IsShown style d name (position_at bytes f.span.start) f one.text) (ap is_none before.are.tally ∙ none_counted a.tally xs) one.are.shown);
-    tally = one.are.tally ∙ ap (λ t. one_more t (severity_of f.code)) before.are.tally ∙ sym (fold-append (λ t g. one_more t (severity_of g.code)) a.tally xs (f ∷ []));
+    shown =
+        shown_more f one.text before.are.shown
+        (subst (λ d. IsShown style d name (position_at bytes f.span.start) f one.text)
+        (ap is_none before.are.tally ∙ none_counted a.tally xs) one.are.shown);
+    tally =
+        one.are.tally ∙ ap (λ t. one_more t (severity_of f.code)) before.are.tally
+        ∙ sym (fold-append (λ t g. one_more t (severity_of g.code)) a.tally xs (f ∷ []));
   };
   printed = one.printed ∙ ap (λ t. t ++ one.text) before.printed ∙ append_assoc (string_bytes a.text) before.text one.text;
 }
@@ -82,38 +92,56 @@ pub none_added : {style : Style} {name bytes : List ℕ} (a : Printed) → IsAdd
 none_added a = record { text = []; are = record { shown = none; tally = refl }; printed = sym (append-nil (string_bytes a.text)) }
 
 -- a finding whose code is selected is appended to the selected findings
-pub asked_more : (s : Selection) (xs : List Finding) (f : Finding) → is_asked s f.code ≡ true → asked s (xs ++ f ∷ []) ≡ asked s xs ++ f ∷ []
+pub asked_more : (s : Selection) (xs : List Finding) (f : Finding) → is_asked s f.code ≡ true
+    → asked s (xs ++ f ∷ []) ≡ asked s xs ++ f ∷ []
 asked_more s xs f is = filter-append (λ g. is_asked s g.code) xs (f ∷ []) ∙ ap (λ b. asked s xs ++ cond b (f ∷ []) []) is
 
 -- a finding whose code isn't selected leaves the selected findings unchanged
 pub asked_same : (s : Selection) (xs : List Finding) (f : Finding) → is_asked s f.code ≡ false → asked s (xs ++ f ∷ []) ≡ asked s xs
-asked_same s xs f isnt = filter-append (λ g. is_asked s g.code) xs (f ∷ []) ∙ ap (λ b. asked s xs ++ cond b (f ∷ []) []) isnt ∙ append-nil (asked s xs)
+asked_same s xs f isnt =
+    filter-append (λ g. is_asked s g.code) xs (f ∷ []) ∙ ap (λ b. asked s xs ++ cond b (f ∷ []) []) isnt
+    ∙ append-nil (asked s xs)
 
 -- one step of the loop for a finding whose code is selected
-pub step_printed : {style : Style} {name bytes : List ℕ} (s : Selection) (xs more : List Finding) (f : Finding) (place : Position) {a b c d : Printed} → more ≡ xs ++ f ∷ [] → is_asked s f.code ≡ true
-    → place ≡ position_at bytes f.span.start → IsAdded (ArePrinted style name bytes (asked s xs)) a b → IsAdded (IsPrintedOne style name place f) b c → d ≡ c → IsAdded (ArePrinted style name bytes (asked s more)) a d
+pub step_printed : {style : Style} {name bytes : List ℕ} (s : Selection) (xs more : List Finding) (f : Finding)
+    (place : Position) {a b c d : Printed} → more ≡ xs ++ f ∷ [] → is_asked s f.code ≡ true
+    → place ≡ position_at bytes f.span.start → IsAdded (ArePrinted style name bytes (asked s xs)) a b
+    → IsAdded (IsPrintedOne style name place f) b c → d ≡ c → IsAdded (ArePrinted style name bytes (asked s more)) a d
 step_printed {style} {name} {bytes} s xs more f place {a} {b} {c} {d} grows is at before one same =
     subst (λ p. IsAdded (ArePrinted style name bytes (asked s more)) a p) (sym same)
     (subst (λ ys. IsAdded (ArePrinted style name bytes ys) a c) (sym (ap (asked s) grows ∙ asked_more s xs f is))
     (one_added f before (subst (λ p. IsAdded (IsPrintedOne style name p f) b c) at one)))
 
 -- one step of the loop for a finding whose code isn't selected
-pub step_passed : {style : Style} {name bytes : List ℕ} (s : Selection) (xs more : List Finding) (f : Finding) {a b d : Printed} → more ≡ xs ++ f ∷ [] → is_asked s f.code ≡ false
+pub step_passed : {style : Style} {name bytes : List ℕ} (s : Selection) (xs more : List Finding) (f : Finding)
+    {a b d : Printed} → more ≡ xs ++ f ∷ [] → is_asked s f.code ≡ false
     → IsAdded (ArePrinted style name bytes (asked s xs)) a b → d ≡ b → IsAdded (ArePrinted style name bytes (asked s more)) a d
 step_passed {style} {name} {bytes} s xs more f {a} {b} {d} grows isnt before same =
     subst (λ p. IsAdded (ArePrinted style name bytes (asked s more)) a p) (sym same)
     (subst (λ ys. IsAdded (ArePrinted style name bytes ys) a b) (sym (ap (asked s) grows ∙ asked_same s xs f isnt)) before)
 
 -- the finding that a file isn't UTF-8, and then those of its text, are the output for the file
-pub file_added : {lint : Lint} {name bytes : List ℕ} {decoded : Decoded} (found : List Finding) {a b c : Printed} → AreFindings (string_bytes decoded.text) found
+pub file_added : {lint : Lint} {name bytes : List ℕ} {decoded : Decoded} (found : List Finding) {a b c : Printed}
+    → AreFindings (string_bytes decoded.text) found
     → IsAdded (ArePrinted lint.style name bytes (asked lint.selection (unread_findings decoded.invalid))) a b
-    → IsAdded (ArePrinted lint.style name (string_bytes decoded.text) (asked lint.selection found)) b c → IsAdded (IsPrintedFile lint name bytes decoded) a c
+    → IsAdded (ArePrinted lint.style name (string_bytes decoded.text) (asked lint.selection found)) b c
+    → IsAdded (IsPrintedFile lint name bytes decoded) a c
 file_added found {a} {b} {c} are first second = record {
   text = first.text ++ second.text;
-  are = record { found = found; are = are; between = b.tally; first = first.text; second = second.text; unread = first.are; of_text = second.are; is = refl };
+  are = record {
+    found = found;
+    are = are;
+    between = b.tally;
+    first = first.text;
+    second = second.text;
+    unread = first.are;
+    of_text = second.are;
+    is = refl;
+  };
   printed = second.printed ∙ ap (λ t. t ++ second.text) first.printed ∙ append_assoc (string_bytes a.text) first.text second.text;
 }
 
 -- the output after an empty text is the whole text
-pub added_alone : {Are : Tally → List ℕ → Tally → Type 0} {a b : Printed} → string_bytes a.text ≡ [] → IsAdded Are a b → Are a.tally (string_bytes b.text) b.tally
+pub added_alone : {Are : Tally → List ℕ → Tally → Type 0} {a b : Printed} → string_bytes a.text ≡ [] → IsAdded Are a b
+    → Are a.tally (string_bytes b.text) b.tally
 added_alone {Are} {a} {b} empty added = subst (λ t. Are a.tally t b.tally) (sym (added.printed ∙ ap (λ s. s ++ added.text) empty)) added.are

@@ -26,17 +26,22 @@ kept_untouched name target old new touches other ne _ = record {
 }
 
 -- calls that affect only the new file, followed by its rename, keep the names except these two
-pub kept_exchanged : (name target : List ℕ) (old mid new : Disk) → TouchesOnly name old mid → IsExchange name target mid new → KeepsBut name target old new
+pub kept_exchanged : (name target : List ℕ) (old mid new : Disk) → TouchesOnly name old mid
+    → IsExchange name target mid new → KeepsBut name target old new
 kept_exchanged name target old mid new touches exchange other ne not_target = record {
   holds = exchange.others other ne not_target ∙ touches.others.holds other ne;
   crash = λ c left. touches.others.crash other c ne (exchange.crash other c ne not_target left);
 }
 
-module _ (target name : List ℕ) (old made new : Disk) (beside : IsMadeBeside target name old made) (kept : KeepsBut name target old new) where
+module _ (target name : List ℕ) (old made new : Disk) (beside : IsMadeBeside target name old made)
+    (kept : KeepsBut name target old new) where
   -- a name that was in use isn't that of the new file, so it is kept
   pub taken_kept : (other : List ℕ) → other ≢ target → IsSome (old.holds other) → IsKept other old new
   taken_kept other not_target some =
-      let differs : other ≢ name = λ same. (let free : old.holds other ≡ None = ap old.holds same ∙ beside.free in let none : is_some (old.holds other) ≡ false = ap is_some free in cc) in
+      let differs : other ≢ name =
+      λ same.
+      (let free : old.holds other ≡ None = ap old.holds same ∙ beside.free in
+      let none : is_some (old.holds other) ≡ false = ap is_some free in cc) in
       kept other differs not_target
 
   -- a name that isn't the name of a new file is kept
@@ -51,7 +56,8 @@ module _ (target name : List ℕ) (old made new : Disk) (beside : IsMadeBeside t
       (cases_name other name)
 
 -- if only a name other than the target is affected, the target is never torn
-pub never_torn_untouched : (name target text : List ℕ) (old new : Disk) → name ≢ target → TouchesOnly name old new → IsNeverTorn target text old new
+pub never_torn_untouched : (name target text : List ℕ) (old new : Disk) → name ≢ target → TouchesOnly name old new
+    → IsNeverTorn target text old new
 never_torn_untouched name target text old new differs touches = record {
   later = touches.later;
   since = λ c left. inl (old.only_now target c (past old.moment c (omega arith) left));
@@ -62,14 +68,16 @@ never_torn_untouched name target text old new differs touches = record {
     past t c le left = touches.past t target c le (λ same. differs (sym same)) left
 
 -- if the target was on the disk and is never torn, a crash leaves its old bytes or the text
-pub old_or_new : (target text : List ℕ) (old new : Disk) → IsNeverTorn target text old new → IsOnDisk target old → IsOldOrNew target text old new
+pub old_or_new : (target text : List ℕ) (old new : Disk) → IsNeverTorn target text old new → IsOnDisk target old
+    → IsOldOrNew target text old new
 old_or_new target text old new never on_disk c left = ⊎_elim (λ was. inl (on_disk c was)) (λ whole. inr whole) (never.since c left)
 
 -- a crash leaves the new file with all of its text, whatever names it then has
 file_is_whole : (name text : List ℕ) (disk : Disk) (c : Option (List ℕ)) → IsFilled text name disk → IsFileOf disk name c → c ≡ Some text
 file_is_whole name text disk c filled file = file.whole ∙ sym (filled.saved file.bytes file.left) ∙ filled.full
 
-module _ (name target text : List ℕ) (old mid new : Disk) (differs : name ≢ target) (touches : TouchesOnly name old mid) (filled : IsFilled text name mid) where
+module _ (name target text : List ℕ) (old mid new : Disk) (differs : name ≢ target) (touches : TouchesOnly name old mid)
+    (filled : IsFilled text name mid) where
   -- the target is never torn by the rename of a file that has all of the text
   pub never_torn_exchanged : IsExchange name target mid new → IsNeverTorn target text old new
   never_torn_exchanged exchange = record {
@@ -93,7 +101,8 @@ module _ (name target text : List ℕ) (old mid new : Disk) (differs : name ≢ 
   left_exchanged exchanged c left = file_is_whole name text mid c filled (exchanged.left (ap is_some filled.full) c left)
 
   -- the target that holds its old file or the new one has its old bytes or the text
-  pub either_exchanged : (new.holds target ≡ mid.holds target) ⊎ (new.holds target ≡ mid.holds name) → (new.holds target ≡ old.holds target) ⊎ (new.holds target ≡ Some text)
+  pub either_exchanged : (new.holds target ≡ mid.holds target) ⊎ (new.holds target ≡ mid.holds name)
+      → (new.holds target ≡ old.holds target) ⊎ (new.holds target ≡ Some text)
   either_exchanged either = ⊎_elim
       (λ same. inl (same ∙ touches.others.holds target (λ is. differs (sym is))))
       (λ moved. inr (moved ∙ filled.full))

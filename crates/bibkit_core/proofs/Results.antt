@@ -22,14 +22,19 @@ on_err_by (Ok v) A B gives a = tt
 on_err_by (Err e) A B gives a = gives a
 
 -- after a failed call, the removal succeeded, or two calls have failed
-pub removed_or_two : {T E : Type 0} (result : Result T E) (gone : Type 0) (first mid last : ℕ) → mid ≡ min (first + 1) (2 ^ 64 - 1) → OnOk result gone → IsCounted mid last result → gone ⊎ AreTwoFailed first last
+pub removed_or_two : {T E : Type 0} (result : Result T E) (gone : Type 0) (first mid last : ℕ)
+    → mid ≡ min (first + 1) (2 ^ 64 - 1) → OnOk result gone → IsCounted mid last result → gone ⊎ AreTwoFailed first last
 removed_or_two (Ok v) gone first mid last once done counted = inl done
 removed_or_two (Err e) gone first mid last once done counted = inr (omega (arith, once, counted))
 
 -- the state of the target after an error of the rename
-pub after_exchange : {T : Type 0} (result : Result T ReplaceError) (name target text : List ℕ) (failures_mid failures_new : ℕ) (old mid new : Disk)
-    → ((new.holds target ≡ mid.holds target) ⊎ (new.holds target ≡ mid.holds name) → (new.holds target ≡ old.holds target) ⊎ (new.holds target ≡ Some text))
-    → mid.holds name ≡ Some text → IfErr result (IsExchangeError name target failures_mid failures_new mid new) → IfErr result (IsAfterError target text old new)
+pub after_exchange : {T : Type 0} (result : Result T ReplaceError) (name target text : List ℕ)
+    (failures_mid failures_new : ℕ) (old mid new : Disk)
+    →
+    ((new.holds target ≡ mid.holds target) ⊎ (new.holds target ≡ mid.holds name)
+    → (new.holds target ≡ old.holds target) ⊎ (new.holds target ≡ Some text))
+    → mid.holds name ≡ Some text → IfErr result (IsExchangeError name target failures_mid failures_new mid new)
+    → IfErr result (IsAfterError target text old new)
 after_exchange (Ok v) name target text failures_mid failures_new old mid new either full failed = tt
 after_exchange (Err OutOfMemory) name target text failures_mid failures_new old mid new either full failed = absurd failed
 after_exchange (Err NamesTaken) name target text failures_mid failures_new old mid new either full failed = absurd failed
@@ -39,7 +44,8 @@ after_exchange (Err (Unsettled e)) name target text failures_mid failures_new ol
 
 -- after an error of the rename, the name of the new file has no file, or two calls have failed
 pub gone_or_two : {T : Type 0} (result : Result T ReplaceError) (name target : List ℕ) (failures_mid failures_new : ℕ) (mid new : Disk)
-    → IfErr result (IsExchangeError name target failures_mid failures_new mid new) → OnErr result ((new.holds name ≡ None) ⊎ AreTwoFailed failures_mid failures_new)
+    → IfErr result (IsExchangeError name target failures_mid failures_new mid new)
+    → OnErr result ((new.holds name ≡ None) ⊎ AreTwoFailed failures_mid failures_new)
 gone_or_two (Ok v) name target failures_mid failures_new mid new failed = tt
 gone_or_two (Err OutOfMemory) name target failures_mid failures_new mid new failed = absurd failed
 gone_or_two (Err NamesTaken) name target failures_mid failures_new mid new failed = absurd failed

@@ -9,7 +9,9 @@ touches_one name old new known but time = record {
   known = known;
   others = but;
   later = time.later;
-  past = λ t other c le ne left. ⊎_elim (λ was. was) (λ now. old.counts_now t other c le (but.crash other c ne now)) (time.nothing_else t other c le left);
+  past = λ t other c le ne left.
+      ⊎_elim (λ was. was) (λ now. old.counts_now t other c le (but.crash other c ne now))
+      (time.nothing_else t other c le left);
 }
 
 -- a call that leaves all names as before affects no name
@@ -18,7 +20,9 @@ touches_none old new known same time = record {
   known = known;
   same = same;
   later = time.later;
-  past = λ t other c le left. ⊎_elim (λ was. was) (λ now. old.counts_now t other c le (same.crash other c now)) (time.nothing_else t other c le left);
+  past = λ t other c le left.
+      ⊎_elim (λ was. was) (λ now. old.counts_now t other c le (same.crash other c now))
+      (time.nothing_else t other c le left);
 }
 
 pub touches_none_at_first : (disk : Disk) → disk.is_known → TouchesNothing disk disk

@@ -16,6 +16,7 @@ pub record IsAdded (Are : Tally → List ℕ → Tally → Type 0) (old new : Pr
   pub printed : string_bytes new.text ≡ string_bytes old.text ++ text
 
 -- `text` is the output for one finding, with the counts before and after it
-pub record IsPrintedOne (style : Style) (name : List ℕ) (place : Position) (f : Finding) (before : Tally) (text : List ℕ) (after : Tally) : Type 0 where
+pub record IsPrintedOne (style : Style) (name : List ℕ) (place : Position) (f : Finding) (before : Tally)
+    (text : List ℕ) (after : Tally) : Type 0 where
   pub shown : IsShown style (is_none before) name place f text
   pub tally : after ≡ one_more before (severity_of f.code)

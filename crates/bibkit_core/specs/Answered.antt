@@ -31,21 +31,29 @@ pub record AsksForCited (found : Citations) (asked : CitedKeys) : Type 0 where
 
 -- the output of a request on the files with these names, and the status if the output is whole; `reads` relates the state before
 -- reading a file, its name, its bytes (`None` for an error) and the state afterwards
-pub data IsCallAnswer {F : Type 0} (reads : F → List ℕ → Option (List ℕ) → F → Type 0) (files : F) (names : List (List ℕ)) : Request → List ℕ → Option ℕ → Type 0 where
+pub data IsCallAnswer {F : Type 0} (reads : F → List ℕ → Option (List ℕ) → F → Type 0) (files : F)
+    (names : List (List ℕ)) : Request → List ℕ → Option ℕ → Type 0 where
   findings : {lint : Lint} {text : List ℕ} {status : Option ℕ} (task : Linting) → lint.cited ≡ None → BeginsLinting lint task
-      → IsTaskPrinted reads linting_begins linting_prints linting_ends files task names text status → IsCallAnswer reads files names (request.Lint lint) text status
-  compared : {lint : Lint} {text : List ℕ} {status : Option ℕ} (cited : Cited) (found : Citations) (document : List ℕ) (files' : F) → lint.cited ≡ Some cited
+      → IsTaskPrinted reads linting_begins linting_prints linting_ends files task names text status
+      → IsCallAnswer reads files names (request.Lint lint) text status
+  compared : {lint : Lint} {text : List ℕ} {status : Option ℕ} (cited : Cited) (found : Citations) (document : List ℕ)
+      (files' : F) → lint.cited ≡ Some cited
       → ReadsDocument reads files cited.name.now files' document found
-      → IsTaskPrinted reads (compared_begins lint) (PrintsCompared lint cited.has_unused found) (EndsCompared lint cited.name.now document found) files' none_compared names text status
+      → IsTaskPrinted reads (compared_begins lint) (PrintsCompared lint cited.has_unused found)
+      (EndsCompared lint cited.name.now document found) files' none_compared names text status
       → IsCallAnswer reads files names (request.Lint lint) text status
   meaning : {c : Code} (text : List ℕ) → IsCallAnswer reads files names (request.Explain c) (meaning_text c text) (Some 0)
   no_meaning : {c : Code} → IsCallAnswer reads files names (request.Explain c) [] None
   entries : {asked : Excerpts} {text : List ℕ} {status : Option ℕ} (task : Entries) → BeginsEntries asked task
-      → IsTaskPrinted reads entries_begins entries_prints entries_ends files task names text status → IsCallAnswer reads files names (request.Entries asked) text status
-  cited : {name : Bor (List ℕ)} {text : List ℕ} {status : Option ℕ} (found : Citations) (document : List ℕ) (files' : F) (asked : CitedKeys) (task : Entries)
+      → IsTaskPrinted reads entries_begins entries_prints entries_ends files task names text status
+      → IsCallAnswer reads files names (request.Entries asked) text status
+  cited : {name : Bor (List ℕ)} {text : List ℕ} {status : Option ℕ} (found : Citations) (document : List ℕ) (files' : F)
+      (asked : CitedKeys) (task : Entries)
       → ReadsDocument reads files name.now files' document found → AsksForCited found asked → BeginsEntries (excerpts.Cited asked) task
-      → IsTaskPrinted reads entries_begins entries_prints entries_ends files' task names text status → IsCallAnswer reads files names (request.Cited name) text status
-  counts : {text : List ℕ} {status : Option ℕ} → IsTaskPrinted reads counted_begins PrintsCounted EndsCounted files none_counted names text status
+      → IsTaskPrinted reads entries_begins entries_prints entries_ends files' task names text status
+      → IsCallAnswer reads files names (request.Cited name) text status
+  counts : {text : List ℕ} {status : Option ℕ}
+      → IsTaskPrinted reads counted_begins PrintsCounted EndsCounted files none_counted names text status
       → IsCallAnswer reads files names request.Stats text status
 
 -- a request that reads the citations of a document, whose file has this name
@@ -62,9 +70,11 @@ pub record CantReadDocument {F : Type 0} (reads : F → List ℕ → Option (Lis
 
 -- the reasons for status 2: a file can't be read, and the whole output for the others is printed; or the file of the document
 -- can't be read, and nothing is printed; or the output takes a first part of the texts, and refuses the text after it
-pub data HasFailed {F K : Type 0} (reads : F → List ℕ → Option (List ℕ) → F → Type 0) (taken : K → Option (List ℕ)) (refusals : K → ℕ) (hands_over : K → List ℕ → Bool → K → Type 0) (files : F) (names : List (List ℕ))
+pub data HasFailed {F K : Type 0} (reads : F → List ℕ → Option (List ℕ) → F → Type 0) (taken : K → Option (List ℕ))
+    (refusals : K → ℕ) (hands_over : K → List ℕ → Bool → K → Type 0) (files : F) (names : List (List ℕ))
     (request : Request) (old new : K) : Type 0 where
-  unread : HasPrinted taken (IsCallAnswer reads files names request) old new 2 → refusals new ≡ refusals old → HasFailed reads taken refusals hands_over files names request old new
+  unread : HasPrinted taken (IsCallAnswer reads files names request) old new 2 → refusals new ≡ refusals old
+      → HasFailed reads taken refusals hands_over files names request old new
   no_document : CantReadDocument reads files request → new ≡ old → HasFailed reads taken refusals hands_over files names request old new
   refused : (text : List ℕ) → IsCallAnswer reads files names request text None → IsRefusedAfter taken refusals hands_over text old new
       → HasFailed reads taken refusals hands_over files names request old new

@@ -18,7 +18,8 @@ has_none (c ∷ rest) = false
 
 -- whether findings with this code are reported: `only` is empty or contains it, and `ignored` doesn't
 abbrev pub is_asked : Selection → Code → Bool
-is_asked selection code = (has_none selection.only.items || has_code selection.only.items code) && not (has_code selection.ignored.items code)
+is_asked selection code =
+    (has_none selection.only.items || has_code selection.only.items code) && not (has_code selection.ignored.items code)
 
 -- the selected findings
 abbrev pub asked : Selection → List Finding → List Finding

@@ -24,11 +24,13 @@ use Rattle.bibkit_core.specs.declared.tally.Tally.{Tally}
 -- otherwise an .aux file
 abbrev pub AreCitedBy : List ℕ → List ℕ → Citations → Type 0
 AreCitedBy name text found =
-    MatchBool (ends_with eqb name (codes ".bcf")) (AreCitations bcf_cited (λ b. b == char.less) text found) (AreCitations aux_cited (λ b. b == char.line_feed) text found)
+    MatchBool (ends_with eqb name (codes ".bcf")) (AreCitations bcf_cited (λ b. b == char.less) text found)
+    (AreCitations aux_cited (λ b. b == char.line_feed) text found)
 
 -- the file of a document is read, with this text and these citations; `reads` relates the state before reading a file, its name,
 -- its bytes (`None` for an error) and the state afterwards
-pub record ReadsDocument {F : Type 0} (reads : F → List ℕ → Option (List ℕ) → F → Type 0) (files : F) (name : List ℕ) (files' : F) (text : List ℕ) (found : Citations) : Type 0 where
+pub record ReadsDocument {F : Type 0} (reads : F → List ℕ → Option (List ℕ) → F → Type 0) (files : F) (name : List ℕ)
+    (files' : F) (text : List ℕ) (found : Citations) : Type 0 where
   pub bytes : List ℕ
   pub decoded : Decoded
   pub read : reads files name (Some bytes) files'
@@ -46,7 +48,11 @@ is_in_files readings key = list_any (λ says. is_listed (all_names says.entries)
 
 -- the finding of a citation for which no file has an entry
 abbrev pub missing_finding : Citation → Finding
-missing_finding c = record { code = MissingEntry; span = record { start = c.at; end = c.at }; message = codes "no file has an entry \"" ++ (c.key ++ codes "\"") }
+missing_finding c = record {
+  code = MissingEntry;
+  span = record { start = c.at; end = c.at };
+  message = codes "no file has an entry \"" ++ (c.key ++ codes "\"");
+}
 
 -- the findings of the citations for which none of these files has an entry
 abbrev pub missing_findings : List FileReading → List Citation → List Finding
@@ -54,12 +60,17 @@ missing_findings readings citations = map missing_finding (filter (λ c. not (is
 
 -- the finding of an entry with this key, which the document doesn't cite
 abbrev pub unused_finding : Part → Finding
-unused_finding key = record { code = UnusedEntry; span = record { start = key.start; end = key.end }; message = key.text ++ codes ": never cited" }
+unused_finding key = record {
+  code = UnusedEntry;
+  span = record { start = key.start; end = key.end };
+  message = key.text ++ codes ": never cited";
+}
 
 -- the findings of the entries that the document cites by none of their names; no findings if they aren't requested
 -- (`has_unused`), or if the document cites all entries
 abbrev pub unused_findings : Bool → Citations → List EntryReading → List Finding
-unused_findings has_unused found entries = if has_unused && not found.all then map unused_finding (uncited_keys (cited_keys found) entries) else []
+unused_findings has_unused found entries =
+    if has_unused && not found.all then map unused_finding (uncited_keys (cited_keys found) entries) else []
 
 -- the state of the comparison: the counts of findings, and the contents of the files so far
 pub record Compared : Type 0 where
@@ -75,7 +86,8 @@ abbrev pub compared_begins : Lint → Compared → List ℕ
 compared_begins lint before = opening lint.style
 
 -- the output for a file: its findings, and then the findings of its entries that the document doesn't cite, at their keys
-pub record PrintsCompared (lint : Lint) (has_unused : Bool) (found : Citations) (before : Compared) (name bytes text : List ℕ) (after : Compared) : Type 0 where
+pub record PrintsCompared (lint : Lint) (has_unused : Bool) (found : Citations) (before : Compared)
+    (name bytes text : List ℕ) (after : Compared) : Type 0 where
   pub first : List ℕ
   pub second : List ℕ
   pub between : Tally
@@ -85,15 +97,18 @@ pub record PrintsCompared (lint : Lint) (has_unused : Bool) (found : Citations) 
   pub findings : PrintsFindings lint name bytes before.tally first between
   pub of_bytes : AreDecoded bytes decoded
   pub recovery : IsRecovery (string_bytes decoded.text) says skipped
-  pub unused : ArePrinted lint.style name (string_bytes decoded.text) (asked lint.selection (unused_findings has_unused found says.entries)) between second after.tally
+  pub unused : ArePrinted lint.style name (string_bytes decoded.text)
+      (asked lint.selection (unused_findings has_unused found says.entries)) between second after.tally
   pub is : text ≡ first ++ second
   pub readings : after.readings ≡ before.readings ++ says ∷ []
 
 -- the output after all files, and the status: the findings of the citations for which no file has an entry, at their positions in
 -- the file of the document, and then the text after findings
-pub record EndsCompared (lint : Lint) (name document : List ℕ) (found : Citations) (before : Compared) (text : List ℕ) (status : ℕ) : Type 0 where
+pub record EndsCompared (lint : Lint) (name document : List ℕ) (found : Citations) (before : Compared) (text : List ℕ)
+    (status : ℕ) : Type 0 where
   pub first : List ℕ
   pub after : Tally
-  pub missing : ArePrinted lint.style name document (asked lint.selection (missing_findings before.readings found.keys.items)) before.tally first after
+  pub missing : ArePrinted lint.style name document
+      (asked lint.selection (missing_findings before.readings found.keys.items)) before.tally first after
   pub is : text ≡ first ++ closing lint.style after
   pub status_is : status ≡ lint_status after

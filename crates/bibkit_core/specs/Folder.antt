@@ -39,7 +39,8 @@ pub record Disk : Type 1 where
 -- in `new` may leave.
 pub record Elapses (old new : Disk) : Type 0 where
   pub later : old.moment ≤ new.moment
-  pub nothing_else : (t : ℕ) (name : List ℕ) (c : Option (List ℕ)) → t ≤ old.moment → new.left_since t name c → old.left_since t name c ⊎ new.may_leave name c
+  pub nothing_else : (t : ℕ) (name : List ℕ) (c : Option (List ℕ)) → t ≤ old.moment → new.left_since t name c
+      → old.left_since t name c ⊎ new.may_leave name c
   pub keeps : (t : ℕ) (name : List ℕ) (c : Option (List ℕ)) → t ≤ old.moment → old.left_since t name c → new.left_since t name c
 
 -- Each name holds the same contents as before. A crash leaves only contents for it and in its file that it could leave before.

@@ -17,7 +17,8 @@ use Rattle.bibkit_core.specs.Printed.{IsShown, is_none, one_more}
 -- says whether the first of them is the first of all findings
 pub data AreShown (style : Style) (name bytes : List ℕ) : Bool → List Finding → List ℕ → Type 0 where
   none : {is_first : Bool} → AreShown style name bytes is_first [] []
-  next : {is_first : Bool} {f : Finding} {rest : List Finding} (text : List ℕ) {texts : List ℕ} → IsShown style is_first name (position_at bytes f.span.start) f text
+  next : {is_first : Bool} {f : Finding} {rest : List Finding} (text : List ℕ) {texts : List ℕ}
+      → IsShown style is_first name (position_at bytes f.span.start) f text
       → AreShown style name bytes false rest texts → AreShown style name bytes is_first (f ∷ rest) (text ++ texts)
 
 -- the counts after these findings
@@ -25,13 +26,18 @@ abbrev pub counted : Tally → List Finding → Tally
 counted tally found = fold (λ t f. one_more t (severity_of f.code)) tally found
 
 -- `text` is the output for these findings of a file, with the counts before and after them
-pub record ArePrinted (style : Style) (name bytes : List ℕ) (found : List Finding) (before : Tally) (text : List ℕ) (after : Tally) : Type 0 where
+pub record ArePrinted (style : Style) (name bytes : List ℕ) (found : List Finding) (before : Tally) (text : List ℕ)
+    (after : Tally) : Type 0 where
   pub shown : AreShown style name bytes (is_none before) found text
   pub tally : after ≡ counted before found
 
 -- the finding of the first byte that isn't UTF-8, at this offset
 abbrev pub unread_finding : ℕ → Finding
-unread_finding at = record { code = UnreadBytes; span = record { start = at; end = at }; message = codes "not UTF-8 from here on, so the file is read as Windows-1252" }
+unread_finding at = record {
+  code = UnreadBytes;
+  span = record { start = at; end = at };
+  message = codes "not UTF-8 from here on, so the file is read as Windows-1252";
+}
 
 -- that finding, or none without an offset
 abbrev pub unread_findings : Option ℕ → List Finding
@@ -40,7 +46,8 @@ unread_findings (Some at) = unread_finding at ∷ []
 
 -- `text` is the output for the selected findings of a file, with the counts before and after them: first the finding that it
 -- isn't UTF-8, at its position in the bytes, and then the findings of the decoded text, each at its position in that text
-pub record IsPrintedFile (lint : Lint) (name bytes : List ℕ) (decoded : Decoded) (before : Tally) (text : List ℕ) (after : Tally) : Type 0 where
+pub record IsPrintedFile (lint : Lint) (name bytes : List ℕ) (decoded : Decoded) (before : Tally) (text : List ℕ)
+    (after : Tally) : Type 0 where
   pub found : List Finding
   pub are : AreFindings (string_bytes decoded.text) found
   pub between : Tally

@@ -59,7 +59,8 @@ pub record AreUncited (text : List ℕ) (keys : List (List ℕ)) (found : List F
 -- the findings of the entries that can be parsed of a text and that the document doesn't cite, if these are requested
 abbrev pub AreUnused : Document → List ℕ → List Finding → Type 0
 AreUnused document text found =
-    (says : FileReading) (skipped : List SkippedBlock) → IsRecovery text says skipped → found ≡ unused_findings document.has_unused document.citations says.entries
+    (says : FileReading) (skipped : List SkippedBlock) → IsRecovery text says skipped
+    → found ≡ unused_findings document.has_unused document.citations says.entries
 
 -- the text of the comparing task before the files
 abbrev pub comparing_begins : Comparing → List ℕ
@@ -78,7 +79,8 @@ pub record PrintsComparing (old : Comparing) (name bytes text : List ℕ) (new :
   pub of_bytes : AreDecoded bytes decoded
   pub known : AreKnownWith (string_bytes decoded.text) old.document new.document.known.items
   pub are_unused : AreUnused old.document (string_bytes decoded.text) unused
-  pub more : ArePrinted old.linting.lint.now.style name (string_bytes decoded.text) (asked old.linting.lint.now.selection unused) between second new.linting.tally
+  pub more : ArePrinted old.linting.lint.now.style name (string_bytes decoded.text)
+      (asked old.linting.lint.now.selection unused) between second new.linting.tally
   pub is : text ≡ first ++ second
 
 -- the text of the comparing task after the files, and its status
@@ -86,6 +88,8 @@ pub record EndsComparing (task : Comparing) (text : List ℕ) (status : ℕ) : T
   pub first : List ℕ
   pub after : Tally
   pub more : ArePrinted task.linting.lint.now.style task.document.name.now task.document.text.now
-      (asked task.linting.lint.now.selection (unmarked_findings task.document.citations.keys.items task.document.known.items)) task.linting.tally first after
+      (asked task.linting.lint.now.selection
+      (unmarked_findings task.document.citations.keys.items task.document.known.items)) task.linting.tally first
+      after
   pub is : text ≡ first ++ closing task.linting.lint.now.style after
   pub status_is : status ≡ lint_status after

@@ -5,13 +5,15 @@ use Rattle.std.specs.Prelude.{◌≡◌, ℕ, ◌-◌, ◌<◌, ◌^◌, Bool, f
 use Rattle.std.specs.Io.KnownBytes.{Appends}
 
 -- the output has taken the whole text, and the run has this status
-pub record HasPrinted {K : Type 0} (taken : K → Option (List ℕ)) (Prints : List ℕ → Option ℕ → Type 0) (old new : K) (status : ℕ) : Type 0 where
+pub record HasPrinted {K : Type 0} (taken : K → Option (List ℕ)) (Prints : List ℕ → Option ℕ → Type 0) (old new : K)
+    (status : ℕ) : Type 0 where
   pub text : List ℕ
   pub prints : Prints text (Some status)
   pub printed : Appends (taken old) (taken new) text
 
 -- the output has taken a text, and then refused the next one; its count of refusals has grown, unless it is at its maximum
-pub record IsRefusedAfter {K : Type 0} (taken : K → Option (List ℕ)) (refusals : K → ℕ) (hands_over : K → List ℕ → Bool → K → Type 0) (text : List ℕ) (old new : K) : Type 0 where
+pub record IsRefusedAfter {K : Type 0} (taken : K → Option (List ℕ)) (refusals : K → ℕ)
+    (hands_over : K → List ℕ → Bool → K → Type 0) (text : List ℕ) (old new : K) : Type 0 where
   pub between : K
   pub refused : List ℕ
   pub printed : Appends (taken old) (taken between) text

@@ -36,7 +36,16 @@ place_members place f =
 -- the JSON object of a finding, on a new line, after a comma unless it is the first
 abbrev pub finding_object : Bool → List ℕ → Position → Finding → List ℕ
 finding_object is_first name place f =
-    separator is_first ++ (codes "{\"file\":" ++ (json_text name ++ (codes "," ++ (place_members place f ++ (codes ",\"message\":" ++ (json_text f.message ++ codes "}"))))))
+    separator is_first
+    ++
+    (codes "{\"file\":"
+    ++
+    (json_text name
+    ++
+    (codes ","
+    ++
+    (place_members place f
+    ++ (codes ",\"message\":" ++ (json_text f.message ++ codes "}"))))))
 
 -- the counts with one more finding of this severity; a count stays at its maximum
 abbrev pub one_more : Tally → Severity → Tally
@@ -66,12 +75,27 @@ plain_type = 27 ∷ codes "[0m"
 
 -- the file name, the line and the column in bold
 abbrev pub colored_place : List ℕ → Position → List ℕ
-colored_place name place = bold_type ++ (name ++ (codes ":" ++ (decimal place.line ++ (codes ":" ++ (decimal place.column ++ (codes ":" ++ (plain_type ++ codes " ")))))))
+colored_place name place =
+    bold_type
+    ++
+    (name
+    ++
+    (codes ":"
+    ++
+    (decimal place.line
+    ++ (codes ":" ++ (decimal place.column ++ (codes ":" ++ (plain_type ++ codes " ")))))))
 
 -- the severity in its colour, the message and the code
 abbrev pub colored_text : Finding → List ℕ
 colored_text f =
-    color (severity_of f.code) ++ (severity_name (severity_of f.code) ++ (codes ":" ++ (plain_type ++ (codes " " ++ (f.message ++ (codes " [" ++ (code_name f.code ++ codes "]\n")))))))
+    color (severity_of f.code)
+    ++
+    (severity_name (severity_of f.code)
+    ++
+    (codes ":"
+    ++
+    (plain_type
+    ++ (codes " " ++ (f.message ++ (codes " [" ++ (code_name f.code ++ codes "]\n")))))))
 
 -- the line of a finding in colours
 abbrev pub colored_line : List ℕ → Position → Finding → List ℕ

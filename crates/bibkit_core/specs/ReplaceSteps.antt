@@ -12,7 +12,8 @@ pub record TouchesOnly (name : List ℕ) (old new : Disk) : Type 0 where
   pub known : new.is_known
   pub others : IsAsBeforeBut name old new
   pub later : old.moment ≤ new.moment
-  pub past : (t : ℕ) (other : List ℕ) (c : Option (List ℕ)) → t ≤ old.moment → other ≢ name → new.left_since t other c → old.left_since t other c
+  pub past : (t : ℕ) (other : List ℕ) (c : Option (List ℕ)) → t ≤ old.moment → other ≢ name → new.left_since t other c
+      → old.left_since t other c
 
 -- calls that affect no name, in the same sense
 pub record TouchesNothing (old new : Disk) : Type 0 where

@@ -10,7 +10,8 @@ names_given names = map (λ name. name.now) names
 -- the output for a file, and whether the file could be read: the text of the task for its bytes, or no text if reading it failed
 pub data IsStep {F T : Type 0} (reads : F → List ℕ → Option (List ℕ) → F → Type 0) (prints : T → List ℕ → List ℕ → List ℕ → T → Type 0)
     (files : F) (task : T) (name : List ℕ) : List ℕ → Bool → F → T → Type 0 where
-  read : (bytes : List ℕ) {text : List ℕ} {files' : F} {task' : T} → reads files name (Some bytes) files' → prints task name bytes text task'
+  read : (bytes : List ℕ) {text : List ℕ} {files' : F} {task' : T} → reads files name (Some bytes) files'
+      → prints task name bytes text task'
       → IsStep reads prints files task name text true files' task'
   unread : {files' : F} → reads files name None files' → IsStep reads prints files task name [] false files' task
 
@@ -18,13 +19,15 @@ pub data IsStep {F T : Type 0} (reads : F → List ℕ → Option (List ℕ) →
 pub data AreRun {F T : Type 0} (reads : F → List ℕ → Option (List ℕ) → F → Type 0) (prints : T → List ℕ → List ℕ → List ℕ → T → Type 0)
     : F → T → List (List ℕ) → List ℕ → Bool → F → T → Type 0 where
   none : {files : F} {task : T} → AreRun reads prints files task [] [] true files task
-  next : {files files'' : F} {task task'' : T} {name : List ℕ} {names : List (List ℕ)} (files' : F) (task' : T) (text texts : List ℕ) (is_read are_read : Bool)
+  next : {files files'' : F} {task task'' : T} {name : List ℕ} {names : List (List ℕ)} (files' : F) (task' : T)
+      (text texts : List ℕ) (is_read are_read : Bool)
       → IsStep reads prints files task name text is_read files' task' → AreRun reads prints files' task' names texts are_read files'' task''
       → AreRun reads prints files task (name ∷ names) (text ++ texts) (is_read && are_read) files'' task''
 
 -- the whole output of a task, and its status: the texts before the files, for each file, and after them; the status is 2 if a
 -- file can't be read
-pub record IsTaskAnswer {F T : Type 0} (reads : F → List ℕ → Option (List ℕ) → F → Type 0) (begins : T → List ℕ) (prints : T → List ℕ → List ℕ → List ℕ → T → Type 0)
+pub record IsTaskAnswer {F T : Type 0} (reads : F → List ℕ → Option (List ℕ) → F → Type 0) (begins : T → List ℕ)
+    (prints : T → List ℕ → List ℕ → List ℕ → T → Type 0)
     (ends : T → List ℕ → ℕ → Type 0) (files : F) (task : T) (names : List (List ℕ)) (text : List ℕ) (status : ℕ) : Type 0 where
   pub texts : List ℕ
   pub last : List ℕ
@@ -39,9 +42,12 @@ pub record IsTaskAnswer {F T : Type 0} (reads : F → List ℕ → Option (List 
 
 -- the output of a task so far: nothing, or the texts before the files and for the first of them, without a status; or the whole
 -- output with its status
-pub data IsTaskPrinted {F T : Type 0} (reads : F → List ℕ → Option (List ℕ) → F → Type 0) (begins : T → List ℕ) (prints : T → List ℕ → List ℕ → List ℕ → T → Type 0)
+pub data IsTaskPrinted {F T : Type 0} (reads : F → List ℕ → Option (List ℕ) → F → Type 0) (begins : T → List ℕ)
+    (prints : T → List ℕ → List ℕ → List ℕ → T → Type 0)
     (ends : T → List ℕ → ℕ → Type 0) (files : F) (task : T) (names : List (List ℕ)) : List ℕ → Option ℕ → Type 0 where
   nothing : IsTaskPrinted reads begins prints ends files task names [] None
-  first : {texts : List ℕ} {are_read : Bool} {files' : F} {task' : T} (done rest : List (List ℕ)) → names ≡ done ++ rest → AreRun reads prints files task done texts are_read files' task'
+  first : {texts : List ℕ} {are_read : Bool} {files' : F} {task' : T} (done rest : List (List ℕ)) → names ≡ done ++ rest
+      → AreRun reads prints files task done texts are_read files' task'
       → IsTaskPrinted reads begins prints ends files task names (begins task ++ texts) None
-  all : {text : List ℕ} {status : ℕ} → IsTaskAnswer reads begins prints ends files task names text status → IsTaskPrinted reads begins prints ends files task names text (Some status)
+  all : {text : List ℕ} {status : ℕ} → IsTaskAnswer reads begins prints ends files task names text status
+      → IsTaskPrinted reads begins prints ends files task names text (Some status)

@@ -110,5 +110,9 @@ pub record EndsCounted (all : Counted) (text : List ℕ) (status : ℕ) : Type 0
   pub years_are : AreByName (flat_map (λ e. years_in e.fields) all.entries) years
   pub findings_are : AreByCount (map (λ f. code_name f.code) all.found) findings
   pub is : text ≡ codes "entries: " ++ (decimal (min (length all.entries) (2 ^ 64 - 1)) ++ (codes "\n"
-      ++ (table_text (codes "types") types ++ (table_text (codes "fields") fields ++ (table_text (codes "years") years ++ table_text (codes "findings") findings)))))
+      ++
+      (table_text (codes "types") types
+      ++
+      (table_text (codes "fields") fields
+      ++ (table_text (codes "years") years ++ table_text (codes "findings") findings)))))
   pub done : status ≡ 0

@@ -20,23 +20,27 @@ use Rattle.bibkit_core.specs.declared.run.Stop.TheVariants.{Refused, NoDocument,
 
 -- one file is processed, and the output takes its text
 pub record HasStep {F T : Type 0} (reads : F → List ℕ → Option (List ℕ) → F → Type 0) (prints : T → List ℕ → List ℕ → List ℕ → T → Type 0)
-    (files : F) (task : T) (taken : Option (List ℕ)) (name : List ℕ) (is_read : Bool) (files' : F) (task' : T) (taken' : Option (List ℕ)) : Type 0 where
+    (files : F) (task : T) (taken : Option (List ℕ)) (name : List ℕ) (is_read : Bool) (files' : F) (task' : T)
+    (taken' : Option (List ℕ)) : Type 0 where
   pub text : List ℕ
   pub step : IsStep reads prints files task name text is_read files' task'
   pub printed : Appends taken taken' text
 
 -- files are processed in turn, and the output takes their texts
 pub record HasRun {F T : Type 0} (reads : F → List ℕ → Option (List ℕ) → F → Type 0) (prints : T → List ℕ → List ℕ → List ℕ → T → Type 0)
-    (files : F) (task : T) (taken : Option (List ℕ)) (names : List (List ℕ)) (are_read : Bool) (files' : F) (task' : T) (taken' : Option (List ℕ)) : Type 0 where
+    (files : F) (task : T) (taken : Option (List ℕ)) (names : List (List ℕ)) (are_read : Bool) (files' : F) (task' : T)
+    (taken' : Option (List ℕ)) : Type 0 where
   pub text : List ℕ
   pub run : AreRun reads prints files task names text are_read files' task'
   pub printed : Appends taken taken' text
 
 -- the reasons for which a run ends early: the output refused a text after those that `Prints` allows; or the file of the document
 -- can't be read (`Unread`), and nothing is printed; or out of memory, and the output refused no text
-pub data HasStopped {K : Type 0} (taken : K → Option (List ℕ)) (refusals : K → ℕ) (hands_over : K → List ℕ → Bool → K → Type 0) (Prints : List ℕ → Option ℕ → Type 0) (Unread : Type 0) (old new : K)
+pub data HasStopped {K : Type 0} (taken : K → Option (List ℕ)) (refusals : K → ℕ)
+    (hands_over : K → List ℕ → Bool → K → Type 0) (Prints : List ℕ → Option ℕ → Type 0) (Unread : Type 0) (old new : K)
     : Stop → Type 0 where
-  refused : (text : List ℕ) → Prints text None → IsRefusedAfter taken refusals hands_over text old new → HasStopped taken refusals hands_over Prints Unread old new Refused
+  refused : (text : List ℕ) → Prints text None → IsRefusedAfter taken refusals hands_over text old new
+      → HasStopped taken refusals hands_over Prints Unread old new Refused
   no_document : Unread → new ≡ old → HasStopped taken refusals hands_over Prints Unread old new NoDocument
   no_memory : refusals new ≡ refusals old → HasStopped taken refusals hands_over Prints Unread old new OutOfMemory
 
@@ -45,7 +49,8 @@ abbrev pub IsNothing : List ℕ → Option ℕ → Type 0
 IsNothing text status = text ≡ []
 
 -- `text` is the output for the first of these files
-pub record AreFirst {F T : Type 0} (reads : F → List ℕ → Option (List ℕ) → F → Type 0) (prints : T → List ℕ → List ℕ → List ℕ → T → Type 0) (files : F) (task : T) (names : List (List ℕ))
+pub record AreFirst {F T : Type 0} (reads : F → List ℕ → Option (List ℕ) → F → Type 0)
+    (prints : T → List ℕ → List ℕ → List ℕ → T → Type 0) (files : F) (task : T) (names : List (List ℕ))
     (text : List ℕ) (status : Option ℕ) : Type 0 where
   pub done : List (List ℕ)
   pub rest : List (List ℕ)
@@ -62,7 +67,8 @@ HasNoText reads files name files' OutOfMemory = ⊤
 HasNoText reads files name files' Refused = ⊥
 
 -- the file of a document is read and decoded to this text
-pub record ReadsText {F : Type 0} (reads : F → List ℕ → Option (List ℕ) → F → Type 0) (files : F) (name : List ℕ) (files' : F) (text : List ℕ) : Type 0 where
+pub record ReadsText {F : Type 0} (reads : F → List ℕ → Option (List ℕ) → F → Type 0) (files : F) (name : List ℕ)
+    (files' : F) (text : List ℕ) : Type 0 where
   pub bytes : List ℕ
   pub decoded : Decoded
   pub read : reads files name (Some bytes) files'
@@ -70,21 +76,25 @@ pub record ReadsText {F : Type 0} (reads : F → List ℕ → Option (List ℕ) 
   pub text_is : text ≡ string_bytes decoded.text
 
 -- the output of `lint` without a document
-pub record AreFindingsPrinted {F : Type 0} (reads : F → List ℕ → Option (List ℕ) → F → Type 0) (lint : Lint) (files : F) (names : List (List ℕ)) (text : List ℕ) (status : Option ℕ) : Type 0 where
+pub record AreFindingsPrinted {F : Type 0} (reads : F → List ℕ → Option (List ℕ) → F → Type 0) (lint : Lint) (files : F)
+    (names : List (List ℕ)) (text : List ℕ) (status : Option ℕ) : Type 0 where
   pub task : Linting
   pub begins : BeginsLinting lint task
   pub printed : IsTaskPrinted reads linting_begins linting_prints linting_ends files task names text status
 
 -- the output of `lint` with a document
-pub record AreComparedPrinted {F : Type 0} (reads : F → List ℕ → Option (List ℕ) → F → Type 0) (lint : Lint) (cited : Cited) (files : F) (names : List (List ℕ)) (text : List ℕ) (status : Option ℕ) : Type 0 where
+pub record AreComparedPrinted {F : Type 0} (reads : F → List ℕ → Option (List ℕ) → F → Type 0) (lint : Lint)
+    (cited : Cited) (files : F) (names : List (List ℕ)) (text : List ℕ) (status : Option ℕ) : Type 0 where
   pub found : Citations
   pub document : List ℕ
   pub files' : F
   pub read : ReadsDocument reads files cited.name.now files' document found
-  pub printed : IsTaskPrinted reads (compared_begins lint) (PrintsCompared lint cited.has_unused found) (EndsCompared lint cited.name.now document found) files' none_compared names text status
+  pub printed : IsTaskPrinted reads (compared_begins lint) (PrintsCompared lint cited.has_unused found)
+      (EndsCompared lint cited.name.now document found) files' none_compared names text status
 
 -- the output of a request for entries
-pub record AreEntriesPrinted {F : Type 0} (reads : F → List ℕ → Option (List ℕ) → F → Type 0) (asked : Request) (files : F) (names : List (List ℕ)) (text : List ℕ) (status : Option ℕ) : Type 0 where
+pub record AreEntriesPrinted {F : Type 0} (reads : F → List ℕ → Option (List ℕ) → F → Type 0) (asked : Request)
+    (files : F) (names : List (List ℕ)) (text : List ℕ) (status : Option ℕ) : Type 0 where
   pub task : Entries
   pub begins : BeginsEntries asked task
   pub printed : IsTaskPrinted reads entries_begins entries_prints entries_ends files task names text status

@@ -47,7 +47,12 @@ padding written width = replicate (width - written) char.space
 -- the line of a row: its name, padded to a width, and its count, aligned to the right in eight characters
 abbrev pub row_line : ℕ → Row → List ℕ
 row_line width row =
-    codes "  " ++ (row.name.now ++ (padding (length (chars row.name.now)) width ++ (codes " " ++ (padding (length (decimal row.count)) 8 ++ (decimal row.count ++ codes "\n")))))
+    codes "  "
+    ++
+    (row.name.now
+    ++
+    (padding (length (chars row.name.now)) width
+    ++ (codes " " ++ (padding (length (decimal row.count)) 8 ++ (decimal row.count ++ codes "\n")))))
 
 -- an empty line, the title of a table, and a line for each row
 abbrev pub table_text : List ℕ → List Row → List ℕ

@@ -90,7 +90,8 @@ entries_begins task = []
 -- the output of the entries task for a file, and the task afterwards: something is found if any output isn't empty
 abbrev pub entries_prints : Entries → List ℕ → List ℕ → List ℕ → Entries → Type 0
 entries_prints old name bytes text new =
-    (new.request.now ≡ old.request.now) × PrintsEntries old.request.now bytes text × (new.is_found ≡ (old.is_found || not (length text == 0)))
+    (new.request.now ≡ old.request.now) × PrintsEntries old.request.now bytes text
+    × (new.is_found ≡ (old.is_found || not (length text == 0)))
 
 -- the text of the entries task after the files (none), and its status
 abbrev pub entries_ends : Entries → List ℕ → ℕ → Type 0

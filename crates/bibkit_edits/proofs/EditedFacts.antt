@@ -31,7 +31,8 @@ use Rattle.bibkit_edits.specs.declared.editing.Step.{Step}
 use Rattle.bibkit_edits.specs.declared.editing.Step.TheVariants as step
 
 -- a text in a style that parses like the old one, with its fields in order, is an outcome of `Format`
-pub style_made : (style : Style) (d : Document) (new : List ℕ) → new ≡ text_in_style style d.text d.says → IsReadAlike (says_in_order style d.text d.says) new → IsEdited (IsInStyle style d) new
+pub style_made : (style : Style) (d : Document) (new : List ℕ) → new ≡ text_in_style style d.text d.says
+    → IsReadAlike (says_in_order style d.text d.says) new → IsEdited (IsInStyle style d) new
 style_made style d new is alike = record {
   document = record { text = new; says = alike.tells };
   outcome = record { text = is; alike = alike.alike };
@@ -40,7 +41,9 @@ style_made style d new is alike = record {
 }
 
 -- a sorted text that parses like the sorted document is an outcome of `Sort`
-pub order_made : (order : Order) (d : Document) (new : List ℕ) → IsSortedText d (map (order_text order) d.says.entries) new → IsReadSorted d (map (order_text order) d.says.entries) new → IsEdited (IsInOrder order d) new
+pub order_made : (order : Order) (d : Document) (new : List ℕ)
+    → IsSortedText d (map (order_text order) d.says.entries) new
+    → IsReadSorted d (map (order_text order) d.says.entries) new → IsEdited (IsInOrder order d) new
 order_made order d new is read = record {
   document = record { text = new; says = read.tells };
   outcome = record { text = is; alike = record { order = read.order; in_order = read.in_order; alike = read.alike } };
@@ -50,15 +53,32 @@ order_made order d new is read = record {
 
 -- a text with its abbreviations replaced by their texts is an outcome of `Expand`
 pub expansion_made : (d : Document) (new : List ℕ) → IsExpanded d new → IsEdited (IsWrittenOut d) new
-expansion_made d new made = record { document = record { text = new; says = made.read.tells }; outcome = made; is = refl; read = made.read.read }
+expansion_made d new made = record {
+  document = record { text = new; says = made.read.tells };
+  outcome = made;
+  is = refl;
+  read = made.read.read;
+}
 
 -- a text with abbreviations for repeated texts is an outcome of `Collect`
-pub collection_made : (d : Document) (fields : List (List ℕ)) (at_least : ℕ) (new : List ℕ) → AreMadeAbbreviations d fields at_least new → IsEdited (AreTextsCollected fields at_least d) new
-collection_made d fields at_least new made = record { document = record { text = new; says = made.read.tells }; outcome = made; is = refl; read = made.read.read }
+pub collection_made : (d : Document) (fields : List (List ℕ)) (at_least : ℕ) (new : List ℕ)
+    → AreMadeAbbreviations d fields at_least new → IsEdited (AreTextsCollected fields at_least d) new
+collection_made d fields at_least new made = record {
+  document = record { text = new; says = made.read.tells };
+  outcome = made;
+  is = refl;
+  read = made.read.read;
+}
 
 -- a text with the types and fields of a dialect is an outcome of converting to that dialect
-pub conversion_made : (dialect : Dialect) (d : Document) (new : List ℕ) → IsConverted dialect d new → IsEdited (IsDocumentConverted dialect d) new
-conversion_made dialect d new made = record { document = record { text = new; says = made.read.tells }; outcome = made; is = refl; read = made.read.read }
+pub conversion_made : (dialect : Dialect) (d : Document) (new : List ℕ) → IsConverted dialect d new
+    → IsEdited (IsDocumentConverted dialect d) new
+conversion_made dialect d new made = record {
+  document = record { text = new; says = made.read.tells };
+  outcome = made;
+  is = refl;
+  read = made.read.read;
+}
 
 -- a text with its references resolved is an outcome of `Resolve`
 pub resolution_made : (d : Document) (new : List ℕ) → IsResolvedText d new → IsEdited (IsResolvedDocument d) new
@@ -70,14 +90,16 @@ resolution_made d new made = record {
 }
 
 -- edits of a text, followed by one more edit
-pub made_more : {edits : List Edit} {edit : Edit} {text new newer : List ℕ} → AreMade edits text new → IsMade edit new newer → AreMade (edits ++ edit ∷ []) text newer
+pub made_more : {edits : List Edit} {edit : Edit} {text new newer : List ℕ} → AreMade edits text new
+    → IsMade edit new newer → AreMade (edits ++ edit ∷ []) text newer
 made_more {newer = newer} none more = next newer more none
 made_more (next between one rest) more = next between one (made_more rest more)
 
 -- a list of edits is the edits before an index, the edit at it, and those after it
 pub edits_parts : (edits : List Edit) (i : ℕ) (d : Edit) → i < length edits → edits ≡ take i edits ++ get_or edits i d ∷ drop (i + 1) edits
 edits_parts edits i d below =
-    sym (take-append-drop (i + 1) edits) ∙ ap (λ first. first ++ drop (i + 1) edits) (take_more edits i d below) ∙ append_assoc (take i edits) (get_or edits i d ∷ []) (drop (i + 1) edits)
+    sym (take-append-drop (i + 1) edits) ∙ ap (λ first. first ++ drop (i + 1) edits) (take_more edits i d below)
+    ∙ append_assoc (take i edits) (get_or edits i d ∷ []) (drop (i + 1) edits)
 
 -- before any edit, the text is unchanged
 pub first_none : (text : List ℕ) → AreFirstMade [] text text
@@ -88,26 +110,32 @@ made_read : {edit : Edit} {text new : List ℕ} → IsMade edit text new → (d 
 made_read made = (made.edited.document, record { same = sym made.edited.is; read = made.edited.read })
 
 -- one more edit after the first ones
-pub first_more : (edits : List Edit) (i : ℕ) (d : Edit) {text new between newer : List ℕ} → i < length edits → AreFirstMade (take i edits) text new → between ≡ new
+pub first_more : (edits : List Edit) (i : ℕ) (d : Edit) {text new between newer : List ℕ} → i < length edits
+    → AreFirstMade (take i edits) text new → between ≡ new
     → IsMade (get_or edits i d) between newer → AreFirstMade (take (i + 1) edits) text newer
 first_more edits i d {text} {new} {between} {newer} below first same made = record {
-  made = subst (λ es. AreMade es text newer) (sym (take_more edits i d below)) (made_more first.made (subst (λ t. IsMade (get_or edits i d) t newer) same made));
+  made =
+      subst (λ es. AreMade es text newer) (sym (take_more edits i d below))
+      (made_more first.made (subst (λ t. IsMade (get_or edits i d) t newer) same made));
   read = inr (made_read made);
 }
 
 -- a text that is a document has no error
 read_fine : {text : List ℕ} {e : ParseError} {d : Document} → IsDocumentOf text d → IsReported text e → ⊥
-read_fine {text} {e} {d} read reported = let fails = subst (λ t. IsReported t e) (sym read.same) reported in file_unread fails.fails read.read
+read_fine {text} {e} {d} read reported =
+    let fails = subst (λ t. IsReported t e) (sym read.same) reported in file_unread fails.fails read.read
 
 -- if the first edits are made and the next one is refused, then all of them are refused for that reason
-pub first_refused : (done rest : List Edit) (edit : Edit) {text new : List ℕ} (why : Refusal) → AreFirstMade done text new → IsTextRefused edit new (length done) why → AreRefused (done ++ edit ∷ rest) text why
+pub first_refused : (done rest : List Edit) (edit : Edit) {text new : List ℕ} (why : Refusal)
+    → AreFirstMade done text new → IsTextRefused edit new (length done) why → AreRefused (done ++ edit ∷ rest) text why
 first_refused done rest edit (refusal.NotUtf8 at) first refused = absurd refused
 first_refused done rest edit {text} {new} (refusal.File e) first refused =
     elim first.read as (λ _. AreRefused (done ++ edit ∷ rest) text (refusal.File e)) [
       | inl same ↦ AreRefused.file (subst (λ t. IsReported t e) same refused)
       | inr (d, read) ↦ absurd (read_fine read refused)
     ]
-first_refused done rest edit {new = new} (refusal.Added e) first refused = AreRefused.added edit done rest new refused.more refl first.made refused.adds refused.reported
+first_refused done rest edit {new = new} (refusal.Added e) first refused =
+    AreRefused.added edit done rest new refused.more refl first.made refused.adds refused.reported
 first_refused done rest edit {text} {new} (refusal.Edit at why) first refused =
     subst (λ i. AreRefused (done ++ edit ∷ rest) text (refusal.Edit i why)) (sym refused.0)
     (AreRefused.refused edit done rest new refused.1.document refl first.made refused.1.read refused.1.refused)
@@ -120,12 +148,15 @@ first_refused done rest edit {text} {new} (refusal.Unresolved at why) first refu
 first_refused done rest edit refusal.OutOfMemory first refused = AreRefused.no_memory
 
 -- the same, with the refused edit given by its index
-pub refused_at : (edits : List Edit) (i : ℕ) (d : Edit) {text new between : List ℕ} (why : Refusal) → i < length edits → AreFirstMade (take i edits) text new → between ≡ new
+pub refused_at : (edits : List Edit) (i : ℕ) (d : Edit) {text new between : List ℕ} (why : Refusal) → i < length edits
+    → AreFirstMade (take i edits) text new → between ≡ new
     → IsTextRefused (get_or edits i d) between i why → AreRefused edits text why
 refused_at edits i d {text} {new} why below first same refused =
     let count : length (take i edits) ≡ i = (let within : i ≤ length edits = omega (arith, below) in length-take-le i edits within) in
     subst (λ es. AreRefused es text why) (sym (edits_parts edits i d below))
-    (first_refused (take i edits) (drop (i + 1) edits) (get_or edits i d) why first (subst (λ n. IsTextRefused (get_or edits i d) new n why) (sym count) (subst (λ t. IsTextRefused (get_or edits i d) t i why) same refused)))
+    (first_refused (take i edits) (drop (i + 1) edits) (get_or edits i d) why first
+    (subst (λ n. IsTextRefused (get_or edits i d) new n why) (sym count)
+    (subst (λ t. IsTextRefused (get_or edits i d) t i why) same refused)))
 
 -- an error that isn't out of memory is an error of the text to be added
 adds_error : {edit : Edit} {e : ParseError} → (e.kind ≡ kind.OutOfMemory → ⊥) → AddsUnread edit e → AddsError edit e
@@ -136,47 +167,103 @@ adds_error {e = e} other adds = record {
 }
 
 -- an edit whose text to be added can't be parsed is refused, by the kind of the error
-added_refused : (edit : Edit) (text : List ℕ) (index : ℕ) (e : ParseError) (k : ParseErrorKind) → e.kind ≡ k → AddsUnread edit e → IsTextRefused edit text index (unless_no_memory k (refusal.Added e))
+added_refused : (edit : Edit) (text : List ℕ) (index : ℕ) (e : ParseError) (k : ParseErrorKind) → e.kind ≡ k
+    → AddsUnread edit e → IsTextRefused edit text index (unless_no_memory k (refusal.Added e))
 added_refused edit text index e kind.OutOfMemory is adds = tt
-added_refused edit text index e kind.UnexpectedEof is adds = adds_error (λ out. let clash : kind.UnexpectedEof ≡ kind.OutOfMemory = sym is ∙ out in cc) adds
-added_refused edit text index e (kind.Unexpected t) is adds = adds_error (λ out. let clash : kind.Unexpected t ≡ kind.OutOfMemory = sym is ∙ out in cc) adds
-added_refused edit text index e (kind.Expected t) is adds = adds_error (λ out. let clash : kind.Expected t ≡ kind.OutOfMemory = sym is ∙ out in cc) adds
-added_refused edit text index e (kind.UnknownAbbreviation n) is adds = adds_error (λ out. let clash : kind.UnknownAbbreviation n ≡ kind.OutOfMemory = sym is ∙ out in cc) adds
-added_refused edit text index e kind.MalformedCommand is adds = adds_error (λ out. let clash : kind.MalformedCommand ≡ kind.OutOfMemory = sym is ∙ out in cc) adds
-added_refused edit text index e (kind.DuplicateKey n) is adds = adds_error (λ out. let clash : kind.DuplicateKey n ≡ kind.OutOfMemory = sym is ∙ out in cc) adds
-added_refused edit text index e (kind.ResolutionError t) is adds = adds_error (λ out. let clash : kind.ResolutionError t ≡ kind.OutOfMemory = sym is ∙ out in cc) adds
-added_refused edit text index e (kind.AbbreviationCycle n) is adds = adds_error (λ out. let clash : kind.AbbreviationCycle n ≡ kind.OutOfMemory = sym is ∙ out in cc) adds
-added_refused edit text index e (kind.ReferenceCycle n) is adds = adds_error (λ out. let clash : kind.ReferenceCycle n ≡ kind.OutOfMemory = sym is ∙ out in cc) adds
+added_refused edit text index e kind.UnexpectedEof is adds =
+    adds_error (λ out. let clash : kind.UnexpectedEof ≡ kind.OutOfMemory = sym is ∙ out in cc) adds
+added_refused edit text index e (kind.Unexpected t) is adds =
+    adds_error (λ out. let clash : kind.Unexpected t ≡ kind.OutOfMemory = sym is ∙ out in cc) adds
+added_refused edit text index e (kind.Expected t) is adds =
+    adds_error (λ out. let clash : kind.Expected t ≡ kind.OutOfMemory = sym is ∙ out in cc) adds
+added_refused edit text index e (kind.UnknownAbbreviation n) is adds =
+    adds_error (λ out. let clash : kind.UnknownAbbreviation n ≡ kind.OutOfMemory = sym is ∙ out in cc) adds
+added_refused edit text index e kind.MalformedCommand is adds =
+    adds_error (λ out. let clash : kind.MalformedCommand ≡ kind.OutOfMemory = sym is ∙ out in cc) adds
+added_refused edit text index e (kind.DuplicateKey n) is adds =
+    adds_error (λ out. let clash : kind.DuplicateKey n ≡ kind.OutOfMemory = sym is ∙ out in cc) adds
+added_refused edit text index e (kind.ResolutionError t) is adds =
+    adds_error (λ out. let clash : kind.ResolutionError t ≡ kind.OutOfMemory = sym is ∙ out in cc) adds
+added_refused edit text index e (kind.AbbreviationCycle n) is adds =
+    adds_error (λ out. let clash : kind.AbbreviationCycle n ≡ kind.OutOfMemory = sym is ∙ out in cc) adds
+added_refused edit text index e (kind.ReferenceCycle n) is adds =
+    adds_error (λ out. let clash : kind.ReferenceCycle n ≡ kind.OutOfMemory = sym is ∙ out in cc) adds
 
 -- an edit that is refused, or out of memory, is refused if the error isn't out of memory
-why_refused : (edit : Edit) (d : Document) {why : EditError} → (why ≡ error.OutOfMemory → ⊥) → IsEditRefused edit d why ⊎ (why ≡ error.OutOfMemory) → IsEditRefused edit d why
+why_refused : (edit : Edit) (d : Document) {why : EditError} → (why ≡ error.OutOfMemory → ⊥)
+    → IsEditRefused edit d why ⊎ (why ≡ error.OutOfMemory) → IsEditRefused edit d why
 why_refused edit d other (inl refused) = refused
 why_refused edit d other (inr out) = absurd (other out)
 
 -- if an edit of a document is refused, the edit of its text is refused with the same error
-edit_refused : (edit : Edit) (text : List ℕ) (index : ℕ) (d : Document) (why : EditError) → IsDocumentOf text d → IsEditRefused edit d why ⊎ (why ≡ error.OutOfMemory)
+edit_refused : (edit : Edit) (text : List ℕ) (index : ℕ) (d : Document) (why : EditError) → IsDocumentOf text d
+    → IsEditRefused edit d why ⊎ (why ≡ error.OutOfMemory)
     → IsTextRefused edit text index (edit_refusal why index)
 edit_refused edit text index d error.OutOfMemory read refused = tt
-edit_refused edit text index d error.UnknownKey read refused = (refl, record { document = d; read = read; refused = why_refused edit d (λ out. let clash : error.UnknownKey ≡ error.OutOfMemory = out in cc) refused })
-edit_refused edit text index d error.KeyIsThere read refused = (refl, record { document = d; read = read; refused = why_refused edit d (λ out. let clash : error.KeyIsThere ≡ error.OutOfMemory = out in cc) refused })
-edit_refused edit text index d error.NotAKey read refused = (refl, record { document = d; read = read; refused = why_refused edit d (λ out. let clash : error.NotAKey ≡ error.OutOfMemory = out in cc) refused })
-edit_refused edit text index d error.NotAName read refused = (refl, record { document = d; read = read; refused = why_refused edit d (λ out. let clash : error.NotAName ≡ error.OutOfMemory = out in cc) refused })
-edit_refused edit text index d error.NotInBraces read refused = (refl, record { document = d; read = read; refused = why_refused edit d (λ out. let clash : error.NotInBraces ≡ error.OutOfMemory = out in cc) refused })
+edit_refused edit text index d error.UnknownKey read refused = (
+  refl,
+  record {
+    document = d;
+    read = read;
+    refused = why_refused edit d (λ out. let clash : error.UnknownKey ≡ error.OutOfMemory = out in cc) refused;
+  },
+)
+edit_refused edit text index d error.KeyIsThere read refused = (
+  refl,
+  record {
+    document = d;
+    read = read;
+    refused = why_refused edit d (λ out. let clash : error.KeyIsThere ≡ error.OutOfMemory = out in cc) refused;
+  },
+)
+edit_refused edit text index d error.NotAKey read refused = (
+  refl,
+  record {
+    document = d;
+    read = read;
+    refused = why_refused edit d (λ out. let clash : error.NotAKey ≡ error.OutOfMemory = out in cc) refused;
+  },
+)
+edit_refused edit text index d error.NotAName read refused = (
+  refl,
+  record {
+    document = d;
+    read = read;
+    refused = why_refused edit d (λ out. let clash : error.NotAName ≡ error.OutOfMemory = out in cc) refused;
+  },
+)
+edit_refused edit text index d error.NotInBraces read refused = (
+  refl,
+  record {
+    document = d;
+    read = read;
+    refused = why_refused edit d (λ out. let clash : error.NotInBraces ≡ error.OutOfMemory = out in cc) refused;
+  },
+)
 
 -- the same for an edit that can't resolve references
-unresolved_at : (edit : Edit) (text : List ℕ) (index : ℕ) (d : Document) (why : ResolveError) → IsDocumentOf text d → IsUnresolved edit d why → IsTextRefused edit text index (unresolved_refusal why index)
+unresolved_at : (edit : Edit) (text : List ℕ) (index : ℕ) (d : Document) (why : ResolveError) → IsDocumentOf text d
+    → IsUnresolved edit d why → IsTextRefused edit text index (unresolved_refusal why index)
 unresolved_at edit text index d (resolve_error.File e) read refused = (refl, record { document = d; read = read; refused = refused })
-unresolved_at edit text index d (resolve_error.Differs entry name) read refused = (refl, record { document = d; read = read; refused = refused })
+unresolved_at edit text index d (resolve_error.Differs entry name) read refused =
+    (refl, record { document = d; read = read; refused = refused })
 unresolved_at edit text index d resolve_error.Unlike read refused = (refl, record { document = d; read = read; refused = refused })
 unresolved_at edit text index d resolve_error.OutOfMemory read refused = tt
 
 -- if an edit of a document fails with a step, the edit of its text is refused with the refusal of that step
-pub step_refused : (edit : Edit) (text : List ℕ) (index : ℕ) (d : Document) (s : Step) → IsDocumentOf text d → StepIsRefused edit d s → IsTextRefused edit text index (refusal_at s index)
+pub step_refused : (edit : Edit) (text : List ℕ) (index : ℕ) (d : Document) (s : Step) → IsDocumentOf text d
+    → StepIsRefused edit d s → IsTextRefused edit text index (refusal_at s index)
 step_refused edit text index d (step.Added e) read refused = added_refused edit text index e e.kind refl refused
 step_refused edit text index d (step.Refused why) read refused = edit_refused edit text index d why read refused
 step_refused edit text index d (step.Cycle definition) read refused = (refl, record { document = d; read = read; meets = refused })
 step_refused edit text index d (step.Unresolved why) read refused = unresolved_at edit text index d why read refused
 
 -- adding the document of a text is adding the text
-pub adds_made : {d : Document} {text new : List ℕ} (more : Document) → IsDocumentOf text more → IsEdited (EntriesAdded d more) new → IsEdited (TextAdded d text) new
-adds_made more read made = record { document = made.document; outcome = record { more = more; read = read; added = made.outcome }; is = made.is; read = made.read }
+pub adds_made : {d : Document} {text new : List ℕ} (more : Document) → IsDocumentOf text more
+    → IsEdited (EntriesAdded d more) new → IsEdited (TextAdded d text) new
+adds_made more read made = record {
+  document = made.document;
+  outcome = record { more = more; read = read; added = made.outcome };
+  is = made.is;
+  read = made.read;
+}

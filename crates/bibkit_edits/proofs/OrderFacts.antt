@@ -13,7 +13,8 @@ length_after : (words : List ℕ) → length (after_last is_word_space words) �
 length_after words = omega (arith, length-drop (length words - suffix_len no_space words) words, suffix_len-le-length no_space words)
 
 -- directly after a space, the last word is empty
-pub after_space : (words : List ℕ) (i : ℕ) → i < length words → is_word_space (get_or words i 0) ≡ true → length (after_last is_word_space (take (i + 1) words)) ≡ 0
+pub after_space : (words : List ℕ) (i : ℕ) → i < length words → is_word_space (get_or words i 0) ≡ true
+    → length (after_last is_word_space (take (i + 1) words)) ≡ 0
 after_space words i within is =
     length_after (take (i + 1) words) ∙ suffix_len-take_no no_space words (i + 1) 0 (omega arith) (omega (arith, within))
     (let at : i + 1 - 1 ≡ i = omega arith in ap (λ n. no_space (get_or words n 0)) at ∙ ap not is)
@@ -24,11 +25,13 @@ pub after_letter : (words : List ℕ) (i : ℕ) → i < length words → is_word
 after_letter words i within isnt =
     let at : i + 1 - 1 ≡ i = omega arith in
     let more : suffix_len no_space (take (i + 1) words) ≡ 1 + suffix_len no_space (take (i + 1 - 1) words) =
-    suffix_len-take_yes no_space words (i + 1) 0 (omega arith) (omega (arith, within)) (ap (λ n. no_space (get_or words n 0)) at ∙ ap not isnt) in
+    suffix_len-take_yes no_space words (i + 1) 0 (omega arith) (omega (arith, within))
+    (ap (λ n. no_space (get_or words n 0)) at ∙ ap not isnt) in
     omega (arith, length_after (take (i + 1) words), length_after (take i words), more, ap (λ n. suffix_len no_space (take n words)) at)
 
 -- dropping the bytes before the last word leaves the last word
-pub after_last_drop : (words : List ℕ) → drop (length words - length (after_last is_word_space words)) words ≡ after_last is_word_space words
+pub after_last_drop : (words : List ℕ)
+    → drop (length words - length (after_last is_word_space words)) words ≡ after_last is_word_space words
 after_last_drop words = ap (λ n. drop (length words - n) words) (length_after words)
 
 pub slice_from_start : (text : List ℕ) (end : ℕ) → slice_range text 0 end ≡ take end text

@@ -99,7 +99,8 @@ pub record IsMade (edit : Edit) (text new : List ℕ) : Type 0 where
 -- the last text is the first one after these edits, each of the text after the previous one
 pub data AreMade : List Edit → List ℕ → List ℕ → Type 0 where
   none : {text : List ℕ} → AreMade [] text text
-  next : {edit : Edit} {rest : List Edit} {text new : List ℕ} (between : List ℕ) → IsMade edit text between → AreMade rest between new → AreMade (edit ∷ rest) text new
+  next : {edit : Edit} {rest : List Edit} {text new : List ℕ} (between : List ℕ) → IsMade edit text between
+      → AreMade rest between new → AreMade (edit ∷ rest) text new
 
 -- adding `text`, which is a document, to the document `d` may be refused with the error `why`
 pub record TextIsRefused (d : Document) (text : List ℕ) (why : EditError) : Type 0 where
@@ -172,13 +173,17 @@ AddsText (Format style) added = ⊥
 -- memory. An index counts the edits before the refused one.
 pub data AreRefused (edits : List Edit) (text : List ℕ) : Refusal → Type 0 where
   file : {e : ParseError} → IsReported text e → AreRefused edits text (refusal.File e)
-  added : {e : ParseError} (edit : Edit) (done rest : List Edit) (between more : List ℕ) → edits ≡ done ++ edit ∷ rest → AreMade done text between → AddsText edit more → IsReported more e
+  added : {e : ParseError} (edit : Edit) (done rest : List Edit) (between more : List ℕ) → edits ≡ done ++ edit ∷ rest
+      → AreMade done text between → AddsText edit more → IsReported more e
       → AreRefused edits text (refusal.Added e)
-  refused : {why : EditError} (edit : Edit) (done rest : List Edit) (between : List ℕ) (d : Document) → edits ≡ done ++ edit ∷ rest → AreMade done text between → IsDocumentOf between d
+  refused : {why : EditError} (edit : Edit) (done rest : List Edit) (between : List ℕ) (d : Document)
+      → edits ≡ done ++ edit ∷ rest → AreMade done text between → IsDocumentOf between d
       → IsEditRefused edit d why → AreRefused edits text (refusal.Edit (length done) why)
-  cycle : {definition : ℕ} (edit : Edit) (done rest : List Edit) (between : List ℕ) (d : Document) → edits ≡ done ++ edit ∷ rest → AreMade done text between → IsDocumentOf between d
+  cycle : {definition : ℕ} (edit : Edit) (done rest : List Edit) (between : List ℕ) (d : Document)
+      → edits ≡ done ++ edit ∷ rest → AreMade done text between → IsDocumentOf between d
       → MeetsCycle edit d definition → AreRefused edits text (refusal.Cycle (length done) definition)
-  unresolved : {why : ResolveError} (edit : Edit) (done rest : List Edit) (between : List ℕ) (d : Document) → edits ≡ done ++ edit ∷ rest → AreMade done text between → IsDocumentOf between d
+  unresolved : {why : ResolveError} (edit : Edit) (done rest : List Edit) (between : List ℕ) (d : Document)
+      → edits ≡ done ++ edit ∷ rest → AreMade done text between → IsDocumentOf between d
       → IsUnresolved edit d why → AreRefused edits text (refusal.Unresolved (length done) why)
   no_memory : AreRefused edits text refusal.OutOfMemory
 
@@ -197,5 +202,6 @@ pub record IsFileMade (edits : List Edit) (bytes new : List ℕ) : Type 0 where
 -- the refusals of edits of a file: its bytes aren't UTF-8, or the edits of its text are refused, or out of memory
 pub data IsFileRefused (edits : List Edit) (bytes : List ℕ) : Refusal → Type 0 where
   not_utf8 : {at : ℕ} → IsFirstInvalid bytes at → IsFileRefused edits bytes (refusal.NotUtf8 at)
-  text : {why : Refusal} → IsUtf8 (without_byte_order_mark bytes) → AreRefused edits (without_byte_order_mark bytes) why → IsFileRefused edits bytes why
+  text : {why : Refusal} → IsUtf8 (without_byte_order_mark bytes) → AreRefused edits (without_byte_order_mark bytes) why
+      → IsFileRefused edits bytes why
   no_memory : IsFileRefused edits bytes refusal.OutOfMemory

@@ -17,7 +17,8 @@ pub record HasPrintedEdited {K : Type 0} (taken : K → Option (List ℕ)) (edit
   pub printed : Appends (taken old) (taken new) text
 
 -- the output refuses the result of edits of a file's bytes, in a single call
-pub record IsNotTaken {K : Type 0} (hands_over : K → List ℕ → Bool → K → Type 0) (edits : List Edit) (bytes : List ℕ) (old new : K) : Type 0 where
+pub record IsNotTaken {K : Type 0} (hands_over : K → List ℕ → Bool → K → Type 0) (edits : List Edit) (bytes : List ℕ)
+    (old new : K) : Type 0 where
   pub text : List ℕ
   pub made : IsFileMade edits bytes text
   pub handed : hands_over old text false new
@@ -34,7 +35,8 @@ IsNotPrinted hands_over edits bytes old new (unprinted.Refused why) = IsRefusedU
 IsNotPrinted hands_over edits bytes old new unprinted.NotTaken = IsNotTaken hands_over edits bytes old new
 
 -- the output takes the diff from a file's bytes to the result of edits; `differs` says whether the diff isn't empty
-pub record HasPrintedDifference {K : Type 0} (taken : K → Option (List ℕ)) (name : List ℕ) (edits : List Edit) (bytes : List ℕ) (differs : Bool) (old new : K) : Type 0 where
+pub record HasPrintedDifference {K : Type 0} (taken : K → Option (List ℕ)) (name : List ℕ) (edits : List Edit)
+    (bytes : List ℕ) (differs : Bool) (old new : K) : Type 0 where
   pub text : List ℕ
   pub made : IsFileMade edits bytes text
   pub diff : List ℕ
@@ -43,7 +45,8 @@ pub record HasPrintedDifference {K : Type 0} (taken : K → Option (List ℕ)) (
   pub printed : Appends (taken old) (taken new) diff
 
 -- the output refuses the diff from a file's bytes to the result of edits, in a single call
-pub record IsDifferenceNotTaken {K : Type 0} (hands_over : K → List ℕ → Bool → K → Type 0) (name : List ℕ) (edits : List Edit) (bytes : List ℕ) (old new : K) : Type 0 where
+pub record IsDifferenceNotTaken {K : Type 0} (hands_over : K → List ℕ → Bool → K → Type 0) (name : List ℕ)
+    (edits : List Edit) (bytes : List ℕ) (old new : K) : Type 0 where
   pub text : List ℕ
   pub made : IsFileMade edits bytes text
   pub diff : List ℕ
@@ -51,7 +54,8 @@ pub record IsDifferenceNotTaken {K : Type 0} (hands_over : K → List ℕ → Bo
   pub handed : hands_over old diff false new
 
 -- the errors of printing a diff: the edits are refused, and the output is unchanged; or the output refuses the diff
-abbrev pub IsDifferenceNotPrinted : {K : Type 0} → (K → List ℕ → Bool → K → Type 0) → List ℕ → List Edit → List ℕ → K → K → Unprinted → Type 0
+abbrev pub IsDifferenceNotPrinted : {K : Type 0} → (K → List ℕ → Bool → K → Type 0) → List ℕ → List Edit → List ℕ → K
+    → K → Unprinted → Type 0
 IsDifferenceNotPrinted hands_over name edits bytes old new (unprinted.Refused why) = IsRefusedUnprinted edits bytes why old new
 IsDifferenceNotPrinted hands_over name edits bytes old new unprinted.NotTaken = IsDifferenceNotTaken hands_over name edits bytes old new
 

@@ -23,7 +23,16 @@ width_of number = if number == 0 then None else Some number
 -- settings of which none is set
 abbrev pub no_style_settings : StyleSettings
 no_style_settings =
-    record { indent = None; aligned = None; trailing_comma = None; blank_lines = None; delimiters = None; order = None; width = None; sort = None }
+    record {
+      indent = None;
+      aligned = None;
+      trailing_comma = None;
+      blank_lines = None;
+      delimiters = None;
+      order = None;
+      width = None;
+      sort = None;
+    }
 
 -- the settings `given` on the command line, with those of the project for each that isn't set
 abbrev pub over_project : StyleSettings → StyleSettings → StyleSettings

@@ -43,25 +43,30 @@ no_cycle own all index within leads = none leads
     none {a} (Leads.more holds rest) = nothing_in (no_row (names_of own) own a all) holds
 
 -- no entry that lacks a required date refers to a bad date, if no entry has references
-pub no_dates : (own : List Entry) (values : List EntryTexts) → AllByRecursion RefersToNothing own → AreDatesRead (texts_of_entries own) (graph_of own) values
-no_dates own values all index = rw (no_row (names_of own) own index all) (and-false (looks_for_date (at_index (texts_of_entries own) index)))
+pub no_dates : (own : List Entry) (values : List EntryTexts) → AllByRecursion RefersToNothing own
+    → AreDatesRead (texts_of_entries own) (graph_of own) values
+no_dates own values all index =
+    rw (no_row (names_of own) own index all) (and-false (looks_for_date (at_index (texts_of_entries own) index)))
 
 rows_length : (names : ByText ℕ) (own : List Entry) → length (graph_by names own) ≡ length own
 rows_length names [] = refl
 rows_length names (e ∷ own) = ap suc (rows_length names own)
 
 -- the value at an index is the own entry after inheriting from nothing
-own_value : (own : List Entry) (values : List EntryTexts) (index : ℕ) → AllByRecursion RefersToNothing own → Inherits (texts_of_entries own) (graph_of own) values → index < length own
+own_value : (own : List Entry) (values : List EntryTexts) (index : ℕ) → AllByRecursion RefersToNothing own
+    → Inherits (texts_of_entries own) (graph_of own) values → index < length own
     → at_index values index ≡ inherited (at_index (texts_of_entries own) index) []
 own_value own values index all inherits within =
     inherits.each index (subst (λ n. index < n) (sym (rows_length (names_of own) own)) within)
-    ∙ ap (λ refs. inherited (at_index (texts_of_entries own) index) (map (λ r. slice_index_or values r no_entry) refs)) (no_row (names_of own) own index all)
+    ∙ ap (λ refs. inherited (at_index (texts_of_entries own) index) (map (λ r. slice_index_or values r no_entry) refs))
+    (no_row (names_of own) own index all)
 
 bytes_same : (one two : List ℕ) → bytes_eq one two ≡ true → one ≡ two
 bytes_same one two same = (bytes_eq-Decides one two).0 same
 
 -- without references, each field of an entry without `xdata` is its own
-plain_alone : (own : List ℕ → Option (List Atom)) (name : List ℕ) → own (codes "xdata") ≡ None → plain_field own (λ name. None) name ≡ own name
+plain_alone : (own : List ℕ → Option (List Atom)) (name : List ℕ) → own (codes "xdata") ≡ None
+    → plain_field own (λ name. None) name ≡ own name
 plain_alone own name none =
     elim (cases_Bool (bytes_eq name (codes "xdata"))) [
       | inl is ↦ rw is (sym (ap own (bytes_same name (codes "xdata") is) ∙ none))
@@ -97,7 +102,10 @@ as_written own entry none same = record {
 
 -- entries whose values are the own entries after inheriting from nothing have the types and styled texts of these
 all_as_written : (own entries : List Entry) → AllByRecursion RefersToNothing own → length entries ≡ length own
-    → ((index : ℕ) → index < length own → at_index (texts_of_entries entries) index ≡ inherited (at_index (texts_of_entries own) index) []) → AllZip IsAsWritten own entries
+    →
+    ((index : ℕ) → index < length own
+    → at_index (texts_of_entries entries) index ≡ inherited (at_index (texts_of_entries own) index) [])
+    → AllZip IsAsWritten own entries
 all_as_written [] [] all size each = tt
 all_as_written [] (e ∷ entries) all size each = absurd (omega (arith, size))
 all_as_written (o ∷ own) [] all size each = absurd (omega (arith, size))
@@ -111,7 +119,8 @@ length-map f [] = refl
 length-map f (x ∷ xs) = ap suc (length-map f xs)
 
 -- if no entry refers to another, the entries of a solution have the types and styled texts of the own entries
-pub entries_as_written : (own entries : List Entry) → AllByRecursion RefersToNothing own → Inherits (texts_of_entries own) (graph_of own) (texts_of_entries entries) → AllZip IsAsWritten own entries
+pub entries_as_written : (own entries : List Entry) → AllByRecursion RefersToNothing own
+    → Inherits (texts_of_entries own) (graph_of own) (texts_of_entries entries) → AllZip IsAsWritten own entries
 entries_as_written own entries all inherits =
     all_as_written own entries all
     (sym (length-map texts_of_entry entries) ∙ inherits.same_length ∙ rows_length (names_of own) own)

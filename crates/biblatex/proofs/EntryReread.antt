@@ -76,27 +76,56 @@ identifier_plainly {name} {u} {v} i stands =
     }
 
 -- neither white space nor a percent sign occurs where lines begin that a closing brace follows
-lines_plainly : (ls : List Line) {u w x : Place} → AllByRecursion IsLine ls → Stands u (flat_map line_text ls) w → CharAt w 125 x → Plainly u
-lines_plainly [] {u} {w} {x} all stands closes = record { char = 125; next = x; here = subst (λ p. CharAt p 125 x) (stands_none stands) closes; dark = refl; plain = refl }
+lines_plainly : (ls : List Line) {u w x : Place} → AllByRecursion IsLine ls → Stands u (flat_map line_text ls) w
+    → CharAt w 125 x → Plainly u
+lines_plainly [] {u} {w} {x} all stands closes = record {
+  char = 125;
+  next = x;
+  here = subst (λ p. CharAt p 125 x) (stands_none stands) closes;
+  dark = refl;
+  plain = refl;
+}
 lines_plainly (l ∷ ls) all stands closes =
     let one = stands_split (line_text l) (flat_map line_text ls) stands in
-    identifier_plainly all.0.identifier (stands_split l.0 (codes " = " ++ (encode_utf8_all (123 ∷ (l.1 ++ 125 ∷ [])) ++ codes ",\n")) one.1).1
+    identifier_plainly all.0.identifier
+    (stands_split l.0 (codes " = " ++ (encode_utf8_all (123 ∷ (l.1 ++ 125 ∷ [])) ++ codes ",\n")) one.1).1
 
 -- a line feed is a gap if neither white space nor a comment follows
 gap_feed : {u v : Place} → CharAt u 10 v → Plainly v → Gap longest u v
-gap_feed feed following = Gap.white (record { run = step feed refl stop; stops = stops_at is_whitespace following.here following.dark }) (stops_at (λ c. c == 37) following.here following.plain)
+gap_feed feed following =
+    Gap.white (record { run = step feed refl stop; stops = stops_at is_whitespace following.here following.dark })
+    (stops_at (λ c. c == 37) following.here following.plain)
 
 -- lines followed by a closing brace are parsed as raw fields with their names and values
-pub fields_read : (ls : List Line) {u w x : Place} → AllByRecursion IsLine ls → IsUtf8 (drop u.at u.text) → Stands u (flat_map line_text ls) w → CharAt w 125 x → (fs : List FieldReading) × Fields longest u fs w × SayLines ls fs × IsUtf8 (drop w.at w.text)
-fields_read [] {u} {w} {x} all utf8 stands closes = ([], subst (λ p. Fields longest p [] w) (stands_none stands) (Fields.none (no_white closes refl)), tt, subst (λ p. IsUtf8 (drop p.at p.text)) (sym (stands_none stands)) utf8)
+pub fields_read : (ls : List Line) {u w x : Place} → AllByRecursion IsLine ls → IsUtf8 (drop u.at u.text)
+    → Stands u (flat_map line_text ls) w → CharAt w 125 x
+    → (fs : List FieldReading) × Fields longest u fs w × SayLines ls fs × IsUtf8 (drop w.at w.text)
+fields_read [] {u} {w} {x} all utf8 stands closes = (
+  [],
+  subst (λ p. Fields longest p [] w) (stands_none stands) (Fields.none (no_white closes refl)),
+  tt,
+  subst (λ p. IsUtf8 (drop p.at p.text)) (sym (stands_none stands)) utf8,
+)
 fields_read (l ∷ ls) {u} {w} all utf8 stands closes =
     let cut = stands_split (line_text l) (flat_map line_text ls) stands in
     let one : FieldRead l.0 l.1 u cut.0 = field_read l.0 l.1 all.0.identifier.1 all.0.parts cut.1 in
     let texts = one.utf8 utf8 in
     let more = fields_read ls all.1 texts.1 cut.2 closes in
     let before_comma : Gap longest one.end one.end = Gap.white (no_white one.comma refl) (stops_at (λ c. c == 37) one.comma refl) in
-    let said : SaysLine l one.says = record { name = one.named; inside = one.inside; following = one.following; pieces = one.pieces; spells = one.spells; utf8 = texts.0 } in
-    (one.says ∷ more.0, Fields.more one.field before_comma one.comma (gap_feed one.feed (lines_plainly ls all.1 cut.2 closes)) more.1, (said, more.2), more.3)
+    let said : SaysLine l one.says =
+    record {
+      name = one.named;
+      inside = one.inside;
+      following = one.following;
+      pieces = one.pieces;
+      spells = one.spells;
+      utf8 = texts.0;
+    } in (
+      one.says ∷ more.0,
+      Fields.more one.field before_comma one.comma (gap_feed one.feed (lines_plainly ls all.1 cut.2 closes)) more.1,
+      (said, more.2),
+      more.3,
+    )
 
 -- the parts of an entry in the output: the name of its type, its key and its lines
 pub record Written : Type 0 where
@@ -129,7 +158,8 @@ key_first (step {c = c} char passes rest) comma = stops_at is_whitespace char (k
 key_stands : {key : List ℕ} {u v : Place} → Stands u key v → Run is_key (place key 0) (place key (length key)) → Run is_key u v
 key_stands {key} {u} {v} stands run =
     let first : moved u (place key 0) ≡ u = same_place {u = moved u (place key 0)} {v = u} refl (omega arith) in
-    let last : moved u (place key (length key)) ≡ v = same_place {u = moved u (place key (length key))} {v = v} (sym stands.same) (sym stands.next) in
+    let last : moved u (place key (length key)) ≡ v =
+    same_place {u = moved u (place key (length key))} {v = v} (sym stands.same) (sym stands.next) in
     subst (λ p. Run is_key p v) first (subst (λ p. Run is_key (moved u (place key 0)) p) last (run_moved stands refl run))
 
 -- the result of parsing an entry as a block
@@ -155,7 +185,10 @@ block_read e {u} {w} right utf8 stands =
     let closes : CharAt h.0 125 w = subst (λ q. CharAt h.0 125 q) (sym (stands_none i.2)) i.1 in
     let key : Run is_key c.0 d.0 = key_stands d.1 right.key in
     let name : Identifier longest a.0 (part a.0 b.0) b.0 = identifier_stands b.1 right.kind.1 (stops_at is_id_continue c.1 refl) in
-    let start : IsUtf8 (drop g.0.at g.0.text) = utf8_char g.1 (utf8_char f.1 (utf8_run key (utf8_char c.1 (utf8_run name.rest.run (utf8_char name.here (utf8_char a.1 utf8)))))) in
+    let start : IsUtf8 (drop g.0.at g.0.text) =
+    utf8_char g.1
+    (utf8_char f.1
+    (utf8_run key (utf8_char c.1 (utf8_run name.rest.run (utf8_char name.here (utf8_char a.1 utf8)))))) in
     let fields = fields_read e.lines right.lines start h.1 closes in
     let kind : Part = part a.0 b.0 in
     let kind_is : kind.text ≡ e.kind = stands_between b.1 in
@@ -174,14 +207,17 @@ block_read e {u} {w} right utf8 stands =
       white' = record { run = stop; stops = key_first key f.1 };
     } in
     let body : Body longest u kind (block_kind (codes "misc")) c.0 (record { preamble = []; entries = said ∷ []; abbreviations = [] }) w =
-    Body.entry d.0 (record { run = key; stops = stops_at is_key f.1 refl }) (no_white f.1 refl) f.1 (gap_feed g.1 (lines_plainly e.lines right.lines h.1 closes)) fields.1 closes in
+    Body.entry d.0 (record { run = key; stops = stops_at is_key f.1 refl }) (no_white f.1 refl) f.1
+    (gap_feed g.1 (lines_plainly e.lines right.lines h.1 closes)) fields.1 closes in
     record {
       said = said;
       block = record {
         inside = c.0;
         kind = kind;
         head = head;
-        body = subst (λ k. Body longest u kind k c.0 (record { preamble = []; entries = said ∷ []; abbreviations = [] }) w) (sym (ap block_kind kind_is ∙ right.entry)) body;
+        body =
+            subst (λ k. Body longest u kind k c.0 (record { preamble = []; entries = said ∷ []; abbreviations = [] }) w)
+            (sym (ap block_kind kind_is ∙ right.entry)) body;
       };
       says = record { kind = kind_is; key = stands_between d.1; lines = fields.2 };
       utf8 = utf8_char closes fields.3;
@@ -207,7 +243,8 @@ pub record FileAgain (es : List Written) (u : Place) : Type 0 where
   pub says : SayEntries es said
 
 -- the bytes of entries are parsed as a file with one raw entry for each
-pub file_again : (es : List Written) {u w : Place} → AllByRecursion IsWritten es → IsUtf8 (drop u.at u.text) → Stands u (file_bytes es) w → AtEnd w → FileAgain es u
+pub file_again : (es : List Written) {u w : Place} → AllByRecursion IsWritten es → IsUtf8 (drop u.at u.text)
+    → Stands u (file_bytes es) w → AtEnd w → FileAgain es u
 unfolding encode
 file_again [] {u} {w} all utf8 stands end = record { said = []; file = File.end (subst (λ p. AtEnd p) (stands_none stands) end); says = tt }
 file_again (e ∷ []) {u} {w} all utf8 stands end =

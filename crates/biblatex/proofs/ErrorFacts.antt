@@ -27,7 +27,12 @@ error_at_index e said = e ≡ record { span = record { start = said.start; end =
 cycle_same : (says : FileReading) (index : ℕ) (e f : ParseError) → IsCycleError says index e → IsCycleError says index f → e ≡ f
 cycle_same says index e f one other =
     let same : one.said ≡ other.said = is (sym one.there ∙ other.there) in
-    one.is ∙ ap (λ (said : EntryReading). (let error : ParseError = record { span = record { start = said.start; end = said.end }; kind = ReferenceCycle said.key.text } in error)) same ∙ sym other.is
+    one.is
+    ∙ ap
+    (λ (said : EntryReading).
+    (let error : ParseError =
+    record { span = record { start = said.start; end = said.end }; kind = ReferenceCycle said.key.text } in
+    error)) same ∙ sym other.is
   where
     is : {A : Type 0} {x y : A} → Some x ≡ Some y → x ≡ y
     is e = cc
@@ -38,13 +43,18 @@ file_error_same says (IsFirstErrorOf.entry one) (IsFirstErrorOf.entry other) = i
 file_error_same says (IsFirstErrorOf.entry one) (IsFirstErrorOf.cycle are first is) = absurd (no_entries one are)
 file_error_same says (IsFirstErrorOf.entry one) (IsFirstErrorOf.date are none solves looks earlier is) = absurd (no_entries one are)
 file_error_same says (IsFirstErrorOf.cycle are first is) (IsFirstErrorOf.entry other) = absurd (no_entries other are)
-file_error_same says {e} {f} (IsFirstErrorOf.cycle {index = a} are first is) (IsFirstErrorOf.cycle {own = own} {index = b} are' first' is') =
+file_error_same says {e} {f} (IsFirstErrorOf.cycle {index = a} are first is)
+    (IsFirstErrorOf.cycle {own = own} {index = b} are' first' is') =
     let same : a ≡ b = first_same (graph_of own) a b (subst (λ g. IsFirstOnCycle g a) (graph_same says are are') first) first' in
     inl (inl (cycle_same says b e f (subst (λ p. IsCycleError says p e) same is) is'))
 file_error_same says (IsFirstErrorOf.cycle {index = a} are first is) (IsFirstErrorOf.date {own = own} are' none solves looks earlier is') =
-    absurd (none a (subst (λ g. IsFirstOnCycle g a) (graph_same says are are') first).within (subst (λ g. IsFirstOnCycle g a) (graph_same says are are') first).cycle)
+    absurd
+    (none a (subst (λ g. IsFirstOnCycle g a) (graph_same says are are') first).within
+    (subst (λ g. IsFirstOnCycle g a) (graph_same says are are') first).cycle)
 file_error_same says (IsFirstErrorOf.date are none solves looks earlier is) (IsFirstErrorOf.entry other) = absurd (no_entries other are)
 file_error_same says (IsFirstErrorOf.date {own = own} are none solves looks earlier is) (IsFirstErrorOf.cycle {index = b} are' first' is') =
-    absurd (none b (subst (λ g. IsFirstOnCycle g b) (graph_same says are' are) first').within (subst (λ g. IsFirstOnCycle g b) (graph_same says are' are) first').cycle)
+    absurd
+    (none b (subst (λ g. IsFirstOnCycle g b) (graph_same says are' are) first').within
+    (subst (λ g. IsFirstOnCycle g b) (graph_same says are' are) first').cycle)
 file_error_same says (IsFirstErrorOf.date are none solves looks earlier is) (IsFirstErrorOf.date are' none' solves' looks' earlier' is') =
     inr (record { kind = is.kind; is = is.is; of_dates = is.of_dates }, record { kind = is'.kind; is = is'.is; of_dates = is'.of_dates })

@@ -17,10 +17,13 @@ use Rattle.biblatex.proofs.StandsFacts.{Stands, stands_none, stands_split, stand
 use Rattle.biblatex.proofs.WrittenParts.{Spells, spells_split}
 
 -- an identifier that occurs at a place is parsed there as the longest one
-pub identifier_stands : {name : List ℕ} {u v : Place} {p : Part} → Stands u name v → Identifier any (place name 0) p (place name (length name)) → Stops is_id_continue v → Identifier longest u (part u v) v
+pub identifier_stands : {name : List ℕ} {u v : Place} {p : Part} → Stands u name v
+    → Identifier any (place name 0) p (place name (length name)) → Stops is_id_continue v
+    → Identifier longest u (part u v) v
 identifier_stands {name} {u} {v} stands i stops =
     let first : moved u (place name 0) ≡ u = same_place {u = moved u (place name 0)} {v = u} refl (omega arith) in
-    let last : moved u (place name (length name)) ≡ v = same_place {u = moved u (place name (length name))} {v = v} (sym stands.same) (sym stands.next) in
+    let last : moved u (place name (length name)) ≡ v =
+    same_place {u = moved u (place name (length name))} {v = v} (sym stands.same) (sym stands.next) in
     let here : CharAt (moved u (place name 0)) i.first (moved u i.second) = char_moved stands refl i.here in
     let run : Run is_id_continue (moved u i.second) (moved u (place name (length name))) = run_moved stands i.here.same i.rest in
     record {
@@ -53,7 +56,8 @@ pub record FieldRead (name value : List ℕ) (u w : Place) : Type 0 where
   pub utf8 : IsUtf8 (drop u.at u.text) → IsUtf8 (encode_utf8_all value) × IsUtf8 (drop w.at w.text)
 
 -- the bytes of a line are parsed as a raw field
-pub field_read : (name value : List ℕ) {p : Part} {u w : Place} → Identifier any (place name 0) p (place name (length name)) → ((x y : Place) → Spells x value y → Parts x y)
+pub field_read : (name value : List ℕ) {p : Part} {u w : Place}
+    → Identifier any (place name 0) p (place name (length name)) → ((x y : Place) → Spells x value y → Parts x y)
     → Stands u (name ++ (codes " = " ++ (encode_utf8_all (123 ∷ (value ++ 125 ∷ [])) ++ codes ",\n"))) w → FieldRead name value u w
 unfolding encode
 field_read name value {p} {u} {w} identifier parts stands =
@@ -69,7 +73,15 @@ field_read name value {p} {u} {w} identifier parts stands =
     let j = stands_char 10 [] i.2 in
     let closes : CharAt g.0 125 e.0 = subst (λ q. CharAt g.0 125 q) (sym (stands_none h.2)) h.1 in
     let feed : CharAt i.0 10 w = subst (λ q. CharAt i.0 10 q) (sym (stands_none j.2)) j.1 in
-    let braced : Braced d.0 (part f.0 g.0) e.0 = record { inside = f.0; following = g.0; opens = f.1; parts = parts f.0 g.0 g.1; closes = closes; reading = refl } in
+    let braced : Braced d.0 (part f.0 g.0) e.0 =
+    record {
+      inside = f.0;
+      following = g.0;
+      opens = f.1;
+      parts = parts f.0 g.0 g.1;
+      closes = closes;
+      reading = refl;
+    } in
     let elements : Elements longest d.0 (literal (part f.0 g.0) ∷ []) e.0 =
     Elements.last (Element.braced braced) (no_white i.1 refl) (stops_at (λ k. k == 35) i.1 refl) in
     let name_read : Identifier longest u (part u a.0) a.0 = identifier_stands a.1 identifier (stops_at is_id_continue b.1 refl) in
@@ -99,7 +111,10 @@ field_read name value {p} {u} {w} identifier parts stands =
       pieces = refl;
       spells = g.1;
       utf8 = λ utf8.
-          let value_start : IsUtf8 (drop f.0.at f.0.text) = utf8_char f.1 (utf8_char d.1 (utf8_char c.1 (utf8_char b.1 (utf8_run name_read.rest.run (utf8_char name_read.here utf8))))) in
+          let value_start : IsUtf8 (drop f.0.at f.0.text) =
+          utf8_char f.1
+          (utf8_char d.1
+          (utf8_char c.1 (utf8_char b.1 (utf8_run name_read.rest.run (utf8_char name_read.here utf8))))) in
           let inside = utf8_spells value g.1 value_start in
           (inside.0, utf8_char feed (utf8_char i.1 (utf8_char closes inside.1)));
     }

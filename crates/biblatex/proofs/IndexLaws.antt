@@ -38,7 +38,8 @@ get_one x y zero found = (refl, cc)
 get_one x y (suc i) found = cc
 
 -- an element of a list with one more at the end is an old one or the added one
-get_cases : {A : Type 0} (xs : List A) (x y : A) (i : ℕ) → slice_get (xs ++ x ∷ []) i ≡ Some y → (slice_get xs i ≡ Some y) ⊎ ((i ≡ length xs) × (x ≡ y))
+get_cases : {A : Type 0} (xs : List A) (x y : A) (i : ℕ) → slice_get (xs ++ x ∷ []) i ≡ Some y
+    → (slice_get xs i ≡ Some y) ⊎ ((i ≡ length xs) × (x ≡ y))
 get_cases [] x y i found = inr (get_one x y i found)
 get_cases (z ∷ xs) x y zero found = inl found
 get_cases (z ∷ xs) x y (suc i) found = elim (get_cases xs x y i found) [
@@ -48,7 +49,8 @@ get_cases (z ∷ xs) x y (suc i) found = elim (get_cases xs x y i found) [
 
 -- ---- names point to their last claims
 
-one_claim : (test : Bool) (index : ℕ) (had : Option ℕ) (later : Bool) → cond later (Some index) (cond test (Some index) had) ≡ cond (test || later) (Some index) had
+one_claim : (test : Bool) (index : ℕ) (had : Option ℕ) (later : Bool)
+    → cond later (Some index) (cond test (Some index) had) ≡ cond (test || later) (Some index) had
 one_claim true index had true = refl
 one_claim true index had false = refl
 one_claim false index had later = refl
@@ -59,12 +61,19 @@ get_claimed : (index : ℕ) (more : List (List ℕ)) (names : ByText ℕ) (name 
 get_claimed index [] names name = refl
 get_claimed index (one ∷ more) names name =
     get_claimed index more (by_name.insert names one index) name
-    ∙ ap (cond (is_claimed more name) (Some index)) (get-insert nat_list_cmp_total names one index name ∙ ap (λ b. cond b (Some index) (by_name.get names name)) (is_eq-slice_cmp name one))
+    ∙ ap (cond (is_claimed more name) (Some index))
+    (get-insert nat_list_cmp_total names one index name
+    ∙ ap (λ b. cond b (Some index) (by_name.get names name)) (is_eq-slice_cmp name one))
     ∙ one_claim (bytes_eq name one) index (by_name.get names name) (is_claimed more name)
 
 -- an entry claims the same names when an entry is added
-claims_before : {entries : List Entry} {index : ℕ} {name : List ℕ} (entry : Entry) → ClaimsAt entries index name → ClaimsAt (entries ++ entry ∷ []) index name
-claims_before {entries} {index} entry at = record { entry = at.entry; there = get_before entries (entry ∷ []) index at.entry at.there; claims = at.claims }
+claims_before : {entries : List Entry} {index : ℕ} {name : List ℕ} (entry : Entry) → ClaimsAt entries index name
+    → ClaimsAt (entries ++ entry ∷ []) index name
+claims_before {entries} {index} entry at = record {
+  entry = at.entry;
+  there = get_before entries (entry ∷ []) index at.entry at.there;
+  claims = at.claims;
+}
 
 -- after an entry is added, a claim is an old one or one of the added entry
 claims_cases : {entries : List Entry} {index : ℕ} {name : List ℕ} (entry : Entry) → ClaimsAt (entries ++ entry ∷ []) index name
@@ -109,14 +118,18 @@ points_next entries entry name before points = elim (cases_Bool (is_claimed (cla
   }
 
 -- adding an entry keeps each name pointing to its last claim
-points_appended : (bibliography : Bibliography) (entry : Entry) → PointsToLastClaims bibliography → PointsToLastClaims (appended bibliography entry)
+points_appended : (bibliography : Bibliography) (entry : Entry) → PointsToLastClaims bibliography
+    → PointsToLastClaims (appended bibliography entry)
 points_appended bibliography entry points name =
-    rw (get_claimed (length bibliography.entries) (claims entry) bibliography.names name) (points_next bibliography.entries entry name (index_of bibliography name) (points name))
+    rw (get_claimed (length bibliography.entries) (claims entry) bibliography.names name)
+    (points_next bibliography.entries entry name (index_of bibliography name) (points name))
 
 -- adding entries keeps each name pointing to its last claim
-points_after : (bibliography : Bibliography) (entries : List Entry) → PointsToLastClaims bibliography → PointsToLastClaims (loaded_after bibliography entries)
+points_after : (bibliography : Bibliography) (entries : List Entry) → PointsToLastClaims bibliography
+    → PointsToLastClaims (loaded_after bibliography entries)
 points_after bibliography [] points = points
-points_after bibliography (entry ∷ entries) points = points_after (appended bibliography entry) entries (points_appended bibliography entry points)
+points_after bibliography (entry ∷ entries) points =
+    points_after (appended bibliography entry) entries (points_appended bibliography entry points)
 
 -- in the empty bibliography no name points to an index, and no entry claims one
 points_nothing : PointsToLastClaims empty_bibliography
@@ -131,7 +144,8 @@ points_loaded own = points_after empty_bibliography own points_nothing
 -- ---- keys are fresh
 
 -- no key of the entries is a name that was claimed before them
-key_fresh : {definitions : Definitions} {earlier : List (List ℕ)} {said : List EntryReading} {entries : List Entry} (index : ℕ) (entry : Entry)
+key_fresh : {definitions : Definitions} {earlier : List (List ℕ)} {said : List EntryReading} {entries : List Entry}
+    (index : ℕ) (entry : Entry)
     → AreEntries definitions earlier said entries → slice_get entries index ≡ Some entry → is_claimed earlier entry.key ≡ false
 key_fresh index entry AreEntries.none found = absurd (none_found found) where
   none_found : {entry : Entry} → None ≡ Some entry → ⊥
@@ -140,17 +154,22 @@ key_fresh {earlier = earlier} zero entry (AreEntries.next {entry = first} fresh 
     let same : first ≡ entry = cc found in
     ap (λ e. is_claimed earlier e.key) (sym same) ∙ ap (is_claimed earlier) read.key ∙ fresh
 key_fresh {earlier = earlier} (suc index) entry (AreEntries.next {entry = first} fresh read rest) found =
-    (or_parts (is_claimed earlier entry.key) (is_claimed (claims first) entry.key) (sym (list_any-append (bytes_eq entry.key) earlier (claims first)) ∙ key_fresh index entry rest found)).0
+    (or_parts (is_claimed earlier entry.key) (is_claimed (claims first) entry.key)
+    (sym (list_any-append (bytes_eq entry.key) earlier (claims first)) ∙ key_fresh index entry rest found)).0
 
 -- no key of own entries is a name that an earlier entry claims
-pub keys_fresh : {definitions : Definitions} {claimed : List (List ℕ)} {said : List EntryReading} {entries : List Entry} → AreEntries definitions claimed said entries → HasFreshKeys entries
+pub keys_fresh : {definitions : Definitions} {claimed : List (List ℕ)} {said : List EntryReading} {entries : List Entry}
+    → AreEntries definitions claimed said entries → HasFreshKeys entries
 keys_fresh AreEntries.none earlier later entry before found at = none_found found where
   none_found : {entry : Entry} → None ≡ Some entry → ⊥
   none_found none = cc
 keys_fresh (AreEntries.next fresh read rest) earlier zero entry before found at = omega (arith, before)
 keys_fresh {claimed = claimed} (AreEntries.next {entry = first} fresh read rest) zero (suc later) entry before found at =
     let same : first ≡ at.entry = first_is at.there in
-    let none = (or_parts (is_claimed claimed entry.key) (is_claimed (claims first) entry.key) (sym (list_any-append (bytes_eq entry.key) claimed (claims first)) ∙ key_fresh later entry rest found)).1 in
+    let none =
+    (or_parts (is_claimed claimed entry.key) (is_claimed (claims first) entry.key)
+    (sym (list_any-append (bytes_eq entry.key) claimed (claims first)) ∙ key_fresh later entry rest found)).1
+    in
     both_ways _ none (ap (λ e. is_claimed (claims e) entry.key) same ∙ at.claims) where
       first_is : {x y : Entry} → Some x ≡ Some y → x ≡ y
       first_is e = cc
@@ -160,21 +179,33 @@ keys_fresh (AreEntries.next fresh read rest) (suc earlier) (suc later) entry bef
 -- ---- two first errors of entries agree
 
 -- two first errors of fields agree
-fields_error_same : {definitions : Definitions} {fields : List FieldReading} {e f : ParseError} → IsFirstErrorOfFields definitions fields e → IsFirstErrorOfFields definitions fields f → AreOneError e f
+fields_error_same : {definitions : Definitions} {fields : List FieldReading} {e f : ParseError}
+    → IsFirstErrorOfFields definitions fields e → IsFirstErrorOfFields definitions fields f → AreOneError e f
 fields_error_same (IsFirstErrorOfFields.here error unread) (IsFirstErrorOfFields.here error' unread') = error_is_one error error'
 fields_error_same (IsFirstErrorOfFields.here error unread) (IsFirstErrorOfFields.following read error') = absurd (unread read)
 fields_error_same (IsFirstErrorOfFields.following read error) (IsFirstErrorOfFields.here error' unread) = absurd (unread read)
 fields_error_same (IsFirstErrorOfFields.following read error) (IsFirstErrorOfFields.following read' error') = fields_error_same error error'
 
 -- two first errors of entries agree
-pub entries_error_same : {definitions : Definitions} {earlier : List (List ℕ)} {said : List EntryReading} {e f : ParseError} → IsFirstErrorOfEntries definitions earlier said e → IsFirstErrorOfEntries definitions earlier said f → AreOneError e f
+pub entries_error_same : {definitions : Definitions} {earlier : List (List ℕ)} {said : List EntryReading}
+    {e f : ParseError} → IsFirstErrorOfEntries definitions earlier said e
+    → IsFirstErrorOfEntries definitions earlier said f → AreOneError e f
 entries_error_same (IsFirstErrorOfEntries.duplicate was is) (IsFirstErrorOfEntries.duplicate was' is') = inl (is ∙ sym is')
 entries_error_same (IsFirstErrorOfEntries.duplicate was is) (IsFirstErrorOfEntries.unreadable fresh error) = absurd (both_ways _ fresh was)
-entries_error_same (IsFirstErrorOfEntries.duplicate was is) (IsFirstErrorOfEntries.following fresh read error) = absurd (both_ways _ fresh was)
+entries_error_same (IsFirstErrorOfEntries.duplicate was is) (IsFirstErrorOfEntries.following fresh read error) =
+    absurd (both_ways _ fresh was)
 entries_error_same (IsFirstErrorOfEntries.unreadable fresh error) (IsFirstErrorOfEntries.duplicate was is) = absurd (both_ways _ fresh was)
-entries_error_same (IsFirstErrorOfEntries.unreadable fresh error) (IsFirstErrorOfEntries.unreadable fresh' error') = fields_error_same error error'
-entries_error_same (IsFirstErrorOfEntries.unreadable fresh error) (IsFirstErrorOfEntries.following fresh' read error') = absurd (fields_unread error read.readable)
-entries_error_same (IsFirstErrorOfEntries.following fresh read error) (IsFirstErrorOfEntries.duplicate was is) = absurd (both_ways _ fresh was)
-entries_error_same (IsFirstErrorOfEntries.following fresh read error) (IsFirstErrorOfEntries.unreadable fresh' error') = absurd (fields_unread error' read.readable)
-entries_error_same {definitions} {earlier} {f = f} (IsFirstErrorOfEntries.following {rest = rest} {entry = one} fresh read error) (IsFirstErrorOfEntries.following {entry = two} fresh' read' error') =
-    entries_error_same error (subst (λ names. IsFirstErrorOfEntries definitions (earlier ++ names) rest f) (claims_same two one read' read) error')
+entries_error_same (IsFirstErrorOfEntries.unreadable fresh error) (IsFirstErrorOfEntries.unreadable fresh' error') =
+    fields_error_same error error'
+entries_error_same (IsFirstErrorOfEntries.unreadable fresh error) (IsFirstErrorOfEntries.following fresh' read error') =
+    absurd (fields_unread error read.readable)
+entries_error_same (IsFirstErrorOfEntries.following fresh read error) (IsFirstErrorOfEntries.duplicate was is) =
+    absurd (both_ways _ fresh was)
+entries_error_same (IsFirstErrorOfEntries.following fresh read error) (IsFirstErrorOfEntries.unreadable fresh' error') =
+    absurd (fields_unread error' read.readable)
+entries_error_same {definitions} {earlier} {f = f}
+    (IsFirstErrorOfEntries.following {rest = rest} {entry = one} fresh read error)
+    (IsFirstErrorOfEntries.following {entry = two} fresh' read' error') =
+    entries_error_same error
+    (subst (λ names. IsFirstErrorOfEntries definitions (earlier ++ names) rest f) (claims_same two one read' read)
+    error')

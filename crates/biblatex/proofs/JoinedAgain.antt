@@ -111,7 +111,9 @@ run_says at (Run'.math text) valid = ap (λ cs. Atom.math cs ∷ []) (chars-enco
 -- the chunks of valid runs have the atoms of the runs as their styled text
 runs_say : (at : ℕ) (runs : List Run') → AreRuns runs → styled (map (here at) runs) ≡ flat_map run_atoms runs
 runs_say at [] all = refl
-runs_say at (r ∷ runs) all = ap (λ xs. xs ++ styled (map (here at) runs)) (run_says at r all.0) ∙ ap (λ xs. run_atoms r ++ xs) (runs_say at runs all.1)
+runs_say at (r ∷ runs) all =
+    ap (λ xs. xs ++ styled (map (here at) runs)) (run_says at r all.0)
+    ∙ ap (λ xs. run_atoms r ++ xs) (runs_say at runs all.1)
 
 -- adding an atom before runs keeps their chunks joined
 put_joined : (at : ℕ) (a : Atom) (runs : List Run') → AreJoined (map (here at) runs) → AreJoined (map (here at) (put a runs))
@@ -157,7 +159,12 @@ joined_again atoms at all = record {
 -- If the output for chunks is a valid text, so are their characters
 
 valid_by : (v grouping reserved tilde circumflex : Bool) (c : ℕ) → (c == 126) ≡ tilde → (c == 94) ≡ circumflex
-    → scalars (cond grouping (92 ∷ c ∷ []) (cond v (c ∷ []) (cond reserved (92 ∷ c ∷ []) (cond tilde (codes "\\textasciitilde{}") (cond circumflex (codes "\\textasciicircum{}") (c ∷ [])))))) ≡ true
+    → scalars
+    (cond grouping (92 ∷ c ∷ [])
+    (cond v (c ∷ [])
+    (cond reserved (92 ∷ c ∷ [])
+    (cond tilde (codes "\\textasciitilde{}")
+    (cond circumflex (codes "\\textasciicircum{}") (c ∷ [])))))) ≡ true
     → scalars (c ∷ []) ≡ true
 valid_by v true reserved tilde circumflex c is is' all = (scalars_parts (92 ∷ []) (c ∷ []) all).1
 valid_by true false reserved tilde circumflex c is is' all = all
@@ -176,20 +183,24 @@ valid_spelling v (c ∷ cs) all =
     let parts = scalars_parts (spelled v c) (spelling v cs) all in
     one_more c cs (valid_spelled v c parts.0) (valid_spelling v cs parts.1)
 
-text_atoms : (f : ℕ → Atom) → ((c : ℕ) → scalars (c ∷ []) ≡ true → IsText (f c)) → (cs : List ℕ) (atoms : List Atom) → scalars cs ≡ true → AllByRecursion IsText atoms → AllByRecursion IsText (map f cs ++ atoms)
+text_atoms : (f : ℕ → Atom) → ((c : ℕ) → scalars (c ∷ []) ≡ true → IsText (f c)) → (cs : List ℕ) (atoms : List Atom)
+    → scalars cs ≡ true → AllByRecursion IsText atoms → AllByRecursion IsText (map f cs ++ atoms)
 text_atoms f valid [] atoms all rest = rest
 text_atoms f valid (c ∷ cs) atoms all rest =
     let parts = scalars_parts (c ∷ []) cs all in
     (valid c parts.0, text_atoms f valid cs atoms parts.1 rest)
 
-valid_chunk : (v : Bool) (chunk : Chunk) (atoms : List Atom) → scalars (written_chunk chunk v) ≡ true → AllByRecursion IsText atoms → AllByRecursion IsText (atoms_of chunk ++ atoms)
+valid_chunk : (v : Bool) (chunk : Chunk) (atoms : List Atom) → scalars (written_chunk chunk v) ≡ true
+    → AllByRecursion IsText atoms → AllByRecursion IsText (atoms_of chunk ++ atoms)
 valid_chunk v (Normal text) atoms all rest = text_atoms Atom.normal (λ c is. is) (chars text) atoms (valid_spelling v (chars text) all) rest
-valid_chunk v (Verbatim text) atoms all rest = text_atoms Atom.verbatim (λ c is. is) (chars text) atoms (valid_spelling v (chars text) all) rest
+valid_chunk v (Verbatim text) atoms all rest =
+    text_atoms Atom.verbatim (λ c is. is) (chars text) atoms (valid_spelling v (chars text) all) rest
 valid_chunk true (Math text) atoms all rest = (valid_spelling true (chars text) all, rest)
 valid_chunk false (Math text) atoms all rest = (all, rest)
 
 -- if the output for chunks is a valid text, so is each atom of the chunks
-pub written_texts : (v o : Bool) (chunks : List (Spanned Chunk)) → scalars (written_chunks v o chunks) ≡ true → AllByRecursion IsText (styled chunks)
+pub written_texts : (v o : Bool) (chunks : List (Spanned Chunk)) → scalars (written_chunks v o chunks) ≡ true
+    → AllByRecursion IsText (styled chunks)
 written_texts v o [] all = tt
 written_texts v o (c ∷ rest) all =
     let following = scalars_parts (lead o c.v ++ written_chunk c.v v ++ trail c.v) (written_chunks v (is_open_after o c.v) rest) all in

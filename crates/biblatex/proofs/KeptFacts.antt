@@ -17,7 +17,8 @@ use Rattle.bib_syntax.specs.declared.raw.ParseErrorKind.TheVariants.{UnknownAbbr
 use Rattle.std.proofs.Math.Bool.{or-true}
 
 -- a file with only the kept raw entries has the kept entries
-pub kept_are_entries : {d : Definitions} {claimed : List (List ℕ)} {said kept : List EntryReading} {entries : List Entry} {errors : List ParseError}
+pub kept_are_entries : {d : Definitions} {claimed : List (List ℕ)} {said kept : List EntryReading}
+    {entries : List Entry} {errors : List ParseError}
     → EntriesKept d claimed said kept entries errors → AreEntries d claimed kept entries
 kept_are_entries EntriesKept.none = AreEntries.none
 kept_are_entries (EntriesKept.duplicate was rest) = kept_are_entries rest
@@ -38,8 +39,10 @@ pub none_after : {A : Type 0} (xs ys : List A) → xs ++ ys ≡ [] → ys ≡ []
 none_after [] ys e = e
 none_after (x ∷ xs) ys e = no_cons e
 
-mended_by : (d : Definitions) (p : Part) (rest : List Piece) (known : Bool) → cond known (unknown_names d rest) (error_at p (UnknownAbbreviation p.text) ∷ unknown_names d rest) ≡ []
-    → (unknown_names d rest ≡ [] → map (mended_piece d) rest ≡ rest) → cond known (abbreviation p) (literal p) ∷ map (mended_piece d) rest ≡ abbreviation p ∷ rest
+mended_by : (d : Definitions) (p : Part) (rest : List Piece) (known : Bool)
+    → cond known (unknown_names d rest) (error_at p (UnknownAbbreviation p.text) ∷ unknown_names d rest) ≡ []
+    → (unknown_names d rest ≡ [] → map (mended_piece d) rest ≡ rest)
+    → cond known (abbreviation p) (literal p) ∷ map (mended_piece d) rest ≡ abbreviation p ∷ rest
 mended_by d p rest true e later = ap (λ l. abbreviation p ∷ l) (later e)
 mended_by d p rest false e later = no_cons e
 
@@ -52,17 +55,25 @@ mended_known d (abbreviation p ∷ rest) e = mended_by d p rest (is_known d p.te
 -- a field without undefined abbreviations is not changed
 pub mended_same : (d : Definitions) (f : FieldReading) → unknown_names d f.value.pieces ≡ [] → mended d f ≡ f
 mended_same d f e =
-    ap (λ (pieces : List Piece). (let g : FieldReading = record { name = f.name; value = record { pieces = pieces; start = f.value.start; end = f.value.end } } in g)) (mended_known d f.value.pieces e)
+    ap
+    (λ (pieces : List Piece).
+    (let g : FieldReading =
+    record { name = f.name; value = record { pieces = pieces; start = f.value.start; end = f.value.end } } in
+    g)) (mended_known d f.value.pieces e)
 
 -- without errors, all fields are kept unchanged
-pub fields_all : {d : Definitions} {said fields : List FieldReading} {errors : List ParseError} → FieldsKept d said fields errors → errors ≡ [] → fields ≡ said
+pub fields_all : {d : Definitions} {said fields : List FieldReading} {errors : List ParseError}
+    → FieldsKept d said fields errors → errors ≡ [] → fields ≡ said
 fields_all FieldsKept.none e = refl
 fields_all {d} (FieldsKept.kept {f = f} {errors = later} can rest) e =
-    ap₂ (λ g gs. g ∷ gs) (mended_same d f (none_before (unknown_names d f.value.pieces) later e)) (fields_all rest (none_after (unknown_names d f.value.pieces) later e))
-fields_all {d} (FieldsKept.left_out {f = f} {e = error} {errors = later} first unread rest) e = no_cons (none_after (unknown_names d f.value.pieces) (error ∷ later) e)
+    ap₂ (λ g gs. g ∷ gs) (mended_same d f (none_before (unknown_names d f.value.pieces) later e))
+    (fields_all rest (none_after (unknown_names d f.value.pieces) later e))
+fields_all {d} (FieldsKept.left_out {f = f} {e = error} {errors = later} first unread rest) e =
+    no_cons (none_after (unknown_names d f.value.pieces) (error ∷ later) e)
 
 -- without errors, all raw entries are kept unchanged
-pub entries_all : {d : Definitions} {claimed : List (List ℕ)} {said kept : List EntryReading} {entries : List Entry} {errors : List ParseError}
+pub entries_all : {d : Definitions} {claimed : List (List ℕ)} {said kept : List EntryReading} {entries : List Entry}
+    {errors : List ParseError}
     → EntriesKept d claimed said kept entries errors → errors ≡ [] → kept ≡ said
 entries_all EntriesKept.none e = refl
 entries_all (EntriesKept.duplicate was rest) e = no_cons e
@@ -77,11 +88,13 @@ known_test d name (inl defined) = ap (λ o. is_some o || is_some (month name)) d
 known_test d name (inr begins) = ap (λ o. is_some (d name) || is_some o) begins.1 ∙ or-true (is_some (d name))
 
 -- pieces whose names are all defined have no undefined abbreviation
-no_unknown : (d : Definitions) (pieces : List Piece) → ((name : List ℕ) → HoldsName pieces name → IsKnown d name) → unknown_names d pieces ≡ []
+no_unknown : (d : Definitions) (pieces : List Piece) → ((name : List ℕ) → HoldsName pieces name → IsKnown d name)
+    → unknown_names d pieces ≡ []
 no_unknown d [] known = refl
 no_unknown d (literal p ∷ rest) known = no_unknown d rest known
 no_unknown d (abbreviation p ∷ rest) known =
-    ap (λ b. cond b (unknown_names d rest) (error_at p (UnknownAbbreviation p.text) ∷ unknown_names d rest)) (known_test d p.text (known p.text (inl refl)))
+    ap (λ b. cond b (unknown_names d rest) (error_at p (UnknownAbbreviation p.text) ∷ unknown_names d rest))
+    (known_test d p.text (known p.text (inl refl)))
     ∙ no_unknown d rest (λ name held. known name (inr held))
 
 -- a field that can be parsed has no undefined abbreviation
@@ -89,19 +102,24 @@ pub readable_known : (d : Definitions) (f : FieldReading) → CanBeRead d f → 
 readable_known d f can = no_unknown d f.value.pieces (λ name held. can.known name (Reaches.held held))
 
 -- fields that can be parsed have no errors
-pub fields_fine : {d : Definitions} {said fields : List FieldReading} {errors : List ParseError} → AllCanBeRead d said → FieldsKept d said fields errors → errors ≡ []
+pub fields_fine : {d : Definitions} {said fields : List FieldReading} {errors : List ParseError} → AllCanBeRead d said
+    → FieldsKept d said fields errors → errors ≡ []
 fields_fine all FieldsKept.none = refl
 fields_fine {d} all (FieldsKept.kept {f = f} can rest) = ap₂ (λ xs ys. xs ++ ys) (readable_known d f all.0) (fields_fine all.1 rest)
-fields_fine {d} all (FieldsKept.left_out {f = f} first unread rest) = absurd (unread (subst (CanBeRead d) (sym (mended_same d f (readable_known d f all.0))) all.0))
+fields_fine {d} all (FieldsKept.left_out {f = f} first unread rest) =
+    absurd (unread (subst (CanBeRead d) (sym (mended_same d f (readable_known d f all.0))) all.0))
 
 -- raw entries that can be loaded have no errors
-pub entries_fine : {d : Definitions} {claimed : List (List ℕ)} {said kept : List EntryReading} {own entries : List Entry} {errors : List ParseError}
+pub entries_fine : {d : Definitions} {claimed : List (List ℕ)} {said kept : List EntryReading}
+    {own entries : List Entry} {errors : List ParseError}
     → AreEntries d claimed said own → EntriesKept d claimed said kept entries errors → errors ≡ []
 entries_fine AreEntries.none EntriesKept.none = refl
 entries_fine (AreEntries.next fresh read others) (EntriesKept.duplicate was rest) = absurd (both_ways _ fresh was)
-entries_fine {d} {claimed} (AreEntries.next {said = s} {rest = more} {entry = one} {entries = found} fresh read others) (EntriesKept.next {entry = two} {first = first} fresh' fields is rest) =
+entries_fine {d} {claimed} (AreEntries.next {said = s} {rest = more} {entry = one} {entries = found} fresh read others)
+    (EntriesKept.next {entry = two} {first = first} fresh' fields is rest) =
     let fine : first ≡ [] = fields_fine read.readable fields in
-    let same : claims one ≡ claims two = claims_same one two read (subst (λ fs. IsEntry d (with_fields s fs) two) (fields_all fields fine) is) in
+    let same : claims one ≡ claims two =
+    claims_same one two read (subst (λ fs. IsEntry d (with_fields s fs) two) (fields_all fields fine) is) in
     ap₂ (λ xs ys. xs ++ ys) fine (entries_fine (subst (λ names. AreEntries d (claimed ++ names) more found) same others) rest)
 
 -- ---- the kept raw entries are unique
@@ -120,21 +138,31 @@ each_is_one [] = tt
 each_is_one (e ∷ errors) = (inl refl, each_is_one errors)
 
 -- the kept fields are unique, and two lists of their errors agree
-fields_once : {d : Definitions} {said fields others : List FieldReading} {errors faults : List ParseError} → FieldsKept d said fields errors → FieldsKept d said others faults
+fields_once : {d : Definitions} {said fields others : List FieldReading} {errors faults : List ParseError}
+    → FieldsKept d said fields errors → FieldsKept d said others faults
     → (fields ≡ others) × AllZip AreOneError errors faults
 fields_once FieldsKept.none FieldsKept.none = (refl, tt)
 fields_once {d} (FieldsKept.kept {f = f} {errors = es} can rest) (FieldsKept.kept {errors = fs} can' rest') =
-    let more = fields_once rest rest' in
-    (ap (λ gs. mended d f ∷ gs) more.0, AllZip-append AreOneError (unknown_names d f.value.pieces) es (unknown_names d f.value.pieces) fs (each_is_one (unknown_names d f.value.pieces)) more.1)
+    let more = fields_once rest rest' in (
+      ap (λ gs. mended d f ∷ gs) more.0,
+      AllZip-append AreOneError (unknown_names d f.value.pieces) es (unknown_names d f.value.pieces) fs
+          (each_is_one (unknown_names d f.value.pieces)) more.1,
+    )
 fields_once (FieldsKept.kept can rest) (FieldsKept.left_out first unread rest') = absurd (unread can)
 fields_once (FieldsKept.left_out first unread rest) (FieldsKept.kept can rest') = absurd (unread can)
-fields_once {d} (FieldsKept.left_out {f = f} {e = one} {errors = es} first unread rest) (FieldsKept.left_out {e = other} {errors = fs} first' unread' rest') =
-    let more = fields_once rest rest' in
-    (more.0, AllZip-append AreOneError (unknown_names d f.value.pieces) (one ∷ es) (unknown_names d f.value.pieces) (other ∷ fs) (each_is_one (unknown_names d f.value.pieces)) (error_is_one first first', more.1))
+fields_once {d} (FieldsKept.left_out {f = f} {e = one} {errors = es} first unread rest)
+    (FieldsKept.left_out {e = other} {errors = fs} first' unread' rest') =
+    let more = fields_once rest rest' in (
+      more.0,
+      AllZip-append AreOneError (unknown_names d f.value.pieces) (one ∷ es) (unknown_names d f.value.pieces)
+          (other ∷ fs) (each_is_one (unknown_names d f.value.pieces)) (error_is_one first first', more.1),
+    )
 
 -- the kept raw entries are unique, and two lists of their errors agree
-pub entries_once : {d : Definitions} {claimed : List (List ℕ)} {said kept others : List EntryReading} {one two : List Entry} {errors faults : List ParseError}
-    → EntriesKept d claimed said kept one errors → EntriesKept d claimed said others two faults → (kept ≡ others) × AllZip AreOneError errors faults
+pub entries_once : {d : Definitions} {claimed : List (List ℕ)} {said kept others : List EntryReading}
+    {one two : List Entry} {errors faults : List ParseError}
+    → EntriesKept d claimed said kept one errors → EntriesKept d claimed said others two faults
+    → (kept ≡ others) × AllZip AreOneError errors faults
 entries_once EntriesKept.none EntriesKept.none = (refl, tt)
 entries_once (EntriesKept.duplicate was rest) (EntriesKept.duplicate was' rest') =
     let more = entries_once rest rest' in
@@ -142,7 +170,8 @@ entries_once (EntriesKept.duplicate was rest) (EntriesKept.duplicate was' rest')
 entries_once (EntriesKept.duplicate was rest) (EntriesKept.next fresh fields is rest') = absurd (both_ways _ fresh was)
 entries_once (EntriesKept.next fresh fields is rest) (EntriesKept.duplicate was rest') = absurd (both_ways _ fresh was)
 entries_once {d} {claimed} (EntriesKept.next {said = s} {entry = a} {first = before} {errors = es} fresh fields is rest)
-    (EntriesKept.next {fields = gs} {entry = b} {rest = unsaid} {kept = ks} {entries = bs} {first = before'} {errors = fs} fresh' fields' is' rest') =
+    (EntriesKept.next {fields = gs} {entry = b} {rest = unsaid} {kept = ks} {entries = bs} {first = before'}
+    {errors = fs} fresh' fields' is' rest') =
     let first = fields_once fields fields' in
     let same : claims b ≡ claims a = claims_same b a is' (subst (λ l. IsEntry d (with_fields s l) a) first.0 is) in
     let more = entries_once rest (subst (λ names. EntriesKept d (claimed ++ names) unsaid ks bs fs) same rest') in

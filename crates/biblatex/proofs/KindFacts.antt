@@ -29,12 +29,14 @@ pieces_not_malformed (of_pieces.inside apart defined inner) is = pieces_not_malf
 pieces_not_malformed (of_pieces.following evaluates later) is = pieces_not_malformed later is
 
 -- no first error of fields has the kind `MalformedCommand`
-fields_not_malformed : {definitions : Definitions} {fields : List FieldReading} {e : ParseError} → IsFirstErrorOfFields definitions fields e → e.kind ≡ MalformedCommand → ⊥
+fields_not_malformed : {definitions : Definitions} {fields : List FieldReading} {e : ParseError}
+    → IsFirstErrorOfFields definitions fields e → e.kind ≡ MalformedCommand → ⊥
 fields_not_malformed (of_fields.here first unread) is = pieces_not_malformed first is
 fields_not_malformed (of_fields.following read later) is = fields_not_malformed later is
 
 -- no first error of entries has the kind `MalformedCommand`
-entries_not_malformed : {definitions : Definitions} {claimed : List (List ℕ)} {said : List EntryReading} {e : ParseError} → IsFirstErrorOfEntries definitions claimed said e → e.kind ≡ MalformedCommand → ⊥
+entries_not_malformed : {definitions : Definitions} {claimed : List (List ℕ)} {said : List EntryReading}
+    {e : ParseError} → IsFirstErrorOfEntries definitions claimed said e → e.kind ≡ MalformedCommand → ⊥
 entries_not_malformed (of_entries.duplicate claimed same) is = let clash = sym is ∙ ap (λ (x : ParseError). x.kind) same in cc
 entries_not_malformed (of_entries.unreadable fresh first) is = fields_not_malformed first is
 entries_not_malformed (of_entries.following fresh entry later) is = entries_not_malformed later is

@@ -23,20 +23,28 @@ rise_weaker m n [] less rise = rise
 rise_weaker m n (e ∷ es) less rise = (omega (arith, less, rise.0), rise.1)
 
 -- a block contains at most one entry, which begins at the start of the block
-block_rises : {start u v : Place} {kind : Part} {k : BlockKind} {says : FileReading} (end : ℕ) (rest : List EntryReading) → Body longest start kind k u says v → start.at < end → Rise end rest → Rise start.at (says.entries ++ rest)
+block_rises : {start u v : Place} {kind : Part} {k : BlockKind} {says : FileReading} (end : ℕ)
+    (rest : List EntryReading) → Body longest start kind k u says v → start.at < end → Rise end rest
+    → Rise start.at (says.entries ++ rest)
 block_rises {start} end rest (body.comment brace chars closes) less rise = rise_weaker start.at end rest (omega (arith, less)) rise
-block_rises {start} end rest (body.preamble quoted white closes is_brace) less rise = rise_weaker start.at end rest (omega (arith, less)) rise
+block_rises {start} end rest (body.preamble quoted white closes is_brace) less rise =
+    rise_weaker start.at end rest (omega (arith, less)) rise
 block_rises {start} end rest (body.strings fields closes) less rise = rise_weaker start.at end rest (omega (arith, less)) rise
-block_rises {start} end rest (body.entry key_end key white comma gap fields closes) less rise = (omega arith, rise_weaker (start.at + 1) end rest (omega (arith, less)) rise)
+block_rises {start} end rest (body.entry key_end key white comma gap fields closes) less rise =
+    (omega arith, rise_weaker (start.at + 1) end rest (omega (arith, less)) rise)
 
 -- the starts of the raw entries of a recovery increase
 pub recovered_rises : {u : Place} {says : FileReading} {errors : List SkippedBlock} → Recovered u says errors → Rise u.at says.entries
 recovered_rises (recovered.end end) = tt
-recovered_rises {u} {says} (recovered.skipped {v = v} char passes x) = rise_weaker u.at v.at says.entries (omega (arith, char.next)) (recovered_rises x)
-recovered_rises {u} {says} (recovered.line_comment {v = v} comment x) = rise_weaker u.at v.at says.entries (ahead_line_comment comment).at (recovered_rises x)
+recovered_rises {u} {says} (recovered.skipped {v = v} char passes x) =
+    rise_weaker u.at v.at says.entries (omega (arith, char.next)) (recovered_rises x)
+recovered_rises {u} {says} (recovered.line_comment {v = v} comment x) =
+    rise_weaker u.at v.at says.entries (ahead_line_comment comment).at (recovered_rises x)
 recovered_rises {u} (recovered.block {v = v} {rest = rest} b x) =
-    block_rises v.at rest.entries b.body (omega (arith, block_smaller b, ap length (ahead_block b).text, (ahead_block b).at)) (recovered_rises x)
-recovered_rises {u} {says} (recovered.unread {v = v} {w = w} sign none on x) = rise_weaker u.at w.at says.entries (omega (arith, sign.next, (ahead_passed on.passed).at)) (recovered_rises x)
+    block_rises v.at rest.entries b.body
+    (omega (arith, block_smaller b, ap length (ahead_block b).text, (ahead_block b).at)) (recovered_rises x)
+recovered_rises {u} {says} (recovered.unread {v = v} {w = w} sign none on x) =
+    rise_weaker u.at w.at says.entries (omega (arith, sign.next, (ahead_passed on.passed).at)) (recovered_rises x)
 
 -- each raw entry starts at the lower bound or later
 starts_later : (n : ℕ) (es : List EntryReading) (i : ℕ) (e : EntryReading) → Rise n es → slice_get es i ≡ Some e → n ≤ e.start
@@ -51,15 +59,19 @@ same_start : {a b : EntryReading} → Some a ≡ Some b → a.start ≡ b.start
 same_start is = cc
 
 -- two raw entries with the same start have the same index
-one_index : (n : ℕ) (es : List EntryReading) (i j : ℕ) (e f : EntryReading) → Rise n es → slice_get es i ≡ Some e → slice_get es j ≡ Some f → e.start ≡ f.start → i ≡ j
+one_index : (n : ℕ) (es : List EntryReading) (i j : ℕ) (e f : EntryReading) → Rise n es → slice_get es i ≡ Some e
+    → slice_get es j ≡ Some f → e.start ≡ f.start → i ≡ j
 one_index n [] i j e f rise one other same = cc
 one_index n (x ∷ es) zero zero e f rise one other same = refl
-one_index n (x ∷ es) zero (suc j) e f rise one other same = let later = starts_later (x.start + 1) es j f rise.1 other in absurd (omega (arith, later, same_start one, same))
-one_index n (x ∷ es) (suc i) zero e f rise one other same = let later = starts_later (x.start + 1) es i e rise.1 one in absurd (omega (arith, later, same_start other, same))
+one_index n (x ∷ es) zero (suc j) e f rise one other same =
+    let later = starts_later (x.start + 1) es j f rise.1 other in absurd (omega (arith, later, same_start one, same))
+one_index n (x ∷ es) (suc i) zero e f rise one other same =
+    let later = starts_later (x.start + 1) es i e rise.1 one in absurd (omega (arith, later, same_start other, same))
 one_index n (x ∷ es) (suc i) (suc j) e f rise one other same = ap suc (one_index (x.start + 1) es i j e f rise.1 one other same)
 
 -- the same kept entries have the same indices
-pub origins_once : (n : ℕ) (said : List EntryReading) (one other : List ℕ) (kept : List EntryReading) → Rise n said → AllZip (IsKeptFrom said) one kept → AllZip (IsKeptFrom said) other kept → one ≡ other
+pub origins_once : (n : ℕ) (said : List EntryReading) (one other : List ℕ) (kept : List EntryReading) → Rise n said
+    → AllZip (IsKeptFrom said) one kept → AllZip (IsKeptFrom said) other kept → one ≡ other
 origins_once n said [] [] kept rise first second = refl
 origins_once n said [] (j ∷ others) [] rise first second = absurd second
 origins_once n said [] (j ∷ others) (e ∷ kept) rise first second = absurd first
@@ -67,5 +79,7 @@ origins_once n said (i ∷ ones) [] [] rise first second = absurd first
 origins_once n said (i ∷ ones) [] (e ∷ kept) rise first second = absurd second
 origins_once n said (i ∷ ones) (j ∷ others) [] rise first second = absurd first
 origins_once n said (i ∷ ones) (j ∷ others) (e ∷ kept) rise first second =
-    let here : i ≡ j = one_index n said i j first.0.one second.0.one rise first.0.there second.0.there (sym (ap (λ (x : EntryReading). x.start) first.0.is) ∙ ap (λ (x : EntryReading). x.start) second.0.is) in
+    let here : i ≡ j =
+    one_index n said i j first.0.one second.0.one rise first.0.there second.0.there
+    (sym (ap (λ (x : EntryReading). x.start) first.0.is) ∙ ap (λ (x : EntryReading). x.start) second.0.is) in
     ap (λ k. k ∷ ones) here ∙ ap (λ rest. j ∷ rest) (origins_once n said ones others kept rise first.1 second.1)

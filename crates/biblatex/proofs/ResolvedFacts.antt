@@ -34,7 +34,9 @@ use Rattle.bib_text.proofs.ListFacts.{found_any}
 -- ---- two lists of own entries of one file
 
 -- the texts of entries with the same type and the same fields are equal
-pub entry_texts_same : (k l : EntryType) (f g : FieldTexts) → k ≡ l → ((name : List ℕ) → f name ≡ g name) → (let s : EntryTexts = record { entry_type = k; fields = f } in s) ≡ (let t : EntryTexts = record { entry_type = l; fields = g } in t)
+pub entry_texts_same : (k l : EntryType) (f g : FieldTexts) → k ≡ l → ((name : List ℕ) → f name ≡ g name)
+    → (let s : EntryTexts = record { entry_type = k; fields = f } in s)
+    ≡ (let t : EntryTexts = record { entry_type = l; fields = g } in t)
 entry_texts_same k l f g entry_types fields = λ i. record { entry_type = entry_types i; fields = λ name. fields name i }
 
 -- the contents of a field have one styled text
@@ -46,34 +48,55 @@ found_same definitions None one two first second = rw (first, second) refl
 found_same definitions (Some f) one two first second = rw (first.1, second.1) (ap Some (evaluates_same first.2.says second.2.says))
 
 -- two entries of one raw entry have the same texts
-entries_same : (definitions : Definitions) (said : EntryReading) (one two : Entry) → IsEntry definitions said one → IsEntry definitions said two → texts_of_entry one ≡ texts_of_entry two
+entries_same : (definitions : Definitions) (said : EntryReading) (one two : Entry) → IsEntry definitions said one
+    → IsEntry definitions said two → texts_of_entry one ≡ texts_of_entry two
 entries_same definitions said one two first second =
     entry_texts_same one.entry_type two.entry_type (fields_of one.fields) (fields_of two.fields) (first.kind ∙ sym second.kind)
-    (λ name. found_same definitions (field_in said.fields name) (by_name.get one.fields name) (by_name.get two.fields name) (first.fields name) (second.fields name))
+    (λ name.
+    found_same definitions (field_in said.fields name) (by_name.get one.fields name) (by_name.get two.fields name)
+    (first.fields name) (second.fields name))
 
 -- two lists of entries of the same raw entries have the same texts
-all_texts_go : {definitions : Definitions} {said : List EntryReading} {one two : List Entry} (claimed : List (List ℕ)) → AreEntries definitions claimed said one → AreEntries definitions claimed said two → texts_of_entries one ≡ texts_of_entries two
+all_texts_go : {definitions : Definitions} {said : List EntryReading} {one two : List Entry} (claimed : List (List ℕ))
+    → AreEntries definitions claimed said one → AreEntries definitions claimed said two
+    → texts_of_entries one ≡ texts_of_entries two
 all_texts_go claimed AreEntries.none AreEntries.none = refl
-all_texts_go {definitions} claimed (AreEntries.next {said = s} {rest = rest} {entry = a} {entries = as'} fresh is following) (AreEntries.next {entry = b} {entries = bs} fresh' is' after') =
+all_texts_go {definitions} claimed
+    (AreEntries.next {said = s} {rest = rest} {entry = a} {entries = as'} fresh is following)
+    (AreEntries.next {entry = b} {entries = bs} fresh' is' after') =
     ap (λ x. x ∷ texts_of_entries as') (entries_same definitions s a b is is')
-    ∙ ap (λ xs. texts_of_entry b ∷ xs) (all_texts_go (claimed ++ claims a) following (subst (λ names. AreEntries definitions (claimed ++ names) rest bs) (claims_same b a is' is) after'))
+    ∙ ap (λ xs. texts_of_entry b ∷ xs)
+    (all_texts_go (claimed ++ claims a) following
+    (subst (λ names. AreEntries definitions (claimed ++ names) rest bs) (claims_same b a is' is) after'))
 
 -- two lists of entries of the same raw entries claim the same names
-claims_go : {definitions : Definitions} {said : List EntryReading} {one two : List Entry} (claimed : List (List ℕ)) → AreEntries definitions claimed said one → AreEntries definitions claimed said two → map claims one ≡ map claims two
+claims_go : {definitions : Definitions} {said : List EntryReading} {one two : List Entry} (claimed : List (List ℕ))
+    → AreEntries definitions claimed said one → AreEntries definitions claimed said two
+    → map claims one ≡ map claims two
 claims_go claimed AreEntries.none AreEntries.none = refl
-claims_go {definitions} claimed (AreEntries.next {said = s} {rest = rest} {entry = a} {entries = as'} fresh is following) (AreEntries.next {entry = b} {entries = bs} fresh' is' after') =
+claims_go {definitions} claimed
+    (AreEntries.next {said = s} {rest = rest} {entry = a} {entries = as'} fresh is following)
+    (AreEntries.next {entry = b} {entries = bs} fresh' is' after') =
     ap (λ x. x ∷ map claims as') (claims_same a b is is')
-    ∙ ap (λ xs. claims b ∷ xs) (claims_go (claimed ++ claims a) following (subst (λ names. AreEntries definitions (claimed ++ names) rest bs) (claims_same b a is' is) after'))
+    ∙ ap (λ xs. claims b ∷ xs)
+    (claims_go (claimed ++ claims a) following
+    (subst (λ names. AreEntries definitions (claimed ++ names) rest bs) (claims_same b a is' is) after'))
 
 -- two lists of entries of the same raw entries have the same keys
-keys_go : {definitions : Definitions} {said : List EntryReading} {one two : List Entry} (claimed : List (List ℕ)) → AreEntries definitions claimed said one → AreEntries definitions claimed said two → map (λ e. e.key) one ≡ map (λ e. e.key) two
+keys_go : {definitions : Definitions} {said : List EntryReading} {one two : List Entry} (claimed : List (List ℕ))
+    → AreEntries definitions claimed said one → AreEntries definitions claimed said two
+    → map (λ e. e.key) one ≡ map (λ e. e.key) two
 keys_go claimed AreEntries.none AreEntries.none = refl
-keys_go {definitions} claimed (AreEntries.next {said = s} {rest = rest} {entry = a} {entries = as'} fresh is following) (AreEntries.next {entry = b} {entries = bs} fresh' is' after') =
+keys_go {definitions} claimed (AreEntries.next {said = s} {rest = rest} {entry = a} {entries = as'} fresh is following)
+    (AreEntries.next {entry = b} {entries = bs} fresh' is' after') =
     ap (λ x. x ∷ map (λ (e : Entry). e.key) as') (is.key ∙ sym is'.key)
-    ∙ ap (λ xs. b.key ∷ xs) (keys_go (claimed ++ claims a) following (subst (λ names. AreEntries definitions (claimed ++ names) rest bs) (claims_same b a is' is) after'))
+    ∙ ap (λ xs. b.key ∷ xs)
+    (keys_go (claimed ++ claims a) following
+    (subst (λ names. AreEntries definitions (claimed ++ names) rest bs) (claims_same b a is' is) after'))
 
 -- adding entries with the same claims gives the same names
-names_go : (l m : Bibliography) (a b : List Entry) → length l.entries ≡ length m.entries → l.names ≡ m.names → map claims a ≡ map claims b → (loaded_after l a).names ≡ (loaded_after m b).names
+names_go : (l m : Bibliography) (a b : List Entry) → length l.entries ≡ length m.entries → l.names ≡ m.names
+    → map claims a ≡ map claims b → (loaded_after l a).names ≡ (loaded_after m b).names
 names_go l m [] [] n e c = e
 names_go l m [] (y ∷ b) n e c = cc
 names_go l m (x ∷ a) [] n e c = cc
@@ -81,16 +104,20 @@ names_go l m (x ∷ a) (y ∷ b) n e c =
     let head : claims x ≡ claims y = ap (λ cs. get_or cs 0 []) c in
     names_go (appended l x) (appended m y) a b
     (length-append l.entries (x ∷ []) ∙ ap (λ k. k + 1) n ∙ sym (length-append m.entries (y ∷ [])))
-    (ap (λ names. claimed names (claims_for (claims x) (length l.entries))) e ∙ ap (λ cs. claimed m.names (claims_for cs (length l.entries))) head ∙ ap (λ k. claimed m.names (claims_for (claims y) k)) n)
+    (ap (λ names. claimed names (claims_for (claims x) (length l.entries))) e
+    ∙ ap (λ cs. claimed m.names (claims_for cs (length l.entries))) head
+    ∙ ap (λ k. claimed m.names (claims_for (claims y) k)) n)
     (ap (drop 1) c)
 
 -- the graph of entries depends only on their names and texts
-by_all_texts : (names : ByText ℕ) (own : List Entry) → graph_by names own ≡ map (λ (s : EntryTexts). references names s.fields) (texts_of_entries own)
+by_all_texts : (names : ByText ℕ) (own : List Entry)
+    → graph_by names own ≡ map (λ (s : EntryTexts). references names s.fields) (texts_of_entries own)
 by_all_texts names [] = refl
 by_all_texts names (e ∷ own) = ap (λ rows. references names (fields_of e.fields) ∷ rows) (by_all_texts names own)
 
 -- the graph of entries depends only on their names and texts
-pub graphs_by : (names others : ByText ℕ) (one two : List Entry) → names ≡ others → texts_of_entries one ≡ texts_of_entries two → graph_by names one ≡ graph_by others two
+pub graphs_by : (names others : ByText ℕ) (one two : List Entry) → names ≡ others
+    → texts_of_entries one ≡ texts_of_entries two → graph_by names one ≡ graph_by others two
 graphs_by names others one two same all_texts =
     by_all_texts names one ∙ ap (λ n. map (λ (s : EntryTexts). references n s.fields) (texts_of_entries one)) same
     ∙ ap (map (λ (s : EntryTexts). references others s.fields)) all_texts ∙ sym (by_all_texts others two)
@@ -112,12 +139,15 @@ module _ (says : FileReading) {one two : List Entry} (first : AreOwn says one) (
 -- ---- each name points to an entry
 
 -- adding entries keeps each name pointing to an entry
-names_below_go : (l : Bibliography) (own : List Entry) → AreIndicesBelow (length l.entries) l.names → AreIndicesBelow (length (loaded_after l own).entries) (loaded_after l own).names
+names_below_go : (l : Bibliography) (own : List Entry) → AreIndicesBelow (length l.entries) l.names
+    → AreIndicesBelow (length (loaded_after l own).entries) (loaded_after l own).names
 names_below_go l [] below = below
 names_below_go l (e ∷ own) below =
     let longer = length-append l.entries (e ∷ []) in
     names_below_go (appended l e) own
-    (below_claimed (length (l.entries ++ e ∷ [])) (claims e) l.names (length l.entries) (below_more (length l.entries) (length (l.entries ++ e ∷ [])) l.names below (omega (arith, longer))) (omega (arith, longer)))
+    (below_claimed (length (l.entries ++ e ∷ [])) (claims e) l.names (length l.entries)
+    (below_more (length l.entries) (length (l.entries ++ e ∷ [])) l.names below (omega (arith, longer)))
+    (omega (arith, longer)))
 
 -- adding entries adds their number to the length
 entries_after : (l : Bibliography) (own : List Entry) → length (loaded_after l own).entries ≡ length l.entries + length own
@@ -133,29 +163,38 @@ names_below own =
 -- ---- the solution is unique
 
 -- two solutions of one graph without cycles are equal
-pub solutions_by : (names : ByText ℕ) (own : List Entry) (a b : List EntryTexts) → AreIndicesBelow (length own) names → HasNoCycle (graph_by names own)
+pub solutions_by : (names : ByText ℕ) (own : List Entry) (a b : List EntryTexts) → AreIndicesBelow (length own) names
+    → HasNoCycle (graph_by names own)
     → Inherits (texts_of_entries own) (graph_by names own) a → Inherits (texts_of_entries own) (graph_by names own) b → a ≡ b
 solutions_by names own a b below none first second =
     let one = walks.one_solution (graph_by names own) (graph_in_range names own below) none no_entry (rule_by (texts_of_entries own)) in
     one.2 a first ∙ sym (one.2 b second)
 
 -- two solutions of the inheritance equation of own entries are equal if no entry leads to itself
-pub solutions_same : (own : List Entry) (a b : List EntryTexts) → HasNoCycle (graph_of own) → Inherits (texts_of_entries own) (graph_of own) a → Inherits (texts_of_entries own) (graph_of own) b → a ≡ b
+pub solutions_same : (own : List Entry) (a b : List EntryTexts) → HasNoCycle (graph_of own)
+    → Inherits (texts_of_entries own) (graph_of own) a → Inherits (texts_of_entries own) (graph_of own) b → a ≡ b
 solutions_same own a b none first second = solutions_by (names_of own) own a b (names_below own) none first second
 
 -- if one solution has no bad dates, no solution has any
-pub dates_of_each : (own : List Entry) (one : List EntryTexts) → HasNoCycle (graph_of own) → Inherits (texts_of_entries own) (graph_of own) one
-    → AreDatesRead (texts_of_entries own) (graph_of own) one → (values : List EntryTexts) → Inherits (texts_of_entries own) (graph_of own) values → AreDatesRead (texts_of_entries own) (graph_of own) values
-dates_of_each own one none solves read values other = subst (AreDatesRead (texts_of_entries own) (graph_of own)) (solutions_same own one values none solves other) read
+pub dates_of_each : (own : List Entry) (one : List EntryTexts) → HasNoCycle (graph_of own)
+    → Inherits (texts_of_entries own) (graph_of own) one
+    → AreDatesRead (texts_of_entries own) (graph_of own) one → (values : List EntryTexts)
+    → Inherits (texts_of_entries own) (graph_of own) values → AreDatesRead (texts_of_entries own) (graph_of own) values
+dates_of_each own one none solves read values other =
+    subst (AreDatesRead (texts_of_entries own) (graph_of own)) (solutions_same own one values none solves other) read
 
 -- two bibliographies of one raw bibliography have the same texts
-pub fields_once : {says : FileReading} (one other : Bibliography) → IsLoaded says one → IsLoaded says other → texts_of_entries one.entries ≡ texts_of_entries other.entries
+pub fields_once : {says : FileReading} (one other : Bibliography) → IsLoaded says one → IsLoaded says other
+    → texts_of_entries one.entries ≡ texts_of_entries other.entries
 fields_once {says} one other first second =
     let moved : Inherits (texts_of_entries first.accepted.own) (graph_of first.accepted.own) (texts_of_entries other.entries) =
-    subst (λ g. Inherits (texts_of_entries first.accepted.own) g (texts_of_entries other.entries)) (graph_same says second.accepted.entries first.accepted.entries)
-    (subst (λ s. Inherits s (graph_of second.accepted.own) (texts_of_entries other.entries)) (all_texts_same says second.accepted.entries first.accepted.entries) second.inherits)
+    subst (λ g. Inherits (texts_of_entries first.accepted.own) g (texts_of_entries other.entries))
+    (graph_same says second.accepted.entries first.accepted.entries)
+    (subst (λ s. Inherits s (graph_of second.accepted.own) (texts_of_entries other.entries))
+    (all_texts_same says second.accepted.entries first.accepted.entries) second.inherits)
     in
-    solutions_same first.accepted.own (texts_of_entries one.entries) (texts_of_entries other.entries) first.accepted.no_cycle first.inherits moved
+    solutions_same first.accepted.own (texts_of_entries one.entries) (texts_of_entries other.entries)
+    first.accepted.no_cycle first.inherits moved
 
 -- ---- an accepted file has a bibliography
 
@@ -170,21 +209,27 @@ bibliography_of accepted =
 
 -- ---- an accepted file has no error
 
-pub bad_apart : (own : List EntryTexts) (graph : Graph) (values : List EntryTexts) (index : ℕ) → looks_for_date (at_index own index) ≡ true → list_any (is_bad_date values) (refs_of graph index) ≡ true → AreDatesRead own graph values → ⊥
-bad_apart own graph values index looks bad read = false≢true (sym (read index) ∙ ap (λ b. b && list_any (is_bad_date values) (refs_of graph index)) looks ∙ bad)
+pub bad_apart : (own : List EntryTexts) (graph : Graph) (values : List EntryTexts) (index : ℕ)
+    → looks_for_date (at_index own index) ≡ true → list_any (is_bad_date values) (refs_of graph index) ≡ true
+    → AreDatesRead own graph values → ⊥
+bad_apart own graph values index looks bad read =
+    false≢true (sym (read index) ∙ ap (λ b. b && list_any (is_bad_date values) (refs_of graph index)) looks ∙ bad)
 
 -- an accepted raw bibliography has no first error
 pub accepted_faultless : {says : FileReading} {e : ParseError} → IsAccepted says → IsFirstErrorOf says e → ⊥
 accepted_faultless accepted (IsFirstErrorOf.entry error) = no_entries error accepted.entries
 accepted_faultless {says} accepted (IsFirstErrorOf.cycle {index = index} own first is) =
-    accepted.no_cycle index (subst (λ g. index < length g) (graph_same says own accepted.entries) first.within) (subst (λ g. Leads g index index) (graph_same says own accepted.entries) first.cycle)
+    accepted.no_cycle index (subst (λ g. index < length g) (graph_same says own accepted.entries) first.within)
+    (subst (λ g. Leads g index index) (graph_same says own accepted.entries) first.cycle)
 accepted_faultless {says} accepted (IsFirstErrorOf.date {own = own} {values = values} {index = index} are none solves looks earlier is) =
     let moved : Inherits (texts_of_entries accepted.own) (graph_of accepted.own) values =
     subst (λ g. Inherits (texts_of_entries accepted.own) g values) (graph_same says are accepted.entries)
     (subst (λ s. Inherits s (graph_of own) values) (all_texts_same says are accepted.entries) solves)
     in
-    bad_apart (texts_of_entries accepted.own) (graph_of accepted.own) values index (subst (λ s. looks_for_date (at_index s index) ≡ true) (all_texts_same says are accepted.entries) looks)
-    (subst (λ g. list_any (is_bad_date values) (refs_of g index) ≡ true) (graph_same says are accepted.entries) (found_any (is_bad_date values) (refs_of (graph_of own) index) is.reference is.first))
+    bad_apart (texts_of_entries accepted.own) (graph_of accepted.own) values index
+    (subst (λ s. looks_for_date (at_index s index) ≡ true) (all_texts_same says are accepted.entries) looks)
+    (subst (λ g. list_any (is_bad_date values) (refs_of g index) ≡ true) (graph_same says are accepted.entries)
+    (found_any (is_bad_date values) (refs_of (graph_of own) index) is.reference is.first))
     (accepted.dates values moved)
 
 -- ---- own entries with their names

@@ -43,7 +43,9 @@ stands_between {u} {v} {bs} stands =
 pub stands_split : (xs ys : List ℕ) {u w : Place} → Stands u (xs ++ ys) w → (v : Place) × Stands u xs v × Stands v ys w
 stands_split xs ys {u} {w} stands =
     let whole : drop u.at u.text ≡ xs ++ (ys ++ drop w.at u.text) = stands.here ∙ append_assoc xs ys (drop w.at u.text) in
-    let cut : drop (u.at + length xs) u.text ≡ ys ++ drop w.at u.text = sym (drop-drop (length xs) u.at u.text) ∙ ap (drop (length xs)) whole ∙ drop_at xs (ys ++ drop w.at u.text) (length xs) refl in
+    let cut : drop (u.at + length xs) u.text ≡ ys ++ drop w.at u.text =
+    sym (drop-drop (length xs) u.at u.text) ∙ ap (drop (length xs)) whole
+    ∙ drop_at xs (ys ++ drop w.at u.text) (length xs) refl in
     let sizes : length (xs ++ ys) ≡ length xs + length ys = length-append xs ys in (
       place u.text (u.at + length xs),
       record { same = refl; here = whole ∙ ap (λ bs. xs ++ bs) (sym cut); next = refl },
@@ -62,7 +64,8 @@ stands_char c bs {u} stands =
     (parts.0, char, parts.2)
 
 -- the first of several characters can be split off
-pub stands_chars : (c : ℕ) (cs : List ℕ) {u w : Place} → Stands u (encode_utf8_all (c ∷ cs)) w → (v : Place) × CharAt u c v × Stands v (encode_utf8_all cs) w
+pub stands_chars : (c : ℕ) (cs : List ℕ) {u w : Place} → Stands u (encode_utf8_all (c ∷ cs)) w
+    → (v : Place) × CharAt u c v × Stands v (encode_utf8_all cs) w
 stands_chars c cs stands = stands_char c (encode_utf8_all cs) stands
 
 -- characters that pass a test are a run
@@ -86,17 +89,23 @@ char_moved {t} {u} {v} {p} {q} {c} stands is char =
     let width : q.at ≤ length t = omega arith in
     let start : p.at ≤ length t = omega arith in
     let rest = drop v.at u.text in
-    let at_p : drop (u.at + p.at) u.text ≡ drop p.at t ++ rest = sym (drop-drop p.at u.at u.text) ∙ ap (drop p.at) stands.here ∙ drop-append-le p.at t rest start in
-    let at_q : drop (u.at + q.at) u.text ≡ drop q.at t ++ rest = sym (drop-drop q.at u.at u.text) ∙ ap (drop q.at) stands.here ∙ drop-append-le q.at t rest width in
-    let inside : drop p.at t ≡ encode_utf8 c ++ drop q.at t = ap (drop p.at) (sym is) ∙ char.here ∙ ap (λ x. encode_utf8 c ++ drop q.at x) is in
+    let at_p : drop (u.at + p.at) u.text ≡ drop p.at t ++ rest =
+    sym (drop-drop p.at u.at u.text) ∙ ap (drop p.at) stands.here ∙ drop-append-le p.at t rest start in
+    let at_q : drop (u.at + q.at) u.text ≡ drop q.at t ++ rest =
+    sym (drop-drop q.at u.at u.text) ∙ ap (drop q.at) stands.here ∙ drop-append-le q.at t rest width in
+    let inside : drop p.at t ≡ encode_utf8 c ++ drop q.at t =
+    ap (drop p.at) (sym is) ∙ char.here ∙ ap (λ x. encode_utf8 c ++ drop q.at x) is in
     record {
       same = refl;
-      here = at_p ∙ ap (λ bs. bs ++ rest) inside ∙ append_assoc (encode_utf8 c) (drop q.at t) rest ∙ ap (λ bs. encode_utf8 c ++ bs) (sym at_q);
+      here =
+          at_p ∙ ap (λ bs. bs ++ rest) inside ∙ append_assoc (encode_utf8 c) (drop q.at t) rest
+          ∙ ap (λ bs. encode_utf8 c ++ bs) (sym at_q);
       next = omega arith;
     }
 
 -- a run of a text occurs wherever the text occurs
-pub run_moved : {t : List ℕ} {test : ℕ → Bool} {u v p q : Place} → Stands u t v → p.text ≡ t → Run test p q → Run test (moved u p) (moved u q)
+pub run_moved : {t : List ℕ} {test : ℕ → Bool} {u v p q : Place} → Stands u t v → p.text ≡ t → Run test p q
+    → Run test (moved u p) (moved u q)
 run_moved stands is stop = stop
 run_moved stands is (step char passes rest) = step (char_moved stands is char) passes (run_moved stands (char.same ∙ is) rest)
 
@@ -114,13 +123,15 @@ parts_moved stands is (hidden slash char rest) =
     hidden (char_moved stands is slash) (char_moved stands (slash.same ∙ is) char) (parts_moved stands (char.same ∙ slash.same ∙ is) rest)
 parts_moved stands is (nested opens inner closes rest) =
     let inside = parts_text inner ∙ opens.same ∙ is in
-    nested (char_moved stands is opens) (parts_moved stands (opens.same ∙ is) inner) (char_moved stands inside closes) (parts_moved stands (closes.same ∙ inside) rest)
+    nested (char_moved stands is opens) (parts_moved stands (opens.same ∙ is) inner) (char_moved stands inside closes)
+    (parts_moved stands (closes.same ∙ inside) rest)
 
 -- text with balanced braces is balanced wherever it occurs
 pub parts_stand : {t : List ℕ} {u v : Place} → Stands u t v → IsParts t → Parts u v
 parts_stand {t} {u} {v} stands parts =
     let first : moved u (place t 0) ≡ u = same_place {u = moved u (place t 0)} {v = u} refl (omega arith) in
-    let last : moved u (place t (length t)) ≡ v = same_place {u = moved u (place t (length t))} {v = v} (sym stands.same) (sym stands.next) in
+    let last : moved u (place t (length t)) ≡ v =
+    same_place {u = moved u (place t (length t))} {v = v} (sym stands.same) (sym stands.next) in
     subst (λ p. Parts p v) first (subst (λ p. Parts (moved u (place t 0)) p) last (parts_moved stands refl parts))
 
 -- balanced text followed by balanced text is balanced
@@ -140,7 +151,9 @@ parts_plain (c ∷ cs) all stands =
 
 -- the text after a character is valid UTF-8 if the text before it is
 pub utf8_char : {u v : Place} {c : ℕ} → CharAt u c v → IsUtf8 (drop u.at u.text) → IsUtf8 (drop v.at v.text)
-utf8_char {u} {v} {c} char utf8 = IsUtf8-past_char (drop u.at u.text) (drop v.at v.text) c utf8 (char.here ∙ ap (λ t. encode_utf8 c ++ drop v.at t) (sym char.same))
+utf8_char {u} {v} {c} char utf8 =
+    IsUtf8-past_char (drop u.at u.text) (drop v.at v.text) c utf8
+    (char.here ∙ ap (λ t. encode_utf8 c ++ drop v.at t) (sym char.same))
 
 -- the text after a run is valid UTF-8 if the text before it is
 pub utf8_run : {test : ℕ → Bool} {u v : Place} → Run test u v → IsUtf8 (drop u.at u.text) → IsUtf8 (drop v.at v.text)
@@ -154,8 +167,10 @@ scalars_prefix (x ∷ xs) ys all =
     and_from _ _ parts.0 (scalars_prefix xs ys parts.1)
 
 -- characters in a valid text are valid UTF-8, and so is the text after them
-pub utf8_spells : (cs : List ℕ) {u v : Place} → Stands u (encode_utf8_all cs) v → IsUtf8 (drop u.at u.text) → IsUtf8 (encode_utf8_all cs) × IsUtf8 (drop v.at v.text)
+pub utf8_spells : (cs : List ℕ) {u v : Place} → Stands u (encode_utf8_all cs) v → IsUtf8 (drop u.at u.text)
+    → IsUtf8 (encode_utf8_all cs) × IsUtf8 (drop v.at v.text)
 utf8_spells cs {u} {v} stands utf8 =
     let past = chars_past cs (drop u.at u.text) (drop v.at u.text) utf8 stands.here in
-    let all : scalars (cs ++ chars (drop v.at u.text)) ≡ true = subst (λ x. scalars x ≡ true) past.0 (scalars-chars (drop u.at u.text) utf8) in
+    let all : scalars (cs ++ chars (drop v.at u.text)) ≡ true =
+    subst (λ x. scalars x ≡ true) past.0 (scalars-chars (drop u.at u.text) utf8) in
     ((cs, (scalars_prefix cs (chars (drop v.at u.text)) all, refl)), subst (λ t. IsUtf8 (drop v.at t)) (sym stands.same) past.1)

@@ -14,12 +14,15 @@ is_empty [] = true
 is_empty (e ∷ es) = false
 
 -- the text of entries with one more entry at the end
-one_more : (written : Entry → List ℕ) (es : List Entry) (e : Entry) → entries_text written (es ++ e ∷ []) ≡ entries_text written es ++ (parting (is_empty es) ++ (written e ++ codes "\n"))
+one_more : (written : Entry → List ℕ) (es : List Entry) (e : Entry)
+    → entries_text written (es ++ e ∷ [])
+    ≡ entries_text written es ++ (parting (is_empty es) ++ (written e ++ codes "\n"))
 one_more written [] e = refl
 one_more written (d ∷ []) e = sym (append_assoc (written d) (codes "\n") (codes "\n" ++ (written e ++ codes "\n")))
 one_more written (d ∷ next ∷ es) e =
     let more = codes "\n" ++ (written e ++ codes "\n") in
-    ap (λ text. written d ++ (codes "\n\n" ++ text)) (one_more written (next ∷ es) e) ∙ sym (append_assoc (written d) (codes "\n\n" ++ entries_text written (next ∷ es)) more)
+    ap (λ text. written d ++ (codes "\n\n" ++ text)) (one_more written (next ∷ es) e)
+    ∙ sym (append_assoc (written d) (codes "\n\n" ++ entries_text written (next ∷ es)) more)
 
 not_suc : (i : ℕ) → false ≡ (suc i == 0)
 not_suc i = grind arith
@@ -31,12 +34,16 @@ first_taken [] (suc i) within = absurd (omega arith)
 first_taken (e ∷ es) (suc i) within = not_suc i
 
 -- the text of the entries up to and including an index
-pub next_written : (written : Entry → List ℕ) (es : List Entry) (i : ℕ) (e : Entry) (first : Bool) → i < length es → e ≡ get_or es i e → first ≡ (i == 0)
+pub next_written : (written : Entry → List ℕ) (es : List Entry) (i : ℕ) (e : Entry) (first : Bool) → i < length es
+    → e ≡ get_or es i e → first ≡ (i == 0)
     → entries_text written (take (i + 1) es) ≡ entries_text written (take i es) ++ (parting first ++ (written e ++ codes "\n"))
 next_written written es i e first within is flag =
     let count : i + 1 ≡ suc i = omega arith in
-    let taken : take (i + 1) es ≡ take i es ++ e ∷ [] = ap (λ n. take n es) count ∙ take-suc es i e within ∙ ap (λ x. take i es ++ x ∷ []) (sym is) in
-    ap (entries_text written) taken ∙ one_more written (take i es) e ∙ ap (λ b. entries_text written (take i es) ++ (parting b ++ (written e ++ codes "\n"))) (first_taken es i within ∙ sym flag)
+    let taken : take (i + 1) es ≡ take i es ++ e ∷ [] =
+    ap (λ n. take n es) count ∙ take-suc es i e within ∙ ap (λ x. take i es ++ x ∷ []) (sym is) in
+    ap (entries_text written) taken ∙ one_more written (take i es) e
+    ∙ ap (λ b. entries_text written (take i es) ++ (parting b ++ (written e ++ codes "\n")))
+    (first_taken es i within ∙ sym flag)
 
 pub not_first : (i : ℕ) → false ≡ (i + 1 == 0)
 not_first i = grind arith

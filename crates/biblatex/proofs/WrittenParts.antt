@@ -22,7 +22,8 @@ abbrev pub Spells : Place → List ℕ → Place → Type 0
 Spells u cs v = Stands u (encode_utf8_all cs) v
 
 pub spells_split : (xs ys : List ℕ) {u w : Place} → Spells u (xs ++ ys) w → (v : Place) × Spells u xs v × Spells v ys w
-spells_split xs ys {u} {w} spells = stands_split (encode_utf8_all xs) (encode_utf8_all ys) (subst (λ bs. Stands u bs w) (encodes-append xs ys) spells)
+spells_split xs ys {u} {w} spells =
+    stands_split (encode_utf8_all xs) (encode_utf8_all ys) (subst (λ bs. Stands u bs w) (encodes-append xs ys) spells)
 
 plain_grouping : (c : ℕ) → is_grouping c ≡ false → is_plain c ≡ true
 unfolding is_grouping
@@ -43,10 +44,17 @@ parts_command c cs all spells =
     let third = spells_split cs (123 ∷ 125 ∷ []) second.2 in
     let fourth = stands_chars 123 (125 ∷ []) third.2 in
     let fifth = stands_chars 125 [] fourth.2 in
-    hidden first.1 second.1 (parts_append (parts_plain cs all third.1) (nested fourth.1 none fifth.1 (subst (λ p. Parts fifth.0 p) (sym (stands_none fifth.2)) none)))
+    hidden first.1 second.1
+    (parts_append (parts_plain cs all third.1)
+    (nested fourth.1 none fifth.1 (subst (λ p. Parts fifth.0 p) (sym (stands_none fifth.2)) none)))
 
 parts_by : (v grouping reserved tilde circumflex : Bool) (c : ℕ) → is_grouping c ≡ grouping → {u w : Place}
-    → Spells u (cond grouping (92 ∷ c ∷ []) (cond v (c ∷ []) (cond reserved (92 ∷ c ∷ []) (cond tilde (codes "\\textasciitilde{}") (cond circumflex (codes "\\textasciicircum{}") (c ∷ [])))))) w → Parts u w
+    → Spells u
+    (cond grouping (92 ∷ c ∷ [])
+    (cond v (c ∷ [])
+    (cond reserved (92 ∷ c ∷ [])
+    (cond tilde (codes "\\textasciitilde{}") (cond circumflex (codes "\\textasciicircum{}") (c ∷ []))))))
+    w → Parts u w
 parts_by v true reserved tilde circumflex c is spells = parts_hidden c spells
 parts_by true false reserved tilde circumflex c is spells = parts_plain (c ∷ []) (rw (plain_grouping c is) refl) spells
 parts_by false false true tilde circumflex c is spells = parts_hidden c spells
@@ -82,38 +90,61 @@ parts_before : (o : Bool) {u v : Place} (w : Place) → Parts u v → PartsOf o 
 parts_before false w first more = parts_append first more
 parts_before true w first (x, y, inner, closes, rest) = (x, y, parts_append first inner, closes, rest)
 
-settled_rest : (v : Bool) (f : ℕ → Atom) (cs : List ℕ) (atoms : List Atom) → AllByRecursion (IsSettledAtom v) (map f cs ++ atoms) → AllByRecursion (IsSettledAtom v) atoms
+settled_rest : (v : Bool) (f : ℕ → Atom) (cs : List ℕ) (atoms : List Atom)
+    → AllByRecursion (IsSettledAtom v) (map f cs ++ atoms) → AllByRecursion (IsSettledAtom v) atoms
 settled_rest v f [] atoms each = each
 settled_rest v f (c ∷ cs) atoms each = settled_rest v f cs atoms each.1
 
-parts_chunk : (v o : Bool) (chunk : Chunk) (rest : List (Spanned Chunk)) {u w : Place} → AllByRecursion (IsSettledAtom v) (atoms_of chunk ++ styled rest)
+parts_chunk : (v o : Bool) (chunk : Chunk) (rest : List (Spanned Chunk)) {u w : Place}
+    → AllByRecursion (IsSettledAtom v) (atoms_of chunk ++ styled rest)
     → ((b : Bool) (x : Place) → AllByRecursion (IsSettledAtom v) (styled rest) → Spells x (written_chunks v b rest) w → PartsOf b x w)
     → Spells u (lead o chunk ++ written_chunk chunk v ++ trail chunk ++ written_chunks v (is_open_after o chunk) rest) w → PartsOf o u w
 parts_chunk v false (Normal text) rest each following spells =
-    let cut = spells_split (spelling v (chars text)) (written_chunks v false rest) (text_before (spelling v (chars text)) (written_chunks v false rest) spells) in
-    parts_append (parts_spelling v (chars text) cut.1) (following false _ (settled_rest v Atom.normal (chars text) (styled rest) each) cut.2)
+    let cut =
+    spells_split (spelling v (chars text)) (written_chunks v false rest)
+    (text_before (spelling v (chars text)) (written_chunks v false rest) spells) in
+    parts_append (parts_spelling v (chars text) cut.1)
+    (following false _ (settled_rest v Atom.normal (chars text) (styled rest) each) cut.2)
 parts_chunk v true (Normal text) rest each following spells =
     let first = stands_chars 125 (spelling v (chars text) ++ [] ++ written_chunks v false rest) spells in
-    let cut = spells_split (spelling v (chars text)) (written_chunks v false rest) (text_before (spelling v (chars text)) (written_chunks v false rest) first.2) in
-    (_, first.0, none, first.1, parts_append (parts_spelling v (chars text) cut.1) (following false _ (settled_rest v Atom.normal (chars text) (styled rest) each) cut.2))
+    let cut =
+    spells_split (spelling v (chars text)) (written_chunks v false rest)
+    (text_before (spelling v (chars text)) (written_chunks v false rest) first.2) in (
+      _,
+      first.0,
+      none,
+      first.1,
+      parts_append (parts_spelling v (chars text) cut.1)
+          (following false _ (settled_rest v Atom.normal (chars text) (styled rest) each) cut.2),
+    )
 parts_chunk v true (Verbatim text) rest each following spells =
-    let cut = spells_split (spelling v (chars text)) (written_chunks v true rest) (text_before (spelling v (chars text)) (written_chunks v true rest) spells) in
-    parts_before true _ (parts_spelling v (chars text) cut.1) (following true _ (settled_rest v Atom.verbatim (chars text) (styled rest) each) cut.2)
+    let cut =
+    spells_split (spelling v (chars text)) (written_chunks v true rest)
+    (text_before (spelling v (chars text)) (written_chunks v true rest) spells) in
+    parts_before true _ (parts_spelling v (chars text) cut.1)
+    (following true _ (settled_rest v Atom.verbatim (chars text) (styled rest) each) cut.2)
 parts_chunk v false (Verbatim text) rest each following spells =
     let first = stands_chars 123 (spelling v (chars text) ++ [] ++ written_chunks v true rest) spells in
-    let cut = spells_split (spelling v (chars text)) (written_chunks v true rest) (text_before (spelling v (chars text)) (written_chunks v true rest) first.2) in
-    let (x, y, inner, closes, more) = parts_before true _ (parts_spelling v (chars text) cut.1) (following true _ (settled_rest v Atom.verbatim (chars text) (styled rest) each) cut.2) in
+    let cut =
+    spells_split (spelling v (chars text)) (written_chunks v true rest)
+    (text_before (spelling v (chars text)) (written_chunks v true rest) first.2) in
+    let (x, y, inner, closes, more) =
+    parts_before true _ (parts_spelling v (chars text) cut.1)
+    (following true _ (settled_rest v Atom.verbatim (chars text) (styled rest) each) cut.2) in
     nested first.1 inner closes more
 parts_chunk true o (Math text) rest each following spells = absurd (both_ways true each.0.0 refl)
 parts_chunk false o (Math text) rest each following spells =
-    let first = stands_chars 36 (chars text ++ 36 ∷ written_chunks false o rest) (math_before (chars text) (written_chunks false o rest) spells) in
+    let first =
+    stands_chars 36 (chars text ++ 36 ∷ written_chunks false o rest)
+    (math_before (chars text) (written_chunks false o rest) spells) in
     let cut = spells_split (chars text) (36 ∷ written_chunks false o rest) first.2 in
     let last = stands_chars 36 (written_chunks false o rest) cut.2 in
     let math : Parts first.0 last.0 = parts_append (parts_stand cut.1 each.0.2) (plain last.1 refl none) in
     parts_before o _ (plain first.1 refl math) (following o _ each.1 last.2)
 
 -- the output for settled chunks is balanced, up to an open pair of braces
-parts_written : (v o : Bool) (chunks : List (Spanned Chunk)) {u w : Place} → AllByRecursion (IsSettledAtom v) (styled chunks) → Spells u (written_chunks v o chunks) w → PartsOf o u w
+parts_written : (v o : Bool) (chunks : List (Spanned Chunk)) {u w : Place}
+    → AllByRecursion (IsSettledAtom v) (styled chunks) → Spells u (written_chunks v o chunks) w → PartsOf o u w
 parts_written v false [] {u} {w} each spells = subst (λ p. Parts u p) (sym (stands_none spells)) none
 parts_written v true [] {u} {w} each spells =
     let first = stands_chars 125 [] spells in
@@ -121,5 +152,6 @@ parts_written v true [] {u} {w} each spells =
 parts_written v o (c ∷ rest) each spells = parts_chunk v o c.v rest each (λ b x settled spelt. parts_written v b rest settled spelt) spells
 
 -- the output for the settled chunks of a value is balanced
-pub parts_of_value : (v : Bool) (chunks : List (Spanned Chunk)) {u w : Place} → AllByRecursion (IsSettledAtom v) (styled chunks) → Spells u (written_chunks v false chunks) w → Parts u w
+pub parts_of_value : (v : Bool) (chunks : List (Spanned Chunk)) {u w : Place}
+    → AllByRecursion (IsSettledAtom v) (styled chunks) → Spells u (written_chunks v false chunks) w → Parts u w
 parts_of_value v chunks each spells = parts_written v false chunks each spells

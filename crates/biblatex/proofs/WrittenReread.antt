@@ -45,7 +45,15 @@ kind Book = record { again = refl; entry = refl; first = 98; rest = codes "ook";
 kind Booklet = record { again = refl; entry = refl; first = 98; rest = codes "ooklet"; spelt = refl; starts = refl; goes = refl }
 kind InBook = record { again = refl; entry = refl; first = 105; rest = codes "nbook"; spelt = refl; starts = refl; goes = refl }
 kind InCollection = record { again = refl; entry = refl; first = 105; rest = codes "ncollection"; spelt = refl; starts = refl; goes = refl }
-kind InProceedings = record { again = refl; entry = refl; first = 105; rest = codes "nproceedings"; spelt = refl; starts = refl; goes = refl }
+kind InProceedings = record {
+  again = refl;
+  entry = refl;
+  first = 105;
+  rest = codes "nproceedings";
+  spelt = refl;
+  starts = refl;
+  goes = refl;
+}
 kind Manual = record { again = refl; entry = refl; first = 109; rest = codes "anual"; spelt = refl; starts = refl; goes = refl }
 kind MastersThesis = record { again = refl; entry = refl; first = 116; rest = codes "hesis"; spelt = refl; starts = refl; goes = refl }
 kind PhdThesis = record { again = refl; entry = refl; first = 116; rest = codes "hesis"; spelt = refl; starts = refl; goes = refl }
@@ -57,14 +65,38 @@ kind MvBook = record { again = refl; entry = refl; first = 109; rest = codes "vb
 kind BookInBook = record { again = refl; entry = refl; first = 98; rest = codes "ookinbook"; spelt = refl; starts = refl; goes = refl }
 kind SuppBook = record { again = refl; entry = refl; first = 115; rest = codes "uppbook"; spelt = refl; starts = refl; goes = refl }
 kind Periodical = record { again = refl; entry = refl; first = 112; rest = codes "eriodical"; spelt = refl; starts = refl; goes = refl }
-kind SuppPeriodical = record { again = refl; entry = refl; first = 115; rest = codes "uppperiodical"; spelt = refl; starts = refl; goes = refl }
+kind SuppPeriodical = record {
+  again = refl;
+  entry = refl;
+  first = 115;
+  rest = codes "uppperiodical";
+  spelt = refl;
+  starts = refl;
+  goes = refl;
+}
 kind Collection = record { again = refl; entry = refl; first = 99; rest = codes "ollection"; spelt = refl; starts = refl; goes = refl }
 kind MvCollection = record { again = refl; entry = refl; first = 109; rest = codes "vcollection"; spelt = refl; starts = refl; goes = refl }
-kind SuppCollection = record { again = refl; entry = refl; first = 115; rest = codes "uppcollection"; spelt = refl; starts = refl; goes = refl }
+kind SuppCollection = record {
+  again = refl;
+  entry = refl;
+  first = 115;
+  rest = codes "uppcollection";
+  spelt = refl;
+  starts = refl;
+  goes = refl;
+}
 kind Reference = record { again = refl; entry = refl; first = 114; rest = codes "eference"; spelt = refl; starts = refl; goes = refl }
 kind MvReference = record { again = refl; entry = refl; first = 109; rest = codes "vreference"; spelt = refl; starts = refl; goes = refl }
 kind InReference = record { again = refl; entry = refl; first = 105; rest = codes "nreference"; spelt = refl; starts = refl; goes = refl }
-kind MvProceedings = record { again = refl; entry = refl; first = 109; rest = codes "vproceedings"; spelt = refl; starts = refl; goes = refl }
+kind MvProceedings = record {
+  again = refl;
+  entry = refl;
+  first = 109;
+  rest = codes "vproceedings";
+  spelt = refl;
+  starts = refl;
+  goes = refl;
+}
 kind Report = record { again = refl; entry = refl; first = 114; rest = codes "eport"; spelt = refl; starts = refl; goes = refl }
 kind Patent = record { again = refl; entry = refl; first = 112; rest = codes "atent"; spelt = refl; starts = refl; goes = refl }
 kind Thesis = record { again = refl; entry = refl; first = 116; rest = codes "hesis"; spelt = refl; starts = refl; goes = refl }
@@ -76,18 +108,34 @@ kind XData = record { again = refl; entry = refl; first = 120; rest = codes "dat
 kind (Unknown name) = record { again = refl; entry = refl; first = 109; rest = codes "isc"; spelt = refl; starts = refl; goes = refl }
 
 -- a text is an identifier if its first character begins one and its other characters continue it
-identifier_of : (c : ℕ) (cs : List ℕ) (text : List ℕ) → text ≡ encode_utf8_all (c ∷ cs) → is_id_start c ≡ true → list_all is_id_continue cs ≡ true → IsIdentifier text
+identifier_of : (c : ℕ) (cs : List ℕ) (text : List ℕ) → text ≡ encode_utf8_all (c ∷ cs) → is_id_start c ≡ true
+    → list_all is_id_continue cs ≡ true → IsIdentifier text
 identifier_of c cs text spelt starts goes =
-    let stands : Stands (place text 0) (encode_utf8_all (c ∷ cs)) (place text (length text)) = subst (λ bs. Stands (place text 0) bs (place text (length text))) spelt (stands_whole text) in
-    let first = stands_chars c cs stands in
-    (part (place text 0) (place text (length text)), record { second = first.0; first = c; here = first.1; starts = starts; rest = stands_run is_id_continue cs goes first.2; reading = refl })
+    let stands : Stands (place text 0) (encode_utf8_all (c ∷ cs)) (place text (length text)) =
+    subst (λ bs. Stands (place text 0) bs (place text (length text))) spelt (stands_whole text) in
+    let first = stands_chars c cs stands in (
+      part (place text 0) (place text (length text)),
+      record {
+        second = first.0;
+        first = c;
+        here = first.1;
+        starts = starts;
+        rest = stands_run is_id_continue cs goes first.2;
+        reading = refl;
+      },
+    )
 
 -- a property holds for the mapped name of a field if it holds for the name and for the three names that others are mapped to
-pub by_written_name : (P : List ℕ → Type 0) (name : List ℕ) → P name → P (codes "journaltitle") → P (codes "location") → P (codes "institution") → P (biblatex_name name)
+pub by_written_name : (P : List ℕ → Type 0) (name : List ℕ) → P name → P (codes "journaltitle") → P (codes "location")
+    → P (codes "institution") → P (biblatex_name name)
 by_written_name P name own one two three =
     go (bytes_eq (codes "journal") name) (bytes_eq (codes "address") name) (bytes_eq (codes "school") name)
   where
-    go : (a b c : Bool) → P (unwrap_or (cond a (Some (codes "journaltitle")) (cond b (Some (codes "location")) (cond c (Some (codes "institution")) None))) name)
+    go : (a b c : Bool)
+        → P
+        (unwrap_or
+        (cond a (Some (codes "journaltitle"))
+        (cond b (Some (codes "location")) (cond c (Some (codes "institution")) None))) name)
     go true b c = one
     go false true c = two
     go false false true = three
@@ -98,13 +146,21 @@ bytes_same xs ys same = (bytes_eq-Decides xs ys).0 same
 
 -- a field is verbatim under its mapped name exactly if it is under its own
 pub same_rule : (name : List ℕ) → is_verbatim_field (biblatex_name name) ≡ is_verbatim_field name
-same_rule name = go (cases_Bool (bytes_eq (codes "journal") name)) (cases_Bool (bytes_eq (codes "address") name)) (cases_Bool (bytes_eq (codes "school") name))
+same_rule name =
+    go (cases_Bool (bytes_eq (codes "journal") name)) (cases_Bool (bytes_eq (codes "address") name))
+    (cases_Bool (bytes_eq (codes "school") name))
   where
-    go : (bytes_eq (codes "journal") name ≡ true) ⊎ (bytes_eq (codes "journal") name ≡ false) → (bytes_eq (codes "address") name ≡ true) ⊎ (bytes_eq (codes "address") name ≡ false)
-        → (bytes_eq (codes "school") name ≡ true) ⊎ (bytes_eq (codes "school") name ≡ false) → is_verbatim_field (biblatex_name name) ≡ is_verbatim_field name
+    go : (bytes_eq (codes "journal") name ≡ true) ⊎ (bytes_eq (codes "journal") name ≡ false)
+        → (bytes_eq (codes "address") name ≡ true) ⊎ (bytes_eq (codes "address") name ≡ false)
+        → (bytes_eq (codes "school") name ≡ true) ⊎ (bytes_eq (codes "school") name ≡ false)
+        → is_verbatim_field (biblatex_name name) ≡ is_verbatim_field name
     go (inl is) b c = subst (λ n. is_verbatim_field (biblatex_name n) ≡ is_verbatim_field n) (bytes_same (codes "journal") name is) refl
-    go (inr first_not) (inl is) c = subst (λ n. is_verbatim_field (biblatex_name n) ≡ is_verbatim_field n) (bytes_same (codes "address") name is) refl
-    go (inr first_not) (inr second_not) (inl is) = subst (λ n. is_verbatim_field (biblatex_name n) ≡ is_verbatim_field n) (bytes_same (codes "school") name is) refl
+    go (inr first_not) (inl is) c =
+        subst (λ n. is_verbatim_field (biblatex_name n) ≡ is_verbatim_field n) (bytes_same (codes "address") name is)
+        refl
+    go (inr first_not) (inr second_not) (inl is) =
+        subst (λ n. is_verbatim_field (biblatex_name n) ≡ is_verbatim_field n) (bytes_same (codes "school") name is)
+        refl
     go (inr first_not) (inr second_not) (inr third_not) = rw (first_not, second_not, third_not) refl
 
 -- The output for entries
@@ -149,13 +205,17 @@ lines_same (f ∷ fs) = ap (λ bs. line_text (line_of f) ++ bs) (lines_same fs)
 
 -- the text of an entry is the bytes of its parts
 entry_same : (e : Entry) → biblatex_entry e ≡ entry_bytes (written_of e)
-entry_same e = ap (λ bs. 64 ∷ (entry_type_name (biblatex_type e.entry_type) ++ (123 ∷ (e.key ++ (44 ∷ 10 ∷ (bs ++ 125 ∷ [])))))) (lines_same (by_name.entries e.fields))
+entry_same e =
+    ap (λ bs. 64 ∷ (entry_type_name (biblatex_type e.entry_type) ++ (123 ∷ (e.key ++ (44 ∷ 10 ∷ (bs ++ 125 ∷ []))))))
+    (lines_same (by_name.entries e.fields))
 
 -- the text of entries is the bytes of their parts
 text_same : (es : List Entry) → entries_text biblatex_entry es ≡ file_bytes (map written_of es)
 text_same [] = refl
 text_same (e ∷ []) = ap (λ bs. bs ++ 10 ∷ []) (entry_same e)
-text_same (e ∷ next ∷ rest) = ap (λ bs. bs ++ (10 ∷ 10 ∷ entries_text biblatex_entry (next ∷ rest))) (entry_same e) ∙ ap (λ bs. entry_bytes (written_of e) ++ (10 ∷ 10 ∷ bs)) (text_same (next ∷ rest))
+text_same (e ∷ next ∷ rest) =
+    ap (λ bs. bs ++ (10 ∷ 10 ∷ entries_text biblatex_entry (next ∷ rest))) (entry_same e)
+    ∙ ap (λ bs. entry_bytes (written_of e) ++ (10 ∷ 10 ∷ bs)) (text_same (next ∷ rest))
 
 -- the parts of settled entries are valid
 all_written : (es : List Entry) → AllByRecursion IsSettledEntry es → AllByRecursion IsWritten (map written_of es)
@@ -163,8 +223,11 @@ all_written [] all = tt
 all_written (e ∷ es) all = (written_right e all.0, all_written es all.1)
 
 -- the output for settled entries has a raw bibliography with what was written
-pub entries_again : (es : List Entry) → AllByRecursion IsSettledEntry es → IsUtf8 (entries_text biblatex_entry es) → FileAgain (map written_of es) (place (entries_text biblatex_entry es) 0)
+pub entries_again : (es : List Entry) → AllByRecursion IsSettledEntry es → IsUtf8 (entries_text biblatex_entry es)
+    → FileAgain (map written_of es) (place (entries_text biblatex_entry es) 0)
 entries_again es settled utf8 =
     let text = file_bytes (map written_of es) in
-    let again : FileAgain (map written_of es) (place text 0) = file_again (map written_of es) (all_written es settled) (subst IsUtf8 (text_same es) utf8) (stands_whole text) refl in
+    let again : FileAgain (map written_of es) (place text 0) =
+    file_again (map written_of es) (all_written es settled) (subst IsUtf8 (text_same es) utf8) (stands_whole text)
+    refl in
     subst (λ t. FileAgain (map written_of es) (place t 0)) (sym (text_same es)) again

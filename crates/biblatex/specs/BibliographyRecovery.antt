@@ -21,7 +21,8 @@ use Rattle.biblatex.specs.Resolved.{AreOneErrorOf, names_of}
 -- in `skipped` have syntax errors. An entry is left out if its key was claimed before, and a field if it can't be parsed. An
 -- entry that refers to itself, directly or through others, loses its references. A date that can't be parsed is not
 -- inherited. Each of these adds an error to `errors`
-pub record IsRecoveredBibliography (text : List ℕ) (bibliography : Bibliography) (origins : List ℕ) (skipped : List SkippedBlock) (errors : List ParseError) : Type 0 where
+pub record IsRecoveredBibliography (text : List ℕ) (bibliography : Bibliography) (origins : List ℕ)
+    (skipped : List SkippedBlock) (errors : List ParseError) : Type 0 where
   pub says : FileReading
   pub recovery : IsRecovery text says skipped
   pub kept : List EntryReading

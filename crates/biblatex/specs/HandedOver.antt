@@ -12,7 +12,8 @@ abbrev pub AreTaken : {K : Type 0} → (K → List ℕ → Bool → K → Type 0
 AreTaken hands_over old texts new = FoldsTo (λ before text after. hands_over before text true after) old texts new
 
 -- the sink took the texts before one of these, refused that one, and received nothing after it
-pub record IsOneRefused {K : Type 0} (hands_over : K → List ℕ → Bool → K → Type 0) (old : K) (texts : List (List ℕ)) (new : K) : Type 0 where
+pub record IsOneRefused {K : Type 0} (hands_over : K → List ℕ → Bool → K → Type 0) (old : K) (texts : List (List ℕ))
+    (new : K) : Type 0 where
   pub before : List (List ℕ)
   pub text : List ℕ
   pub after : List (List ℕ)
@@ -22,7 +23,8 @@ pub record IsOneRefused {K : Type 0} (hands_over : K → List ℕ → Bool → K
   pub refused : hands_over reached text false new
 
 -- the sink took the texts before one of these, and received neither that one nor any after it
-pub record AreSomeTaken {K : Type 0} (hands_over : K → List ℕ → Bool → K → Type 0) (old : K) (texts : List (List ℕ)) (new : K) : Type 0 where
+pub record AreSomeTaken {K : Type 0} (hands_over : K → List ℕ → Bool → K → Type 0) (old : K) (texts : List (List ℕ))
+    (new : K) : Type 0 where
   pub before : List (List ℕ)
   pub text : List ℕ
   pub after : List (List ℕ)
@@ -36,7 +38,8 @@ AreCutShort hands_over old texts new OutOfMemory = AreSomeTaken hands_over old t
 
 -- the calls to the sink for a list of texts: if `result` is Ok, the sink took all texts, and otherwise the calls ended early
 abbrev pub AreHandedOver : {K U : Type 0} → (K → List ℕ → Bool → K → Type 0) → K → List (List ℕ) → K → Result U WriteError → Type 0
-AreHandedOver hands_over old texts new result = MatchResult result (λ _. AreTaken hands_over old texts new) (AreCutShort hands_over old texts new)
+AreHandedOver hands_over old texts new result =
+    MatchResult result (λ _. AreTaken hands_over old texts new) (AreCutShort hands_over old texts new)
 
 -- the texts that a sink receives for entries, one for each: the entry and a line feed, after an empty line unless it is the
 -- first

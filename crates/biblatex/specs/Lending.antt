@@ -17,12 +17,18 @@ with_entry bibliography None entry = bibliography
 -- when the borrow ends, the entry at the index that the name points to has the last value of the reference, and the names are
 -- unchanged. If the name points to no index, the bibliography is unchanged
 abbrev pub LendsEntry : MutBor Bibliography → List ℕ → Option (MutBor Entry) → Fml
-LendsEntry bibliography name entry = LendsIf bibliography_row entry_row bibliography entry (with_entry bibliography.now (index_of bibliography.now name)) bibliography.now
+LendsEntry bibliography name entry =
+    LendsIf bibliography_row entry_row bibliography entry (with_entry bibliography.now (index_of bibliography.now name))
+    bibliography.now
 
 -- a bibliography whose first entries are replaced by these, with as many entries as before
 abbrev pub with_entries : Bibliography → List Entry → Bibliography
-with_entries bibliography entries = record bibliography { entries = take (length bibliography.entries) (entries ++ drop (length entries) bibliography.entries) }
+with_entries bibliography entries =
+    record bibliography
+    { entries = take (length bibliography.entries) (entries ++ drop (length entries) bibliography.entries) }
 
 -- when the borrow ends, the entries have the last values of the iterator's references, in order, and the names are unchanged
 abbrev pub LendsEntries : MutBor Bibliography → IterMut Entry → Fml
-LendsEntries bibliography entries = follows bibliography_row (Array entry_row 0) bibliography.ghost_name (iter_mut_name entries) (with_entries bibliography.now)
+LendsEntries bibliography entries =
+    follows bibliography_row (Array entry_row 0) bibliography.ghost_name (iter_mut_name entries)
+    (with_entries bibliography.now)

@@ -19,8 +19,11 @@ pub record IsLastClaim (entries : List Entry) (name : List ℕ) (index : ℕ) : 
 -- each name points to the last index whose entry claims it, and to no index if no entry claims it
 abbrev pub PointsToLastClaims : Bibliography → Type 0
 PointsToLastClaims bibliography = (name : List ℕ)
-    → MatchOption (index_of bibliography name) ((index : ℕ) → ClaimsAt bibliography.entries index name → ⊥) (IsLastClaim bibliography.entries name)
+    → MatchOption (index_of bibliography name) ((index : ℕ) → ClaimsAt bibliography.entries index name → ⊥)
+    (IsLastClaim bibliography.entries name)
 
 -- no key is a name that an entry at an earlier index claims
 abbrev pub HasFreshKeys : List Entry → Type 0
-HasFreshKeys entries = (earlier later : ℕ) (entry : Entry) → earlier < later → slice_get entries later ≡ Some entry → ClaimsAt entries earlier entry.key → ⊥
+HasFreshKeys entries =
+    (earlier later : ℕ) (entry : Entry) → earlier < later → slice_get entries later ≡ Some entry
+    → ClaimsAt entries earlier entry.key → ⊥

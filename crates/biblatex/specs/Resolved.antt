@@ -34,7 +34,8 @@ pub record IsAccepted (says : FileReading) : Type 0 where
   pub own : List Entry
   pub entries : AreOwn says own
   pub no_cycle : HasNoCycle (graph_of own)
-  pub dates : (values : List EntryTexts) → Inherits (texts_of_entries own) (graph_of own) values → AreDatesRead (texts_of_entries own) (graph_of own) values
+  pub dates : (values : List EntryTexts) → Inherits (texts_of_entries own) (graph_of own) values
+      → AreDatesRead (texts_of_entries own) (graph_of own) values
 
 -- `bibliography` is a bibliography of an accepted raw bibliography. Its entries are in order, each with its key, its type,
 -- and its own and inherited fields. Each name points to the last index whose entry claims it

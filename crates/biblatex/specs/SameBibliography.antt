@@ -15,8 +15,12 @@ same_bibliography a b = pointwise entry.ghosts.eq a.entries b.entries && same_pa
 
 -- a lemma: `same_bibliography` is a partial equivalence
 pub same_bibliography_per : IsPartialEquivalence same_bibliography
-same_bibliography_per = and_per (on_per (λ l. l.entries) (lists_per entry_per.laws-law)) (on_per (λ l. l.names) (same_pairs_per (partial_equiv_from_equiv nat_eq_equiv)))
+same_bibliography_per =
+    and_per (on_per (λ l. l.entries) (lists_per entry_per.laws-law))
+    (on_per (λ l. l.names) (same_pairs_per (partial_equiv_from_equiv nat_eq_equiv)))
 
 -- a lemma: `same_bibliography` is an equivalence
 pub same_bibliography_equiv : IsEquivalence same_bibliography
-same_bibliography_equiv = and_equiv (on_equiv (λ l. l.entries) (lists_equiv entry_equiv.laws-law)) (on_equiv (λ l. l.names) (same_pairs_equiv nat_eq_equiv))
+same_bibliography_equiv =
+    and_equiv (on_equiv (λ l. l.entries) (lists_equiv entry_equiv.laws-law))
+    (on_equiv (λ l. l.names) (same_pairs_equiv nat_eq_equiv))

@@ -8,7 +8,8 @@ use Rattle.biblatex_c.specs.declared.status.Status.TheVariants.{Done}
 
 -- weakens the results and the failures that the end of a call allows
 pub end_else : {A B : List ℕ → Type 0} {F G : Status → Type 0} {out out' : List ℕ} {size size' : ℕ} {status : Status}
-    → ((answer : List ℕ) → A answer → B answer) → ((why : Status) → F why → G why) → IsEnd A F out size out' size' status → IsEnd B G out size out' size' status
+    → ((answer : List ℕ) → A answer → B answer) → ((why : Status) → F why → G why)
+    → IsEnd A F out size out' size' status → IsEnd B G out size out' size' status
 end_else f g (done is fits) = done (f _ is) fits
 end_else f g (too_short is short) = too_short (f _ is) short
 end_else f g (failed why) = failed (g _ why)
@@ -19,9 +20,11 @@ pub written : {answer bytes out : List ℕ} {size : ℕ} → bytes ≡ answer �
 written is fits = rw is (done refl fits)
 
 -- if each result of `made` meets `A` and each error meets `F`, then the end of a call with `made` is an end with `A` and `F`
-pub end_of : {A : List ℕ → Type 0} {F : Status → Type 0} {out out' : List ℕ} {size size' : ℕ} {status : Status} (made : Result (String Global) Status)
+pub end_of : {A : List ℕ → Type 0} {F : Status → Type 0} {out out' : List ℕ} {size size' : ℕ} {status : Status}
+    (made : Result (String Global) Status)
     → IfOk made (λ answer. A (string_bytes answer)) → IfErr made F
-    → IsEnd (λ bytes. IsOkAnd made (λ answer. bytes ≡ string_bytes answer)) (λ why. IsErrAnd made (λ error. error ≡ why)) out size out' size' status
+    → IsEnd (λ bytes. IsOkAnd made (λ answer. bytes ≡ string_bytes answer))
+    (λ why. IsErrAnd made (λ error. error ≡ why)) out size out' size' status
     → IsEnd A F out size out' size' status
 end_of {A} {F} (Ok text) answers fails end = end_else (λ bytes is. subst A (sym is) answers) (λ why none. absurd none) end
 end_of {A} {F} (Err error) answers fails end = end_else (λ bytes none. absurd none) (λ why is. subst F is fails) end

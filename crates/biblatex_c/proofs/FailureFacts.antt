@@ -28,44 +28,79 @@ kind_fails F (kind.ReferenceCycle k) memory text = text
 kind_fails F kind.OutOfMemory memory text = memory
 
 -- `F` holds of the status of an error if the error is out of memory or one of the text, and `F` holds in both cases
-error_fails : {Q R : Type 0} (F : Status → Type 0) (e : ParseError) → (e ≡ out_of_memory) ⊎ (Q × R) → F OutOfMemory → (R → F Refused) → F (status_of_error e)
+error_fails : {Q R : Type 0} (F : Status → Type 0) (e : ParseError) → (e ≡ out_of_memory) ⊎ (Q × R) → F OutOfMemory
+    → (R → F Refused) → F (status_of_error e)
 error_fails F e (inl is) memory text = subst (λ e. F (status_of_error e)) (sym is) memory
 error_fails F e (inr found) memory text = kind_fails F e.kind memory (text found.1)
 
 -- a call may fail with the status of the error of a text that isn't a file of the grammar
-pub file_fails : (bytes text : List ℕ) (e : ParseError) → text ≡ bytes → Refuses text e (IsFile text → ⊥) → TextFails (IsNoFile bytes) bytes (status_of_error e)
+pub file_fails : (bytes text : List ℕ) (e : ParseError) → text ≡ bytes → Refuses text e (IsFile text → ⊥)
+    → TextFails (IsNoFile bytes) bytes (status_of_error e)
 file_fails bytes text e same refuses = error_fails (TextFails (IsNoFile bytes) bytes) e refuses tt (λ unread. subst IsNoFile same unread)
 
 -- a call may fail with the status of the error of a text that isn't a bibliography
-pub bibliography_fails : (bytes text : List ℕ) (e : ParseError) → text ≡ bytes → (e ≡ out_of_memory) ⊎ (IsErrorOf text e × (IsAcceptedText text → ⊥))
+pub bibliography_fails : (bytes text : List ℕ) (e : ParseError) → text ≡ bytes
+    → (e ≡ out_of_memory) ⊎ (IsErrorOf text e × (IsAcceptedText text → ⊥))
     → TextFails (IsNoBibliography bytes) bytes (status_of_error e)
-bibliography_fails bytes text e same refuses = error_fails (TextFails (IsNoBibliography bytes) bytes) e refuses tt (λ unread. subst IsNoBibliography same unread)
+bibliography_fails bytes text e same refuses =
+    error_fails (TextFails (IsNoBibliography bytes) bytes) e refuses tt (λ unread. subst IsNoBibliography same unread)
 
 -- an edit may fail with the status of the error of a text that isn't a file of the grammar
-pub unread_fails : (Refuses' : Document → EditError → Type 0) (bytes : List ℕ) (others : List (List ℕ)) (text : List ℕ) (e : ParseError) → text ≡ bytes
+pub unread_fails : (Refuses' : Document → EditError → Type 0) (bytes : List ℕ) (others : List (List ℕ)) (text : List ℕ)
+    (e : ParseError) → text ≡ bytes
     → Refuses text e (IsFile text → ⊥) → EditFails Refuses' bytes others (status_of_error e)
-unread_fails Refuses' bytes others text e same refuses = error_fails (EditFails Refuses' bytes others) e refuses tt (λ unread. subst IsNoFile same unread)
+unread_fails Refuses' bytes others text e same refuses =
+    error_fails (EditFails Refuses' bytes others) e refuses tt (λ unread. subst IsNoFile same unread)
 
 -- an edit that is refused may fail with the status of its error
-pub edit_fails : (Refuses' : Document → EditError → Type 0) (bytes : List ℕ) (others : List (List ℕ)) (d : Document) (why : EditError) → d.text ≡ bytes
+pub edit_fails : (Refuses' : Document → EditError → Type 0) (bytes : List ℕ) (others : List (List ℕ)) (d : Document)
+    (why : EditError) → d.text ≡ bytes
     → IsDocument d → Refuses' d why → EditFails Refuses' bytes others (status_of_edit why)
-edit_fails Refuses' bytes others d edit_error.UnknownKey same read because = record { document = d; same = same; read = read; refused = because }
-edit_fails Refuses' bytes others d edit_error.KeyIsThere same read because = record { document = d; same = same; read = read; refused = because }
-edit_fails Refuses' bytes others d edit_error.NotAKey same read because = record { document = d; same = same; read = read; refused = because }
-edit_fails Refuses' bytes others d edit_error.NotAName same read because = record { document = d; same = same; read = read; refused = because }
-edit_fails Refuses' bytes others d edit_error.NotInBraces same read because = record { document = d; same = same; read = read; refused = because }
+edit_fails Refuses' bytes others d edit_error.UnknownKey same read because = record {
+  document = d;
+  same = same;
+  read = read;
+  refused = because;
+}
+edit_fails Refuses' bytes others d edit_error.KeyIsThere same read because = record {
+  document = d;
+  same = same;
+  read = read;
+  refused = because;
+}
+edit_fails Refuses' bytes others d edit_error.NotAKey same read because = record {
+  document = d;
+  same = same;
+  read = read;
+  refused = because;
+}
+edit_fails Refuses' bytes others d edit_error.NotAName same read because = record {
+  document = d;
+  same = same;
+  read = read;
+  refused = because;
+}
+edit_fails Refuses' bytes others d edit_error.NotInBraces same read because = record {
+  document = d;
+  same = same;
+  read = read;
+  refused = because;
+}
 edit_fails Refuses' bytes others d edit_error.OutOfMemory same read because = tt
 
 -- if the grammar rejects the first text, adding may fail with the status of its error
-pub text_fails : (bytes added text : List ℕ) (e : ParseError) → text ≡ bytes → Refuses text e (IsFile text → ⊥) → AddFails bytes added (status_of_error e)
+pub text_fails : (bytes added text : List ℕ) (e : ParseError) → text ≡ bytes → Refuses text e (IsFile text → ⊥)
+    → AddFails bytes added (status_of_error e)
 text_fails bytes added text e same refuses = error_fails (AddFails bytes added) e refuses tt (λ unread. inl (subst IsNoFile same unread))
 
 -- if the grammar rejects the added text, adding may fail with the status of its error
-pub added_fails : (bytes added text : List ℕ) (e : ParseError) → text ≡ added → Refuses text e (IsFile text → ⊥) → AddFails bytes added (status_of_error e)
+pub added_fails : (bytes added text : List ℕ) (e : ParseError) → text ≡ added → Refuses text e (IsFile text → ⊥)
+    → AddFails bytes added (status_of_error e)
 added_fails bytes added text e same refuses = error_fails (AddFails bytes added) e refuses tt (λ unread. inr (subst IsNoFile same unread))
 
 -- adding that is refused may fail with the status of its error
-pub add_fails : (bytes added : List ℕ) (d more : Document) (why : EditError) → d.text ≡ bytes → IsDocument d → more.text ≡ added → IsDocument more
+pub add_fails : (bytes added : List ℕ) (d more : Document) (why : EditError) → d.text ≡ bytes → IsDocument d
+    → more.text ≡ added → IsDocument more
     → EntriesAreRefused d more why → AddFails bytes added (status_of_edit why)
 add_fails bytes added d more edit_error.UnknownKey same read same' read' because = absurd because
 add_fails bytes added d more edit_error.KeyIsThere same read same' read' because =

@@ -7,7 +7,8 @@ use Rattle.bibkit_core.specs.declared.request.Style.TheVariants as style
 use Rattle.biblatex_c.specs.Calls.{AreFaults}
 
 -- the beginning, the findings of one file with an empty name, and the end that the lint task prints are all findings of the file
-pub faults_found : {bytes begin found end : List ℕ} {status : ℕ} {lint : Lint} (begun ended : Linting) → BeginsLinting lint begun → lint.style ≡ style.Json
+pub faults_found : {bytes begin found end : List ℕ} {status : ℕ} {lint : Lint} (begun ended : Linting)
+    → BeginsLinting lint begun → lint.style ≡ style.Json
     → lint.selection.only.items ≡ [] → lint.selection.ignored.items ≡ [] → lint.cited ≡ None → begin ≡ linting_begins begun
     → linting_prints begun [] bytes found ended → linting_ends ended end status → AreFaults bytes ((begin ++ found) ++ end)
 faults_found {bytes} {begin} {found} {end} begun ended begins json only ignored cited opens prints ends =

@@ -27,12 +27,14 @@ use Rattle.biblatex_c.specs.declared.status.Status.TheVariants.{Done, TooShort, 
 -- rest of the buffer is unchanged. A longer result leaves the buffer unchanged. In both cases the new size is the length of the
 -- result. A failure leaves buffer and size unchanged.
 pub data IsEnd (Answers : List ℕ → Type 0) (Fails : Status → Type 0) (out : List ℕ) (size : ℕ) : List ℕ → ℕ → Status → Type 0 where
-  done : {answer : List ℕ} → Answers answer → length answer ≤ length out → IsEnd Answers Fails out size (answer ++ drop (length answer) out) (length answer) Done
+  done : {answer : List ℕ} → Answers answer → length answer ≤ length out
+      → IsEnd Answers Fails out size (answer ++ drop (length answer) out) (length answer) Done
   too_short : {answer : List ℕ} → Answers answer → length out < length answer → IsEnd Answers Fails out size out (length answer) TooShort
   failed : {why : Status} → Fails why → IsEnd Answers Fails out size out size why
 
 -- the same as `IsEnd` for a call that returns the number of its status
-pub record IsNumberedEnd (Answers : List ℕ → Type 0) (Fails : Status → Type 0) (out : List ℕ) (size : ℕ) (out' : List ℕ) (size' number : ℕ) : Type 0 where
+pub record IsNumberedEnd (Answers : List ℕ → Type 0) (Fails : Status → Type 0) (out : List ℕ) (size : ℕ) (out' : List ℕ)
+    (size' number : ℕ) : Type 0 where
   pub status : Status
   pub is : number ≡ status_number status
   pub ends : IsEnd Answers Fails out size out' size' status
@@ -67,7 +69,8 @@ pub record IsWrittenAnew (write : Entry → List ℕ) (text answer : List ℕ) :
 
 -- a bibliography in the format `target`: each entry that the format has, after its separator, and then the end of the format
 abbrev pub exported_text : Target → Bibliography → List ℕ
-exported_text target bibliography = texts_after target true bibliography.entries ++ end target (is_first_after target true bibliography.entries)
+exported_text target bibliography =
+    texts_after target true bibliography.entries ++ end target (is_first_after target true bibliography.entries)
 
 -- `answer` is the bibliography of `text` in the format `target`
 pub record IsWrittenAs (target : Target) (text answer : List ℕ) : Type 0 where

@@ -6,4 +6,6 @@ use Rattle.bib.specs.Output.{field_line}
 use Rattle.bib.proofs.reports.push_names.Given as goal
 
 abbrev pub invariant-names : goal.invariant-names
-invariant-names l = string_bytes l.text ≡ string_bytes l.initial.text ++ flat_map (field_line l.key l.wrong) (texts (take l.name-index l.names))
+invariant-names l =
+    string_bytes l.text
+    ≡ string_bytes l.initial.text ++ flat_map (field_line l.key l.wrong) (texts (take l.name-index l.names))

@@ -14,5 +14,8 @@ entries-preserved c = report_next c.entries.yielded c.in-Some.entry _ _ c.entrie
 
 pub returns : goal.returns
 returns c =
-    let all = YieldsList-end (YieldsList-from_slice c.args.bibliography.now.entries c.into_iter-entry-iterator.ensures.into_iter_gives) c.entries.yielded _ c.entries.yielded_by _ _ c.in-None.is c.next.ensures.steps in
+    let all =
+    YieldsList-end
+    (YieldsList-from_slice c.args.bibliography.now.entries c.into_iter-entry-iterator.ensures.into_iter_gives)
+    c.entries.yielded _ c.entries.yielded_by _ _ c.in-None.is c.next.ensures.steps in
     subst (λ entries. AreReported entries (string_bytes c.entries.text)) all.0 c.entries.invariant

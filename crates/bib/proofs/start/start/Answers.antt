@@ -14,7 +14,17 @@ returns-in-Err-clause-printed g c limit same =
 pub returns-in-Ok-clause-handed : goal.returns-in-Ok-clause-handed
 returns-in-Ok-clause-handed g c =
     let ran = c.run.ensures.handed in
-    record { text = ran.text; status = ran.status; answer = answer.answered c.in-Ok.ensures.known (rw (c.deref.ensures.value, c.in-Ok.ensures.words) at ran.answer); printed = ran.printed }
+    record {
+      text = ran.text;
+      status = ran.status;
+      answer = answer.answered c.in-Ok.ensures.known (rw (c.deref.ensures.value, c.in-Ok.ensures.words) at ran.answer);
+      printed = ran.printed;
+    }
 
 pub returns-in-Err-clause-handed : goal.returns-in-Err-clause-handed
-returns-in-Err-clause-handed g c = record { text = _; status = _; answer = answer.no_memory c.in-Err.ensures.lacking; printed = c.print.ensures.handed }
+returns-in-Err-clause-handed g c = record {
+  text = _;
+  status = _;
+  answer = answer.no_memory c.in-Err.ensures.lacking;
+  printed = c.print.ensures.handed;
+}

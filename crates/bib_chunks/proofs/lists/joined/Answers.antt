@@ -7,8 +7,15 @@ use Rattle.bib_chunks.proofs.lists.joined.Goals.{then-is_shown+in_ok-add, else-i
 pub chunks-preserved : goal.chunks-preserved
 chunks-preserved c =
     let so_far = styled (take c.chunks.chunk-index c.args.chunks.now) in
-    let more = joined_more c.args.chunks.now c.chunks.chunk-index c.chunk-item.result c.chunks-test.true ∙ ap (λ x. so_far ++ atoms_of x.v) (sym c.chunk-item.is) in
+    let more =
+    joined_more c.args.chunks.now c.chunks.chunk-index c.chunk-item.result c.chunks-test.true
+    ∙ ap (λ x. so_far ++ atoms_of x.v) (sym c.chunk-item.is) in
     elim c.if-is_shown.branch [
-      | then-is_shown+in_ok-add w ↦ rw more (w.all-is ∙ joined_shown so_far c.chunk-item.result.v _ _ c.is_shown.ensures.text (sym c.is_shown.ensures.value ∙ w.if-is_shown.true) c.chunks.invariant w.in_ok-add.ensures)
-      | else-is_shown w ↦ rw more (w.all-is ∙ c.chunks.invariant ∙ joined_hidden so_far c.chunk-item.result.v (sym c.is_shown.ensures.value ∙ w.if-is_shown.false))
+      | then-is_shown+in_ok-add w ↦ rw more
+          (w.all-is
+          ∙ joined_shown so_far c.chunk-item.result.v _ _ c.is_shown.ensures.text
+          (sym c.is_shown.ensures.value ∙ w.if-is_shown.true) c.chunks.invariant w.in_ok-add.ensures)
+      | else-is_shown w ↦ rw more
+          (w.all-is ∙ c.chunks.invariant
+          ∙ joined_hidden so_far c.chunk-item.result.v (sym c.is_shown.ensures.value ∙ w.if-is_shown.false))
     ]

@@ -27,14 +27,29 @@ loop-index-preserved c =
     elim c.if-index.branch [
       | then-index+then-not-index+in_ok-marks-2 w ↦
           let written : c.if-index.marks.items ≡ set marks index w.in_ok-marks-2.field-0 = ap (λ v. v.items) w.marks-is in
-          subst (AreMarkedTo graph (index + 1)) (sym written) (marked_more graph index w.in_ok-marks-2.field-0 marks within w.in_ok-marks-2.ensures c.loop-index.invariant)
+          subst (AreMarkedTo graph (index + 1)) (sym written)
+          (marked_more graph index w.in_ok-marks-2.field-0 marks within w.in_ok-marks-2.ensures
+          c.loop-index.invariant)
       | else-index w ↦
-          let left = λ (h : (is_marked suspects index ≡ false) ⊎ (is_marked marks index ≡ true)). subst (λ v. AreMarkedTo graph (index + 1) v.items) (sym w.marks-is) (marked_left graph index suspects marks within found h c.loop-index.invariant) in
+          let left =
+          λ (h : (is_marked suspects index ≡ false) ⊎ (is_marked marks index ≡ true)).
+          subst (λ v. AreMarkedTo graph (index + 1) v.items) (sym w.marks-is)
+          (marked_left graph index suspects marks within found h c.loop-index.invariant) in
           elim w.else-index.branch [
-            | else-index-via-then-index+else-not-index v ↦ left (inr (get_or_default marks index false v.index-then-index.result.now (omega (arith, within, c.loop-index.invariant.same_length)) ∙ sym v.index-then-index.ensures ∙ v.if-not-index.false))
-            | else-index-via-else-index v ↦ left (inl (get_or_default suspects index false c.index.result.now (omega (arith, within, long, length-rows c.args.refs.now)) ∙ sym c.index.ensures ∙ v.if-index.false))
+            | else-index-via-then-index+else-not-index v ↦ left
+                (inr
+                (get_or_default marks index false v.index-then-index.result.now
+                (omega (arith, within, c.loop-index.invariant.same_length)) ∙ sym v.index-then-index.ensures
+                ∙ v.if-not-index.false))
+            | else-index-via-else-index v ↦ left
+                (inl
+                (get_or_default suspects index false c.index.result.now
+                (omega (arith, within, long, length-rows c.args.refs.now)) ∙ sym c.index.ensures
+                ∙ v.if-index.false))
           ]
     ]
 
 pub returns : goal.returns
-returns c = marked_all (rows c.args.refs.now) c.loop-index.marks.items c.loop-index.index (omega (arith, length-rows c.args.refs.now)) c.loop-index.invariant
+returns c =
+    marked_all (rows c.args.refs.now) c.loop-index.marks.items c.loop-index.index
+    (omega (arith, length-rows c.args.refs.now)) c.loop-index.invariant

@@ -17,14 +17,19 @@ loop-index-preserved c =
       | then-eq+in_ok-spread w ↦
           let new : List Bool = w.spread.new.marks in
           let len : length new ≡ length old = w.in_ok-spread.ensures.length ∙ ap length w.deref_mut.ensures.value in
-          let items : c.if-eq.marks.items ≡ new = ap (λ v. v.items) w.marks-is ∙ with_items_is c.loop-index.marks new (omega (arith, len, c.loop-index.marks.ok.0)) in
+          let items : c.if-eq.marks.items ≡ new =
+          ap (λ v. v.items) w.marks-is
+          ∙ with_items_is c.loop-index.marks new (omega (arith, len, c.loop-index.marks.ok.0)) in
           let spread : IsSpread inside index old new = subst (λ l. IsSpread inside index l new) w.deref_mut.ensures.value
           (subst (λ g. IsSpread (rows g) index w.deref_mut.result.now new) w.deref.ensures.value w.in_ok-spread.ensures.spread) in
-          let root : root_at c.args.roots.now index ≡ Some index = same_root (root_at c.args.roots.now index) (Some index) (sym c.eq.ensures ∙ w.if-eq.true) in
+          let root : root_at c.args.roots.now index ≡ Some index =
+          same_root (root_at c.args.roots.now index) (Some index) (sym c.eq.ensures ∙ w.if-eq.true) in
           rw items (record {
             as_long = len ∙ c.loop-index.invariant.as_long;
             closed = spread.closed;
-            returning = returning_more graph c.args.roots.now inside c.in_ok-inside.ensures index old new c.requires.roots root spread c.loop-index.invariant.returning;
+            returning =
+                returning_more graph c.args.roots.now inside c.in_ok-inside.ensures index old new c.requires.roots root
+                spread c.loop-index.invariant.returning;
           })
       | else-eq w ↦ rw (ap (λ v. v.items) w.marks-is) c.loop-index.invariant
     ]

@@ -17,6 +17,7 @@ invariant-loop-index l = record {
 
 abbrev pub invariant-loop-r : goal.invariant-loop-r
 invariant-loop-r l = record {
-  looking : IsLooking (rows l.refs) l.start l.fn.marks l.index l.r-items l.r-index (2 * unmarked l.initial.marks + length l.initial.pending.items) l.marks l.pending.items;
+  looking : IsLooking (rows l.refs) l.start l.fn.marks l.index l.r-items l.r-index
+      (2 * unmarked l.initial.marks + length l.initial.pending.items) l.marks l.pending.items;
   reached : AreReached (rows l.refs) l.start l.reached.items;
 }

@@ -16,8 +16,14 @@ pub units-init : goal.units-init
 units-init c =
     let opened = c.in_ok-frame.ensures in
     let utf8 = IsUtf8-string_bytes c.args.text.now in
-    let begun = begun_here {low = c.args.inside.at} {high = length c.args.inside.text} opened.frame.0 opened.frame.1 opened.made opened.fit (name_plain (chars c.args.name.now) c.requires.named) opened.wrote.0 opened.wrote.1 utf8 (omega arith) (omega arith) c.requires.place in
-    rw c.new-frames.ensures.items (reading_first begun (rw opened.frame.0 c.in_ok-ends.ensures) opened.frame.2 (read_begun c.in_ok-frame.frame (chars c.args.name.now) _ _ opened.frame.0 opened.frame.1 opened.wrote.0 utf8))
+    let begun =
+    begun_here {low = c.args.inside.at} {high = length c.args.inside.text} opened.frame.0 opened.frame.1 opened.made
+    opened.fit (name_plain (chars c.args.name.now) c.requires.named) opened.wrote.0 opened.wrote.1 utf8
+    (omega arith) (omega arith) c.requires.place in
+    rw c.new-frames.ensures.items
+    (reading_first begun (rw opened.frame.0 c.in_ok-ends.ensures) opened.frame.2
+    (read_begun c.in_ok-frame.frame (chars c.args.name.now) _ _ opened.frame.0 opened.frame.1 opened.wrote.0
+    utf8))
 
 pub units-preserved-in-Read : goal.units-preserved-in-Read
 units-preserved-in-Read c =
@@ -33,11 +39,16 @@ units-smaller-in-Read c =
 pub units-preserved-in-Follows : goal.units-preserved-in-Follows
 units-preserved-in-Follows c =
     let inv = c.units.invariant in
-    let read = rw c.in-Follows.is at (c.in_ok-next.ensures.read inv.whole (inv.under ++ made_before c.units.frame.effect inv.name) inv.read) in
+    let read =
+    rw c.in-Follows.is at
+    (c.in_ok-next.ensures.read inv.whole (inv.under ++ made_before c.units.frame.effect inv.name) inv.read) in
     let shorter = rw c.in-Follows.is at c.in_ok-next.ensures.shorter in
     let opened = c.in_ok-above-in-Follows.ensures in
     let reversed = reversed_push c.push.new.self.items c.units.frames.items _ c.in_ok-push-in-Follows.ensures.items in
-    rw reversed (reading_follows inv c.in_ok-next.ensures.kept c.in_ok-next.ensures.right (IsUtf8-string_bytes c.next.new.text) read.0 read.1 read.2 read.3 shorter.1 opened.frame.0 opened.frame.1 (opened.frame.2 ∙ c.is_flat_here.ensures) opened.made opened.fit opened.wrote.0 opened.wrote.1)
+    rw reversed
+    (reading_follows inv c.in_ok-next.ensures.kept c.in_ok-next.ensures.right (IsUtf8-string_bytes c.next.new.text)
+    read.0 read.1 read.2 read.3 shorter.1 opened.frame.0 opened.frame.1
+    (opened.frame.2 ∙ c.is_flat_here.ensures) opened.made opened.fit opened.wrote.0 opened.wrote.1)
 
 pub units-smaller-in-Follows : goal.units-smaller-in-Follows
 units-smaller-in-Follows c =
@@ -101,4 +112,6 @@ returns-in_err-next-clause-within c fits =
     let p = err_from_is_err_and c.from_residual-in_err-next.result c.from_residual-in_err-next.ensures.1 in
     let following = inv.begun.following in
     let within = inv.begun.within in
-    rw (p.1, p.2) (stays_wider (c.in_err-next.ensures.within (omega (arith, fits, within))) (omega (arith, following)) (omega (arith, within)))
+    rw (p.1, p.2)
+    (stays_wider (c.in_err-next.ensures.within (omega (arith, fits, within))) (omega (arith, following))
+    (omega (arith, within)))

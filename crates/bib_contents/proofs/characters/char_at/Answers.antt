@@ -9,4 +9,6 @@ returns-then-byte-lt128 c =
     rw c.as_bytes-bytes.ensures.value (_, ascii_here c.args.text.now c.args.at within ascii)
 
 pub returns : goal.returns
-returns c = char_at_prefix _ c.args.text.now c.args.at c.requires.0 _ _ _ (c.chars.ensures.rest ∙ c.range_from.ensures.value) c.next.ensures.steps.0
+returns c =
+    char_at_prefix _ c.args.text.now c.args.at c.requires.0 _ _ _ (c.chars.ensures.rest ∙ c.range_from.ensures.value)
+    c.next.ensures.steps.0

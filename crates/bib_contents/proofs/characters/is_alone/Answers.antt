@@ -10,7 +10,10 @@ use Rattle.bib_contents.proofs.characters.is_alone.Goals as goal
 pub returns-then-c-eq32 : goal.returns-then-c-eq32
 returns-then-c-eq32 c =
     let none = chars_at_end (place c.args.text.now c.args.at) c.in_default.ensures in
-    ap (λ d. d == 32) c.if-c-eq32.true ∙ sym (alone_space c.args.c (left (place c.args.text.now c.args.at)) c.if-c-eq32.true ∙ ap (λ cs. not (begins is_space cs)) none)
+    ap (λ d. d == 32) c.if-c-eq32.true
+    ∙ sym
+    (alone_space c.args.c (left (place c.args.text.now c.args.at)) c.if-c-eq32.true
+    ∙ ap (λ cs. not (begins is_space cs)) none)
 
 pub returns-else-c-eq32 : goal.returns-else-c-eq32
 returns-else-c-eq32 c =
@@ -20,7 +23,10 @@ returns-else-c-eq32 c =
 pub returns-then-c-eq32-2 : goal.returns-then-c-eq32-2
 returns-then-c-eq32-2 c =
     let here = left_here c.args.text.now c.args.at c.utf8.text c.requires c.in-Some.ensures.1 in
-    ap not c.is_space.ensures ∙ sym (alone_space c.args.c (left (place c.args.text.now c.args.at)) c.if-c-eq32-2.true ∙ ap (λ cs. not (begins is_space cs)) here)
+    ap not c.is_space.ensures
+    ∙ sym
+    (alone_space c.args.c (left (place c.args.text.now c.args.at)) c.if-c-eq32-2.true
+    ∙ ap (λ cs. not (begins is_space cs)) here)
 
 pub returns-then-c-eq45 : goal.returns-then-c-eq45
 returns-then-c-eq45 c =

@@ -11,5 +11,6 @@ returns-then-len-start c base inside size is =
 
 pub returns : goal.returns
 returns c base inside size is =
-    marked_after base inside c.args.mark c.in-Some.last _ _ _ size (omega (arith, c.len.ensures, c.if-len-start.false)) (IsUtf8-string_bytes c.args.out.now) (IsUtf8-string_bytes c.pop.new.self) is c.in-Some.ensures.bytes
+    marked_after base inside c.args.mark c.in-Some.last _ _ _ size (omega (arith, c.len.ensures, c.if-len-start.false))
+    (IsUtf8-string_bytes c.args.out.now) (IsUtf8-string_bytes c.pop.new.self) is c.in-Some.ensures.bytes
     (rw c.letter.ensures at c.in_ok-write_marked_letter.ensures)

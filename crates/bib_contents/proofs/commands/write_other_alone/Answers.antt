@@ -11,12 +11,15 @@ returns-in_ok-push-in-o c =
 
 pub returns-in_ok-push-in-copyright : goal.returns-in_ok-push-in-copyright
 returns-in_ok-push-in-copyright c =
-    rw (other_copyright c.args.name.now c.in-copyright.is) (pushed_chars _ _ _ _ (169 ∷ []) c.in_ok-push-in-copyright.was c.push-in-copyright.ensures.bytes (encode_one 169))
+    rw (other_copyright c.args.name.now c.in-copyright.is)
+    (pushed_chars _ _ _ _ (169 ∷ []) c.in_ok-push-in-copyright.was c.push-in-copyright.ensures.bytes
+    (encode_one 169))
 
 pub returns-in_ok-push-in_default-2 : goal.returns-in_ok-push-in_default-2
 returns-in_ok-push-in_default-2 c =
     rw (other_unknown c.args.name.now c.utf8.name c.in_default.not-o c.in_default.not-copyright)
     (three_parts _ _ _ _ (92 ∷ []) (chars c.args.name.now) (32 ∷ [])
     (pushed_chars _ _ _ _ (92 ∷ []) c.in_ok-push-in_default.was c.push-in_default.ensures.bytes (encode_one 92))
-    (pushed_chars _ _ _ _ (chars c.args.name.now) c.in_ok-push_str-in_default.was c.push_str.ensures.bytes (sym (encodes-chars _ c.utf8.name)))
+    (pushed_chars _ _ _ _ (chars c.args.name.now) c.in_ok-push_str-in_default.was c.push_str.ensures.bytes
+    (sym (encodes-chars _ c.utf8.name)))
     (pushed_chars _ _ _ _ (32 ∷ []) c.in_ok-push-in_default-2.was c.push-in_default-2.ensures.bytes (encode_one 32)))

@@ -13,7 +13,9 @@ use Rattle.bib_contents.proofs.TakingFacts.{stands_at, unit_named}
 use Rattle.bib_contents.proofs.contents.contents.Goals as goal
 
 pub units-init : goal.units-init
-units-init c = reading_none c.args.is_verbatim c.args.text.now c.args.offset c.args.out.now c.new-s.result _ c.new-s.ensures (omega (arith, c.ranges.offset.fits)) refl refl c.in_ok-with_capacity.ensures.bytes
+units-init c =
+    reading_none c.args.is_verbatim c.args.text.now c.args.offset c.args.out.now c.new-s.result _ c.new-s.ensures
+    (omega (arith, c.ranges.offset.fits)) refl refl c.in_ok-with_capacity.ensures.bytes
 
 pub returns-then-done-clause-read : goal.returns-then-done-clause-read
 returns-then-done-clause-read c =
@@ -57,7 +59,9 @@ take-requires c =
     reading_plain was grown c.units.invariant c.in_ok-write_plain.ensures refl refl in
     let at : c.cursor-start.result ≡ c.write_plain.new.s.at = c.cursor-start.ensures.place in
     let fits : length c.write_plain.new.s.text < 2 ^ 63 = c.cursor-start.ensures.fits in
-    let next = unit_place c.in-Some.ensures.found c.in-Some.ensures.same c.cursor-start.ensures.utf8 c.cursor.ensures.utf8 run.within (rw (← c.cursor.ensures.place) c.cursor.ensures.boundary.0) in
+    let next =
+    unit_place c.in-Some.ensures.found c.in-Some.ensures.same c.cursor-start.ensures.utf8 c.cursor.ensures.utf8
+    run.within (rw (← c.cursor.ensures.place) c.cursor.ensures.boundary.0) in
     record {
       deep = omega (arith, run.deep, run.within, fits);
       spelt = c.cursor.ensures.place ∙ next ∙ ap (λ n. n + length (encode_utf8_all (unit_spelling (unit_of c.in-Some.unit)))) (sym at);
@@ -78,8 +82,12 @@ units-preserved c =
     let run : Reading c.args.is_verbatim c.args.text.now c.args.offset c.args.out.now c.write_plain.new.s grown c.units.out =
     reading_plain was grown c.units.invariant c.in_ok-write_plain.ensures refl refl in
     let within : c.eat_unit.new.s.at ≤ length c.eat_unit.new.s.text = rw (← c.cursor.ensures.place) c.cursor.ensures.boundary.0 in
-    let next = unit_place c.in-Some.ensures.found c.in-Some.ensures.same c.cursor-start.ensures.utf8 c.cursor.ensures.utf8 run.within within in
-    reading_unit grown c.take.new.growing run c.in-Some.ensures.found c.in-Some.ensures.same next within c.in_ok-take.ensures.taken c.in_ok-take.ensures.joined (rw (c.cursor-start.ensures.place, c.cursor.ensures.place) at c.in_ok-take.ensures.placed)
+    let next =
+    unit_place c.in-Some.ensures.found c.in-Some.ensures.same c.cursor-start.ensures.utf8 c.cursor.ensures.utf8
+    run.within within in
+    reading_unit grown c.take.new.growing run c.in-Some.ensures.found c.in-Some.ensures.same next within
+    c.in_ok-take.ensures.taken c.in_ok-take.ensures.joined
+    (rw (c.cursor-start.ensures.place, c.cursor.ensures.place) at c.in_ok-take.ensures.placed)
 
 pub returns-in_err-take-clause-refused : goal.returns-in_err-take-clause-refused
 returns-in_err-take-clause-refused c =

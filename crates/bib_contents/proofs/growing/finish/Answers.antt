@@ -4,7 +4,9 @@ use Rattle.bib_contents.proofs.ReaderFacts.{placed_wider, nothing_grows, no_byte
 use Rattle.bib_contents.proofs.growing.finish.Goals as goal
 
 pub returns-then-not-growing-clause-atoms : goal.returns-then-not-growing-clause-atoms
-returns-then-not-growing-clause-atoms c = nothing_grows c.args.out.now c.args.growing (sym c.as_str.ensures.value ∙ no_bytes _ (eqb-true _ 0 (sym c.if-is_empty.ensures)))
+returns-then-not-growing-clause-atoms c =
+    nothing_grows c.args.out.now c.args.growing
+    (sym c.as_str.ensures.value ∙ no_bytes _ (eqb-true _ 0 (sym c.if-is_empty.ensures)))
 
 pub returns-then-not-growing-clause-placed : goal.returns-then-not-growing-clause-placed
 returns-then-not-growing-clause-placed c low placed wider = placed_wider low _ _ _ placed wider

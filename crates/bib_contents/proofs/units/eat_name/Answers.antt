@@ -21,7 +21,8 @@ pub returns-then-is_sign-clause-passed : goal.returns-then-is_sign-clause-passed
 returns-then-is_sign-clause-passed c = rw (sign_text c) (sign_passed c)
 
 pub returns-then-is_sign-clause-name : goal.returns-then-is_sign-clause-name
-returns-then-is_sign-clause-name c = rw (sign_text c) (sign_name c.args.first c.requires.begins.0 c.requires.begins.1 (sym c.if-is_sign.ensures))
+returns-then-is_sign-clause-name c =
+    rw (sign_text c) (sign_name c.args.first c.requires.begins.0 c.requires.begins.1 (sym c.if-is_sign.ensures))
 
 pub returns-then-is_sign-clause-whole : goal.returns-then-is_sign-clause-whole
 returns-then-is_sign-clause-whole c = rw (sign_text c) (sign_whole c.args.first _ (sym c.if-is_sign.ensures))
@@ -30,7 +31,9 @@ name_passed : (c : After-from-2) → Passes c.args.s.now (c.args.first ∷ chars
 name_passed c = passes_then (eaten_first c.eat.result c.eat.ensures c.requires.stands.1) c.eat_while.ensures.passed
 
 name_text : (c : After-from-2) → chars c.from-2.result.now ≡ c.args.first ∷ chars c.eat_while.result.now
-name_text c = passes_text c.cursor-start.result c.from-2.result.now (name_passed c) c.cursor-start.ensures.place c.from-2.utf8 c.from-2.ensures
+name_text c =
+    passes_text c.cursor-start.result c.from-2.result.now (name_passed c) c.cursor-start.ensures.place c.from-2.utf8
+    c.from-2.ensures
 
 pub returns-clause-passed : goal.returns-clause-passed
 returns-clause-passed c = rw (name_text c) (name_passed c)

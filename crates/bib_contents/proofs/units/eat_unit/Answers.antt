@@ -15,7 +15,9 @@ eat_while-requires-clause-is_test c = (is_space, λ x r post. post)
 
 pub returns-clause-found : goal.returns-clause-found
 returns-clause-found c =
-    let dollar = last_dollar c.args.is_verbatim c.in-Some.c c.if-is_ordinary.ensures c.if-is_space.ensures c.if-c-eq45.false c.if-c-eq92.false c.if-c-eq123.false c.if-c-eq125.false in
+    let dollar =
+    last_dollar c.args.is_verbatim c.in-Some.c c.if-is_ordinary.ensures c.if-is_space.ensures c.if-c-eq45.false
+    c.if-c-eq92.false c.if-c-eq123.false c.if-c-eq125.false in
     let passed : Passes c.args.s.now (c.in-Some.c ∷ []) c.eat-2.new.self = eaten_first c.eat-2.result c.eat-2.ensures c.in-Some.ensures.1 in
     let here : left c.args.s.now ≡ 36 ∷ left c.eat-2.new.self = passed.left ∙ ap (λ d. d ∷ left c.eat-2.new.self) dollar.1 in
     rw (dollar.0, here) c.formula.ensures.found

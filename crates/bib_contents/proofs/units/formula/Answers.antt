@@ -14,7 +14,8 @@ pub returns-then-not-eat_if-clause-found : goal.returns-then-not-eat_if-clause-f
 returns-then-not-eat_if-clause-found c u rest one =
     let run = c.eat_while-text.ensures.longest (λ d. not (d == 36)) (λ x r post. search rules) in
     let ended : left c.eat_while-text.new.self ≡ [] = nothing_left (λ d. d == 36) _ run.1 c.if-not-eat_if.ensures.1 in
-    let whole : left c.args.s.now ≡ chars c.eat_while-text.result.now = c.eat_while-text.ensures.passed.left ∙ ap (λ xs. chars c.eat_while-text.result.now ++ xs) ended ∙ append-nil _ in
+    let whole : left c.args.s.now ≡ chars c.eat_while-text.result.now =
+    c.eat_while-text.ensures.passed.left ∙ ap (λ xs. chars c.eat_while-text.result.now ++ xs) ended ∙ append-nil _ in
     no_formula (chars c.eat_while-text.result.now) run.0 u rest (rw whole at one)
 
 pub returns-then-not-eat_if-clause-fails : goal.returns-then-not-eat_if-clause-fails

@@ -14,7 +14,8 @@ returns-clause-passed c = (chars c.eat_while.result.now, c.eat_while.ensures.pas
 pub returns-clause-spelt : goal.returns-clause-spelt
 returns-clause-spelt c =
     let run = c.eat_while.ensures.longest (λ d. d == 45) (λ x r post. search rules) in
-    c.eat_while.ensures.passed.left ∙ ap (λ cs. cs ++ left c.eat_while.new.self) (hyphens_bytes c.eat_while.result.now c.eat_while.utf8 run.0)
+    c.eat_while.ensures.passed.left
+    ∙ ap (λ cs. cs ++ left c.eat_while.new.self) (hyphens_bytes c.eat_while.result.now c.eat_while.utf8 run.0)
 
 pub returns-clause-whole : goal.returns-clause-whole
 returns-clause-whole c = (c.eat_while.ensures.longest (λ d. d == 45) (λ x r post. search rules)).1

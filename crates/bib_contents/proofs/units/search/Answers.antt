@@ -12,7 +12,9 @@ returns-in_default-clause-found c =
 
 pub overflow_add-depth : goal.overflow_add-depth
 overflow_add-depth c =
-    let fits = braced_bound c.braces.invariant.0 (rw (← c.cursor-start.ensures.place) c.cursor-start.ensures.boundary.0) c.cursor-start.ensures.fits c.braces.invariant.1 in
+    let fits =
+    braced_bound c.braces.invariant.0 (rw (← c.cursor-start.ensures.place) c.cursor-start.ensures.boundary.0)
+    c.cursor-start.ensures.fits c.braces.invariant.1 in
     omega (arith, fits)
 
 pub braces-preserved-then-brace-eq123 : goal.braces-preserved-then-brace-eq123
@@ -23,10 +25,15 @@ braces-preserved-then-brace-eq123 c =
 pub returns-then-depth-eq0-clause-found : goal.returns-then-depth-eq0-clause-found
 returns-then-depth-eq0-clause-found c =
     let run = c.eat_while.ensures.longest is_no_brace (λ x r post. search rules) in
-    braced_encloses c.cursor-start.result c.braces.invariant.0 c.if-depth-eq0.true c.eat_while.ensures.passed run.0 run.1 c.in-Some.ensures c.if-brace-eq123.false c.back_to-inside.ensures.place c.cursor-start.ensures.place c.back_to-inside.ensures.utf8
-    (passes_within c.eat_while.ensures.passed (passes_within c.braces.invariant.0.passed (rw (← c.cursor-start.ensures.place) c.cursor-start.ensures.boundary.0)))
+    braced_encloses c.cursor-start.result c.braces.invariant.0 c.if-depth-eq0.true c.eat_while.ensures.passed run.0
+    run.1 c.in-Some.ensures c.if-brace-eq123.false c.back_to-inside.ensures.place c.cursor-start.ensures.place
+    c.back_to-inside.ensures.utf8
+    (passes_within c.eat_while.ensures.passed
+    (passes_within c.braces.invariant.0.passed
+    (rw (← c.cursor-start.ensures.place) c.cursor-start.ensures.boundary.0)))
 
 pub braces-preserved : goal.braces-preserved
 braces-preserved c =
     let run = c.eat_while.ensures.longest is_no_brace (λ x r post. search rules) in
-    braced_closed c.braces.invariant.0 c.braces.invariant.1 c.eat_while.ensures.passed run.0 run.1 c.in-Some.ensures c.if-brace-eq123.false c.if-depth-eq0.false
+    braced_closed c.braces.invariant.0 c.braces.invariant.1 c.eat_while.ensures.passed run.0 run.1 c.in-Some.ensures
+    c.if-brace-eq123.false c.if-depth-eq0.false

@@ -14,19 +14,26 @@ returns-in_default c space is = takes_nothing (chars c.args.name.now) space (ap 
 
 pub returns-then-not-done : goal.returns-then-not-done
 returns-then-not-done c space is =
-    takes_none (chars c.args.name.now) (left c.eat.new.self) space c.in-Some.first (spelt _ _ _ _ c.new-letters.ensures c.in-Some.ensures) c.if-not-done.ensures
+    takes_none (chars c.args.name.now) (left c.eat.new.self) space c.in-Some.first
+    (spelt _ _ _ _ c.new-letters.ensures c.in-Some.ensures) c.if-not-done.ensures
 
 pub returns-then-is_mark : goal.returns-then-is_mark
 returns-then-is_mark c space is =
-    let one = takes_one (chars c.args.name.now) (left c.eat.new.self) space c.in-Some.first (spelt _ _ _ _ c.new-letters.ensures c.in-Some.ensures) c.if-not-done.ensures in
+    let one =
+    takes_one (chars c.args.name.now) (left c.eat.new.self) space c.in-Some.first
+    (spelt _ _ _ _ c.new-letters.ensures c.in-Some.ensures) c.if-not-done.ensures in
     rw (one, c.if-is_mark.true, sym c.if-is_mark.ensures) refl
 
 pub returns-then-is_accent_letter : goal.returns-then-is_accent_letter
 returns-then-is_accent_letter c space is =
-    let one = takes_one (chars c.args.name.now) (left c.eat.new.self) space c.in-Some.first (spelt _ _ _ _ c.new-letters.ensures c.in-Some.ensures) c.if-not-done.ensures in
+    let one =
+    takes_one (chars c.args.name.now) (left c.eat.new.self) space c.in-Some.first
+    (spelt _ _ _ _ c.new-letters.ensures c.in-Some.ensures) c.if-not-done.ensures in
     rw (one, sym c.if-is_mark.ensures, sym c.if-is_accent_letter.ensures) is
 
 pub returns-else-is_accent_letter : goal.returns-else-is_accent_letter
 returns-else-is_accent_letter c space is =
-    let one = takes_one (chars c.args.name.now) (left c.eat.new.self) space c.in-Some.first (spelt _ _ _ _ c.new-letters.ensures c.in-Some.ensures) c.if-not-done.ensures in
+    let one =
+    takes_one (chars c.args.name.now) (left c.eat.new.self) space c.in-Some.first
+    (spelt _ _ _ _ c.new-letters.ensures c.in-Some.ensures) c.if-not-done.ensures in
     rw (one, sym c.if-is_mark.ensures, sym c.if-is_accent_letter.ensures) c.if-is_accent_letter.false

@@ -5,4 +5,7 @@ use Rattle.bib_text.proofs.TextFacts.{pushed_chars}
 use Rattle.bib_contents.proofs.writing.write_laid.Goals as goal
 
 pub returns : goal.returns
-returns c = rw c.if-is_flat.false (pushed_chars _ _ _ _ (chars c.args.part.now) c.in_ok-push_str.was c.push_str.ensures.bytes (sym (encodes-chars _ c.utf8.part)))
+returns c =
+    rw c.if-is_flat.false
+    (pushed_chars _ _ _ _ (chars c.args.part.now) c.in_ok-push_str.was c.push_str.ensures.bytes
+    (sym (encodes-chars _ c.utf8.part)))

@@ -7,4 +7,5 @@ use Rattle.bib_contents.proofs.writing.write_math.Goals as goal
 
 pub returns : goal.returns
 returns c = between_dollars (laid c.args.is_flat (chars c.args.math.now)) _ _ _ _
-    (pushed_chars _ _ _ _ (36 ∷ []) c.in_ok-push.was c.push.ensures.bytes (encode_one 36)) c.in_ok-write_laid.ensures (pushed_chars _ _ _ _ (36 ∷ []) c.in_ok-push-2.was c.push-2.ensures.bytes (encode_one 36))
+    (pushed_chars _ _ _ _ (36 ∷ []) c.in_ok-push.was c.push.ensures.bytes (encode_one 36)) c.in_ok-write_laid.ensures
+    (pushed_chars _ _ _ _ (36 ∷ []) c.in_ok-push-2.was c.push-2.ensures.bytes (encode_one 36))

@@ -8,6 +8,8 @@ use Rattle.bib_conversion.proofs.converting.edits.Given as goal
 
 abbrev pub invariant-entries : goal.invariant-entries
 invariant-entries l = record {
-  added : map edit_in_bytes l.edits.items ++ edits_of_file l.dialect l.defines l.text (map entry_reading_of (drop l.entry-index l.entries)) ≡ edits_of_file l.dialect l.defines l.text (map entry_reading_of l.entries);
+  added : map edit_in_bytes l.edits.items
+      ++ edits_of_file l.dialect l.defines l.text (map entry_reading_of (drop l.entry-index l.entries))
+      ≡ edits_of_file l.dialect l.defines l.text (map entry_reading_of l.entries);
   placed : AllByRecursion (λ e. AllByRecursion (IsPlaced l.text) e.fields) (map entry_reading_of (drop l.entry-index l.entries));
 }

@@ -7,6 +7,7 @@ use Rattle.bib_conversion.proofs.converting.push_field_edits.Given as goal
 
 abbrev pub invariant-fields : goal.invariant-fields
 invariant-fields l = record {
-  added : map edit_in_bytes l.edits.items ++ change_edits l.changes l.text (map field_of (drop l.at l.fields)) ≡ map edit_in_bytes l.initial.edits.items ++ change_edits l.changes l.text (map field_of l.fields);
+  added : map edit_in_bytes l.edits.items ++ change_edits l.changes l.text (map field_of (drop l.at l.fields))
+      ≡ map edit_in_bytes l.initial.edits.items ++ change_edits l.changes l.text (map field_of l.fields);
   placed : AllByRecursion (IsPlaced l.text) (map field_of (drop l.at l.fields));
 }

@@ -10,4 +10,6 @@ use Rattle.bib_conversion.proofs.editing.edited_all.Given as goal
 abbrev pub invariant-edits : goal.invariant-edits
 invariant-edits l =
     IsCharBoundary l.text l.at × AreEditsInOrder l.text l.at (map edit_in_bytes (drop l.edit-index l.edits))
-    × (string_bytes l.new ++ rest_edited l.at (map edit_in_bytes (drop l.edit-index l.edits)) l.text ≡ edited_all (map edit_in_bytes l.edits) l.text)
+    ×
+    (string_bytes l.new ++ rest_edited l.at (map edit_in_bytes (drop l.edit-index l.edits)) l.text
+    ≡ edited_all (map edit_in_bytes l.edits) l.text)

@@ -6,6 +6,7 @@ use Rattle.bib_conversion.proofs.fields.count_named.Given as goal
 
 abbrev pub invariant-fields : goal.invariant-fields
 invariant-fields l = record {
-  counted : l.count + length (filter (has_name l.name) (map field_of (drop l.field-index l.fields))) ≡ length (filter (has_name l.name) (map field_of l.fields));
+  counted : l.count + length (filter (has_name l.name) (map field_of (drop l.field-index l.fields)))
+      ≡ length (filter (has_name l.name) (map field_of l.fields));
   small : l.count ≤ l.field-index;
 }

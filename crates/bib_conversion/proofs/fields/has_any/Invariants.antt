@@ -6,4 +6,6 @@ use Rattle.bib_strings.specs.Collecting.{lent_texts}
 use Rattle.bib_conversion.proofs.fields.has_any.Given as goal
 
 abbrev pub invariant-names : goal.invariant-names
-invariant-names l = list_any (is_field_there (map field_of l.fields)) (lent_texts l.names) ≡ list_any (is_field_there (map field_of l.fields)) (lent_texts (drop l.name-index l.names))
+invariant-names l =
+    list_any (is_field_there (map field_of l.fields)) (lent_texts l.names)
+    ≡ list_any (is_field_there (map field_of l.fields)) (lent_texts (drop l.name-index l.names))

@@ -13,5 +13,8 @@ fields-preserved c =
     let rest : Bool = can_all_go_out c.args.text.now (map field_of (drop (c.fields.at + 1) c.args.fields.now)) in
     let left : List Pair = drop (c.fields.at + 1) c.args.fields.now in
     let following : List Pair = take (length c.args.fields.now - (c.fields.at + 1)) left in
-    goes_step field_of c.args.fields.now c.fields.at c.index-fields-at.result c.fields-test.true c.index-fields-at.is c.args.text.now following c.can_go_out.result all (take_all (length c.args.fields.now - (c.fields.at + 1)) left (omega (arith, length-drop (c.fields.at + 1) c.args.fields.now))) c.can_go_out.ensures c.fields.invariant
+    goes_step field_of c.args.fields.now c.fields.at c.index-fields-at.result c.fields-test.true c.index-fields-at.is
+    c.args.text.now following c.can_go_out.result all
+    (take_all (length c.args.fields.now - (c.fields.at + 1)) left
+    (omega (arith, length-drop (c.fields.at + 1) c.args.fields.now))) c.can_go_out.ensures c.fields.invariant
     ∙ ap (λ b. b && rest) c.if-not-can_go_out.false

@@ -5,4 +5,6 @@ use Rattle.bib_conversion.specs.Tables.{lent_names}
 use Rattle.bib_conversion.proofs.names.exchanged_names.Given as goal
 
 abbrev pub invariant-rows : goal.invariant-rows
-invariant-rows l = lent_names l.free.items ++ free_names (map field_of l.fields) (lent_names (drop l.row-index l.names)) ≡ free_names (map field_of l.fields) (lent_names l.names)
+invariant-rows l =
+    lent_names l.free.items ++ free_names (map field_of l.fields) (lent_names (drop l.row-index l.names))
+    ≡ free_names (map field_of l.fields) (lent_names l.names)

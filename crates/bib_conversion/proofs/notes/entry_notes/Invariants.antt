@@ -4,4 +4,7 @@ use Rattle.bib_conversion.specs.Notes.{entry_notes, indexed}
 use Rattle.bib_conversion.proofs.notes.entry_notes.Given as goal
 
 abbrev pub invariant-entries : goal.invariant-entries
-invariant-entries l = l.notes.items ++ indexed (entry_notes l.dialect l.defines l.text) l.index (map entry_reading_of (drop l.index l.entries)) ≡ indexed (entry_notes l.dialect l.defines l.text) 0 (map entry_reading_of l.entries)
+invariant-entries l =
+    l.notes.items
+    ++ indexed (entry_notes l.dialect l.defines l.text) l.index (map entry_reading_of (drop l.index l.entries))
+    ≡ indexed (entry_notes l.dialect l.defines l.text) 0 (map entry_reading_of l.entries)

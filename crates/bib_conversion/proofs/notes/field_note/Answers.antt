@@ -10,10 +10,14 @@ use Rattle.bib_conversion.proofs.notes.field_note.Goals as goal
 pub returns-then-branch : goal.returns-then-branch
 returns-then-branch c =
     let f : FieldReading = field_of c.args.field.now in
-    given_way c.args.rules.now.dialect (change_by c.args.rules.now.changes f) (other_name (lent_names c.args.rules.now.names.now) f.name.text) f (sym c.in_ok-gives_way.ensures ∙ c.if-branch.true)
+    given_way c.args.rules.now.dialect (change_by c.args.rules.now.changes f)
+    (other_name (lent_names c.args.rules.now.names.now) f.name.text) f
+    (sym c.in_ok-gives_way.ensures ∙ c.if-branch.true)
 
 pub returns : goal.returns
 returns c =
     let f : FieldReading = field_of c.args.field.now in
     let other : Option (List ℕ) = other_name (lent_names c.args.rules.now.names.now) f.name.text in
-    c.stays_note.ensures ∙ ap (λ o. stays_note c.args.rules.now.dialect o f) c.other_name.ensures ∙ stayed c.args.rules.now.dialect (change_by c.args.rules.now.changes f) other f (sym c.in_ok-gives_way.ensures ∙ c.if-branch.false)
+    c.stays_note.ensures ∙ ap (λ o. stays_note c.args.rules.now.dialect o f) c.other_name.ensures
+    ∙ stayed c.args.rules.now.dialect (change_by c.args.rules.now.changes f) other f
+    (sym c.in_ok-gives_way.ensures ∙ c.if-branch.false)

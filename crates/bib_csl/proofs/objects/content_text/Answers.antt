@@ -8,4 +8,6 @@ use Rattle.bib_csl.proofs.objects.content_text.Goals as goal
 pub returns : goal.returns
 returns c =
     let d = content_json c.args.content.now in
-    c.text_written.ensures ∙ ap print (c.in_ok-write_content.ensures.written ∙ ap (λ ts. ts ++ tokens_of d) c.new-out.ensures.tokens) ∙ print-outline d
+    c.text_written.ensures
+    ∙ ap print (c.in_ok-write_content.ensures.written ∙ ap (λ ts. ts ++ tokens_of d) c.new-out.ensures.tokens)
+    ∙ print-outline d

@@ -12,10 +12,12 @@ returns-in-Normal c =
     let bs = c.in-Normal.text in
     let same = c.as_str-in-Normal.ensures in
     let line = ap (list_all is_in_line) (sym c.as_str.ensures) ∙ sym c.is_one_line.ensures ∙ c.if-is_one_line.true in
-    same ∙ normal_stands bs (subst IsUtf8 same c.as_str-in-Normal.utf8) line ∙ ap (λ v. encodes (formatted_chunk (λ cs. cs) false v ++ [])) (sym c.in-Normal.is)
+    same ∙ normal_stands bs (subst IsUtf8 same c.as_str-in-Normal.utf8) line
+    ∙ ap (λ v. encodes (formatted_chunk (λ cs. cs) false v ++ [])) (sym c.in-Normal.is)
 
 pub returns-in-Verbatim : goal.returns-in-Verbatim
 returns-in-Verbatim c =
     let bs = c.in-Verbatim.text in
     let same = c.as_str-in-Verbatim.ensures in
-    same ∙ verbatim_stands bs (subst IsUtf8 same c.as_str-in-Verbatim.utf8) ∙ ap (λ v. encodes (formatted_chunk (λ cs. cs) false v ++ [])) (sym c.in-Verbatim.is)
+    same ∙ verbatim_stands bs (subst IsUtf8 same c.as_str-in-Verbatim.utf8)
+    ∙ ap (λ v. encodes (formatted_chunk (λ cs. cs) false v ++ [])) (sym c.in-Verbatim.is)

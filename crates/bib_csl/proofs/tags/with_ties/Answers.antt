@@ -9,7 +9,9 @@ text-smaller c = less_after c.in-Some.ensures
 
 pub text-preserved : goal.text-preserved
 text-preserved c =
-    let step = untied_step c.text.out c.push_untied.new.out _ c.in-Some.ensures c.text.invariant.1 c.in_ok-push_untied.ensures c.text.invariant.2 in
+    let step =
+    untied_step c.text.out c.push_untied.new.out _ c.in-Some.ensures c.text.invariant.1 c.in_ok-push_untied.ensures
+    c.text.invariant.2 in
     (step.0 ∙ c.text.invariant.0, step.1, step.2)
 
 pub returns : goal.returns

@@ -17,5 +17,6 @@ returns-clause-written c =
     let literal = literal_tokens d.literal in
     let season = season_tokens d.season in
     after r c.args.out.now.tokens first end circa (dates ++ (literal ++ season)) c.in_ok-write_circa.ensures.written
-    (after r first second end dates (literal ++ season) (c.in_ok-write_all_parts.ensures.written ∙ ap (λ parts. first ++ dates_tokens parts) c.as_slice.ensures)
+    (after r first second end dates (literal ++ season)
+    (c.in_ok-write_all_parts.ensures.written ∙ ap (λ parts. first ++ dates_tokens parts) c.as_slice.ensures)
     (after r second third end literal season c.in_ok-write_literal.ensures.written c.write_season.ensures.written))

@@ -10,5 +10,8 @@ use Rattle.bib_csl.proofs.writing.write_names.Goals as goal
 
 pub returns-clause-written : goal.returns-clause-written
 returns-clause-written c =
-    framed c.end_array.result begin_array end_array c.args.out.now.tokens c.begin_array.new.self.tokens c.write_each_name.new.out.tokens c.end_array.new.self.tokens
-    (flat_map (λ x. tokens_of (name_json x)) c.args.names.now) (tokens_of (array (items_of (map name_json c.args.names.now)))) c.in_ok-begin_array.ensures.ok c.in_ok-write_each_name.ensures.written c.end_array.ensures.ok (array_tokens name_json c.args.names.now)
+    framed c.end_array.result begin_array end_array c.args.out.now.tokens c.begin_array.new.self.tokens
+    c.write_each_name.new.out.tokens c.end_array.new.self.tokens
+    (flat_map (λ x. tokens_of (name_json x)) c.args.names.now)
+    (tokens_of (array (items_of (map name_json c.args.names.now)))) c.in_ok-begin_array.ensures.ok
+    c.in_ok-write_each_name.ensures.written c.end_array.ensures.ok (array_tokens name_json c.args.names.now)

@@ -8,15 +8,24 @@ returns-clause-value c =
 
 pub returns-clause-below : goal.returns-clause-below
 returns-clause-below c =
-    let value = c.unwrap_or.ensures ∙ parsed c.args.digits.now c.parse.result c.requires.digits c.requires.some c.requires.count c.parse.ensures.value.0 in
+    let value =
+    c.unwrap_or.ensures
+    ∙ parsed c.args.digits.now c.parse.result c.requires.digits c.requires.some c.requires.count
+    c.parse.ensures.value.0 in
     omega (arith, value, four c.args.digits.now c.requires.digits c.requires.count)
 
 pub returns-clause-short : goal.returns-clause-short
 returns-clause-short c few =
-    let value = c.unwrap_or.ensures ∙ parsed c.args.digits.now c.parse.result c.requires.digits c.requires.some c.requires.count c.parse.ensures.value.0 in
+    let value =
+    c.unwrap_or.ensures
+    ∙ parsed c.args.digits.now c.parse.result c.requires.digits c.requires.some c.requires.count
+    c.parse.ensures.value.0 in
     omega (arith, value, two c.args.digits.now c.requires.digits few)
 
 pub returns-clause-shorter : goal.returns-clause-shorter
 returns-clause-shorter c few =
-    let value = c.unwrap_or.ensures ∙ parsed c.args.digits.now c.parse.result c.requires.digits c.requires.some c.requires.count c.parse.ensures.value.0 in
+    let value =
+    c.unwrap_or.ensures
+    ∙ parsed c.args.digits.now c.parse.result c.requires.digits c.requires.some c.requires.count
+    c.parse.ensures.value.0 in
     omega (arith, value, three c.args.digits.now c.requires.digits few)

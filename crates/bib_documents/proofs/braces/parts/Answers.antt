@@ -65,7 +65,9 @@ parts-preserved-then-at c =
 pub parts-preserved : goal.parts-preserved
 parts-preserved c =
     let at = (goal.at.parts-preserved c).After-eat_while in
-    let here = ahead_then (ahead_same c.if-eat_if.ensures.0) (ahead_then (ahead_char c.if-eat_if-2.ensures) (ahead_taken _ c.eat.ensures)) in
+    let here =
+    ahead_then (ahead_same c.if-eat_if.ensures.0)
+    (ahead_then (ahead_char c.if-eat_if-2.ensures) (ahead_taken _ c.eat.ensures)) in
     record {
       ahead = ahead_then (passed at) here;
       same = braced_then (braced_same (all at) c.if-eat_if.ensures.0) (braced_hidden _ _ c.if-eat_if-2.ensures c.eat.ensures);
@@ -77,7 +79,8 @@ returns-else-eat_if-2 c v w parts close =
     let at = (goal.at.returns-else-eat_if-2 c).After-eat_while in
     let same = c.if-eat_if.ensures.0 in
     let there = (all at).back v w (last parts) close in
-    braced_stuck (run at).stops c.if-eat_if.ensures.1 (λ x. rw (← same) (c.if-at.ensures x)) (λ x. rw (← same) (c.if-eat_if-2.ensures.1 x)) there close
+    braced_stuck (run at).stops c.if-eat_if.ensures.1 (λ x. rw (← same) (c.if-at.ensures x))
+    (λ x. rw (← same) (c.if-eat_if-2.ensures.1 x)) there close
 
 pub from-requires-clause-boundary : goal.from-requires-clause-boundary
 from-requires-clause-boundary c =
@@ -90,7 +93,9 @@ from-requires-clause-following c =
     not_after _ (ahead_then (passed at) (ahead_same c.if-eat_if.ensures.0)) c.cursor-start.ensures.place
 
 pub parts-smaller-then-eat_if : goal.parts-smaller-then-eat_if
-parts-smaller-then-eat_if c = left_smaller (ahead_run (run (goal.at.parts-smaller-then-eat_if c).After-eat_while).run) c.if-eat_if.ensures (ahead_here _)
+parts-smaller-then-eat_if c =
+    left_smaller (ahead_run (run (goal.at.parts-smaller-then-eat_if c).After-eat_while).run) c.if-eat_if.ensures
+    (ahead_here _)
 
 pub parts-smaller-then-at : goal.parts-smaller-then-at
 parts-smaller-then-at c =
@@ -101,4 +106,5 @@ parts-smaller-then-at c =
 pub parts-smaller : goal.parts-smaller
 parts-smaller c =
     let at = (goal.at.parts-smaller c).After-eat_while in
-    left_smaller (ahead_then (ahead_run (run at).run) (ahead_same c.if-eat_if.ensures.0)) c.if-eat_if-2.ensures (ahead_taken _ c.eat.ensures)
+    left_smaller (ahead_then (ahead_run (run at).run) (ahead_same c.if-eat_if.ensures.0)) c.if-eat_if-2.ensures
+    (ahead_taken _ c.eat.ensures)

@@ -6,4 +6,6 @@ use Rattle.bib_documents.proofs.joining.has_one.Given as goal
 
 -- none so far has one of the keys
 abbrev pub invariant-others : goal.invariant-others
-invariant-others l = (entries : List EntryReading) → AreKeysOf entries l.keys → NoneHasKeyOf entries (map entry_reading_of (take l.entry-index l.others))
+invariant-others l =
+    (entries : List EntryReading) → AreKeysOf entries l.keys
+    → NoneHasKeyOf entries (map entry_reading_of (take l.entry-index l.others))

@@ -11,4 +11,6 @@ entries-preserved c = λ key.
     let one : Bor (List ℕ) = record { ref_ptr = (0, 0); now = key } in
     let own : List ℕ = c.entry-item.result.v.key.v.now in
     c.in_ok-insert.ensures.updates.0 one ∙ ap (λ b. cond b true (is_key_in c.entries.keys key)) (is_eq-slice_cmp own key)
-    ∙ ap (cond (bytes_eq own key) true) (c.entries.invariant key) ∙ sym (key_more c.args.entries.now c.entries.entry-index c.entry-item.result key c.entries-test.true c.entry-item.is)
+    ∙ ap (cond (bytes_eq own key) true) (c.entries.invariant key)
+    ∙ sym
+    (key_more c.args.entries.now c.entries.entry-index c.entry-item.result key c.entries-test.true c.entry-item.is)

@@ -7,7 +7,8 @@ use Rattle.bib_documents.specs.Documents.{CanBeKey}
 use Rattle.bib_documents.proofs.keys.can_be_key.Goals as goal
 
 -- a text is a key if the longest run of a key's characters goes on to its end
-whole : (text : List ℕ) (answer : Bool) {u v : Place} → u ≡ place text 0 → 0 < length text → Longest is_key u v → IsTrue answer ↔ AtEnd v → MatchBool answer (CanBeKey text) (CanBeKey text → ⊥)
+whole : (text : List ℕ) (answer : Bool) {u v : Place} → u ≡ place text 0 → 0 < length text → Longest is_key u v
+    → IsTrue answer ↔ AtEnd v → MatchBool answer (CanBeKey text) (CanBeKey text → ⊥)
 whole text true {u} {v} start some run end =
     let same : v.text ≡ text = (ahead_run run.run).text ∙ ap (λ p. p.text) start in
     let last : v ≡ place text (length text) = same_place {u = v} {v = place text (length text)} same (end.0 refl ∙ ap length same) in
@@ -24,5 +25,6 @@ some_left (suc n) b is fails = omega arith
 
 pub returns : goal.returns
 returns c =
-    whole c.args.text.now c.done.result c.new-s.ensures (some_left (length c.args.text.now) c.is_empty.result c.is_empty.ensures c.if-is_empty.false)
+    whole c.args.text.now c.done.result c.new-s.ensures
+    (some_left (length c.args.text.now) c.is_empty.result c.is_empty.ensures c.if-is_empty.false)
     (c.eat_while.ensures.longest is_key (λ x r post. post)) c.done.ensures

@@ -6,8 +6,13 @@ use Rattle.bib_documents.proofs.lookup.entry_index.Goals as goal
 
 pub returns-then-is_keyed-clause-is : goal.returns-then-is_keyed-clause-is
 returns-then-is_keyed-clause-is c =
-    sym (first_found entry_reading_of (is_keyed c.args.key.now) c.args.entries.now c.entries.index c.index-entries-index.result c.entries-test.true c.index-entries-index.is c.entries.invariant (sym c.is_keyed.ensures ∙ c.if-is_keyed.true))
+    sym
+    (first_found entry_reading_of (is_keyed c.args.key.now) c.args.entries.now c.entries.index
+    c.index-entries-index.result c.entries-test.true c.index-entries-index.is c.entries.invariant
+    (sym c.is_keyed.ensures ∙ c.if-is_keyed.true))
 
 pub entries-preserved : goal.entries-preserved
 entries-preserved c =
-    first_step entry_reading_of (is_keyed c.args.key.now) c.args.entries.now c.entries.index c.index-entries-index.result c.entries-test.true c.index-entries-index.is c.entries.invariant (sym c.is_keyed.ensures ∙ c.if-is_keyed.false)
+    first_step entry_reading_of (is_keyed c.args.key.now) c.args.entries.now c.entries.index
+    c.index-entries-index.result c.entries-test.true c.index-entries-index.is c.entries.invariant
+    (sym c.is_keyed.ensures ∙ c.if-is_keyed.false)

@@ -13,4 +13,5 @@ pub range_from-requires : goal.range_from-requires
 range_from-requires c = λ _.
     let trimmed = c.trim_end-end.ensures.value in
     let same = trimmed.1 ∙ ap (λ n. take n c.args.element.now) (sym trimmed.4) in
-    IsCharBoundary-from_take c.args.element.now _ c.utf8.element (omega (arith, trimmed.4, trimmed.5)) (subst IsUtf8 same c.trim_end-end.utf8)
+    IsCharBoundary-from_take c.args.element.now _ c.utf8.element (omega (arith, trimmed.4, trimmed.5))
+    (subst IsUtf8 same c.trim_end-end.utf8)

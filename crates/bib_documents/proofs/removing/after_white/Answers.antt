@@ -23,7 +23,10 @@ taken text start at {u} {v} here white is =
     }
 
 all : (c : goal.After-cursor) → Taken c.args.text.now c.args.place c.cursor.result c.eat_whitespace.new.self
-all c = taken c.args.text.now c.args.place c.cursor.result (c.jump.ensures ∙ ap (λ p. place p.text c.args.place) c.new-s.ensures) c.eat_whitespace.ensures.longest c.cursor.ensures.place
+all c =
+    taken c.args.text.now c.args.place c.cursor.result
+    (c.jump.ensures ∙ ap (λ p. place p.text c.args.place) c.new-s.ensures) c.eat_whitespace.ensures.longest
+    c.cursor.ensures.place
 
 pub returns-clause-white : goal.returns-clause-white
 returns-clause-white c = (all c).white

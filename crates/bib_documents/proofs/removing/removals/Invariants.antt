@@ -4,4 +4,6 @@ use Rattle.bib_documents.specs.Stretches.{edit_of, removals}
 use Rattle.bib_documents.proofs.removing.removals.Given as goal
 
 abbrev pub invariant-fields : goal.invariant-fields
-invariant-fields l = map edit_of l.edits.items ≡ removals l.name (entry_reading_of l.entry) 0 (map field_of (take l.index l.entry.v.fields.items))
+invariant-fields l =
+    map edit_of l.edits.items
+    ≡ removals l.name (entry_reading_of l.entry) 0 (map field_of (take l.index l.entry.v.fields.items))

@@ -9,5 +9,6 @@ use Rattle.bib_documents.proofs.renaming.push_reference_edit.Goals as goal
 
 pub returns-in_ok-push_value_edit-in-Some-clause-white : goal.returns-in_ok-push_value_edit-in-Some-clause-white
 returns-in_ok-push_value_edit-in-Some-clause-white c =
-    subst (λ o. AllByRecursion (EndsInWhite c.args.text.now) (value_change (field_of c.args.field.now) o)) (ap (option_map string_bytes) (sym c.in-Some.is) ∙ c.in_ok-value.ensures)
+    subst (λ o. AllByRecursion (EndsInWhite c.args.text.now) (value_change (field_of c.args.field.now) o))
+    (ap (option_map string_bytes) (sym c.in-Some.is) ∙ c.in_ok-value.ensures)
     (c.in_ok-push_value_edit-in-Some.ensures.white (string_bytes c.in-Some.value), tt)

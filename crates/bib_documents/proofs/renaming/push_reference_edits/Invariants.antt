@@ -7,6 +7,8 @@ use Rattle.bib_documents.proofs.renaming.push_reference_edits.Given as goal
 
 abbrev pub invariant-fields : goal.invariant-fields
 invariant-fields l =
-    (map edit_of l.edits.items ≡ map edit_of l.initial.edits.items ++ map (change_edit l.text) (reference_changes l.old l.new (map field_of (take l.field-index l.fields))))
+    (map edit_of l.edits.items
+    ≡ map edit_of l.initial.edits.items
+    ++ map (change_edit l.text) (reference_changes l.old l.new (map field_of (take l.field-index l.fields))))
     × AllByRecursion CanBeMade (reference_changes l.old l.new (map field_of (take l.field-index l.fields)))
     × AllByRecursion (EndsInWhite l.text) (reference_changes l.old l.new (map field_of (take l.field-index l.fields)))

@@ -7,6 +7,7 @@ use Rattle.bib_documents.proofs.renaming.renaming_edits.Given as goal
 
 abbrev pub invariant-entries : goal.invariant-entries
 invariant-entries l =
-    (map edit_of l.edits.items ≡ map (change_edit l.text) (renaming l.old l.new l.renamed 0 (map entry_reading_of (take l.index l.entries))))
+    (map edit_of l.edits.items
+    ≡ map (change_edit l.text) (renaming l.old l.new l.renamed 0 (map entry_reading_of (take l.index l.entries))))
     × AllByRecursion CanBeMade (renaming l.old l.new l.renamed 0 (map entry_reading_of (take l.index l.entries)))
     × AllByRecursion (EndsInWhite l.text) (renaming l.old l.new l.renamed 0 (map entry_reading_of (take l.index l.entries)))

@@ -12,5 +12,7 @@ pub returns : goal.returns
 returns c =
     let e = c.args.entry.now in
     let lines = flat_map (written_field c.args.dialect e.entry_type) (entries e.fields) in
-    let written : string_bytes c.push.new.self ≡ string_bytes c.args.out.now ++ entry_text (entry_type_name (kind_in c.args.dialect e.entry_type)) e.key lines = grind (arith, common_steps) in
+    let written : string_bytes c.push.new.self ≡ string_bytes c.args.out.now
+    ++ entry_text (entry_type_name (kind_in c.args.dialect e.entry_type)) e.key lines =
+    grind (arith, common_steps) in
     written ∙ ap (λ text. string_bytes c.args.out.now ++ text) (entry_parts c.args.dialect e)

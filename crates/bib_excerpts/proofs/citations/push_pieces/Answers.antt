@@ -8,5 +8,7 @@ use Rattle.bib_excerpts.proofs.citations.push_pieces.Goals as goal
 
 pub returns : goal.returns
 returns c =
-    let all = YieldsList-end (YieldsList-from_str_split 38 c.args.text.now (lit< tt) (cc) (cc) (cc)) c.pieces.yielded _ c.pieces.yielded_by _ _ c.in-None.is c.next.ensures.steps in
+    let all =
+    YieldsList-end (YieldsList-from_str_split 38 c.args.text.now (lit< tt) (cc) (cc) (cc)) c.pieces.yielded _
+    c.pieces.yielded_by _ _ c.in-None.is c.next.ensures.steps in
     c.pieces.invariant ∙ ap (λ l. string_bytes c.args.written.now ++ flat_map unescaped_piece l) all.0

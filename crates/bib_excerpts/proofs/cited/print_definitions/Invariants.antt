@@ -7,4 +7,8 @@ use Rattle.bib_excerpts.specs.Needed.{marked}
 use Rattle.bib_excerpts.proofs.cited.print_definitions.Given as goal
 
 abbrev pub invariant-pairs : goal.invariant-pairs
-invariant-pairs l = string_bytes l.printed ≡ string_bytes l.initial.printed ++ flat_map (definition_line l.text) (marked (take (length l.yielded) l.marks) (map field_of (take (length l.yielded) l.pairs)))
+invariant-pairs l =
+    string_bytes l.printed
+    ≡ string_bytes l.initial.printed
+    ++ flat_map (definition_line l.text)
+    (marked (take (length l.yielded) l.marks) (map field_of (take (length l.yielded) l.pairs)))

@@ -7,4 +7,8 @@ use Rattle.bib_excerpts.specs.Needed.{marked}
 use Rattle.bib_excerpts.proofs.cited.print_entries.Given as goal
 
 abbrev pub invariant-entries : goal.invariant-entries
-invariant-entries l = string_bytes l.printed ≡ string_bytes l.initial.printed ++ flat_map (entry_line l.text) (marked (take (length l.yielded) l.marks) (map entry_reading_of (take (length l.yielded) l.entries)))
+invariant-entries l =
+    string_bytes l.printed
+    ≡ string_bytes l.initial.printed
+    ++ flat_map (entry_line l.text)
+    (marked (take (length l.yielded) l.marks) (map entry_reading_of (take (length l.yielded) l.entries)))

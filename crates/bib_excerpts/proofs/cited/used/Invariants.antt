@@ -6,4 +6,8 @@ use Rattle.bib_excerpts.specs.Texts.{text_list}
 use Rattle.bib_excerpts.proofs.cited.used.Given as goal
 
 abbrev pub invariant-entries : goal.invariant-entries
-invariant-entries l = text_list l.names ≡ text_list l.initial.names ++ used_in_entries (marked (take (length l.yielded) l.marks) (map entry_reading_of (take (length l.yielded) l.entries)))
+invariant-entries l =
+    text_list l.names
+    ≡ text_list l.initial.names
+    ++ used_in_entries
+    (marked (take (length l.yielded) l.marks) (map entry_reading_of (take (length l.yielded) l.entries)))

@@ -5,4 +5,7 @@ use Rattle.bib_excerpts.specs.Answers.{has_key, passing_lines}
 use Rattle.bib_excerpts.proofs.excerpts.get.Given as goal
 
 abbrev pub invariant-entries : goal.invariant-entries
-invariant-entries l = string_bytes l.printed ≡ passing_lines (has_key (map (λ key. key.now) l.keys)) l.text (map entry_reading_of (take l.entry-index l.entries))
+invariant-entries l =
+    string_bytes l.printed
+    ≡ passing_lines (has_key (map (λ key. key.now) l.keys)) l.text
+    (map entry_reading_of (take l.entry-index l.entries))

@@ -5,4 +5,7 @@ use Rattle.bib_excerpts.specs.Answers.{is_found_in, passing_lines}
 use Rattle.bib_excerpts.proofs.excerpts.grep.Given as goal
 
 abbrev pub invariant-entries : goal.invariant-entries
-invariant-entries l = string_bytes l.printed ≡ passing_lines (is_found_in l.search.field.now l.search.part.now) l.text (map entry_reading_of (take l.entry-index l.entries))
+invariant-entries l =
+    string_bytes l.printed
+    ≡ passing_lines (is_found_in l.search.field.now l.search.part.now) l.text
+    (map entry_reading_of (take l.entry-index l.entries))

@@ -8,7 +8,9 @@ pub returns-then-contains : goal.returns-then-contains
 returns-then-contains c = λ keys same.
     let nobody : Bor (List ℕ) = record { ref_ptr = (0, 0); now = [] } in
     let name : List ℕ = (get_or c.args.names.now c.names.name-index nobody).now in
-    sym (any_at (λ n. n.now) (is_listed keys) c.args.names.now c.names.name-index nobody (omega arith) (sym (same name) ∙ sym c.contains.ensures ∙ c.if-contains.true))
+    sym
+    (any_at (λ n. n.now) (is_listed keys) c.args.names.now c.names.name-index nobody (omega arith)
+    (sym (same name) ∙ sym c.contains.ensures ∙ c.if-contains.true))
 
 pub names-preserved : goal.names-preserved
 names-preserved c = λ keys same.

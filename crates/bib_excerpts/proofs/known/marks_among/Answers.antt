@@ -11,6 +11,7 @@ keys-preserved c =
     let i : ℕ = c.keys.key-index in
     let key : Bor (List ℕ) = get_or keys i nobody in
     let test : List ℕ → Bool = is_listed (map (λ n. n.now) c.args.names.now) in
-    let next : map (λ k. k.now) (take (i + 1) keys) ≡ map (λ k. k.now) (take i keys) ++ key.now ∷ [] = ap (map (λ k. k.now)) (take_more keys i nobody (omega arith)) ∙ map-append (λ k. k.now) (take i keys) (key ∷ []) in
+    let next : map (λ k. k.now) (take (i + 1) keys) ≡ map (λ k. k.now) (take i keys) ++ key.now ∷ [] =
+    ap (map (λ k. k.now)) (take_more keys i nobody (omega arith)) ∙ map-append (λ k. k.now) (take i keys) (key ∷ []) in
     c.in_ok-push.ensures.items ∙ ap₂ (λ l b. l ++ b ∷ []) c.keys.invariant (c.contains.ensures ∙ c.in_ok-set.ensures key.now)
     ∙ sym (ap (map test) next ∙ map-append test (map (λ k. k.now) (take i keys)) (key.now ∷ []))

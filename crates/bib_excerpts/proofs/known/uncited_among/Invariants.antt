@@ -6,4 +6,6 @@ use Rattle.bib_excerpts.specs.Sets.{is_in_set}
 use Rattle.bib_excerpts.proofs.known.uncited_among.Given as goal
 
 abbrev pub invariant-entries : goal.invariant-entries
-invariant-entries l = (keys : List (List ℕ)) → ((name : List ℕ) → is_in_set l.set name ≡ is_listed keys name) → map part_of l.found.items ≡ uncited_keys keys (map entry_reading_of (take l.entry-index l.entries))
+invariant-entries l =
+    (keys : List (List ℕ)) → ((name : List ℕ) → is_in_set l.set name ≡ is_listed keys name)
+    → map part_of l.found.items ≡ uncited_keys keys (map entry_reading_of (take l.entry-index l.entries))

@@ -8,4 +8,6 @@ use Rattle.bib_excerpts.proofs.laws.definitions_are_defined.Goals as goal
 
 pub returns : goal.returns
 returns c names all text printed says h first second name mark refers has =
-    needed_marked (used_in_entries (marked h.entry_marks says.entries)) (map definition_node says.abbreviations) _ h.definition_marks first second name (length-map says.abbreviations definition_node) h.definitions mark refers has
+    needed_marked (used_in_entries (marked h.entry_marks says.entries)) (map definition_node says.abbreviations) _
+    h.definition_marks first second name (length-map says.abbreviations definition_node) h.definitions mark refers
+    has

@@ -8,4 +8,5 @@ use Rattle.bib_excerpts.proofs.laws.used_are_defined.Goals as goal
 
 pub returns : goal.returns
 returns c names all text printed says h index name used has =
-    asked_marked (used_in_entries (marked h.entry_marks says.entries)) (map definition_node says.abbreviations) _ h.definition_marks index name (length-map says.abbreviations definition_node) h.definitions used has
+    asked_marked (used_in_entries (marked h.entry_marks says.entries)) (map definition_node says.abbreviations) _
+    h.definition_marks index name (length-map says.abbreviations definition_node) h.definitions used has

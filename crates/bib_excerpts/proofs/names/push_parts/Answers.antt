@@ -9,5 +9,7 @@ use Rattle.bib_excerpts.proofs.names.push_parts.Goals as goal
 
 pub returns : goal.returns
 returns c =
-    let all = YieldsList-end (YieldsList-from_str_split 44 c.args.list.now (lit< tt) (cc) (cc) (cc)) c.parts.yielded _ c.parts.yielded_by _ _ c.in-None.is c.next.ensures.steps in
+    let all =
+    YieldsList-end (YieldsList-from_str_split 44 c.args.list.now (lit< tt) (cc) (cc) (cc)) c.parts.yielded _
+    c.parts.yielded_by _ _ c.in-None.is c.next.ensures.steps in
     c.parts.invariant ∙ ap (λ l. text_list c.args.names.now ++ flat_map (λ part. filled (trim part)) l) all.0

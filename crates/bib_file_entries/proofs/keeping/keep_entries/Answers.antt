@@ -12,29 +12,51 @@ use Rattle.bib_file_entries.proofs.keeping.keep_entries.Goals as goal
 pub entries-init : goal.entries-init
 entries-init c = record {
   reader = c.new-reader.ensures;
-  kept = rw (c.in_ok-entries.ensures.items, c.in_ok-spans.ensures.items, c.in_ok-origins.ensures.items, c.new-names.ensures, c.new-errors.ensures.items) (entries_none _ _);
+  kept =
+      rw (
+        c.in_ok-entries.ensures.items,
+        c.in_ok-spans.ensures.items,
+        c.in_ok-origins.ensures.items,
+        c.new-names.ensures,
+        c.new-errors.ensures.items,
+      ) (entries_none _ _);
 }
 
 pub entries-preserved-then-is_some : goal.entries-preserved-then-is_some
 entries-preserved-then-is_some c =
-    let here = ap (map entry_reading_of) (rest_at c.args.raw.now c.entries.said-index c.said-item.result c.entries-test.true c.said-item.is) in
-    let had : is_some (get c.entries.names c.said-item.result.v.key.v.now) ≡ true = ap is_some (sym c.get.ensures) ∙ sym c.is_some.ensures ∙ c.if-is_some.true in
+    let here =
+    ap (map entry_reading_of)
+    (rest_at c.args.raw.now c.entries.said-index c.said-item.result c.entries-test.true c.said-item.is) in
+    let had : is_some (get c.entries.names c.said-item.result.v.key.v.now) ≡ true =
+    ap is_some (sym c.get.ensures) ∙ sym c.is_some.ensures ∙ c.if-is_some.true in
     record {
       reader = c.entries.invariant.reader;
-      kept = rw c.in_ok-push.ensures.items (entries_duplicate c.in_ok-duplicate.field-0 (rw here at c.entries.invariant.kept) had c.in_ok-duplicate.ensures);
+      kept =
+          rw c.in_ok-push.ensures.items
+          (entries_duplicate c.in_ok-duplicate.field-0 (rw here at c.entries.invariant.kept) had
+          c.in_ok-duplicate.ensures);
     }
 
 pub entries-preserved : goal.entries-preserved
 entries-preserved c =
-    let here = ap (map entry_reading_of) (rest_at c.args.raw.now c.entries.said-index c.said-item.result c.entries-test.true c.said-item.is) in
-    let same : given_by c.entries.reader ≡ sorted_in c.args.definitions = ap given_by c.entries.invariant.reader ∙ sym (sorted_given c.args.definitions) in
-    let absent : is_some (get c.entries.names c.said-item.result.v.key.v.now) ≡ false = ap is_some (sym c.get.ensures) ∙ sym c.is_some.ensures ∙ c.if-is_some.false in
+    let here =
+    ap (map entry_reading_of)
+    (rest_at c.args.raw.now c.entries.said-index c.said-item.result c.entries-test.true c.said-item.is) in
+    let same : given_by c.entries.reader ≡ sorted_in c.args.definitions =
+    ap given_by c.entries.invariant.reader ∙ sym (sorted_given c.args.definitions) in
+    let absent : is_some (get c.entries.names c.said-item.result.v.key.v.now) ≡ false =
+    ap is_some (sym c.get.ensures) ∙ sym c.is_some.ensures ∙ c.if-is_some.false in
     let count : c.len.result ≡ length c.entries.entries.items = search rules in
     let more : c.claim_all.new.self ≡ claimed c.entries.names (claims_for (claims c.in_ok-entry.entry) (length c.entries.entries.items)) =
-    c.in_ok-claim_all.ensures.claimed ∙ ap (λ n. claimed c.entries.names (claims_for c.in_ok-claims.field-0.items n)) count ∙ ap (λ l. claimed c.entries.names (claims_for l (length c.entries.entries.items))) c.in_ok-claims.ensures in
+    c.in_ok-claim_all.ensures.claimed
+    ∙ ap (λ n. claimed c.entries.names (claims_for c.in_ok-claims.field-0.items n)) count
+    ∙ ap (λ l. claimed c.entries.names (claims_for l (length c.entries.entries.items))) c.in_ok-claims.ensures in
     record {
       reader = c.in_ok-entry.ensures.same ∙ c.entries.invariant.reader;
-      kept = rw (c.in_ok-push-4.ensures.items, more, c.in_ok-push-2.ensures.items, c.in_ok-push-3.ensures.items) (entries_next c.in_ok-entry.entry (rw here at c.entries.invariant.kept) absent (rw same at c.in_ok-entry.ensures.kept));
+      kept =
+          rw (c.in_ok-push-4.ensures.items, more, c.in_ok-push-2.ensures.items, c.in_ok-push-3.ensures.items)
+          (entries_next c.in_ok-entry.entry (rw here at c.entries.invariant.kept) absent
+          (rw same at c.in_ok-entry.ensures.kept));
     }
 
 pub returns-clause-kept : goal.returns-clause-kept

@@ -8,5 +8,7 @@ use Rattle.bib_file_entries.proofs.keeping.keep_entries.Given as goal
 abbrev pub invariant-entries : goal.invariant-entries
 invariant-entries l = record {
   reader : l.reader ≡ pairs_in l.fn.definitions;
-  kept : EntriesKeptSoFar (sorted_in l.fn.definitions) (map entry_reading_of l.raw) (map entry_reading_of (drop l.said-index l.raw)) l.entries.items l.names l.spans.items l.origins.items l.next l.errors.items;
+  kept : EntriesKeptSoFar (sorted_in l.fn.definitions) (map entry_reading_of l.raw)
+      (map entry_reading_of (drop l.said-index l.raw)) l.entries.items l.names l.spans.items l.origins.items l.next
+      l.errors.items;
 }

@@ -8,7 +8,9 @@ use Rattle.bib_file_entries.proofs.keeping.keep_field.Goals as goal
 
 pub returns-in-Ok-clause-tried : goal.returns-in-Ok-clause-tried
 returns-in-Ok-clause-tried c =
-    let same = ap (λ b. b.now) c.unwrap_or.ensures ∙ now_or c.as_ref.result c.args.field ∙ ap (λ o. unwrap_or o c.args.field.now) c.as_ref.ensures.value in
+    let same =
+    ap (λ b. b.now) c.unwrap_or.ensures ∙ now_or c.as_ref.result c.args.field
+    ∙ ap (λ o. unwrap_or o c.args.field.now) c.as_ref.ensures.value in
     record {
       kept = c.unwrap_or.result.now;
       is = ap field_of same ∙ c.in_ok-copy.ensures.mended;
@@ -18,10 +20,13 @@ returns-in-Ok-clause-tried c =
 
 pub returns-clause-tried : goal.returns-clause-tried
 returns-clause-tried c =
-    let same = ap (λ b. b.now) c.unwrap_or.ensures ∙ now_or c.as_ref.result c.args.field ∙ ap (λ o. unwrap_or o c.args.field.now) c.as_ref.ensures.value in
+    let same =
+    ap (λ b. b.now) c.unwrap_or.ensures ∙ now_or c.as_ref.result c.args.field
+    ∙ ap (λ o. unwrap_or o c.args.field.now) c.as_ref.ensures.value in
     elim c.in-Err.ensures.refused [
       | inl lost ↦ absurd (c.in_ok-unless_out_of_memory-in-Err.ensures.ok (ap (λ (e : ParseError). e.kind) lost))
       | inr error ↦
-          left_out (given_by c.args.reader.now) c.args.field.now c.unwrap_or.result.now c.args.errors.now.items c.mended.new.errors.items c.push.new.self.items c.in-Err.e
+          left_out (given_by c.args.reader.now) c.args.field.now c.unwrap_or.result.now c.args.errors.now.items
+          c.mended.new.errors.items c.push.new.self.items c.in-Err.e
           (ap field_of same ∙ c.in_ok-copy.ensures.mended) error c.in_ok-copy.ensures.errors c.in_ok-push-in-Err.ensures.items
     ]

@@ -11,7 +11,10 @@ fields-preserved c =
     let here = rest_at c.args.fields.now c.fields.field-index c.field-item.result c.fields-test.true c.field-item.is in
     record {
       same = c.in_ok-kept.ensures.same ∙ c.fields.invariant.same;
-      kept = rw c.in_ok-push-in-Some.ensures.items (kept_next c.in-Some.pair (rw here at c.fields.invariant.kept) (rw (c.fields.invariant.same, c.in-Some.is) at c.in_ok-kept.ensures.tried));
+      kept =
+          rw c.in_ok-push-in-Some.ensures.items
+          (kept_next c.in-Some.pair (rw here at c.fields.invariant.kept)
+          (rw (c.fields.invariant.same, c.in-Some.is) at c.in_ok-kept.ensures.tried));
     }
 
 pub fields-preserved-in-None : goal.fields-preserved-in-None

@@ -11,5 +11,6 @@ invariant-entries l = record {
   can_next : (goal.iterator-entries).can_next l.said-iterator;
   is_finite : (goal.iterator-entries).is_finite l.said-iterator;
   reader : l.reader ≡ pairs_in l.fn.definitions;
-  loaded : LoadedSoFar (sorted_in l.fn.definitions) (map entry_reading_of l.fn.raw.items) (map entry_reading_of (into_iter_items l.said-iterator)) l.entries.items l.names;
+  loaded : LoadedSoFar (sorted_in l.fn.definitions) (map entry_reading_of l.fn.raw.items)
+      (map entry_reading_of (into_iter_items l.said-iterator)) l.entries.items l.names;
 }

@@ -13,7 +13,8 @@ origins-preserved c =
     let earlier = entries_at said (take index c.args.origins.now) in
     let one = entry_reading_of c.index-said-origins.result in
     let next : entries_at said (take (index + 1) c.args.origins.now) ≡ earlier ++ one ∷ [] =
-    entries_next c.args.said.now c.args.origins.now index c.index-said-origins.result c.requires c.origins-test.true c.index-said-origins.is in
+    entries_next c.args.said.now c.args.origins.now index c.index-said-origins.result c.requires c.origins-test.true
+    c.index-said-origins.is in
     record {
       seen = subst (HasFirst (get_by_text c.add_duplicate.new.seen)) (sym next) c.in_ok-add_duplicate.ensures.seen;
       added =

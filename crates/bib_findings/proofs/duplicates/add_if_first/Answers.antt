@@ -6,4 +6,9 @@ use Rattle.bib_findings.proofs.duplicates.add_if_first.Goals as goal
 pub returns-in_ok-push : goal.returns-in_ok-push
 returns-in_ok-push c =
     c.in_ok-push.ensures.items
-    ∙ ap (λ l. c.args.found.now.items ++ l) (ap (λ f. f ∷ []) c.in_ok-duplicate_finding.ensures ∙ sym (at_first c.args.said.now c.args.earlier.now (entry_reading_of c.args.one.now) c.args.first c.in-Some.first c.index-said-earlier.result c.in-Some.is c.requires.there c.requires.first c.index-said-earlier.is))
+    ∙ ap (λ l. c.args.found.now.items ++ l)
+    (ap (λ f. f ∷ []) c.in_ok-duplicate_finding.ensures
+    ∙ sym
+    (at_first c.args.said.now c.args.earlier.now (entry_reading_of c.args.one.now) c.args.first
+    c.in-Some.first c.index-said-earlier.result c.in-Some.is c.requires.there c.requires.first
+    c.index-said-earlier.is))

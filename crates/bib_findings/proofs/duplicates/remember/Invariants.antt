@@ -6,4 +6,6 @@ use Rattle.bib_findings.proofs.duplicates.remember.Given as goal
 
 -- each of the identities so far has an index
 abbrev pub invariant-identities : goal.invariant-identities
-invariant-identities l = (id : List ℕ) → get_by_text l.seen id ≡ remembered (map string_bytes l.yielded) l.index id (get_by_text l.initial.seen id)
+invariant-identities l =
+    (id : List ℕ)
+    → get_by_text l.seen id ≡ remembered (map string_bytes l.yielded) l.index id (get_by_text l.initial.seen id)

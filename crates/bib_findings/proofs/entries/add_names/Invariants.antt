@@ -5,4 +5,7 @@ use Rattle.bib_findings.specs.Entries.{field_finding}
 use Rattle.bib_findings.proofs.entries.add_names.Given as goal
 
 abbrev pub invariant-names : goal.invariant-names
-invariant-names l = l.found.items ≡ l.initial.found.items ++ map (field_finding (entry_reading_of l.said) l.code l.wrong) (texts (take l.name-index l.names))
+invariant-names l =
+    l.found.items
+    ≡ l.initial.found.items
+    ++ map (field_finding (entry_reading_of l.said) l.code l.wrong) (texts (take l.name-index l.names))

@@ -10,6 +10,9 @@ use Rattle.bib_findings.proofs.entries.malformed_finding.Goals as goal
 pub returns : goal.returns
 returns c =
     let said = entry_reading_of c.args.said.now in
-    let what : c.deref.result.now ≡ c.args.name.now ++ (codes ": " ++ type_kind_text c.args.error.now.kind) = c.deref.ensures ∙ c.in_ok-what.ensures.ok in
+    let what : c.deref.result.now ≡ c.args.name.now ++ (codes ": " ++ type_kind_text c.args.error.now.kind) =
+    c.deref.ensures ∙ c.in_ok-what.ensures.ok in
     ap (λ place. finding_at MalformedField place c.from_string-message.result) c.malformed_place.ensures
-    ∙ ap (finding_at MalformedField (malformed_place said c.args.name.now)) (c.from_string-message.ensures ∙ (c.in_ok-field_message.ensures ∙ ap (field_message said.key.text (codes "malformed")) what))
+    ∙ ap (finding_at MalformedField (malformed_place said c.args.name.now))
+    (c.from_string-message.ensures
+    ∙ (c.in_ok-field_message.ensures ∙ ap (field_message said.key.text (codes "malformed")) what))

@@ -18,6 +18,9 @@ entries-preserved c =
     let entry = c.index-entries-index.result in
     record {
       met = c.in_ok-add_entry.ensures.met;
-      added = each_at AreOfEntry c.args.said.now c.args.origins.now c.args.entries.now c.entries.index one entry c.args.found.now.items c.entries.found.items c.add_entry.new.found.items
-          c.requires.there c.requires.same_length c.entries-test.true c.index-said-origins.is c.index-entries-index.is c.entries.invariant.added c.in_ok-add_entry.ensures.added;
+      added =
+          each_at AreOfEntry c.args.said.now c.args.origins.now c.args.entries.now c.entries.index one entry
+          c.args.found.now.items c.entries.found.items c.add_entry.new.found.items
+          c.requires.there c.requires.same_length c.entries-test.true c.index-said-origins.is c.index-entries-index.is
+          c.entries.invariant.added c.in_ok-add_entry.ensures.added;
     }

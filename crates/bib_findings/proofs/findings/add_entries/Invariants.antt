@@ -11,5 +11,6 @@ use Rattle.bib_findings.proofs.findings.add_entries.Given as goal
 abbrev pub invariant-entries : goal.invariant-entries
 invariant-entries l = record {
   met : AreFieldNames (get_by_text l.met);
-  added : Adds (AreOfEach AreOfEntry (map entry_reading_of l.said) (take l.index l.origins) (take l.index l.entries)) l.initial.found.items l.found.items;
+  added : Adds (AreOfEach AreOfEntry (map entry_reading_of l.said) (take l.index l.origins) (take l.index l.entries))
+      l.initial.found.items l.found.items;
 }

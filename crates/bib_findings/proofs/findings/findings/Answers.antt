@@ -15,7 +15,8 @@ pub between-requires-clause-there : goal.between-requires-clause-there
 between-requires-clause-there c =
     let said = c.in_ok-raw.field-0.raw.entries.items in
     let says = file_of c.in_ok-raw.field-0.raw in
-    within_of says.entries c.in_ok-entries.field-0.origins.items c.deref-2.result.now (length c.deref.result.now) (origins_within c.in_ok-entries.ensures.kept) c.deref-2.ensures.value
+    within_of says.entries c.in_ok-entries.field-0.origins.items c.deref-2.result.now (length c.deref.result.now)
+    (origins_within c.in_ok-entries.ensures.kept) c.deref-2.ensures.value
     (length-map said entry_reading_of ∙ sym (ap length c.deref.ensures.value))
 
 pub resolve_readable-requires-clause-as_long : goal.resolve_readable-requires-clause-as_long
@@ -25,15 +26,20 @@ resolve_readable-requires-clause-as_long c =
 pub findings_in-requires-clause-same_length : goal.findings_in-requires-clause-same_length
 findings_in-requires-clause-same_length c =
     let own = c.in_ok-entries.field-0.entries.items in
-    let count : length c.resolve_readable.new.entries ≡ length own = c.in_ok-unresolved.ensures.length ∙ ap length c.deref_mut.ensures.value in
-    let all = all_taken c.in_ok-entries.field-0.entries.len c.resolve_readable.new.entries own (count ∙ sym c.in_ok-entries.field-0.entries.ok.0) in
-    ap length c.deref-8.ensures.value ∙ origins_count c.in_ok-entries.ensures.kept ∙ sym count ∙ sym (ap length (c.deref-9.ensures.value ∙ all))
+    let count : length c.resolve_readable.new.entries ≡ length own =
+    c.in_ok-unresolved.ensures.length ∙ ap length c.deref_mut.ensures.value in
+    let all =
+    all_taken c.in_ok-entries.field-0.entries.len c.resolve_readable.new.entries own
+    (count ∙ sym c.in_ok-entries.field-0.entries.ok.0) in
+    ap length c.deref-8.ensures.value ∙ origins_count c.in_ok-entries.ensures.kept ∙ sym count
+    ∙ sym (ap length (c.deref-9.ensures.value ∙ all))
 
 pub findings_in-requires-clause-there : goal.findings_in-requires-clause-there
 findings_in-requires-clause-there c =
     let said = c.in_ok-raw.field-0.raw.entries.items in
     let says = file_of c.in_ok-raw.field-0.raw in
-    within_of says.entries c.in_ok-entries.field-0.origins.items c.deref-8.result.now (length c.deref-7.result.now) (origins_within c.in_ok-entries.ensures.kept) c.deref-8.ensures.value
+    within_of says.entries c.in_ok-entries.field-0.origins.items c.deref-8.result.now (length c.deref-7.result.now)
+    (origins_within c.in_ok-entries.ensures.kept) c.deref-8.ensures.value
     (length-map said entry_reading_of ∙ sym (ap length c.deref-7.ensures.value))
 
 pub returns : goal.returns
@@ -51,10 +57,15 @@ returns c =
     let count : length entries ≡ length own = c.in_ok-unresolved.ensures.length ∙ ap length c.deref_mut.ensures.value in
     let all = all_taken c.in_ok-entries.field-0.entries.len entries own (count ∙ sym c.in_ok-entries.field-0.entries.ok.0) in
     let resolved = subst (λ p. AreRecovered p names own entries of_references) c.deref-4.ensures.value
-    (subst (λ es. AreRecovered c.deref-4.result.now names es entries of_references) c.deref_mut.ensures.value c.in_ok-unresolved.ensures.recovered) in
-    let are_between = between_of names (entries_said c.deref.result.now) says.entries c.deref-2.result.now origins c.deref-3.result.now own linked
+    (subst (λ es. AreRecovered c.deref-4.result.now names es entries of_references) c.deref_mut.ensures.value
+    c.in_ok-unresolved.ensures.recovered) in
+    let are_between = between_of names (entries_said c.deref.result.now) says.entries c.deref-2.result.now origins
+    c.deref-3.result.now own linked
     (ap (map entry_reading_of) c.deref.ensures.value) c.deref-2.ensures.value c.deref-3.ensures.value c.in_ok-linked.ensures in
-    if_ok_more (λ found. AreFindingsIn c.deref-5.result.now c.deref-6.result.now (entries_said c.deref-7.result.now) c.deref-8.result.now c.deref-9.result.now linked found.items)
+    if_ok_more
+    (λ found.
+    AreFindingsIn c.deref-5.result.now c.deref-6.result.now (entries_said c.deref-7.result.now)
+    c.deref-8.result.now c.deref-9.result.now linked found.items)
     (λ found. AreFindings c.args.text.now found.items) c.findings_in.result
     (λ found are. record {
       says = says;
@@ -71,7 +82,12 @@ returns c =
       resolved = resolved;
       between = linked;
       are_between = are_between;
-      are = findings_of c.deref-5.result.now skipped c.deref-6.result.now (of_entries ++ of_references) (entries_said c.deref-7.result.now) says.entries c.deref-8.result.now origins c.deref-9.result.now entries linked found.items
-          c.deref-5.ensures.value (c.deref-6.ensures.value ∙ c.in_ok-append.ensures.items) (ap (map entry_reading_of) c.deref-7.ensures.value) c.deref-8.ensures.value (c.deref-9.ensures.value ∙ all) are;
+      are =
+          findings_of c.deref-5.result.now skipped c.deref-6.result.now (of_entries ++ of_references)
+          (entries_said c.deref-7.result.now) says.entries c.deref-8.result.now origins c.deref-9.result.now entries
+          linked found.items
+          c.deref-5.ensures.value (c.deref-6.ensures.value ∙ c.in_ok-append.ensures.items)
+          (ap (map entry_reading_of) c.deref-7.ensures.value) c.deref-8.ensures.value
+          (c.deref-9.ensures.value ∙ all) are;
     })
     c.findings_in.ensures

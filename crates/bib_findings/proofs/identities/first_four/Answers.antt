@@ -3,4 +3,6 @@ use Rattle.std.proofs.lemmas.Iterator.{YieldsList-from_chars, YieldsList-from_ta
 use Rattle.bib_findings.proofs.identities.first_four.Goals as goal
 
 pub returns : goal.returns
-returns c = text_from_collect _ c.collect.ensures.ran (YieldsList-from_take _ (YieldsList-from_chars c.args.text.now (search rules) cc) c.take.ensures.count)
+returns c =
+    text_from_collect _ c.collect.ensures.ran
+    (YieldsList-from_take _ (YieldsList-from_chars c.args.text.now (search rules) cc) c.take.ensures.count)

@@ -4,4 +4,6 @@ use Rattle.bib_findings.proofs.identities.without_prefixes.Given as goal
 
 -- the text begins with none of the prefixes so far
 abbrev pub invariant-prefixes : goal.invariant-prefixes
-invariant-prefixes l = without_prefixes l.text (map (λ p. p.now) l.prefixes) ≡ without_prefixes l.text (map (λ p. p.now) (drop l.prefix-index l.prefixes))
+invariant-prefixes l =
+    without_prefixes l.text (map (λ p. p.now) l.prefixes)
+    ≡ without_prefixes l.text (map (λ p. p.now) (drop l.prefix-index l.prefixes))

@@ -13,6 +13,8 @@ origins-preserved c =
     let earlier = entries_at said (take index c.args.origins.now) in
     let one = entry_reading_of c.index-said-origins.result in
     let next : entries_at said (take (index + 1) c.args.origins.now) ≡ earlier ++ one ∷ [] =
-    entries_next c.args.said.now c.args.origins.now index c.index-said-origins.result c.requires c.origins-test.true c.index-said-origins.is in
-    c.in_ok-push.ensures.items ∙ ap (λ l. l ++ c.in_ok-marks_of.field-0 ∷ []) c.origins.invariant ∙ ap (λ m. map marks_of earlier ++ m ∷ []) c.in_ok-marks_of.ensures
+    entries_next c.args.said.now c.args.origins.now index c.index-said-origins.result c.requires c.origins-test.true
+    c.index-said-origins.is in
+    c.in_ok-push.ensures.items ∙ ap (λ l. l ++ c.in_ok-marks_of.field-0 ∷ []) c.origins.invariant
+    ∙ ap (λ m. map marks_of earlier ++ m ∷ []) c.in_ok-marks_of.ensures
     ∙ sym (ap (map marks_of) next ∙ map-append marks_of earlier (one ∷ []))

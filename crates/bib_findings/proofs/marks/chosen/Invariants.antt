@@ -4,4 +4,6 @@ use Rattle.bib_findings.proofs.marks.chosen.Given as goal
 
 -- the indices so far that are chosen
 abbrev pub invariant-origins : goal.invariant-origins
-invariant-origins l = (listed : List ℕ) → AreMetMarks l.met listed → l.found.items ≡ chosen listed (take l.index l.all) (take l.index l.origins)
+invariant-origins l =
+    (listed : List ℕ) → AreMetMarks l.met listed
+    → l.found.items ≡ chosen listed (take l.index l.all) (take l.index l.origins)

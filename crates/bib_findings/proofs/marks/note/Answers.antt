@@ -9,12 +9,15 @@ use Rattle.bib_findings.proofs.marks.note.Goals as goal
 
 pub returns-in_ok-insert-2 : goal.returns-in_ok-insert-2
 returns-in_ok-insert-2 c = λ all noted.
-    let there : is_some (get nat_cmp c.args.met.now c.in-Some.mark) ≡ true = ap is_some (sym c.in_ok-insert.ensures.old) ∙ sym c.is_some.ensures ∙ c.if-is_some.true in
+    let there : is_some (get nat_cmp c.args.met.now c.in-Some.mark) ≡ true =
+    ap is_some (sym c.in_ok-insert.ensures.old) ∙ sym c.is_some.ensures ∙ c.if-is_some.true in
     subst (λ o. AreMetMarks c.insert-then-is_some.new.self (all ++ option_to_list o)) (sym c.in-Some.is)
-    (noted_again c.args.met.now c.insert.new.self c.insert-then-is_some.new.self all c.in-Some.mark noted there c.in_ok-insert.ensures.updates c.in_ok-insert-2.ensures.updates)
+    (noted_again c.args.met.now c.insert.new.self c.insert-then-is_some.new.self all c.in-Some.mark noted there
+    c.in_ok-insert.ensures.updates c.in_ok-insert-2.ensures.updates)
 
 pub returns-else-is_some : goal.returns-else-is_some
 returns-else-is_some c = λ all noted.
-    let absent : is_some (get nat_cmp c.args.met.now c.in-Some.mark) ≡ false = ap is_some (sym c.in_ok-insert.ensures.old) ∙ sym c.is_some.ensures ∙ c.if-is_some.false in
+    let absent : is_some (get nat_cmp c.args.met.now c.in-Some.mark) ≡ false =
+    ap is_some (sym c.in_ok-insert.ensures.old) ∙ sym c.is_some.ensures ∙ c.if-is_some.false in
     subst (λ o. AreMetMarks c.insert.new.self (all ++ option_to_list o)) (sym c.in-Some.is)
     (noted_once c.args.met.now c.insert.new.self all c.in-Some.mark noted absent c.in_ok-insert.ensures.updates)

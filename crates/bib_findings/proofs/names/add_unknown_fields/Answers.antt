@@ -12,6 +12,8 @@ fields-preserved c =
     let is : field ≡ get_or fields index field = c.field-item.is ∙ ap (λ l. get_or l index field) all in
     record {
       met = c.in_ok-add_if_unknown.ensures.met;
-      added = fields_next c.args.said.now.v.key.v.now fields index field c.args.found.now.items c.fields.found.items c.add_if_unknown.new.found.items within is c.fields.invariant.added
+      added =
+          fields_next c.args.said.now.v.key.v.now fields index field c.args.found.now.items c.fields.found.items
+          c.add_if_unknown.new.found.items within is c.fields.invariant.added
           c.in_ok-add_if_unknown.ensures.added;
     }

@@ -10,5 +10,6 @@ use Rattle.bib_findings.proofs.names.add_unknown_fields.Given as goal
 abbrev pub invariant-fields : goal.invariant-fields
 invariant-fields l = record {
   met : AreFieldNames (get_by_text l.met);
-  added : Adds (AreUnknownOf l.said.v.key.v.now (map field_of (take l.field-index l.said.v.fields.items))) l.initial.found.items l.found.items;
+  added : Adds (AreUnknownOf l.said.v.key.v.now (map field_of (take l.field-index l.said.v.fields.items)))
+      l.initial.found.items l.found.items;
 }

@@ -5,5 +5,6 @@ use Rattle.bib_findings.proofs.names.look_up.Goals as goal
 pub returns : goal.returns
 returns c = (
   sym c.is_known_field.ensures ∙ c.if-is_known_field.false,
-  subst (λ name. IsNearest known_fields name (option_copied c.in_ok-meant.meant)) (c.deref.ensures ∙ c.in_ok-lowercase.ensures.ok) c.in_ok-meant.ensures,
+  subst (λ name. IsNearest known_fields name (option_copied c.in_ok-meant.meant))
+      (c.deref.ensures ∙ c.in_ok-lowercase.ensures.ok) c.in_ok-meant.ensures,
 )

@@ -7,4 +7,8 @@ use Rattle.bib_findings.proofs.references.add_entry_references.Given as goal
 
 -- the findings of the fields so far were added
 abbrev pub invariant-fields : goal.invariant-fields
-invariant-fields l = l.found.items ≡ l.initial.found.items ++ flat_map (field_references l.names (entry_reading_of l.said) l.entry) (texts (take l.field-index l.fields))
+invariant-fields l =
+    l.found.items
+    ≡ l.initial.found.items
+    ++ flat_map (field_references l.names (entry_reading_of l.said) l.entry)
+    (texts (take l.field-index l.fields))

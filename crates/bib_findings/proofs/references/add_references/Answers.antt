@@ -11,6 +11,9 @@ pub entries-preserved : goal.entries-preserved
 entries-preserved c =
     let one = c.index-said-origins.result in
     let entry = c.index-own-index.result in
-    each_at (AreReferences c.args.names.now) c.args.said.now c.args.origins.now c.args.own.now c.entries.index one entry c.args.found.now.items c.entries.found.items c.add_entry_references.new.found.items
+    each_at (AreReferences c.args.names.now) c.args.said.now c.args.origins.now c.args.own.now c.entries.index one entry
+    c.args.found.now.items c.entries.found.items c.add_entry_references.new.found.items
     c.requires.there c.requires.same_length c.entries-test.true c.index-said-origins.is c.index-own-index.is c.entries.invariant
-    (added_known (AreReferences c.args.names.now (entry_reading_of one) entry) (entry_references c.args.names.now (entry_reading_of one) entry) c.entries.found.items c.add_entry_references.new.found.items refl c.in_ok-add_entry_references.ensures)
+    (added_known (AreReferences c.args.names.now (entry_reading_of one) entry)
+    (entry_references c.args.names.now (entry_reading_of one) entry) c.entries.found.items
+    c.add_entry_references.new.found.items refl c.in_ok-add_entry_references.ensures)

@@ -7,4 +7,6 @@ use Rattle.bib_findings.proofs.references.add_references.Given as goal
 
 -- the findings of the entries so far were added
 abbrev pub invariant-entries : goal.invariant-entries
-invariant-entries l = Adds (AreOfEach (AreReferences l.names) (map entry_reading_of l.said) (take l.index l.origins) (take l.index l.own)) l.initial.found.items l.found.items
+invariant-entries l =
+    Adds (AreOfEach (AreReferences l.names) (map entry_reading_of l.said) (take l.index l.origins) (take l.index l.own))
+    l.initial.found.items l.found.items

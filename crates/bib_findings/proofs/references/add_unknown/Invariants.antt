@@ -6,4 +6,8 @@ use Rattle.bib_findings.proofs.references.add_unknown.Given as goal
 
 -- a finding was added for each of the keys so far that no entry has
 abbrev pub invariant-keys : goal.invariant-keys
-invariant-keys l = l.found.items ≡ l.initial.found.items ++ map (reference_finding (entry_reading_of l.said) l.field) (filter (is_unknown l.names) (take l.key-index l.keys))
+invariant-keys l =
+    l.found.items
+    ≡ l.initial.found.items
+    ++ map (reference_finding (entry_reading_of l.said) l.field)
+    (filter (is_unknown l.names) (take l.key-index l.keys))

@@ -7,6 +7,7 @@ use Rattle.bib_format.proofs.comments.has_comment.Given as goal
 -- what is left to look at
 abbrev pub invariant-fields : goal.invariant-fields
 invariant-fields l = record {
-  left : has_percent_between l.text l.start (map field_of (drop l.field-index l.field-items)) l.entry.span.end ≡ has_comment l.text (entry_reading_of l.entry);
+  left : has_percent_between l.text l.start (map field_of (drop l.field-index l.field-items)) l.entry.span.end
+      ≡ has_comment l.text (entry_reading_of l.entry);
   cut : AreGapsCut l.text l.start (map field_of (drop l.field-index l.field-items)) l.entry.span.end;
 }

@@ -6,4 +6,7 @@ use Rattle.bib_format.proofs.PercentFacts.{stands_among}
 use Rattle.bib_format.proofs.comments.has_percent.Goals as goal
 
 pub returns : goal.returns
-returns c = stands_among 37 c.range.result.now c.contains.result (contains_char 37 c.range.result.now c.contains.result c.contains.ensures.cases (omega arith)) ∙ ap (list_any (λ b. b == 37)) c.range.ensures.value
+returns c =
+    stands_among 37 c.range.result.now c.contains.result
+    (contains_char 37 c.range.result.now c.contains.result c.contains.ensures.cases (omega arith))
+    ∙ ap (list_any (λ b. b == 37)) c.range.ensures.value

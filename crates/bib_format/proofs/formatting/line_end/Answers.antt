@@ -12,13 +12,18 @@ and_false true c is = is
 and_false false c is = refl
 
 -- a first line that a line feed alone ends
-ends_alone : (text line : List ℕ) (r : Bool) → line ≡ before_first (λ b. eqb b 10) text → r ≡ ends_with eqb line (codes "\r") → r ≡ false → line_end_of text ≡ codes "\n"
+ends_alone : (text line : List ℕ) (r : Bool) → line ≡ before_first (λ b. eqb b 10) text
+    → r ≡ ends_with eqb line (codes "\r") → r ≡ false → line_end_of text ≡ codes "\n"
 ends_alone text line r is tests none =
-    let alone : ends_with eqb (before_first (λ b. eqb b 10) text) (codes "\r") ≡ false = ap (λ l. ends_with eqb l (codes "\r")) (sym is) ∙ sym tests ∙ none in
+    let alone : ends_with eqb (before_first (λ b. eqb b 10) text) (codes "\r") ≡ false =
+    ap (λ l. ends_with eqb l (codes "\r")) (sym is) ∙ sym tests ∙ none in
     ap (λ b. cond b (codes "\r\n") (codes "\n")) (and_false (nat_lt (position_or_len (λ b. eqb b 10) text) (length text)) _ alone)
 
 found : (text : List ℕ) (r : Option (Bor (List ℕ) × Bor (List ℕ))) (x : Bor (List ℕ) × Bor (List ℕ)) → r ≡ Some x
-    → MatchOption r (position_or_len (λ b. eqb b 10) text ≡ length text) (λ x. (position_or_len (λ b. eqb b 10) text < length text) × (x.0.now ≡ before_first (λ b. eqb b 10) text) × (x.1.now ≡ after_first (λ b. eqb b 10) text))
+    → MatchOption r (position_or_len (λ b. eqb b 10) text ≡ length text)
+    (λ x.
+    (position_or_len (λ b. eqb b 10) text < length text) × (x.0.now ≡ before_first (λ b. eqb b 10) text)
+    × (x.1.now ≡ after_first (λ b. eqb b 10) text))
     → x.0.now ≡ before_first (λ b. eqb b 10) text
 found text (Some y) x is all = ap (λ o. (get_some y o).0.now) (sym is) ∙ all.1
   where
@@ -30,5 +35,10 @@ found text None x is all = absurd (cc)
 pub returns-else-ends_with : goal.returns-else-ends_with
 returns-else-ends_with c =
     let text = c.args.text.now in
-    let line_is = found text c.split_once.result (c.in-Some.line, c.in-Some.field-0-1) c.in-Some.is (split_once_first 10 text c.split_once.result c.split_once.ensures.cases (omega arith)) in
-    sym (ends_alone text c.in-Some.line.now c.ends_with.result line_is (ends_text c.ends_with.result (codes "\r") c.in-Some.line.now c.ends_with.ensures.cases) c.if-ends_with.false)
+    let line_is =
+    found text c.split_once.result (c.in-Some.line, c.in-Some.field-0-1) c.in-Some.is
+    (split_once_first 10 text c.split_once.result c.split_once.ensures.cases (omega arith)) in
+    sym
+    (ends_alone text c.in-Some.line.now c.ends_with.result line_is
+    (ends_text c.ends_with.result (codes "\r") c.in-Some.line.now c.ends_with.ensures.cases)
+    c.if-ends_with.false)

@@ -13,7 +13,9 @@ lines-preserved c = record {
   written = c.in_ok-push_str.ensures.bytes ∙ ap (λ t. t ++ c.args.line_end.now) c.lines.invariant.written
       ∙ append_assoc (string_bytes c.args.new.now) (line_ends c.args.line_end.now c.lines._written) c.args.line_end.now
       ∙ ap (λ t. string_bytes c.args.new.now ++ t) (one_more c.args.line_end.now c.lines._written)
-      ∙ (let next : suc c.lines._written ≡ c.lines._written + 1 = omega arith in ap (λ n. string_bytes c.args.new.now ++ line_ends c.args.line_end.now n) next);
+      ∙
+      (let next : suc c.lines._written ≡ c.lines._written + 1 = omega arith in
+      ap (λ n. string_bytes c.args.new.now ++ line_ends c.args.line_end.now n) next);
   within = omega arith;
 }
 

@@ -5,4 +5,6 @@ use Rattle.bib_format.proofs.order.has_one_of.Given as goal
 
 -- what is left to look at
 abbrev pub invariant-names : goal.invariant-names
-invariant-names l = has_one_of (name_texts (drop l.name-index l.names)) (field_of l.field) ≡ has_one_of (name_texts l.names) (field_of l.field)
+invariant-names l =
+    has_one_of (name_texts (drop l.name-index l.names)) (field_of l.field)
+    ≡ has_one_of (name_texts l.names) (field_of l.field)

@@ -10,7 +10,12 @@ use Rattle.bib_format.proofs.pieces.push_value.Given as goal
 -- what is left to write
 abbrev pub invariant-pieces : goal.invariant-pieces
 invariant-pieces l = record {
-  written : string_bytes l.new ++ value_laid_out (cond l.is_first (codes " = ") l.next) l.next (map (piece_as_written l.layout.style.delimiters l.layout.text.now) (map piece_of (drop l.piece-index l.pieces)))
-      ≡ string_bytes l.initial.new ++ value_laid_out (codes " = ") l.next (map (piece_as_written l.layout.style.delimiters l.layout.text.now) (map piece_of l.pieces));
+  written : string_bytes l.new
+      ++ value_laid_out (cond l.is_first (codes " = ") l.next) l.next
+      (map (piece_as_written l.layout.style.delimiters l.layout.text.now)
+      (map piece_of (drop l.piece-index l.pieces)))
+      ≡ string_bytes l.initial.new
+      ++ value_laid_out (codes " = ") l.next
+      (map (piece_as_written l.layout.style.delimiters l.layout.text.now) (map piece_of l.pieces));
   cut : AllByRecursion (IsPieceCut l.layout.text.now) (map piece_of (drop l.piece-index l.pieces));
 }

@@ -10,7 +10,8 @@ returns-in-Err-clause-refused c =
     let of = sym c.in_ok-items.ensures ∙ c.in-Are.is in
     let is = c.as_str.ensures ∙ (c.in_ok-text.ensures ∙ ap items_source c.as_slice.ensures) in
     unread_refused c.args.json.now c.in_ok-unread-in-Err.field-0 c.in_ok-unread-in-Err.ensures
-    (unread_items c.args.json.now c.as_str.result.now c.in-Are.items c.in-Err.error of is c.in_ok-unless_out_of_memory-in-Err.ensures.ok c.in-Err.ensures.refused)
+    (unread_items c.args.json.now c.as_str.result.now c.in-Are.items c.in-Err.error of is
+    c.in_ok-unless_out_of_memory-in-Err.ensures.ok c.in-Err.ensures.refused)
 
 pub returns-clause-made : goal.returns-clause-made
 returns-clause-made c =

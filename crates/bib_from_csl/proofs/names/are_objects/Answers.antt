@@ -7,4 +7,6 @@ use Rattle.bib_from_csl.proofs.ObjectFacts.{all_mapped}
 use Rattle.bib_from_csl.proofs.names.are_objects.Goals as goal
 
 pub returns-in-Some : goal.returns-in-Some
-returns-in-Some c = c.all_objects.ensures ∙ all_mapped is_object value_view c.in-Some.elements.now ∙ ap (λ o. option_map_or (list_all is_object) o false) c.in-Some.ensures
+returns-in-Some c =
+    c.all_objects.ensures ∙ all_mapped is_object value_view c.in-Some.elements.now
+    ∙ ap (λ o. option_map_or (list_all is_object) o false) c.in-Some.ensures

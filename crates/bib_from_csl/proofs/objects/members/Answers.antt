@@ -6,4 +6,5 @@ use Rattle.bib_from_csl.proofs.objects.members.Goals as goal
 
 pub returns-in-Object : goal.returns-in-Object
 returns-in-Object c =
-    ap (λ ms. Some (map (λ m. (m.0.now, value_view m.1)) ms)) c.as_slice.ensures.value ∙ members_of_object c.in-Object.members ∙ ap (λ v. object_members (value_view v)) (sym c.in-Object.is)
+    ap (λ ms. Some (map (λ m. (m.0.now, value_view m.1)) ms)) c.as_slice.ensures.value
+    ∙ members_of_object c.in-Object.members ∙ ap (λ v. object_members (value_view v)) (sym c.in-Object.is)

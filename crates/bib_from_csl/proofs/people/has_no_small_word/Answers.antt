@@ -8,5 +8,7 @@ use Rattle.bib_from_csl.proofs.people.has_no_small_word.Goals as goal
 
 pub returns : goal.returns
 returns c =
-    let all = YieldsList-end (YieldsList-from_str_split 32 c.args.text.now (lit< tt) (cc) (cc) (cc)) c.words.yielded _ c.words.yielded_by _ _ c.in-None.is c.next.ensures.steps in
+    let all =
+    YieldsList-end (YieldsList-from_str_split 32 c.args.text.now (lit< tt) (cc) (cc) (cc)) c.words.yielded _
+    c.words.yielded_by _ _ c.in-None.is c.next.ensures.steps in
     ap not (c.words.invariant ∙ ap (λ l. list_any begins_with_small l) all.0)

@@ -6,5 +6,6 @@ use Rattle.bib_from_csl.proofs.reading.items_from.Given as goal
 
 abbrev pub invariant-elements : goal.invariant-elements
 invariant-elements l =
-    (after_items l.items (items_read_from l.index (map value_view (drop l.value-index l.values))) ≡ items_read_from 0 (map value_view l.values))
+    (after_items l.items (items_read_from l.index (map value_view (drop l.value-index l.values)))
+    ≡ items_read_from 0 (map value_view l.values))
     × (l.index ≡ l.value-index)

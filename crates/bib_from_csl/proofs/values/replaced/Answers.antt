@@ -10,8 +10,13 @@ text-smaller c = less_after c.in-Some.ensures
 
 pub text-preserved : goal.text-preserved
 text-preserved c =
-    let step = scanned_step (replacing c.args.replaced c.args.with.now) c.text.out c.push_replaced.new.out _ c.in-Some.ensures c.text.invariant.1 c.in_ok-push_replaced.ensures c.text.invariant.2 in
+    let step =
+    scanned_step (replacing c.args.replaced c.args.with.now) c.text.out c.push_replaced.new.out _ c.in-Some.ensures
+    c.text.invariant.1 c.in_ok-push_replaced.ensures c.text.invariant.2 in
     (step.0 ∙ c.text.invariant.0, step.1, step.2)
 
 pub returns : goal.returns
-returns c = sym (append-nil c.text.out) ∙ scanned_end (replacing c.args.replaced c.args.with.now) c.text.out _ c.text.scanner c.in_default.ensures.0 c.text.invariant.2
+returns c =
+    sym (append-nil c.text.out)
+    ∙ scanned_end (replacing c.args.replaced c.args.with.now) c.text.out _ c.text.scanner c.in_default.ensures.0
+    c.text.invariant.2

@@ -10,7 +10,9 @@ id-smaller c = less_after c.in-Some.ensures
 
 pub id-preserved : goal.id-preserved
 id-preserved c =
-    let step = scanned_step key_character c.id.key c.push_of_key.new.key _ c.in-Some.ensures c.id.invariant.1 c.in_ok-push_of_key.ensures c.id.invariant.2 in
+    let step =
+    scanned_step key_character c.id.key c.push_of_key.new.key _ c.in-Some.ensures c.id.invariant.1
+    c.in_ok-push_of_key.ensures c.id.invariant.2 in
     (step.0 ∙ c.id.invariant.0, step.1, step.2)
 
 pub returns : goal.returns

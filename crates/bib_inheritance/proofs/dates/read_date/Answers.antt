@@ -22,4 +22,6 @@ returns-clause-dates c =
     c.requires.dates
 
 pub returns-clause-added : goal.returns-clause-added
-returns-clause-added c = λ other. reads_more c.args.dates.now c.args.index other c.in_ok-date.date (omega (arith, c.requires.index, c.requires.as_long))
+returns-clause-added c = λ other.
+    reads_more c.args.dates.now c.args.index other c.in_ok-date.date
+    (omega (arith, c.requires.index, c.requires.as_long))

@@ -8,4 +8,7 @@ use Rattle.bib_inheritance.proofs.gathering.gather_groups.Given as goal
 -- the fields collected for the groups so far
 abbrev pub invariant-groups : goal.invariant-groups
 invariant-groups l = (q : List ℕ)
-    → gathered_text l.gathered q ≡ first_some (offered_among (flat_map (λ group. texts group.now) (take l.group-index l.groups)) (texts_of_reference l.reference) q) (gathered_text l.initial.gathered q)
+    → gathered_text l.gathered q
+    ≡ first_some
+    (offered_among (flat_map (λ group. texts group.now) (take l.group-index l.groups))
+    (texts_of_reference l.reference) q) (gathered_text l.initial.gathered q)

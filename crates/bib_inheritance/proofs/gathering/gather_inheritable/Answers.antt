@@ -21,4 +21,5 @@ returns c = λ q.
     (c.in_ok-gather_groups.ensures q ∙ ap (first_some (offered_among optional s q)) (c.in_ok-gather_offers.ensures q)))
     ∙ inheritable_gathered c.args.entry_type.now s required optional pages author q (gathered_text c.args.gathered.now q)
     (ap (λ r. r.required) c.row-row.ensures) (ap (λ r. r.optional) c.row-row.ensures)
-    (c.possible.ensures ∙ ap (λ r. page_names r.pages) c.row-row.ensures) (c.possible-2.ensures ∙ ap (λ r. author_names r.author) c.row-row.ensures)
+    (c.possible.ensures ∙ ap (λ r. page_names r.pages) c.row-row.ensures)
+    (c.possible-2.ensures ∙ ap (λ r. author_names r.author) c.row-row.ensures)

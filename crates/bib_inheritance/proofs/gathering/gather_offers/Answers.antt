@@ -25,7 +25,8 @@ pub names-preserved-then-is_kept_back : goal.names-preserved-then-is_kept_back
 names-preserved-then-is_kept_back c =
     let names = c.args.names.now in
     let i = c.names.name-index in
-    gathered_skip (texts names) i (texts_of_reference c.args.reference.now) (get_or names i no_name).now c.args.gathered.now c.names.gathered (inside names i c.names-test.true) (name_at names i c.names-test.true)
+    gathered_skip (texts names) i (texts_of_reference c.args.reference.now) (get_or names i no_name).now
+    c.args.gathered.now c.names.gathered (inside names i c.names-test.true) (name_at names i c.names-test.true)
     (inl (sym c.is_kept_back.ensures ∙ c.if-is_kept_back.true)) c.names.invariant
 
 pub names-preserved : goal.names-preserved
@@ -37,10 +38,14 @@ names-preserved c =
     elim c.match-offer.branch [
       | in-Some+in_ok-insert w ↦
           subst (IsGathered (texts names) (i + 1) s c.args.gathered.now) (sym w.gathered-is)
-          (gathered_more (texts names) i s n w.in-Some.chunks c.args.gathered.now c.names.gathered w.insert.new.self (inside names i c.names-test.true) (name_at names i c.names-test.true)
-          (sym c.is_kept_back.ensures ∙ c.if-is_kept_back.false) (sym c.offer.ensures ∙ ap (λ o. option_map styled (option_copied o)) w.in-Some.is) w.in_ok-insert.ensures.updates c.names.invariant)
+          (gathered_more (texts names) i s n w.in-Some.chunks c.args.gathered.now c.names.gathered w.insert.new.self
+          (inside names i c.names-test.true) (name_at names i c.names-test.true)
+          (sym c.is_kept_back.ensures ∙ c.if-is_kept_back.false)
+          (sym c.offer.ensures ∙ ap (λ o. option_map styled (option_copied o)) w.in-Some.is)
+          w.in_ok-insert.ensures.updates c.names.invariant)
       | in_default w ↦
           subst (IsGathered (texts names) (i + 1) s c.args.gathered.now) (sym w.gathered-is)
-          (gathered_skip (texts names) i s n c.args.gathered.now c.names.gathered (inside names i c.names-test.true) (name_at names i c.names-test.true)
+          (gathered_skip (texts names) i s n c.args.gathered.now c.names.gathered (inside names i c.names-test.true)
+          (name_at names i c.names-test.true)
           (inr (sym c.offer.ensures ∙ ap (λ o. option_map styled (option_copied o)) w.in_default.is)) c.names.invariant)
     ]

@@ -9,9 +9,12 @@ pub returns-then-is_container : goal.returns-then-is_container
 returns-then-is_container c = λ q.
     c.in_ok-gather_offers.ensures q
     ∙ ap (λ o. first_some o (gathered_text c.args.gathered.now q))
-    (given_container c.args.entry_type.now c.args.reference.now (texts c.deref.result.now) q (sym c.is_container.ensures ∙ c.if-is_container.true) (ap texts c.deref.ensures.value ∙ c.in_ok-names.ensures))
+    (given_container c.args.entry_type.now c.args.reference.now (texts c.deref.result.now) q
+    (sym c.is_container.ensures ∙ c.if-is_container.true) (ap texts c.deref.ensures.value ∙ c.in_ok-names.ensures))
 
 pub returns : goal.returns
 returns c = λ q.
     c.in_ok-gather_inheritable.ensures q
-    ∙ ap (λ o. first_some o (gathered_text c.args.gathered.now q)) (given_other c.args.entry_type.now (texts_of_reference c.args.reference.now) q (sym c.is_container.ensures ∙ c.if-is_container.false))
+    ∙ ap (λ o. first_some o (gathered_text c.args.gathered.now q))
+    (given_other c.args.entry_type.now (texts_of_reference c.args.reference.now) q
+    (sym c.is_container.ensures ∙ c.if-is_container.false))

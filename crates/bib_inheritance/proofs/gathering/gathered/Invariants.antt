@@ -6,4 +6,7 @@ use Rattle.bib_inheritance.proofs.gathering.gathered.Given as goal
 
 -- the fields collected are those inherited from the references so far, from the end
 abbrev pub invariant-references : goal.invariant-references
-invariant-references l = (name : List ℕ) → gathered_text l.gathered name ≡ inherited_field l.entry_type name (texts_of_references (drop (length l.references - l.done) l.references))
+invariant-references l =
+    (name : List ℕ)
+    → gathered_text l.gathered name
+    ≡ inherited_field l.entry_type name (texts_of_references (drop (length l.references - l.done) l.references))

@@ -4,4 +4,7 @@ use Rattle.bib_inheritance.specs.Inherited.{main_titles}
 use Rattle.bib_inheritance.proofs.offers.main_title.Goals as goal
 
 pub returns-in_default : goal.returns-in_default
-returns-in_default c = sym (named_none main_titles c.args.name.now (c.in_default.not-maintitle, (c.in_default.not-mainsubtitle, (c.in_default.not-maintitleaddon, tt))))
+returns-in_default c =
+    sym
+    (named_none main_titles c.args.name.now
+    (c.in_default.not-maintitle, (c.in_default.not-mainsubtitle, (c.in_default.not-maintitleaddon, tt))))

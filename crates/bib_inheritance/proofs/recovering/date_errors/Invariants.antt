@@ -9,7 +9,8 @@ use Rattle.bib_inheritance.proofs.recovering.date_errors.Given as goal
 -- the errors so far are those of the entries so far
 abbrev pub invariant-entries : goal.invariant-entries
 invariant-entries l = record {
-  reported : EachReported (λ index. is_unread_at l.looks (rows l.refs) (texts_of_entries l.entries) index ≡ true) (IsUnreadError (rows l.refs) l.entries) l.index l.errors.items;
+  reported : EachReported (λ index. is_unread_at l.looks (rows l.refs) (texts_of_entries l.entries) index ≡ true)
+      (IsUnreadError (rows l.refs) l.entries) l.index l.errors.items;
   as_many : length l.dates ≡ length l.entries;
   dates : AreDates l.entries l.dates;
 }

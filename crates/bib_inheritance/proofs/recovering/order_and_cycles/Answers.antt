@@ -9,4 +9,6 @@ order-requires-clause-in_range c = c.in_ok-errors-in-Err.ensures.cut.in_range c.
 
 pub returns-in-Ok-clause-cut : goal.returns-in-Ok-clause-cut
 returns-in-Ok-clause-cut c =
-    rw c.new.ensures.items (cut_nothing c.args.spans.now c.args.entries.now (rows c.args.refs.now) c.in-Ok.ensures.no_cycle (length-rows c.args.refs.now ∙ c.requires.rows))
+    rw c.new.ensures.items
+    (cut_nothing c.args.spans.now c.args.entries.now (rows c.args.refs.now) c.in-Ok.ensures.no_cycle
+    (length-rows c.args.refs.now ∙ c.requires.rows))

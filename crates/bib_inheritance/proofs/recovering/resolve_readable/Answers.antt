@@ -17,14 +17,19 @@ use Rattle.bib_inheritance.proofs.recovering.resolve_readable.Goals as goal
 
 pub order_and_cycles-requires-clause-in_range : goal.order_and_cycles-requires-clause-in_range
 order_and_cycles-requires-clause-in_range c =
-    subst (λ l. IsInRange (rows l)) (sym c.deref_mut.ensures.value) (subst IsInRange (sym c.in_ok-refs.ensures) (graph_in_range c.args.names.now c.args.entries.now c.requires.below))
+    subst (λ l. IsInRange (rows l)) (sym c.deref_mut.ensures.value)
+    (subst IsInRange (sym c.in_ok-refs.ensures)
+    (graph_in_range c.args.names.now c.args.entries.now c.requires.below))
 
 pub take_turns-requires-clause-in_range : goal.take_turns-requires-clause-in_range
 take_turns-requires-clause-in_range c =
     let new = c.order_and_cycles.new.refs in
     let len : length new ≡ length c.in_ok-refs.refs.items = c.in_ok-order.ensures.rows ∙ ap length c.deref_mut.ensures.value in
     let is = c.deref-2.ensures.value ∙ with_items_is c.in_ok-refs.refs new (omega (arith, len, c.in_ok-refs.refs.ok.0)) in
-    let first = subst (λ l. IsInRange (rows l)) (sym c.deref_mut.ensures.value) (subst IsInRange (sym c.in_ok-refs.ensures) (graph_in_range c.args.names.now c.args.entries.now c.requires.below)) in
+    let first =
+    subst (λ l. IsInRange (rows l)) (sym c.deref_mut.ensures.value)
+    (subst IsInRange (sym c.in_ok-refs.ensures)
+    (graph_in_range c.args.names.now c.args.entries.now c.requires.below)) in
     subst (λ l. IsInRange (rows l)) (sym is) (c.in_ok-order.ensures.cut.in_range first)
 
 pub date_errors-requires-clause-in_range : goal.date_errors-requires-clause-in_range
@@ -32,13 +37,17 @@ date_errors-requires-clause-in_range c =
     let new = c.order_and_cycles.new.refs in
     let len : length new ≡ length c.in_ok-refs.refs.items = c.in_ok-order.ensures.rows ∙ ap length c.deref_mut.ensures.value in
     let is = c.deref-4.ensures.value ∙ with_items_is c.in_ok-refs.refs new (omega (arith, len, c.in_ok-refs.refs.ok.0)) in
-    let first = subst (λ l. IsInRange (rows l)) (sym c.deref_mut.ensures.value) (subst IsInRange (sym c.in_ok-refs.ensures) (graph_in_range c.args.names.now c.args.entries.now c.requires.below)) in
+    let first =
+    subst (λ l. IsInRange (rows l)) (sym c.deref_mut.ensures.value)
+    (subst IsInRange (sym c.in_ok-refs.ensures)
+    (graph_in_range c.args.names.now c.args.entries.now c.requires.below)) in
     subst (λ l. IsInRange (rows l)) (sym is) (c.in_ok-order.ensures.cut.in_range first)
 
 pub date_errors-requires-clause-dates : goal.date_errors-requires-clause-dates
 date_errors-requires-clause-dates c =
     let new = c.take_turns.new.dates in
-    let same : c.deref_mut-3.result.now ≡ new = c.deref_mut-3.ensures.value ∙ all_taken c.in_ok-dates.dates.len new c.in_ok-dates.dates.items (omega arith) in
+    let same : c.deref_mut-3.result.now ≡ new =
+    c.deref_mut-3.ensures.value ∙ all_taken c.in_ok-dates.dates.len new c.in_ok-dates.dates.items (omega arith) in
     subst (AreDates c.take_turns.new.entries) (sym same) c.in_ok-take_turns.ensures.dates
 
 pub returns-clause-recovered : goal.returns-clause-recovered
@@ -51,12 +60,26 @@ returns-clause-recovered c =
     let len : length new ≡ length c.in_ok-refs.refs.items = c.in_ok-order.ensures.rows ∙ ap length c.deref_mut.ensures.value in
     let items = with_items_is c.in_ok-refs.refs new (omega (arith, len, c.in_ok-refs.refs.ok.0)) in
     let graph_is : rows c.deref_mut.result.now ≡ graph_by names own = ap rows c.deref_mut.ensures.value ∙ c.in_ok-refs.ensures in
-    let n : length c.deref-4.result.now ≡ length own = omega (arith, ap length c.deref-4.ensures.value, ap length items, len, length-rows c.in_ok-refs.refs.items, ap length c.in_ok-refs.ensures, length-map own (λ (e : Entry). references names (fields_of e.fields))) in
-    recovered c.args.spans.now names own cut c.take_turns.new.entries (rows c.deref_mut.result.now) (rows new) c.deref-5.result.now (length c.deref-4.result.now)
+    let n : length c.deref-4.result.now ≡ length own =
+    omega (
+      arith,
+      ap length c.deref-4.ensures.value,
+      ap length items,
+      len,
+      length-rows c.in_ok-refs.refs.items,
+      ap length c.in_ok-refs.ensures,
+      length-map own (λ (e : Entry). references names (fields_of e.fields)),
+    ) in
+    recovered c.args.spans.now names own cut c.take_turns.new.entries (rows c.deref_mut.result.now) (rows new)
+    c.deref-5.result.now (length c.deref-4.result.now)
     c.in_ok-order.errors.items c.in_ok-unread.unread.items c.append.new.self.items graph_is c.in_ok-order.ensures.cut
     c.in_ok-take_turns.ensures.keys
     (subst (λ l. Inherits (texts_of_entries cut) (rows l) values) (c.deref-2.ensures.value ∙ items) c.in_ok-take_turns.ensures.inherits)
     c.in_ok-take_turns.ensures.chunks
     (c.deref-5.ensures.value ∙ c.in_ok-looks.ensures) n
-    (subst (λ l. EachReported (λ index. is_unread_at c.deref-5.result.now (rows l) values index ≡ true) (IsUnreadError (rows l) c.take_turns.new.entries) (length c.deref-4.result.now) c.in_ok-unread.unread.items) (c.deref-4.ensures.value ∙ items) c.in_ok-unread.ensures)
+    (subst
+    (λ l.
+    EachReported (λ index. is_unread_at c.deref-5.result.now (rows l) values index ≡ true)
+    (IsUnreadError (rows l) c.take_turns.new.entries) (length c.deref-4.result.now)
+    c.in_ok-unread.unread.items) (c.deref-4.ensures.value ∙ items) c.in_ok-unread.ensures)
     c.in_ok-append.ensures.items

@@ -22,22 +22,36 @@ indices-preserved c =
           let pushed = ap (λ v. v.items) w.first-is ∙ w.in_ok-push.ensures.items in
           record {
             among = subst (All (Contains indices)) (sym pushed)
-                (All-append (Contains indices) c.indices.first.items (p ∷ []) c.indices.invariant.among (All-cons (Contains indices) p [] (Contains-get_or indices i 0 c.indices-test.true) (All-nil (Contains indices))));
-            seen = λ q. seen_more indices i q (contains nat_cmp c.indices.seen q) (contains nat_cmp c.insert.new.self q) c.indices-test.true (c.in_ok-insert.ensures.updates.0 q) (c.indices.invariant.seen q);
-            same = subst (λ l. GivesSame l (take (i + 1) indices)) (sym pushed) (gives_more c.indices.first.items indices i c.indices-test.true c.indices.invariant.same);
+                (All-append (Contains indices) c.indices.first.items (p ∷ []) c.indices.invariant.among
+                (All-cons (Contains indices) p [] (Contains-get_or indices i 0 c.indices-test.true)
+                (All-nil (Contains indices))));
+            seen = λ q.
+                seen_more indices i q (contains nat_cmp c.indices.seen q) (contains nat_cmp c.insert.new.self q)
+                c.indices-test.true (c.in_ok-insert.ensures.updates.0 q) (c.indices.invariant.seen q);
+            same =
+                subst (λ l. GivesSame l (take (i + 1) indices)) (sym pushed)
+                (gives_more c.indices.first.items indices i c.indices-test.true c.indices.invariant.same);
           }
       | else-branch w ↦
           let kept = ap (λ v. v.items) w.first-is in
-          let again : list_any (λ x. eqb x p) (take i indices) ≡ true = sym (c.indices.invariant.seen p) ∙ not_false (contains nat_cmp c.indices.seen p) (sym w.if-branch.false ∙ c.in_ok-insert.ensures.added) in
+          let again : list_any (λ x. eqb x p) (take i indices) ≡ true =
+          sym (c.indices.invariant.seen p)
+          ∙ not_false (contains nat_cmp c.indices.seen p) (sym w.if-branch.false ∙ c.in_ok-insert.ensures.added) in
           record {
             among = subst (All (Contains indices)) (sym kept) c.indices.invariant.among;
-            seen = λ q. seen_more indices i q (contains nat_cmp c.indices.seen q) (contains nat_cmp c.insert.new.self q) c.indices-test.true (c.in_ok-insert.ensures.updates.0 q) (c.indices.invariant.seen q);
-            same = subst (λ l. GivesSame l (take (i + 1) indices)) (sym kept) (gives_again c.indices.first.items indices i c.indices-test.true again c.indices.invariant.same);
+            seen = λ q.
+                seen_more indices i q (contains nat_cmp c.indices.seen q) (contains nat_cmp c.insert.new.self q)
+                c.indices-test.true (c.in_ok-insert.ensures.updates.0 q) (c.indices.invariant.seen q);
+            same =
+                subst (λ l. GivesSame l (take (i + 1) indices)) (sym kept)
+                (gives_again c.indices.first.items indices i c.indices-test.true again c.indices.invariant.same);
           }
     ]
 
 pub returns-then-indices-lt2-clause-among : goal.returns-then-indices-lt2-clause-among
-returns-then-indices-lt2-clause-among c = rw (c.in_ok-all.ensures.items_if_clones_equal (λ x y e. e)) (All-contains_itself c.args.indices.now)
+returns-then-indices-lt2-clause-among c =
+    rw (c.in_ok-all.ensures.items_if_clones_equal (λ x y e. e)) (All-contains_itself c.args.indices.now)
 
 pub returns-then-indices-lt2-clause-same : goal.returns-then-indices-lt2-clause-same
-returns-then-indices-lt2-clause-same c = λ at entry_type name. ap (λ l. inherited_field entry_type name (map at l)) (c.in_ok-all.ensures.items_if_clones_equal (λ x y e. e))
+returns-then-indices-lt2-clause-same c = λ at entry_type name.
+    ap (λ l. inherited_field entry_type name (map at l)) (c.in_ok-all.ensures.items_if_clones_equal (λ x y e. e))

@@ -51,14 +51,23 @@ bounds-refs-index-in-order c =
 pub bounds-flags-index : goal.bounds-flags-index
 bounds-flags-index c =
     let within = turn_within (rows c.args.refs.now) c.args.order.now c.order.index-index c.requires.order c.order-test.true in
-    omega (arith, within, length-rows c.args.refs.now, c.requires.as_long, ap length c.requires.flags, length-map c.args.entries.now has_references)
+    omega (
+      arith,
+      within,
+      length-rows c.args.refs.now,
+      c.requires.as_long,
+      ap length c.requires.flags,
+      length-map c.args.entries.now has_references,
+    )
 
 pub take_turn-requires-clause-references : goal.take_turn-requires-clause-references
 take_turn-requires-clause-references c =
     let refs = c.args.refs.now in
     let index : ℕ = get_or c.args.order.now c.order.index-index 0 in
     let within = turn_within (rows refs) c.args.order.now c.order.index-index c.requires.order c.order-test.true in
-    let row = row_in refs index c.index-refs-index-in-order.result c.requires.in_range (omega (arith, within, length-rows refs)) c.index-refs-index-in-order.is in
+    let row =
+    row_in refs index c.index-refs-index-in-order.result c.requires.in_range
+    (omega (arith, within, length-rows refs)) c.index-refs-index-in-order.is in
     subst (λ n. All (λ r. r < n) c.deref.result.now) (sym (c.order.invariant.turned.as_long ∙ c.requires.as_long))
     (subst (λ l. All (λ r. r < length refs) l) (sym c.deref.ensures.value) row)
 
@@ -73,17 +82,28 @@ order-preserved c =
     let i = c.order.index-index in
     let index : ℕ = get_or c.args.order.now i 0 in
     let within = turn_within (rows refs) c.args.order.now i c.requires.order c.order-test.true in
-    let row = c.deref.ensures.value ∙ sym (row_at refs index c.index-refs-index-in-order.result (omega (arith, within, length-rows refs)) c.index-refs-index-in-order.is) in
+    let row =
+    c.deref.ensures.value
+    ∙ sym
+    (row_at refs index c.index-refs-index-in-order.result (omega (arith, within, length-rows refs))
+    c.index-refs-index-in-order.is) in
     let turn = c.in_ok-take_turn.ensures.turned in
     record {
-      turns = c.in_ok-take_turn.ensures.turns ∙ ap (λ l. l ++ index ∷ []) c.order.invariant.turns ∙ sym (take_more c.args.order.now i 0 c.order-test.true);
-      turned = turned_more (rows refs) c.args.order.now c.args.entries.now c.order.entries c.take_turn.new.entries i turn.0 c.deref.result.now c.requires.order c.order-test.true
+      turns =
+          c.in_ok-take_turn.ensures.turns ∙ ap (λ l. l ++ index ∷ []) c.order.invariant.turns
+          ∙ sym (take_more c.args.order.now i 0 c.order-test.true);
+      turned =
+          turned_more (rows refs) c.args.order.now c.args.entries.now c.order.entries c.take_turn.new.entries i turn.0
+          c.deref.result.now c.requires.order c.order-test.true
           (c.requires.as_long ∙ sym (length-rows refs)) row turn.1 turn.2 c.order.invariant.turned;
       dates = subst (λ l. AreDates l c.take_turn.new.dates) (sym turn.1)
           (dates_kept c.order.entries index turn.0 c.take_turn.new.dates
-          (turn_unread (rows refs) c.args.order.now c.deref.result.now i c.requires.order c.order-test.true row c.order.dates c.take_turn.new.dates c.in_ok-take_turn.ensures.added c.order.invariant.following)
+          (turn_unread (rows refs) c.args.order.now c.deref.result.now i c.requires.order c.order-test.true row
+          c.order.dates c.take_turn.new.dates c.in_ok-take_turn.ensures.added c.order.invariant.following)
           c.in_ok-take_turn.ensures.dates);
-      following = after_more (rows refs) c.args.order.now c.deref.result.now i c.requires.order c.order-test.true row c.order.dates c.take_turn.new.dates c.in_ok-take_turn.ensures.added c.order.invariant.following;
+      following =
+          after_more (rows refs) c.args.order.now c.deref.result.now i c.requires.order c.order-test.true row
+          c.order.dates c.take_turn.new.dates c.in_ok-take_turn.ensures.added c.order.invariant.following;
       as_many = c.in_ok-take_turn.ensures.as_long ∙ sym c.in_ok-take_turn.ensures.length;
     }
 
@@ -94,13 +114,21 @@ order-preserved-then-is_empty c =
     let index : ℕ = get_or c.args.order.now i 0 in
     let within = turn_within (rows refs) c.args.order.now i c.requires.order c.order-test.true in
     let row = row_at refs index c.index-refs-index.result (omega (arith, within, length-rows refs)) c.index-refs-index.is in
-    let none = no_indices c.index-refs-index.result.items (ap (λ n. eqb n 0) (sym c.index-refs-index.result.ok.0) ∙ sym c.is_empty.ensures ∙ c.if-is_empty.true) in
+    let none =
+    no_indices c.index-refs-index.result.items
+    (ap (λ n. eqb n 0) (sym c.index-refs-index.result.ok.0) ∙ sym c.is_empty.ensures ∙ c.if-is_empty.true) in
     record {
-      turns = c.in_ok-push.ensures.items ∙ ap (λ l. l ++ index ∷ []) c.order.invariant.turns ∙ sym (take_more c.args.order.now i 0 c.order-test.true);
-      turned = skipped (rows refs) c.args.order.now c.args.entries.now c.order.entries c.args.flags.now i c.index-refs-index.result.items c.requires.order c.order-test.true
+      turns =
+          c.in_ok-push.ensures.items ∙ ap (λ l. l ++ index ∷ []) c.order.invariant.turns
+          ∙ sym (take_more c.args.order.now i 0 c.order-test.true);
+      turned =
+          skipped (rows refs) c.args.order.now c.args.entries.now c.order.entries c.args.flags.now i
+          c.index-refs-index.result.items c.requires.order c.order-test.true
           (c.requires.as_long ∙ sym (length-rows refs)) c.requires.flags c.if-not-flags-index.true none (sym row) c.order.invariant.turned;
       dates = c.order.invariant.dates;
-      following = after_more (rows refs) c.args.order.now c.index-refs-index.result.items i c.requires.order c.order-test.true (sym row) c.order.dates c.order.dates (λ other there. inl there) c.order.invariant.following;
+      following =
+          after_more (rows refs) c.args.order.now c.index-refs-index.result.items i c.requires.order c.order-test.true
+          (sym row) c.order.dates c.order.dates (λ other there. inl there) c.order.invariant.following;
       as_many = c.order.invariant.as_many;
     }
 
@@ -109,9 +137,15 @@ returns-clause-inherits c =
     let refs = c.args.refs.now in
     let own = c.args.entries.now in
     let at_end : c.order.index-index ≡ length c.args.order.now = omega arith in
-    solved_all no_entry (rule_by (texts_of_entries own)) (rows refs) c.args.order.now (texts_of_entries own) (texts_of_entries c.order.entries) c.requires.order
+    solved_all no_entry (rule_by (texts_of_entries own)) (rows refs) c.args.order.now (texts_of_entries own)
+    (texts_of_entries c.order.entries) c.requires.order
     (length-map own texts_of_entry ∙ c.requires.as_long ∙ sym (length-rows refs))
-    (subst (λ n. IsSolvedTo no_entry (rule_by (texts_of_entries own)) (rows refs) c.args.order.now (texts_of_entries own) n (texts_of_entries c.order.entries)) at_end c.order.invariant.turned.solved)
+    (subst
+    (λ n.
+    IsSolvedTo no_entry (rule_by (texts_of_entries own)) (rows refs) c.args.order.now (texts_of_entries own) n
+    (texts_of_entries c.order.entries)) at_end c.order.invariant.turned.solved)
 
 pub returns-clause-chunks : goal.returns-clause-chunks
-returns-clause-chunks c = turned_chunks (rows c.args.refs.now) c.args.order.now c.args.entries.now c.order.entries c.order.index-index c.order.invariant.turned
+returns-clause-chunks c =
+    turned_chunks (rows c.args.refs.now) c.args.order.now c.args.entries.now c.order.entries c.order.index-index
+    c.order.invariant.turned

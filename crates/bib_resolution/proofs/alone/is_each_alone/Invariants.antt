@@ -5,4 +5,6 @@ use Rattle.bib_resolution.proofs.alone.is_each_alone.Given as goal
 
 -- none refers to one if none of those that are left does
 abbrev pub invariant-entries : goal.invariant-entries
-invariant-entries l = AllByRecursion (λ refs. refs ≡ []) (graph_by l.names (drop l.entry-index l.own)) → AllByRecursion (λ refs. refs ≡ []) (graph_by l.names l.own)
+invariant-entries l =
+    AllByRecursion (λ refs. refs ≡ []) (graph_by l.names (drop l.entry-index l.own))
+    → AllByRecursion (λ refs. refs ≡ []) (graph_by l.names l.own)

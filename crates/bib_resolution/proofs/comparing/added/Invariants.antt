@@ -6,4 +6,6 @@ use Rattle.bib_resolution.proofs.comparing.added.Given as goal
 
 -- none is new if none of those that are left is
 abbrev pub invariant-fields : goal.invariant-fields
-invariant-fields l = AllByRecursion (λ p. is_some (by_name.get l.others p.0) ≡ true) (drop l.field-index l.field-items) → AllByRecursion (λ p. is_some (by_name.get l.others p.0) ≡ true) (by_name.entries l.fields)
+invariant-fields l =
+    AllByRecursion (λ p. is_some (by_name.get l.others p.0) ≡ true) (drop l.field-index l.field-items)
+    → AllByRecursion (λ p. is_some (by_name.get l.others p.0) ≡ true) (by_name.entries l.fields)

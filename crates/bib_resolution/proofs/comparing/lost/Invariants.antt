@@ -6,4 +6,6 @@ use Rattle.bib_resolution.proofs.comparing.lost.Given as goal
 
 -- all are kept if those that are left are
 abbrev pub invariant-fields : goal.invariant-fields
-invariant-fields l = AllByRecursion (IsPairKept l.others) (drop l.field-index l.field-items) → AllByRecursion (IsPairKept l.others) (by_name.entries l.fields)
+invariant-fields l =
+    AllByRecursion (IsPairKept l.others) (drop l.field-index l.field-items)
+    → AllByRecursion (IsPairKept l.others) (by_name.entries l.fields)

@@ -8,6 +8,7 @@ use Rattle.bib_resolution.proofs.gaps.gaps.Given as goal
 -- what stands round the entries so far, and what is left
 abbrev pub invariant-entries : goal.invariant-entries
 invariant-entries l = record {
-  gathered : lent_texts l.gaps.items ++ round_entries l.text l.at (map entry_reading_of (drop l.entry-index l.entries)) ≡ round_entries l.text 0 (map entry_reading_of l.entries);
+  gathered : lent_texts l.gaps.items ++ round_entries l.text l.at (map entry_reading_of (drop l.entry-index l.entries))
+      ≡ round_entries l.text 0 (map entry_reading_of l.entries);
   cut : AreEntriesCut l.text l.at (map entry_reading_of (drop l.entry-index l.entries));
 }

@@ -9,6 +9,7 @@ use Rattle.bib_resolution.proofs.values.add_values.Given as goal
 -- the set has no more than the values of the fields so far
 abbrev pub invariant-fields : goal.invariant-fields
 invariant-fields l = record {
-  only : (values : List (List ℕ)) → HasOnly values l.initial.set → HasOnly (values ++ map (value_as_it_stands l.text) (map field_of (take l.field-index l.fields))) l.set;
+  only : (values : List (List ℕ)) → HasOnly values l.initial.set
+      → HasOnly (values ++ map (value_as_it_stands l.text) (map field_of (take l.field-index l.fields))) l.set;
   placed : AllByRecursion (IsPlaced l.text) (map field_of (drop l.field-index l.fields));
 }

@@ -11,6 +11,10 @@ fields-preserved c =
     let at = c.fields.field-index in
     let text = c.args.text.now in
     record {
-      kept = λ values only. rest_holds field_of (IsValueKept values text) fields at c.field-item.result c.fields-test.true c.field-item.is (c.fields.invariant.kept values only) (c.if-not-is_kept.ensures values only refl);
-      placed = (next_holds field_of (IsPlaced text) fields at c.field-item.result c.fields-test.true c.field-item.is c.fields.invariant.placed).1;
+      kept = λ values only.
+          rest_holds field_of (IsValueKept values text) fields at c.field-item.result c.fields-test.true c.field-item.is
+          (c.fields.invariant.kept values only) (c.if-not-is_kept.ensures values only refl);
+      placed =
+          (next_holds field_of (IsPlaced text) fields at c.field-item.result c.fields-test.true c.field-item.is
+          c.fields.invariant.placed).1;
     }

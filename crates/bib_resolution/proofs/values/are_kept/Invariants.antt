@@ -9,6 +9,8 @@ use Rattle.bib_resolution.proofs.values.are_kept.Given as goal
 -- all are kept if those that are left are
 abbrev pub invariant-fields : goal.invariant-fields
 invariant-fields l = record {
-  kept : (values : List (List ℕ)) → HasOnly values l.set → AllByRecursion (IsValueKept values l.text) (map field_of (drop l.field-index l.fields)) → AllByRecursion (IsValueKept values l.text) (map field_of l.fields);
+  kept : (values : List (List ℕ)) → HasOnly values l.set
+      → AllByRecursion (IsValueKept values l.text) (map field_of (drop l.field-index l.fields))
+      → AllByRecursion (IsValueKept values l.text) (map field_of l.fields);
   placed : AllByRecursion (IsPlaced l.text) (map field_of (drop l.field-index l.fields));
 }

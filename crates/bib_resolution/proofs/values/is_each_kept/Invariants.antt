@@ -9,7 +9,9 @@ use Rattle.bib_resolution.proofs.values.is_each_kept.Given as goal
 -- all are kept if those of the entries that are left are
 abbrev pub invariant-entries : goal.invariant-entries
 invariant-entries l = record {
-  kept : (values : List (List ℕ)) → HasOnly values l.set → AllByRecursion (λ e. AllByRecursion (IsValueKept values l.text) e.fields) (map entry_reading_of (drop l.entry-index l.entries))
+  kept : (values : List (List ℕ)) → HasOnly values l.set
+      → AllByRecursion (λ e. AllByRecursion (IsValueKept values l.text) e.fields)
+      (map entry_reading_of (drop l.entry-index l.entries))
       → AllByRecursion (λ e. AllByRecursion (IsValueKept values l.text) e.fields) (map entry_reading_of l.entries);
   placed : AllByRecursion (λ e. AllByRecursion (IsPlaced l.text) e.fields) (map entry_reading_of (drop l.entry-index l.entries));
 }

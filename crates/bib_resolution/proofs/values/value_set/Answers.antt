@@ -17,7 +17,12 @@ entries-preserved c =
     let so_far = values_as_they_stand text (map entry_reading_of (take at entries)) in
     record {
       only = subst (λ l. HasOnly l c.add_values.new.set)
-          (ap (λ fs. so_far ++ map (value_as_it_stands text) (map field_of fs)) c.deref.ensures.value ∙ sym (flat_more entry_reading_of entries at c.entry-item.result c.entries-test.true c.entry-item.is (λ (e : EntryReading). map (value_as_it_stands text) e.fields)))
+          (ap (λ fs. so_far ++ map (value_as_it_stands text) (map field_of fs)) c.deref.ensures.value
+          ∙ sym
+          (flat_more entry_reading_of entries at c.entry-item.result c.entries-test.true c.entry-item.is
+          (λ (e : EntryReading). map (value_as_it_stands text) e.fields)))
           (c.in_ok-add_values.ensures so_far c.entries.invariant.only);
-      placed = (next_holds entry_reading_of (λ (e : EntryReading). AllByRecursion (IsPlaced text) e.fields) entries at c.entry-item.result c.entries-test.true c.entry-item.is c.entries.invariant.placed).1;
+      placed =
+          (next_holds entry_reading_of (λ (e : EntryReading). AllByRecursion (IsPlaced text) e.fields) entries at
+          c.entry-item.result c.entries-test.true c.entry-item.is c.entries.invariant.placed).1;
     }

@@ -16,4 +16,7 @@ fields-preserved c = λ key.
     let one = names_key key (field_of c.field-item.result) in
     let old : Bool = is_key_in c.args.named.now key in
     c.in_ok-add_crossref.ensures key ∙ ap (λ b. b || one) (c.fields.invariant key) ∙ or_assoc old seen one
-    ∙ ap (λ b. old || b) (sym (any_more (names_key key) field_of c.args.fields.now c.fields.field-index c.field-item.result c.fields-test.true c.field-item.is))
+    ∙ ap (λ b. old || b)
+    (sym
+    (any_more (names_key key) field_of c.args.fields.now c.fields.field-index c.field-item.result
+    c.fields-test.true c.field-item.is))

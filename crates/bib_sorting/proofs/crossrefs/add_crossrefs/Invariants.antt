@@ -8,4 +8,7 @@ use Rattle.bib_sorting.proofs.crossrefs.add_crossrefs.Given as goal
 
 -- the keys that the fields so far name
 abbrev pub invariant-fields : goal.invariant-fields
-invariant-fields l = (key : List ℕ) → is_key_in l.named key ≡ (is_key_in l.fn.named key || list_any (names_key key) (map field_of (take l.field-index l.fields)))
+invariant-fields l =
+    (key : List ℕ)
+    → is_key_in l.named key
+    ≡ (is_key_in l.fn.named key || list_any (names_key key) (map field_of (take l.field-index l.fields)))

@@ -11,8 +11,12 @@ fields-preserved c = λ entries are.
     let seen = list_any (names_one entries) (map field_of (take c.fields.field-index c.args.fields.now)) in
     let later = sym (c.names_one.ensures entries are) ∙ c.if-names_one.false in
     c.fields.invariant entries are ∙ sym (or_none seen) ∙ ap (λ b. seen || b) (sym later)
-    ∙ sym (any_more (names_one entries) field_of c.args.fields.now c.fields.field-index c.field-item.result c.fields-test.true c.field-item.is)
+    ∙ sym
+    (any_more (names_one entries) field_of c.args.fields.now c.fields.field-index c.field-item.result
+    c.fields-test.true c.field-item.is)
 
 pub returns-then-names_one : goal.returns-then-names_one
 returns-then-names_one c = λ entries are.
-    sym (any_here (names_one entries) field_of c.args.fields.now c.fields.field-index c.field-item.result c.fields-test.true c.field-item.is (sym (c.names_one.ensures entries are) ∙ c.if-names_one.true))
+    sym
+    (any_here (names_one entries) field_of c.args.fields.now c.fields.field-index c.field-item.result
+    c.fields-test.true c.field-item.is (sym (c.names_one.ensures entries are) ∙ c.if-names_one.true))

@@ -8,4 +8,6 @@ use Rattle.bib_sorting.proofs.crossrefs.has_parent.Given as goal
 
 -- none of the fields so far names an entry
 abbrev pub invariant-fields : goal.invariant-fields
-invariant-fields l = (entries : List EntryReading) → AreEntryKeys entries l.keys → false ≡ list_any (names_one entries) (map field_of (take l.field-index l.fields))
+invariant-fields l =
+    (entries : List EntryReading) → AreEntryKeys entries l.keys
+    → false ≡ list_any (names_one entries) (map field_of (take l.field-index l.fields))

@@ -14,4 +14,6 @@ entries-preserved c = λ key.
     let own : List ℕ = c.entry-item.result.v.key.v.now in
     c.in_ok-insert.ensures.updates.0 one ∙ ap (λ b. cond b true (is_key_in c.entries.keys key)) (is_eq-slice_cmp own key)
     ∙ ap (cond (bytes_eq own key) true) (c.entries.invariant key) ∙ or_from (bytes_eq own key) _
-    ∙ sym (any_more (is_keyed key) entry_reading_of c.args.entries.now c.entries.entry-index c.entry-item.result c.entries-test.true c.entry-item.is)
+    ∙ sym
+    (any_more (is_keyed key) entry_reading_of c.args.entries.now c.entries.entry-index c.entry-item.result
+    c.entries-test.true c.entry-item.is)

@@ -6,7 +6,8 @@ use Rattle.bib_sorting.proofs.crossrefs.names_one.Goals as goal
 
 pub returns-in-Some : goal.returns-in-Some
 returns-in-Some c = λ entries are.
-    c.contains.ensures ∙ are c.in-Some.key.now ∙ ap (λ o. option_map_or (λ named. list_any (is_keyed named) entries) o false) c.in-Some.ensures
+    c.contains.ensures ∙ are c.in-Some.key.now
+    ∙ ap (λ o. option_map_or (λ named. list_any (is_keyed named) entries) o false) c.in-Some.ensures
 
 pub returns-in-None : goal.returns-in-None
 returns-in-None c = λ entries are. ap (λ o. option_map_or (λ named. list_any (is_keyed named) entries) o false) c.in-None.ensures

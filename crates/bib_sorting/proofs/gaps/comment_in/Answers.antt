@@ -7,4 +7,6 @@ pub returns-else-begins_run : goal.returns-else-begins_run
 returns-else-begins_run c =
     let gap = c.args.gap.now in
     trim_ascii_start_is _ _ c.trim_ascii_start.ensures.value
-    ∙ sym (ap (λ b. cond b (near_comment (after_blank_line true gap gap)) (without_white gap)) (sym c.begins_run.ensures ∙ c.if-begins_run.false))
+    ∙ sym
+    (ap (λ b. cond b (near_comment (after_blank_line true gap gap)) (without_white gap))
+    (sym c.begins_run.ensures ∙ c.if-begins_run.false))

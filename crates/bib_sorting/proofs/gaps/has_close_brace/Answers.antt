@@ -4,4 +4,6 @@ use Rattle.bib_format.proofs.PercentFacts.{stands_among}
 use Rattle.bib_sorting.proofs.gaps.has_close_brace.Goals as goal
 
 pub returns : goal.returns
-returns c = stands_among 125 c.args.text.now c.contains.result (contains_char 125 c.args.text.now c.contains.result c.contains.ensures.cases (omega arith))
+returns c =
+    stands_among 125 c.args.text.now c.contains.result
+    (contains_char 125 c.args.text.now c.contains.result c.contains.ensures.cases (omega arith))

@@ -6,5 +6,7 @@ use Rattle.bib_sorting.proofs.gaps.is_blank.Goals as goal
 
 pub returns : goal.returns
 returns c =
-    c.is_empty.ensures ∙ ap (λ t. length t == 0) (trim_ascii_start_is c.args.text.now c.trim_ascii_start.result.now c.trim_ascii_start.ensures.value)
+    c.is_empty.ensures
+    ∙ ap (λ t. length t == 0)
+    (trim_ascii_start_is c.args.text.now c.trim_ascii_start.result.now c.trim_ascii_start.ensures.value)
     ∙ trimmed_blank c.args.text.now

@@ -9,8 +9,12 @@ use Rattle.bib_sorting.proofs.items.gather.Given as goal
 -- what is left to gather
 abbrev pub invariant-entries : goal.invariant-entries
 invariant-entries l = record {
-  spaces : map (λ s. s.now) l.spaces.items ++ spaces_from l.text l.index l.at (map entry_reading_of (drop l.index l.entries)) ≡ spaces_from l.text 0 0 (map entry_reading_of l.entries);
-  items : map item_reading_of l.items.items ++ items_from (map entry_reading_of l.entries) l.text (map string_bytes l.texts) l.index l.at l.run (map entry_reading_of (drop l.index l.entries))
+  spaces : map (λ s. s.now) l.spaces.items
+      ++ spaces_from l.text l.index l.at (map entry_reading_of (drop l.index l.entries))
+      ≡ spaces_from l.text 0 0 (map entry_reading_of l.entries);
+  items : map item_reading_of l.items.items
+      ++ items_from (map entry_reading_of l.entries) l.text (map string_bytes l.texts) l.index l.at l.run
+      (map entry_reading_of (drop l.index l.entries))
       ≡ items_from (map entry_reading_of l.entries) l.text (map string_bytes l.texts) 0 0 0 (map entry_reading_of l.entries);
   end : place_after l.at (map entry_reading_of (drop l.index l.entries)) ≡ place_after 0 (map entry_reading_of l.entries);
   cut : AreItemsCut l.text l.index l.at (map entry_reading_of (drop l.index l.entries));

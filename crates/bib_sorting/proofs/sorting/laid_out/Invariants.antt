@@ -9,7 +9,9 @@ use Rattle.bib_sorting.proofs.sorting.laid_out.Given as goal
 -- what is left to write
 abbrev pub invariant-order : goal.invariant-order
 invariant-order l = record {
-  written : string_bytes l.new ++ sorted.items_laid_out l.text (map (λ s. s.now) (drop l.index l.spaces)) (map item_reading_of (drop l.index l.order)) (drop l.end l.text)
+  written : string_bytes l.new
+      ++ sorted.items_laid_out l.text (map (λ s. s.now) (drop l.index l.spaces))
+      (map item_reading_of (drop l.index l.order)) (drop l.end l.text)
       ≡ sorted.items_laid_out l.text (map (λ s. s.now) l.spaces) (map item_reading_of l.order) (drop l.end l.text);
   cut : AllByRecursion (IsEntryOfItemCut l.text) (map item_reading_of (drop l.index l.order));
 }

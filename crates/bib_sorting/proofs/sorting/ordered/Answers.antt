@@ -16,5 +16,6 @@ unfolding before
 returns c = record {
   permutation = IsPermutation-map item_reading_of _ _ c.in_ok-sort_by.ensures.permutation;
   sorted = sorted_map item_reading_of (λ x y. is_lt (item_cmp x y)) c.sort_by.new.self.items
-      (c.in_ok-sort_by.ensures.sorted before (ranks_by item_total {X = Item} item_reading_of) (always_returns_same _ _ _ (λ a r f called. search rules)));
+      (c.in_ok-sort_by.ensures.sorted before (ranks_by item_total {X = Item} item_reading_of)
+      (always_returns_same _ _ _ (λ a r f called. search rules)));
 }

@@ -4,6 +4,8 @@ use Rattle.bib_source.proofs.hunks.old_count.Goals as goal
 
 pub lines-preserved : goal.lines-preserved
 lines-preserved c = record {
-  is = ap₂ (λ n m. n + m) c.lines.invariant.is c.in_old-count.ensures.is ∙ sym (old_more c.args.lines.now c.lines.line-index c.lines-test.true);
+  is =
+      ap₂ (λ n m. n + m) c.lines.invariant.is c.in_old-count.ensures.is
+      ∙ sym (old_more c.args.lines.now c.lines.line-index c.lines-test.true);
   within = omega (arith, c.lines.invariant.within, c.in_old-count.ensures.within);
 }

@@ -31,25 +31,52 @@ bytes-preserved c =
     elim c.if-byte-eq10.branch [
       | then-byte-eq10+in_ok-push w ↦
           let byte : get_or text index 0 ≡ 10 = sym (ap (λ t. get_or t index 0) same) ∙ w.if-byte-eq10.true in
-          let lines : map (λ l. l.now) c.if-byte-eq10.lines.items ≡ map (λ l. l.now) c.bytes.lines.items ++ take (index + 1 - start) (drop start text) ∷ [] =
-          ap (λ v. map (λ l. l.now) v.items) w.lines-is ∙ ap (map (λ l. l.now)) w.in_ok-push.ensures.items ∙ map-append (λ l. l.now) c.bytes.lines.items (w.range.result ∷ [])
+          let lines : map (λ l. l.now) c.if-byte-eq10.lines.items
+          ≡ map (λ l. l.now) c.bytes.lines.items ++ take (index + 1 - start) (drop start text) ∷ [] =
+          ap (λ v. map (λ l. l.now) v.items) w.lines-is ∙ ap (map (λ l. l.now)) w.in_ok-push.ensures.items
+          ∙ map-append (λ l. l.now) c.bytes.lines.items (w.range.result ∷ [])
           ∙ ap (λ l. map (λ l. l.now) c.bytes.lines.items ++ l ∷ []) w.range.ensures.value in
           let none : index + 1 - (index + 1) ≡ 0 = omega arith in
           record {
-            lines = ap (λ ls. ls ++ after (take (index + 1 - c.if-byte-eq10.start) (drop c.if-byte-eq10.start text)) (lines_of (drop (index + 1) text))) lines
-                ∙ ap (λ n. (map (λ l. l.now) c.bytes.lines.items ++ take (index + 1 - start) (drop start text) ∷ []) ++ after (take (index + 1 - n) (drop n text)) (lines_of (drop (index + 1) text))) w.start-is
-                ∙ ap (λ n. (map (λ l. l.now) c.bytes.lines.items ++ take (index + 1 - start) (drop start text) ∷ []) ++ after (take n (drop (index + 1) text)) (lines_of (drop (index + 1) text))) none
-                ∙ append_assoc (map (λ l. l.now) c.bytes.lines.items) (take (index + 1 - start) (drop start text) ∷ []) (lines_of (drop (index + 1) text))
+            lines =
+                ap
+                (λ ls.
+                ls
+                ++ after (take (index + 1 - c.if-byte-eq10.start) (drop c.if-byte-eq10.start text))
+                (lines_of (drop (index + 1) text))) lines
+                ∙ ap
+                (λ n.
+                (map (λ l. l.now) c.bytes.lines.items ++ take (index + 1 - start) (drop start text) ∷ [])
+                ++ after (take (index + 1 - n) (drop n text)) (lines_of (drop (index + 1) text))) w.start-is
+                ∙ ap
+                (λ n.
+                (map (λ l. l.now) c.bytes.lines.items ++ take (index + 1 - start) (drop start text) ∷ [])
+                ++ after (take n (drop (index + 1) text)) (lines_of (drop (index + 1) text))) none
+                ∙ append_assoc (map (λ l. l.now) c.bytes.lines.items) (take (index + 1 - start) (drop start text) ∷ [])
+                (lines_of (drop (index + 1) text))
                 ∙ ap (λ ls. map (λ l. l.now) c.bytes.lines.items ++ ls) (sym (ended text start index c.bytes.invariant.within within byte))
                 ∙ c.bytes.invariant.lines;
             within = omega (arith, w.start-is);
-            boundary = subst (IsCharBoundary text) (sym w.start-is) (IsCharBoundary-after_ascii text index c.utf8.text within (omega (arith, byte)));
+            boundary =
+                subst (IsCharBoundary text) (sym w.start-is)
+                (IsCharBoundary-after_ascii text index c.utf8.text within (omega (arith, byte)));
           }
       | else-byte-eq10 w ↦
           record {
-            lines = ap (λ v. map (λ l. l.now) v.items ++ after (take (index + 1 - c.if-byte-eq10.start) (drop c.if-byte-eq10.start text)) (lines_of (drop (index + 1) text))) w.lines-is
-                ∙ ap (λ n. map (λ l. l.now) c.bytes.lines.items ++ after (take (index + 1 - n) (drop n text)) (lines_of (drop (index + 1) text))) w.start-is
-                ∙ ap (λ ls. map (λ l. l.now) c.bytes.lines.items ++ ls) (sym (goes_on text start index c.bytes.invariant.within within (λ is. w.if-byte-eq10.false (ap (λ t. get_or t index 0) same ∙ is))))
+            lines =
+                ap
+                (λ v.
+                map (λ l. l.now) v.items
+                ++ after (take (index + 1 - c.if-byte-eq10.start) (drop c.if-byte-eq10.start text))
+                (lines_of (drop (index + 1) text))) w.lines-is
+                ∙ ap
+                (λ n.
+                map (λ l. l.now) c.bytes.lines.items
+                ++ after (take (index + 1 - n) (drop n text)) (lines_of (drop (index + 1) text))) w.start-is
+                ∙ ap (λ ls. map (λ l. l.now) c.bytes.lines.items ++ ls)
+                (sym
+                (goes_on text start index c.bytes.invariant.within within
+                (λ is. w.if-byte-eq10.false (ap (λ t. get_or t index 0) same ∙ is))))
                 ∙ c.bytes.invariant.lines;
             within = omega (arith, w.start-is, c.bytes.invariant.within);
             boundary = subst (IsCharBoundary text) (sym w.start-is) c.bytes.invariant.boundary;
@@ -65,17 +92,21 @@ returns c =
     let whole : map (λ l. l.now) c.bytes.lines.items ++ after (drop start text) [] ≡ lines_of text =
     ap (λ ls. map (λ l. l.now) c.bytes.lines.items ++ ls)
     (sym (ap (λ n. after (take (n - start) (drop start text)) (lines_of (drop n text))) all
-    ∙ ap (λ ts. after ts (lines_of (drop (length text) text))) (take_all (length text - start) (drop start text) (omega (arith, length-drop start text)))
+    ∙ ap (λ ts. after ts (lines_of (drop (length text) text)))
+    (take_all (length text - start) (drop start text) (omega (arith, length-drop start text)))
     ∙ ap (λ ts. after (drop start text) (lines_of ts)) (drop_all (length text) text (omega arith))))
     ∙ c.bytes.invariant.lines in
     elim c.if-start-text.branch [
       | then-start-text+in_ok-push-2 w ↦
-          ap (λ v. map (λ l. l.now) v.items) w.lines-is ∙ ap (map (λ l. l.now)) w.in_ok-push-2.ensures.items ∙ map-append (λ l. l.now) c.bytes.lines.items (w.range_from.result ∷ [])
+          ap (λ v. map (λ l. l.now) v.items) w.lines-is ∙ ap (map (λ l. l.now)) w.in_ok-push-2.ensures.items
+          ∙ map-append (λ l. l.now) c.bytes.lines.items (w.range_from.result ∷ [])
           ∙ ap (λ l. map (λ l. l.now) c.bytes.lines.items ++ l ∷ []) w.range_from.ensures.value
-          ∙ ap (λ ls. map (λ l. l.now) c.bytes.lines.items ++ ls) (sym (after_some (drop start text) (omega (arith, length-drop start text, w.if-start-text.true))))
+          ∙ ap (λ ls. map (λ l. l.now) c.bytes.lines.items ++ ls)
+          (sym (after_some (drop start text) (omega (arith, length-drop start text, w.if-start-text.true))))
           ∙ whole
       | else-start-text w ↦
           ap (λ v. map (λ l. l.now) v.items) w.lines-is ∙ sym (append-nil (map (λ l. l.now) c.bytes.lines.items))
-          ∙ ap (λ ts. map (λ l. l.now) c.bytes.lines.items ++ after ts []) (sym (drop_all start text (omega (arith, w.if-start-text.false))))
+          ∙ ap (λ ts. map (λ l. l.now) c.bytes.lines.items ++ after ts [])
+          (sym (drop_all start text (omega (arith, w.if-start-text.false))))
           ∙ whole
     ]

@@ -6,7 +6,9 @@ use Rattle.bib_source.proofs.lines.lines.Given as goal
 
 abbrev pub invariant-bytes : goal.invariant-bytes
 invariant-bytes l = record {
-  lines : map (λ line. line.now) l.lines.items ++ after (take (l.index - l.start) (drop l.start l.fn.text)) (lines_of (drop l.index l.fn.text)) ≡ lines_of l.fn.text;
+  lines : map (λ line. line.now) l.lines.items
+      ++ after (take (l.index - l.start) (drop l.start l.fn.text)) (lines_of (drop l.index l.fn.text))
+      ≡ lines_of l.fn.text;
   within : l.start ≤ l.index;
   boundary : IsCharBoundary l.fn.text l.start;
 }

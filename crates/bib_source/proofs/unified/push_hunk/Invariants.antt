@@ -6,4 +6,7 @@ use Rattle.bib_source.specs.Visible.{hunk_of}
 use Rattle.bib_source.proofs.unified.push_hunk.Given as goal
 
 abbrev pub invariant-lines : goal.invariant-lines
-invariant-lines l = string_bytes l.diff ≡ string_bytes l.fn.diff ++ (hunk_header (hunk_of l.fn.hunk) ++ flat_map diff_line (take l.line-index l.fn.hunk.lines.now))
+invariant-lines l =
+    string_bytes l.diff
+    ≡ string_bytes l.fn.diff
+    ++ (hunk_header (hunk_of l.fn.hunk) ++ flat_map diff_line (take l.line-index l.fn.hunk.lines.now))

@@ -9,6 +9,8 @@ returns-in_ok-push_str-3 c =
     let sign = c.args.sign.now in
     let line = c.args.line.now in
     let note = codes "\n\\ No newline at end of file\n" in
-    c.in_ok-push_str-3.ensures.bytes ∙ ap (λ t. t ++ note) (c.in_ok-push_str-2.ensures.bytes ∙ ap (λ t. t ++ line) c.in_ok-push_str.ensures.bytes)
+    c.in_ok-push_str-3.ensures.bytes
+    ∙ ap (λ t. t ++ note) (c.in_ok-push_str-2.ensures.bytes ∙ ap (λ t. t ++ line) c.in_ok-push_str.ensures.bytes)
     ∙ append_assoc (old ++ sign) line note ∙ append_assoc old sign (line ++ note)
-    ∙ ap (λ b. old ++ (sign ++ (line ++ cond b [] note))) (sym (sym (ends_text c.ends_with.result (codes "\n") line c.ends_with.ensures.cases) ∙ c.if-not-ends_with.true))
+    ∙ ap (λ b. old ++ (sign ++ (line ++ cond b [] note)))
+    (sym (sym (ends_text c.ends_with.result (codes "\n") line c.ends_with.ensures.cases) ∙ c.if-not-ends_with.true))

@@ -6,7 +6,9 @@ use Rattle.bib_syntax.specs.Reading.{Part}
 use Rattle.bib_documents.specs.Documents.{CanStandInBraces, in_braces}
 use Rattle.bib_strings.proofs.braces.can_stand_in_braces.Goals as goal
 
-decided : (b : Bool) (text whole : List ℕ) → whole ≡ in_braces text → MatchBool b ((p : Part) × Braced (place whole 0) p (place whole (length whole))) ((p : Part) → Braced (place whole 0) p (place whole (length whole)) → ⊥)
+decided : (b : Bool) (text whole : List ℕ) → whole ≡ in_braces text
+    → MatchBool b ((p : Part) × Braced (place whole 0) p (place whole (length whole)))
+    ((p : Part) → Braced (place whole 0) p (place whole (length whole)) → ⊥)
     → MatchBool b (CanStandInBraces text) (CanStandInBraces text → ⊥)
 decided true text whole same can = (can.0, subst (λ t. Braced (place t 0) can.0 (place t (length t))) same can.1)
 decided false text whole same none = λ can. none can.0 (subst (λ t. Braced (place t 0) can.0 (place t (length t))) (sym same) can.1)

@@ -12,22 +12,30 @@ braced : {u a b v : Place} → CharAt u 123 a → Parts a b → CharAt b 125 v �
 braced opens parts closes = record { inside = _; following = _; opens = opens; parts = parts; closes = closes; reading = refl }
 
 -- a text from its first brace to the one that closes it
-whole : (text : List ℕ) (answer : Bool) {u a b v : Place} → u ≡ place text 0 → CharAt u 123 a → Parts a b → CharAt b 125 v → MatchBool answer (AtEnd v) (AtEnd v → ⊥)
-    → MatchBool answer ((p : Part) × Braced (place text 0) p (place text (length text))) ((p : Part) → Braced (place text 0) p (place text (length text)) → ⊥)
+whole : (text : List ℕ) (answer : Bool) {u a b v : Place} → u ≡ place text 0 → CharAt u 123 a → Parts a b
+    → CharAt b 125 v → MatchBool answer (AtEnd v) (AtEnd v → ⊥)
+    → MatchBool answer ((p : Part) × Braced (place text 0) p (place text (length text)))
+    ((p : Part) → Braced (place text 0) p (place text (length text)) → ⊥)
 whole text true {u} {a} {b} {v} start opens parts closes end =
     let all = ahead_then (ahead_char opens) (ahead_then (ahead_parts parts) (ahead_char closes)) in
     let same : v.text ≡ text = all.text ∙ ap (λ p. p.text) start in
-    let last : v ≡ place text (length text) = same_place {u = v} {v = place text (length text)} same (end ∙ ap length same) in
-    (part a b, subst (λ p. Braced p (part a b) (place text (length text))) start (subst (λ p. Braced u (part a b) p) last (braced opens parts closes)))
+    let last : v ≡ place text (length text) = same_place {u = v} {v = place text (length text)} same (end ∙ ap length same) in (
+      part a b,
+      subst (λ p. Braced p (part a b) (place text (length text))) start
+          (subst (λ p. Braced u (part a b) p) last (braced opens parts closes)),
+    )
 whole text false {u} {a} {b} {v} start opens parts closes end = λ p other.
     let here : Braced (place text 0) (part a b) v = subst (λ q. Braced q (part a b) v) start (braced opens parts closes) in
     end (subst (λ q. AtEnd q) (braced_same other here).1 refl)
 
 pub returns-in-Some : goal.returns-in-Some
-returns-in-Some c = whole c.args.text.now c.closes.result c.new-s.ensures c.if-not-eat_if.ensures c.in-Some.ensures.0 c.closes.ensures.brace c.closes.ensures.end
+returns-in-Some c =
+    whole c.args.text.now c.closes.result c.new-s.ensures c.if-not-eat_if.ensures c.in-Some.ensures.0
+    c.closes.ensures.brace c.closes.ensures.end
 
 -- where no parts are closed, no text in braces begins
-none : (text : List ℕ) {u a v : Place} {p : Part} → u ≡ place text 0 → CharAt u 123 a → ((x y : Place) → Parts a x → CharAt x 125 y → ⊥) → Braced (place text 0) p v → ⊥
+none : (text : List ℕ) {u a v : Place} {p : Part} → u ≡ place text 0 → CharAt u 123 a
+    → ((x y : Place) → Parts a x → CharAt x 125 y → ⊥) → Braced (place text 0) p v → ⊥
 none text {u} {a} {v} {p} start opens stuck b =
     let here : CharAt (place text 0) 123 a = subst (λ q. CharAt q 123 a) start opens in
     stuck b.following v (subst (λ q. Parts q b.following) (same_char b.opens here).1 b.parts) b.closes

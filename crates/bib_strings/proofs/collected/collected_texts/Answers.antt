@@ -14,7 +14,9 @@ use Rattle.bib_strings.proofs.collected.collected_texts.Goals.{then-branch+in_ok
 
 pub texts-init : goal.texts-init
 texts-init c = record {
-  found = subst (λ l. FirstOnes (RepeatsInBraces c.args.least (lent_texts c.args.texts.now)) [] (lent_texts l)) (sym c.new-found.ensures.items) ones.none;
+  found =
+      subst (λ l. FirstOnes (RepeatsInBraces c.args.least (lent_texts c.args.texts.now)) [] (lent_texts l))
+      (sym c.new-found.ensures.items) ones.none;
   met = λ text. ap (λ ks. is_in_set (record { keys = ks }) text) c.new-met.ensures.empty;
 }
 
@@ -25,21 +27,32 @@ texts-preserved c =
     let i = c.texts.text-index in
     let x : Bor (List ℕ) = get_or c.args.texts.now i nobody in
     let so_far : List (List ℕ) = lent_texts (take i c.args.texts.now) in
-    let more : lent_texts (take (i + 1) c.args.texts.now) ≡ so_far ++ x.now ∷ [] = one_more (λ t. t.now) c.args.texts.now i x c.texts-test.true (get_or_default c.args.texts.now i nobody x c.texts-test.true) in
+    let more : lent_texts (take (i + 1) c.args.texts.now) ≡ so_far ++ x.now ∷ [] =
+    one_more (λ t. t.now) c.args.texts.now i x c.texts-test.true
+    (get_or_default c.args.texts.now i nobody x c.texts-test.true) in
     let was : is_in_set c.texts.met x.now ≡ is_listed so_far x.now = c.texts.invariant.met x.now in
     let added : c.in_ok-insert.field-0 ≡ not (is_in_set c.texts.met x.now) = c.in_ok-insert.ensures.added in
     record {
       found = subst (λ ts. FirstOnes P ts (lent_texts c.if-branch.found.items)) (sym more) (elim c.if-branch.branch [
         | then-branch+in_ok-is_collected+then-branch-2+in_ok-push w ↦
-            let items : lent_texts c.if-branch.found.items ≡ lent_texts c.texts.found.items ++ x.now ∷ [] = ap (λ v. lent_texts v.items) w.found-is ∙ ap lent_texts w.in_ok-push.ensures.items ∙ map-append (λ t. t.now) c.texts.found.items (x ∷ []) in
+            let items : lent_texts c.if-branch.found.items ≡ lent_texts c.texts.found.items ++ x.now ∷ [] =
+            ap (λ v. lent_texts v.items) w.found-is ∙ ap lent_texts w.in_ok-push.ensures.items
+            ∙ map-append (λ t. t.now) c.texts.found.items (x ∷ []) in
             subst (FirstOnes P (so_far ++ x.now ∷ [])) (sym items)
-            (ones.first so_far x.now c.texts.invariant.found (sym was ∙ not_true (is_in_set c.texts.met x.now) (sym added ∙ w.if-branch.true)) (match_true _ _ _ (w.in_ok-is_collected.ensures (lent_texts c.args.texts.now) (c.requires x.now)) w.if-branch-2.true))
+            (ones.first so_far x.now c.texts.invariant.found
+            (sym was ∙ not_true (is_in_set c.texts.met x.now) (sym added ∙ w.if-branch.true))
+            (match_true _ _ _ (w.in_ok-is_collected.ensures (lent_texts c.args.texts.now) (c.requires x.now))
+            w.if-branch-2.true))
         | then-branch+in_ok-is_collected+else-branch-2 w ↦
             subst (λ l. FirstOnes P (so_far ++ x.now ∷ []) (lent_texts l.items)) (sym w.found-is)
-            (ones.left so_far x.now c.texts.invariant.found (sym was ∙ not_true (is_in_set c.texts.met x.now) (sym added ∙ w.if-branch.true)) (match_false _ _ _ (w.in_ok-is_collected.ensures (lent_texts c.args.texts.now) (c.requires x.now)) w.if-branch-2.false))
+            (ones.left so_far x.now c.texts.invariant.found
+            (sym was ∙ not_true (is_in_set c.texts.met x.now) (sym added ∙ w.if-branch.true))
+            (match_false _ _ _ (w.in_ok-is_collected.ensures (lent_texts c.args.texts.now) (c.requires x.now))
+            w.if-branch-2.false))
         | else-branch w ↦
             subst (λ l. FirstOnes P (so_far ++ x.now ∷ []) (lent_texts l.items)) (sym w.found-is)
-            (ones.again so_far x.now c.texts.invariant.found (sym was ∙ not_false (is_in_set c.texts.met x.now) (sym added ∙ w.if-branch.false)))
+            (ones.again so_far x.now c.texts.invariant.found
+            (sym was ∙ not_false (is_in_set c.texts.met x.now) (sym added ∙ w.if-branch.false)))
       ]);
       met = λ text.
           let one : Bor (List ℕ) = record { ref_ptr = (0, 0); now = text } in

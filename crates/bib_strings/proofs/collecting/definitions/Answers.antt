@@ -17,8 +17,12 @@ names-preserved c =
     let is = get_or_default c.args.texts.now i nobody x within in
     let names : List (List ℕ) = string_texts (take i c.args.names.now) in
     let texts : List (List ℕ) = lent_texts (take i c.args.texts.now) in
-    let size : length names ≡ length texts = size_so_far string_bytes c.args.names.now i name c.names-test.true c.index-names-index.is ∙ sym (size_so_far (λ t. t.now) c.args.texts.now i x within is) in
-    c.in_ok-push_definition.ensures ∙ ap (λ l. l ++ string_line c.as_str.result.now x.now) c.names.invariant ∙ ap (λ n. definition_lines names texts ++ string_line n x.now) c.as_str.ensures.value
+    let size : length names ≡ length texts =
+    size_so_far string_bytes c.args.names.now i name c.names-test.true c.index-names-index.is
+    ∙ sym (size_so_far (λ t. t.now) c.args.texts.now i x within is) in
+    c.in_ok-push_definition.ensures ∙ ap (λ l. l ++ string_line c.as_str.result.now x.now) c.names.invariant
+    ∙ ap (λ n. definition_lines names texts ++ string_line n x.now) c.as_str.ensures.value
     ∙ sym (lines_push names texts (string_bytes name) x.now size)
-    ∙ ap (λ ns. definition_lines ns (texts ++ x.now ∷ [])) (sym (one_more string_bytes c.args.names.now i name c.names-test.true c.index-names-index.is))
+    ∙ ap (λ ns. definition_lines ns (texts ++ x.now ∷ []))
+    (sym (one_more string_bytes c.args.names.now i name c.names-test.true c.index-names-index.is))
     ∙ ap (definition_lines (string_texts (take (i + 1) c.args.names.now))) (sym (one_more (λ t. t.now) c.args.texts.now i x within is))

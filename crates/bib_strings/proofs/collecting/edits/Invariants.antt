@@ -7,6 +7,13 @@ use Rattle.bib_strings.proofs.collecting.edits.Given as goal
 
 abbrev pub invariant-entries : goal.invariant-entries
 invariant-entries l = record {
-  added : map edit_as_written l.edits.items ++ entry_edits (collection_by (lent_texts l.fields) (index_in l.collection.indices) (string_texts l.collection.names.items)) l.text (map entry_reading_of (drop l.entry-index l.entries)) ≡ entry_edits (collection_by (lent_texts l.fields) (index_in l.collection.indices) (string_texts l.collection.names.items)) l.text (map entry_reading_of l.entries);
+  added : map edit_as_written l.edits.items
+      ++ entry_edits
+      (collection_by (lent_texts l.fields) (index_in l.collection.indices)
+      (string_texts l.collection.names.items)) l.text
+      (map entry_reading_of (drop l.entry-index l.entries))
+      ≡ entry_edits
+      (collection_by (lent_texts l.fields) (index_in l.collection.indices)
+      (string_texts l.collection.names.items)) l.text (map entry_reading_of l.entries);
   cut : AreAllFieldsCut l.text (map entry_reading_of (drop l.entry-index l.entries));
 }

@@ -14,7 +14,11 @@ texts-preserved c = λ text.
     let x : Bor (List ℕ) = get_or c.args.texts.now c.texts.index nobody in
     btree_map_updates_str x.now c.texts.indices c.insert.new.self _ c.in_ok-insert.ensures.updates text
     ∙ ap (cond (bytes_eq x.now text) (Some c.texts.index)) (c.texts.invariant text)
-    ∙ sym (last_step (λ t. t.now) (λ t. bytes_eq t text) c.args.texts.now c.texts.index x c.texts-test.true (get_or_default c.args.texts.now c.texts.index nobody x c.texts-test.true))
+    ∙ sym
+    (last_step (λ t. t.now) (λ t. bytes_eq t text) c.args.texts.now c.texts.index x c.texts-test.true
+    (get_or_default c.args.texts.now c.texts.index nobody x c.texts-test.true))
 
 pub returns : goal.returns
-returns c = λ i text. (c.texts.invariant text ∙ ap (λ l. text_index (lent_texts l) text) (take_all c.texts.index c.args.texts.now c.texts-test.false)) i
+returns c = λ i text.
+    (c.texts.invariant text
+    ∙ ap (λ l. text_index (lent_texts l) text) (take_all c.texts.index c.args.texts.now c.texts-test.false)) i

@@ -8,6 +8,13 @@ use Rattle.bib_strings.proofs.collecting.push_edits.Given as goal
 
 abbrev pub invariant-fields : goal.invariant-fields
 invariant-fields l = record {
-  added : map edit_as_written l.edits.items ++ field_edits (collection_by (lent_texts l.fields) (index_in l.collection.indices) (string_texts l.collection.names.items)) l.text (map field_of (drop l.field-index l.among)) ≡ map edit_as_written l.initial.edits.items ++ field_edits (collection_by (lent_texts l.fields) (index_in l.collection.indices) (string_texts l.collection.names.items)) l.text (map field_of l.among);
+  added : map edit_as_written l.edits.items
+      ++ field_edits
+      (collection_by (lent_texts l.fields) (index_in l.collection.indices)
+      (string_texts l.collection.names.items)) l.text (map field_of (drop l.field-index l.among))
+      ≡ map edit_as_written l.initial.edits.items
+      ++ field_edits
+      (collection_by (lent_texts l.fields) (index_in l.collection.indices)
+      (string_texts l.collection.names.items)) l.text (map field_of l.among);
   cut : AllByRecursion (IsFieldCut l.text) (map field_of (drop l.field-index l.among));
 }

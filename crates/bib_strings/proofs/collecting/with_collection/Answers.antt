@@ -12,7 +12,9 @@ use Rattle.bib_strings.proofs.collecting.with_collection.Goals as goal
 
 pub edits-requires-clause-below : goal.edits-requires-clause-below
 edits-requires-clause-below c =
-    index_known (index_in c.args.collection.now.indices) (lent_texts c.args.texts.now) (length c.args.collection.now.names.items) c.requires.index (c.requires.count ∙ sym (length-map c.args.texts.now (λ t. t.now)))
+    index_known (index_in c.args.collection.now.indices) (lent_texts c.args.texts.now)
+    (length c.args.collection.now.names.items) c.requires.index
+    (c.requires.count ∙ sym (length-map c.args.texts.now (λ t. t.now)))
 
 pub edits-requires-clause-cut : goal.edits-requires-clause-cut
 edits-requires-clause-cut c =
@@ -25,7 +27,9 @@ edited_all-requires c =
     let fields = lent_texts c.args.fields.now in
     let texts = lent_texts c.args.texts.now in
     let names = string_texts c.args.collection.now.names.items in
-    let edits = edits_known d (map edit_as_written c.deref-2.result.now) fields texts names (index_in c.args.collection.now.indices) d.text (map entry_reading_of c.deref.result.now) refl (ap (map entry_reading_of) c.deref.ensures.value) c.requires.index
+    let edits = edits_known d (map edit_as_written c.deref-2.result.now) fields texts names
+    (index_in c.args.collection.now.indices) d.text (map entry_reading_of c.deref.result.now) refl
+    (ap (map entry_reading_of) c.deref.ensures.value) c.requires.index
     (ap (map edit_as_written) c.deref-2.ensures.value ∙ c.in_ok-made.ensures) in
     subst (AreEditsInOrder d.text 0) (sym edits) (edits_ordered d (collection fields texts names) c.requires.read c.utf8.text)
 
@@ -35,7 +39,11 @@ returns c =
     let fields = lent_texts c.args.fields.now in
     let texts = lent_texts c.args.texts.now in
     let names = string_texts c.args.collection.now.names.items in
-    let edits = edits_known d (map edit_as_written c.deref-2.result.now) fields texts names (index_in c.args.collection.now.indices) d.text (map entry_reading_of c.deref.result.now) refl (ap (map entry_reading_of) c.deref.ensures.value) c.requires.index
+    let edits = edits_known d (map edit_as_written c.deref-2.result.now) fields texts names
+    (index_in c.args.collection.now.indices) d.text (map entry_reading_of c.deref.result.now) refl
+    (ap (map entry_reading_of) c.deref.ensures.value) c.requires.index
     (ap (map edit_as_written) c.deref-2.ensures.value ∙ c.in_ok-made.ensures) in
-    c.in_ok-push_str.ensures.bytes ∙ ap (λ l. l ++ c.as_str.result.now) (c.in_ok-new.ensures ∙ ap (λ ns. definition_lines (string_texts ns) texts) c.deref-3.ensures.value)
+    c.in_ok-push_str.ensures.bytes
+    ∙ ap (λ l. l ++ c.as_str.result.now)
+    (c.in_ok-new.ensures ∙ ap (λ ns. definition_lines (string_texts ns) texts) c.deref-3.ensures.value)
     ∙ ap (λ t. definition_lines names texts ++ t) (c.as_str.ensures.value ∙ c.in_ok-edited.ensures ∙ ap (λ es. edited_all es d.text) edits)

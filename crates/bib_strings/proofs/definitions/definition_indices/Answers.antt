@@ -12,7 +12,12 @@ definitions-preserved c = λ name.
     let definition = c.index-definitions-index.result in
     btree_map_updates_str definition.key.v.now c.definitions.indices c.insert.new.self _ c.in_ok-insert.ensures.updates name
     ∙ ap (cond (bytes_eq definition.key.v.now name) (Some c.definitions.index)) (c.definitions.invariant name)
-    ∙ sym (last_step field_of (is_of_name name) c.args.definitions.now c.definitions.index definition c.definitions-test.true c.index-definitions-index.is)
+    ∙ sym
+    (last_step field_of (is_of_name name) c.args.definitions.now c.definitions.index definition
+    c.definitions-test.true c.index-definitions-index.is)
 
 pub returns : goal.returns
-returns c = λ i name. (c.definitions.invariant name ∙ ap (λ l. definition_index (map field_of l) name) (take_all c.definitions.index c.args.definitions.now c.definitions-test.false)) i
+returns c = λ i name.
+    (c.definitions.invariant name
+    ∙ ap (λ l. definition_index (map field_of l) name)
+    (take_all c.definitions.index c.args.definitions.now c.definitions-test.false)) i

@@ -6,4 +6,6 @@ use Rattle.bib_strings.proofs.definitions.has_defined.Given as goal
 
 -- the elements that are left decide
 abbrev pub invariant-pieces : goal.invariant-pieces
-invariant-pieces l = has_defined (index_in l.indices) (map piece_of l.pieces) ≡ has_defined (index_in l.indices) (map piece_of (drop l.piece-index l.pieces))
+invariant-pieces l =
+    has_defined (index_in l.indices) (map piece_of l.pieces)
+    ≡ has_defined (index_in l.indices) (map piece_of (drop l.piece-index l.pieces))

@@ -10,4 +10,6 @@ use Rattle.bib_strings.proofs.editing.edited_all.Given as goal
 abbrev pub invariant-edits : goal.invariant-edits
 invariant-edits l =
     IsCharBoundary l.text l.at × AreEditsInOrder l.text l.at (map edit_as_written (drop l.edit-index l.edits))
-    × (string_bytes l.new ++ rest_edited l.at (map edit_as_written (drop l.edit-index l.edits)) l.text ≡ edited_all (map edit_as_written l.edits) l.text)
+    ×
+    (string_bytes l.new ++ rest_edited l.at (map edit_as_written (drop l.edit-index l.edits)) l.text
+    ≡ edited_all (map edit_as_written l.edits) l.text)

@@ -11,7 +11,9 @@ use Rattle.bib_strings.proofs.elements.laid_out.Given as goal
 -- what is left to write
 abbrev pub invariant-pieces : goal.invariant-pieces
 invariant-pieces l = record {
-  written : string_bytes l.new ++ value_laid_out (cond l.is_first [] (codes " # ")) (codes " # ") (map (piece_as_written Keep l.text) (lent_pieces (drop l.piece-index l.pieces)))
+  written : string_bytes l.new
+      ++ value_laid_out (cond l.is_first [] (codes " # ")) (codes " # ")
+      (map (piece_as_written Keep l.text) (lent_pieces (drop l.piece-index l.pieces)))
       ≡ value_laid_out [] (codes " # ") (map (piece_as_written Keep l.text) (lent_pieces l.pieces));
   cut : AllByRecursion (IsPieceCut l.text) (lent_pieces (drop l.piece-index l.pieces));
 }

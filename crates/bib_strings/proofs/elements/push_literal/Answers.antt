@@ -8,9 +8,13 @@ use Rattle.bib_format.specs.declared.style.Delimiters.TheVariants.{Keep}
 use Rattle.bib_strings.proofs.elements.push_literal.Goals as goal
 
 -- a text before which neither a brace nor a quote stands
-neither : (before content : List ℕ) → ends_with eqb before (codes "{") ≡ false → ends_with eqb before (codes "\"") ≡ false → delimited Keep before content ≡ content
+neither : (before content : List ℕ) → ends_with eqb before (codes "{") ≡ false
+    → ends_with eqb before (codes "\"") ≡ false → delimited Keep before content ≡ content
 neither before content no_brace no_quote =
-    ap (λ b. cond b (codes "{" ++ (content ++ codes "}")) (cond (ends_with eqb before (codes "\"")) (codes "\"" ++ (content ++ codes "\"")) content)) no_brace
+    ap
+    (λ b.
+    cond b (codes "{" ++ (content ++ codes "}"))
+    (cond (ends_with eqb before (codes "\"")) (codes "\"" ++ (content ++ codes "\"")) content)) no_brace
     ∙ ap (λ b. cond b (codes "\"" ++ (content ++ codes "\"")) content) no_quote
 
 pub returns : goal.returns
@@ -19,4 +23,8 @@ returns c =
     let content = c.args.content.now in
     c.in_ok-push_str-7.ensures.bytes
     ∙ ap (λ t. string_bytes c.args.new.now ++ t)
-    (sym (neither before content (sym (ends_text c.ends_with.result (codes "{") before c.ends_with.ensures.cases) ∙ c.if-ends_with.false) (sym (ends_text c.ends_with-2.result (codes "\"") before c.ends_with-2.ensures.cases) ∙ c.if-ends_with-2.false)))
+    (sym
+    (neither before content
+    (sym (ends_text c.ends_with.result (codes "{") before c.ends_with.ensures.cases) ∙ c.if-ends_with.false)
+    (sym (ends_text c.ends_with-2.result (codes "\"") before c.ends_with-2.ensures.cases)
+    ∙ c.if-ends_with-2.false)))

@@ -13,7 +13,11 @@ laid_out-requires c =
     let P = IsPieceCut names.text.now in
     let pieces : map piece_of c.deref-3.result.now ≡ elements (field_of c.args.field.now) = ap (map piece_of) c.deref-3.ensures.value in
     let lists : lists_of c.deref-2.result.now ≡ lists_of names.written.items = ap lists_of c.deref-2.ensures.value in
-    let made : lent_pieces c.deref-4.result.now ≡ written_by (index_in names.indices) (lists_of names.written.items) (elements (field_of c.args.field.now)) =
-    ap lent_pieces c.deref-4.ensures.value ∙ c.in_ok-elements.ensures ∙ ap (λ ls. written_by (index_in names.indices) ls (map piece_of c.deref-3.result.now)) lists
+    let made : lent_pieces c.deref-4.result.now
+    ≡ written_by (index_in names.indices) (lists_of names.written.items) (elements (field_of c.args.field.now)) =
+    ap lent_pieces c.deref-4.ensures.value ∙ c.in_ok-elements.ensures
+    ∙ ap (λ ls. written_by (index_in names.indices) ls (map piece_of c.deref-3.result.now)) lists
     ∙ ap (written_by (index_in names.indices) (lists_of names.written.items)) pieces in
-    subst (AllByRecursion P) (sym made) (written_by_all P (index_in names.indices) (lists_of names.written.items) (elements (field_of c.args.field.now)) c.requires.written c.requires.field.pieces)
+    subst (AllByRecursion P) (sym made)
+    (written_by_all P (index_in names.indices) (lists_of names.written.items) (elements (field_of c.args.field.now))
+    c.requires.written c.requires.field.pieces)

@@ -10,6 +10,11 @@ fields-preserved c =
     let text = names.text.now in
     let exchange = expansion_by text (index_in names.indices) (lists_of names.written.items) in
     record {
-      added = flat_step field_of c.args.fields.now c.fields.field-index c.field-item.result c.fields-test.true c.field-item.is (λ f. value_edits text f (exchange f)) _ _ _ c.in_ok-push_expansion.ensures c.fields.invariant.added;
-      cut = (all_step field_of c.args.fields.now c.fields.field-index c.field-item.result c.fields-test.true c.field-item.is (IsFieldCut text) c.fields.invariant.cut).1;
+      added =
+          flat_step field_of c.args.fields.now c.fields.field-index c.field-item.result c.fields-test.true
+          c.field-item.is (λ f. value_edits text f (exchange f)) _ _ _ c.in_ok-push_expansion.ensures
+          c.fields.invariant.added;
+      cut =
+          (all_step field_of c.args.fields.now c.fields.field-index c.field-item.result c.fields-test.true
+          c.field-item.is (IsFieldCut text) c.fields.invariant.cut).1;
     }

@@ -14,7 +14,10 @@ words-preserved c =
     record {
       can_next = tt;
       is_finite = tt;
-      lowercase = ap (list_all is_ascii_lowercase) (c.in_ok-push_str.ensures.bytes ∙ ap (λ t. string_bytes c.words.initials ++ t) (c.deref.ensures ∙ c.in_ok-first_letters.ensures))
+      lowercase =
+          ap (list_all is_ascii_lowercase)
+          (c.in_ok-push_str.ensures.bytes
+          ∙ ap (λ t. string_bytes c.words.initials ++ t) (c.deref.ensures ∙ c.in_ok-first_letters.ensures))
           ∙ list_all-append is_ascii_lowercase (string_bytes c.words.initials) letters
           ∙ ap (λ b. b && list_all is_ascii_lowercase letters) c.words.invariant.lowercase ∙ letters_lowercase 1 (chars c.in-Some.word.now);
     }

@@ -9,6 +9,10 @@ invariant-texts l = record {
   bounded : IsBounded l.taken;
   three : 3 ≤ l.taken.longest;
   count : length l.names.items ≡ l.text-index;
-  are_new : (says : FileReading) → ((other : List ℕ) → is_taken l.initial.taken other ≡ is_one_in_any_case (names_of_file says) other) → AreNewNames says (string_texts l.names.items);
-  taken : (other : List ℕ) → is_taken l.taken other ≡ (is_one_in_any_case (string_texts l.names.items) other || is_taken l.initial.taken other);
+  are_new : (says : FileReading)
+      → ((other : List ℕ) → is_taken l.initial.taken other ≡ is_one_in_any_case (names_of_file says) other)
+      → AreNewNames says (string_texts l.names.items);
+  taken : (other : List ℕ)
+      → is_taken l.taken other
+      ≡ (is_one_in_any_case (string_texts l.names.items) other || is_taken l.initial.taken other);
 }

@@ -5,4 +5,6 @@ use Rattle.bib_strings.specs.Collecting.{lent_texts}
 use Rattle.bib_strings.proofs.texts.is_named_by.Given as goal
 
 abbrev pub invariant-names : goal.invariant-names
-invariant-names l = is_named_by (lent_texts l.names) (field_of l.field) ≡ is_named_by (lent_texts (drop l.name-index l.names)) (field_of l.field)
+invariant-names l =
+    is_named_by (lent_texts l.names) (field_of l.field)
+    ≡ is_named_by (lent_texts (drop l.name-index l.names)) (field_of l.field)

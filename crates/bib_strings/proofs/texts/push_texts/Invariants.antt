@@ -5,4 +5,7 @@ use Rattle.bib_strings.specs.Collecting.{lent_texts}
 use Rattle.bib_strings.proofs.texts.push_texts.Given as goal
 
 abbrev pub invariant-fields : goal.invariant-fields
-invariant-fields l = lent_texts l.texts.items ≡ lent_texts l.initial.texts.items ++ field_texts (lent_texts l.names) (map field_of (take l.field-index l.fields))
+invariant-fields l =
+    lent_texts l.texts.items
+    ≡ lent_texts l.initial.texts.items
+    ++ field_texts (lent_texts l.names) (map field_of (take l.field-index l.fields))

@@ -5,6 +5,8 @@ use Rattle.bib_strings.proofs.used.mark_entries.Given as goal
 
 abbrev pub invariant-entries : goal.invariant-entries
 invariant-entries l = record {
-  marked : l.marks ≡ marked_all l.initial.marks (entries_refer_to (index_in l.indices) (map entry_reading_of (take l.entry-index l.entries)));
+  marked : l.marks
+      ≡ marked_all l.initial.marks
+      (entries_refer_to (index_in l.indices) (map entry_reading_of (take l.entry-index l.entries)));
   count : length l.marks ≡ length l.initial.marks;
 }

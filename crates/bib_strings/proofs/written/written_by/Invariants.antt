@@ -4,4 +4,6 @@ use Rattle.bib_strings.specs.Tables.{index_in, lists_of, lent_pieces, written_by
 use Rattle.bib_strings.proofs.written.written_by.Given as goal
 
 abbrev pub invariant-pieces : goal.invariant-pieces
-invariant-pieces l = lent_pieces l.found.items ≡ written_by (index_in l.indices) (lists_of l.written) (map piece_of (take l.piece-index l.pieces))
+invariant-pieces l =
+    lent_pieces l.found.items
+    ≡ written_by (index_in l.indices) (lists_of l.written) (map piece_of (take l.piece-index l.pieces))

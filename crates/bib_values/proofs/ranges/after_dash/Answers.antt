@@ -10,13 +10,20 @@ pub returns-in_default : goal.returns-in_default
 returns-in_default c = undashed_end _ (none_eaten c.args.text.now c.new-scanner.ensures c.in_default.ensures.0)
 
 pub range_from-requires : goal.range_from-requires
-range_from-requires c = λ some. boundary_char c.cursor-at.result c.args.text.now c.new-scanner.ensures c.in-Some.ensures c.cursor-at.ensures.boundary
+range_from-requires c = λ some.
+    boundary_char c.cursor-at.result c.args.text.now c.new-scanner.ensures c.in-Some.ensures
+    c.cursor-at.ensures.boundary
 
 pub returns-then-not-is_dash : goal.returns-then-not-is_dash
 returns-then-not-is_dash c =
-    undashed _ _ c.in-Some.c (eaten_char c.args.text.now c.cursor-at.result c.new-scanner.ensures c.utf8.text c.in-Some.ensures c.cursor-at.ensures.place) (sym c.is_dash.ensures ∙ c.if-not-is_dash.true)
+    undashed _ _ c.in-Some.c
+    (eaten_char c.args.text.now c.cursor-at.result c.new-scanner.ensures c.utf8.text c.in-Some.ensures
+    c.cursor-at.ensures.place) (sym c.is_dash.ensures ∙ c.if-not-is_dash.true)
 
 pub returns : goal.returns
 returns c =
-    dashed _ _ c.in-Some.c _ (eaten_char c.args.text.now c.cursor-at.result c.new-scanner.ensures c.utf8.text c.in-Some.ensures c.cursor-at.ensures.place)
-    (c.after_hyphens-rest.ensures ∙ ap (λ bs. rest_after (λ d. d == 45) (chars bs)) c.range_from.ensures.value) (sym c.is_dash.ensures ∙ c.if-not-is_dash.false)
+    dashed _ _ c.in-Some.c _
+    (eaten_char c.args.text.now c.cursor-at.result c.new-scanner.ensures c.utf8.text c.in-Some.ensures
+    c.cursor-at.ensures.place)
+    (c.after_hyphens-rest.ensures ∙ ap (λ bs. rest_after (λ d. d == 45) (chars bs)) c.range_from.ensures.value)
+    (sym c.is_dash.ensures ∙ c.if-not-is_dash.false)

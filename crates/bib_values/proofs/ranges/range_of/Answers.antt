@@ -9,4 +9,5 @@ returns-in_default c = sym (ap starts_with (ap leading_number (sym c.after_white
 pub returns : goal.returns
 unfolding range_of
 returns c =
-    c.goes_on_with.ensures ∙ ap (goes_on_with c.in-Some.found.0) c.after_white-2.ensures ∙ sym (ap starts_with (ap leading_number (sym c.after_white.ensures) ∙ c.in-Some.ensures))
+    c.goes_on_with.ensures ∙ ap (goes_on_with c.in-Some.found.0) c.after_white-2.ensures
+    ∙ sym (ap starts_with (ap leading_number (sym c.after_white.ensures) ∙ c.in-Some.ensures))

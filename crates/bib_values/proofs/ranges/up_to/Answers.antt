@@ -6,10 +6,14 @@ use Rattle.bib_values.proofs.ranges.up_to.Goals as goal
 
 pub returns-then-rest-gt0 : goal.returns-then-rest-gt0
 returns-then-rest-gt0 c =
-    unended _ _ c.as_bytes-rest.result.now _ (ap leading_number (sym c.after_white.ensures) ∙ c.in-Some.ensures ∙ ap (λ bs. Some (c.in-Some.found.0, chars bs)) (sym c.as_bytes-rest.ensures.value))
+    unended _ _ c.as_bytes-rest.result.now _
+    (ap leading_number (sym c.after_white.ensures) ∙ c.in-Some.ensures
+    ∙ ap (λ bs. Some (c.in-Some.found.0, chars bs)) (sym c.as_bytes-rest.ensures.value))
     c.as_bytes-rest.ensures.utf8 c.if-rest-gt0.true
 
 pub returns : goal.returns
 returns c =
-    ended _ _ c.as_bytes-rest.result.now _ (ap leading_number (sym c.after_white.ensures) ∙ c.in-Some.ensures ∙ ap (λ bs. Some (c.in-Some.found.0, chars bs)) (sym c.as_bytes-rest.ensures.value))
+    ended _ _ c.as_bytes-rest.result.now _
+    (ap leading_number (sym c.after_white.ensures) ∙ c.in-Some.ensures
+    ∙ ap (λ bs. Some (c.in-Some.found.0, chars bs)) (sym c.as_bytes-rest.ensures.value))
     (omega (arith, c.if-rest-gt0.false))

@@ -24,10 +24,19 @@ entries-preserved g c =
 
 pub returns-clause-printed : goal.returns-clause-printed
 returns-clause-printed g c =
-    let all = YieldsList-end (YieldsList-from_slice c.args.bibliography.now.entries c.into_iter-entry-iterator.ensures.into_iter_gives) c.entries.yielded _ c.entries.yielded_by _ _ c.in-None.is c.next.ensures.steps in
-    subst (λ entries. Appends (g.K.Sink.taken c.args.output.now) (g.K.Sink.taken c.entries.output) (texts_after c.args.target c.args.is_first entries)) all.0 c.entries.invariant.printed
+    let all =
+    YieldsList-end
+    (YieldsList-from_slice c.args.bibliography.now.entries c.into_iter-entry-iterator.ensures.into_iter_gives)
+    c.entries.yielded _ c.entries.yielded_by _ _ c.in-None.is c.next.ensures.steps in
+    subst
+    (λ entries.
+    Appends (g.K.Sink.taken c.args.output.now) (g.K.Sink.taken c.entries.output)
+    (texts_after c.args.target c.args.is_first entries)) all.0 c.entries.invariant.printed
 
 pub returns-clause-next : goal.returns-clause-next
 returns-clause-next g c =
-    let all = YieldsList-end (YieldsList-from_slice c.args.bibliography.now.entries c.into_iter-entry-iterator.ensures.into_iter_gives) c.entries.yielded _ c.entries.yielded_by _ _ c.in-None.is c.next.ensures.steps in
+    let all =
+    YieldsList-end
+    (YieldsList-from_slice c.args.bibliography.now.entries c.into_iter-entry-iterator.ensures.into_iter_gives)
+    c.entries.yielded _ c.entries.yielded_by _ _ c.in-None.is c.next.ensures.steps in
     c.entries.invariant.next ∙ ap (is_first_after c.args.target c.args.is_first) all.0

@@ -6,10 +6,20 @@ use Rattle.bibkit_core.proofs.cited.citations.Goals as goal
 
 pub returns-then-is_control_file : goal.returns-then-is_control_file
 returns-then-is_control_file c =
-    subst (λ b. IfOk c.in_bcf.result (λ found. MatchBool b (AreCitations bcf_cited (λ x. x == char.less) c.args.text.now found) (AreCitations aux_cited (λ x. x == char.line_feed) c.args.text.now found)))
+    subst
+    (λ b.
+    IfOk c.in_bcf.result
+    (λ found.
+    MatchBool b (AreCitations bcf_cited (λ x. x == char.less) c.args.text.now found)
+    (AreCitations aux_cited (λ x. x == char.line_feed) c.args.text.now found)))
     (sym c.if-is_control_file.true ∙ c.is_control_file.ensures) c.in_bcf.ensures
 
 pub returns-else-is_control_file : goal.returns-else-is_control_file
 returns-else-is_control_file c =
-    subst (λ b. IfOk c.in_aux.result (λ found. MatchBool b (AreCitations bcf_cited (λ x. x == char.less) c.args.text.now found) (AreCitations aux_cited (λ x. x == char.line_feed) c.args.text.now found)))
+    subst
+    (λ b.
+    IfOk c.in_aux.result
+    (λ found.
+    MatchBool b (AreCitations bcf_cited (λ x. x == char.less) c.args.text.now found)
+    (AreCitations aux_cited (λ x. x == char.line_feed) c.args.text.now found)))
     (sym c.if-is_control_file.false ∙ c.is_control_file.ensures) c.in_aux.ensures

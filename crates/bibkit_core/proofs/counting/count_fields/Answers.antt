@@ -18,5 +18,8 @@ fields-preserved c =
     let f = c.field-item.result in
     let one = subst (λ n. AddsNames (n ∷ []) c.fields.counts c.add.new.self) c.in_ok-lowercase.ensures c.in_ok-add.ensures in
     subst (λ names. AddsNames names c.args.counts.now c.add.new.self)
-    (sym (ap lowercase_names (mapped_more field_of fields i f c.fields-test.true c.field-item.is) ∙ map-append (λ (g : FieldReading). str_to_ascii_lowercase g.name.text) (map field_of (take i fields)) (field_of f ∷ [])))
+    (sym
+    (ap lowercase_names (mapped_more field_of fields i f c.fields-test.true c.field-item.is)
+    ∙ map-append (λ (g : FieldReading). str_to_ascii_lowercase g.name.text) (map field_of (take i fields))
+    (field_of f ∷ [])))
     (adds_more_names c.fields.invariant one)

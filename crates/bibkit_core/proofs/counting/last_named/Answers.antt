@@ -11,4 +11,5 @@ use Rattle.bib_text.proofs.ReverseFacts.{last_of_map}
 pub returns : goal.returns
 returns c =
     last_of_map field_of (λ (f : FieldReading). str_eq_ignore_ascii_case f.name.text c.args.name.now) c.args.fields.now c.find.result
-    (find_from_yields_List (λ (f : Pair). str_eq_ignore_ascii_case f.key.v.now c.args.name.now) _ _ c.find.result c.find.ensures.ran (YieldsList-from_rev_slice c.args.fields.now cc) (λ x b q k. search (rules, tests)))
+    (find_from_yields_List (λ (f : Pair). str_eq_ignore_ascii_case f.key.v.now c.args.name.now) _ _ c.find.result
+    c.find.ensures.ran (YieldsList-from_rev_slice c.args.fields.now cc) (λ x b q k. search (rules, tests)))

@@ -13,6 +13,11 @@ returns c =
     let before = c.print_unread.new.printed in
     let after = c.print_findings.new.printed in
     let are = subst (λ t. AreFindings t c.in_ok-found.found.items) c.as_str.ensures.value c.in_ok-found.ensures in
-    let listed = subst (λ f. IsAdded (ArePrinted lint.style name c.as_bytes.result.now (asked lint.selection f)) before after) c.deref.ensures.value c.in_ok-print_findings.ensures in
-    let placed = subst (λ b. IsAdded (ArePrinted lint.style name b (asked lint.selection c.in_ok-found.found.items)) before after) c.as_bytes.ensures.value listed in
+    let listed =
+    subst (λ f. IsAdded (ArePrinted lint.style name c.as_bytes.result.now (asked lint.selection f)) before after)
+    c.deref.ensures.value c.in_ok-print_findings.ensures in
+    let placed =
+    subst
+    (λ b. IsAdded (ArePrinted lint.style name b (asked lint.selection c.in_ok-found.found.items)) before after)
+    c.as_bytes.ensures.value listed in
     file_added c.in_ok-found.found.items are c.in_ok-print_unread.ensures placed

@@ -7,5 +7,7 @@ use Rattle.bibkit_core.proofs.lint.print_findings.Given as goal
 abbrev pub invariant-findings : goal.invariant-findings
 invariant-findings l = record {
   same : l.positions ≡ l.origin.bytes.now;
-  added : IsAdded (ArePrinted l.lint.style l.origin.name.now l.origin.bytes.now (asked l.lint.selection (take l.finding-index l.found))) l.initial.printed l.printed;
+  added : IsAdded
+      (ArePrinted l.lint.style l.origin.name.now l.origin.bytes.now
+      (asked l.lint.selection (take l.finding-index l.found))) l.initial.printed l.printed;
 }

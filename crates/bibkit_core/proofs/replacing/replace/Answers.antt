@@ -15,10 +15,14 @@ returns-in-Err-clause-crash g c known =
     let made = g.F.Folder.disk c.make_beside.new.folder in
     let end = g.F.Folder.disk c.remove.new.self in
     let name = c.as_str.result.now in
-    let beside = subst (λ (n : List ℕ). IsMadeBeside c.args.target.now n start made) (sym c.as_str.ensures.value) (c.in_ok-name.ensures.made known) in
+    let beside =
+    subst (λ (n : List ℕ). IsMadeBeside c.args.target.now n start made) (sym c.as_str.ensures.value)
+    (c.in_ok-name.ensures.made known) in
     let differs = subst (λ (n : List ℕ). n ≢ c.args.target.now) (sym c.as_str.ensures.value) c.in_ok-name.ensures.distinct in
     let filled = c.in-Err.ensures.touches beside.touches.known name beside.is_open in
-    let removed = touches_one name _ end (c.remove.ensures.known filled.known) (c.remove.ensures.others filled.known) (c.remove.ensures.time filled.known) in
+    let removed =
+    touches_one name _ end (c.remove.ensures.known filled.known) (c.remove.ensures.others filled.known)
+    (c.remove.ensures.time filled.known) in
     let touches = one_then_one name start made end beside.touches (one_then_one name made _ end filled removed) in
     never_torn_untouched name c.args.target.now c.args.text.now start end differs touches
 
@@ -28,12 +32,17 @@ returns-in-Err-clause-whole g c known on_disk =
     let made = g.F.Folder.disk c.make_beside.new.folder in
     let end = g.F.Folder.disk c.remove.new.self in
     let name = c.as_str.result.now in
-    let beside = subst (λ (n : List ℕ). IsMadeBeside c.args.target.now n start made) (sym c.as_str.ensures.value) (c.in_ok-name.ensures.made known) in
+    let beside =
+    subst (λ (n : List ℕ). IsMadeBeside c.args.target.now n start made) (sym c.as_str.ensures.value)
+    (c.in_ok-name.ensures.made known) in
     let differs = subst (λ (n : List ℕ). n ≢ c.args.target.now) (sym c.as_str.ensures.value) c.in_ok-name.ensures.distinct in
     let filled = c.in-Err.ensures.touches beside.touches.known name beside.is_open in
-    let removed = touches_one name _ end (c.remove.ensures.known filled.known) (c.remove.ensures.others filled.known) (c.remove.ensures.time filled.known) in
+    let removed =
+    touches_one name _ end (c.remove.ensures.known filled.known) (c.remove.ensures.others filled.known)
+    (c.remove.ensures.time filled.known) in
     let touches = one_then_one name start made end beside.touches (one_then_one name made _ end filled removed) in
-    old_or_new c.args.target.now c.args.text.now start end (never_torn_untouched name c.args.target.now c.args.text.now start end differs touches) on_disk
+    old_or_new c.args.target.now c.args.text.now start end
+    (never_torn_untouched name c.args.target.now c.args.text.now start end differs touches) on_disk
 
 pub returns-in-Err-clause-failed : goal.returns-in-Err-clause-failed
 returns-in-Err-clause-failed g c known =
@@ -41,10 +50,14 @@ returns-in-Err-clause-failed g c known =
     let made = g.F.Folder.disk c.make_beside.new.folder in
     let end = g.F.Folder.disk c.remove.new.self in
     let name = c.as_str.result.now in
-    let beside = subst (λ (n : List ℕ). IsMadeBeside c.args.target.now n start made) (sym c.as_str.ensures.value) (c.in_ok-name.ensures.made known) in
+    let beside =
+    subst (λ (n : List ℕ). IsMadeBeside c.args.target.now n start made) (sym c.as_str.ensures.value)
+    (c.in_ok-name.ensures.made known) in
     let differs = subst (λ (n : List ℕ). n ≢ c.args.target.now) (sym c.as_str.ensures.value) c.in_ok-name.ensures.distinct in
     let filled = c.in-Err.ensures.touches beside.touches.known name beside.is_open in
-    let removed = touches_one name _ end (c.remove.ensures.known filled.known) (c.remove.ensures.others filled.known) (c.remove.ensures.time filled.known) in
+    let removed =
+    touches_one name _ end (c.remove.ensures.known filled.known) (c.remove.ensures.others filled.known)
+    (c.remove.ensures.time filled.known) in
     let touches = one_then_one name start made end beside.touches (one_then_one name made _ end filled removed) in
     touches.others.holds c.args.target.now (λ same. differs (sym same))
 
@@ -54,10 +67,14 @@ returns-in-Err-clause-taken g c known =
     let made = g.F.Folder.disk c.make_beside.new.folder in
     let end = g.F.Folder.disk c.remove.new.self in
     let name = c.as_str.result.now in
-    let beside = subst (λ (n : List ℕ). IsMadeBeside c.args.target.now n start made) (sym c.as_str.ensures.value) (c.in_ok-name.ensures.made known) in
+    let beside =
+    subst (λ (n : List ℕ). IsMadeBeside c.args.target.now n start made) (sym c.as_str.ensures.value)
+    (c.in_ok-name.ensures.made known) in
     let differs = subst (λ (n : List ℕ). n ≢ c.args.target.now) (sym c.as_str.ensures.value) c.in_ok-name.ensures.distinct in
     let filled = c.in-Err.ensures.touches beside.touches.known name beside.is_open in
-    let removed = touches_one name _ end (c.remove.ensures.known filled.known) (c.remove.ensures.others filled.known) (c.remove.ensures.time filled.known) in
+    let removed =
+    touches_one name _ end (c.remove.ensures.known filled.known) (c.remove.ensures.others filled.known)
+    (c.remove.ensures.time filled.known) in
     let touches = one_then_one name start made end beside.touches (one_then_one name made _ end filled removed) in
     taken_kept c.args.target.now name start made end beside (kept_untouched name c.args.target.now start end touches)
 
@@ -67,10 +84,14 @@ returns-in-Err-clause-others g c known =
     let made = g.F.Folder.disk c.make_beside.new.folder in
     let end = g.F.Folder.disk c.remove.new.self in
     let name = c.as_str.result.now in
-    let beside = subst (λ (n : List ℕ). IsMadeBeside c.args.target.now n start made) (sym c.as_str.ensures.value) (c.in_ok-name.ensures.made known) in
+    let beside =
+    subst (λ (n : List ℕ). IsMadeBeside c.args.target.now n start made) (sym c.as_str.ensures.value)
+    (c.in_ok-name.ensures.made known) in
     let differs = subst (λ (n : List ℕ). n ≢ c.args.target.now) (sym c.as_str.ensures.value) c.in_ok-name.ensures.distinct in
     let filled = c.in-Err.ensures.touches beside.touches.known name beside.is_open in
-    let removed = touches_one name _ end (c.remove.ensures.known filled.known) (c.remove.ensures.others filled.known) (c.remove.ensures.time filled.known) in
+    let removed =
+    touches_one name _ end (c.remove.ensures.known filled.known) (c.remove.ensures.others filled.known)
+    (c.remove.ensures.time filled.known) in
     let touches = one_then_one name start made end beside.touches (one_then_one name made _ end filled removed) in
     others_kept c.args.target.now name start made end beside (kept_untouched name c.args.target.now start end touches)
 
@@ -80,14 +101,27 @@ returns-in-Err-clause-removed g c known =
     let made = g.F.Folder.disk c.make_beside.new.folder in
     let end = g.F.Folder.disk c.remove.new.self in
     let name = c.as_str.result.now in
-    let beside = subst (λ (n : List ℕ). IsMadeBeside c.args.target.now n start made) (sym c.as_str.ensures.value) (c.in_ok-name.ensures.made known) in
+    let beside =
+    subst (λ (n : List ℕ). IsMadeBeside c.args.target.now n start made) (sym c.as_str.ensures.value)
+    (c.in_ok-name.ensures.made known) in
     let differs = subst (λ (n : List ℕ). n ≢ c.args.target.now) (sym c.as_str.ensures.value) c.in_ok-name.ensures.distinct in
     let filled = c.in-Err.ensures.touches beside.touches.known name beside.is_open in
-    let removed = touches_one name _ end (c.remove.ensures.known filled.known) (c.remove.ensures.others filled.known) (c.remove.ensures.time filled.known) in
+    let removed =
+    touches_one name _ end (c.remove.ensures.known filled.known) (c.remove.ensures.others filled.known)
+    (c.remove.ensures.time filled.known) in
     let touches = one_then_one name start made end beside.touches (one_then_one name made _ end filled removed) in
-    ⊎_elim {C = OthersHold c.args.target.now start end ⊎ AreTwoFailed (g.F.Folder.failures c.args.folder.now) (g.F.Folder.failures c.remove.new.self)} (λ gone. inl (others_hold c.args.target.now name start made end beside (kept_untouched name c.args.target.now start end touches) gone)) (λ two. inr two)
-    (removed_or_two c.remove.result (end.holds name ≡ None) (g.F.Folder.failures c.args.folder.now) (g.F.Folder.failures c.fill.new.folder) (g.F.Folder.failures c.remove.new.self)
-    (c.in-Err.ensures.counted ∙ ap (λ (n : ℕ). min (n + 1) (2 ^ 64 - 1)) c.in_ok-name.ensures.counted) (c.remove.ensures.removed filled.known) c.remove.ensures.counted)
+    ⊎_elim
+    {C =
+    OthersHold c.args.target.now start end
+    ⊎ AreTwoFailed (g.F.Folder.failures c.args.folder.now) (g.F.Folder.failures c.remove.new.self)}
+    (λ gone.
+    inl
+    (others_hold c.args.target.now name start made end beside
+    (kept_untouched name c.args.target.now start end touches) gone)) (λ two. inr two)
+    (removed_or_two c.remove.result (end.holds name ≡ None) (g.F.Folder.failures c.args.folder.now)
+    (g.F.Folder.failures c.fill.new.folder) (g.F.Folder.failures c.remove.new.self)
+    (c.in-Err.ensures.counted ∙ ap (λ (n : ℕ). min (n + 1) (2 ^ 64 - 1)) c.in_ok-name.ensures.counted)
+    (c.remove.ensures.removed filled.known) c.remove.ensures.counted)
 
 -- The new file is written and synced, and is renamed to the target.
 
@@ -98,11 +132,14 @@ returns-clause-crash g c known =
     let mid = g.F.Folder.disk c.fill.new.folder in
     let end = g.F.Folder.disk c.exchange.new.folder in
     let name = c.as_str-2.result.now in
-    let beside = subst (λ (n : List ℕ). IsMadeBeside c.args.target.now n start made) (sym c.as_str-2.ensures.value) (c.in_ok-name.ensures.made known) in
+    let beside =
+    subst (λ (n : List ℕ). IsMadeBeside c.args.target.now n start made) (sym c.as_str-2.ensures.value)
+    (c.in_ok-name.ensures.made known) in
     let differs = subst (λ (n : List ℕ). n ≢ c.args.target.now) (sym c.as_str-2.ensures.value) c.in_ok-name.ensures.distinct in
     let touches = one_then_one name start made mid beside.touches (c.in_default.ensures.touches beside.touches.known name beside.is_open) in
     let filled = c.in_default.ensures.filled beside.touches.known name beside.is_open beside.empty in
-    never_torn_exchanged name c.args.target.now c.args.text.now start mid end differs touches filled (c.exchange.ensures.exchange touches.known)
+    never_torn_exchanged name c.args.target.now c.args.text.now start mid end differs touches filled
+    (c.exchange.ensures.exchange touches.known)
 
 pub returns-clause-whole : goal.returns-clause-whole
 returns-clause-whole g c known on_disk =
@@ -111,11 +148,15 @@ returns-clause-whole g c known on_disk =
     let mid = g.F.Folder.disk c.fill.new.folder in
     let end = g.F.Folder.disk c.exchange.new.folder in
     let name = c.as_str-2.result.now in
-    let beside = subst (λ (n : List ℕ). IsMadeBeside c.args.target.now n start made) (sym c.as_str-2.ensures.value) (c.in_ok-name.ensures.made known) in
+    let beside =
+    subst (λ (n : List ℕ). IsMadeBeside c.args.target.now n start made) (sym c.as_str-2.ensures.value)
+    (c.in_ok-name.ensures.made known) in
     let differs = subst (λ (n : List ℕ). n ≢ c.args.target.now) (sym c.as_str-2.ensures.value) c.in_ok-name.ensures.distinct in
     let touches = one_then_one name start made mid beside.touches (c.in_default.ensures.touches beside.touches.known name beside.is_open) in
     let filled = c.in_default.ensures.filled beside.touches.known name beside.is_open beside.empty in
-    old_or_new c.args.target.now c.args.text.now start end (never_torn_exchanged name c.args.target.now c.args.text.now start mid end differs touches filled (c.exchange.ensures.exchange touches.known)) on_disk
+    old_or_new c.args.target.now c.args.text.now start end
+    (never_torn_exchanged name c.args.target.now c.args.text.now start mid end differs touches filled
+    (c.exchange.ensures.exchange touches.known)) on_disk
 
 pub returns-clause-done : goal.returns-clause-done
 returns-clause-done g c known =
@@ -124,7 +165,9 @@ returns-clause-done g c known =
     let mid = g.F.Folder.disk c.fill.new.folder in
     let end = g.F.Folder.disk c.exchange.new.folder in
     let name = c.as_str-2.result.now in
-    let beside = subst (λ (n : List ℕ). IsMadeBeside c.args.target.now n start made) (sym c.as_str-2.ensures.value) (c.in_ok-name.ensures.made known) in
+    let beside =
+    subst (λ (n : List ℕ). IsMadeBeside c.args.target.now n start made) (sym c.as_str-2.ensures.value)
+    (c.in_ok-name.ensures.made known) in
     let differs = subst (λ (n : List ℕ). n ≢ c.args.target.now) (sym c.as_str-2.ensures.value) c.in_ok-name.ensures.distinct in
     let touches = one_then_one name start made mid beside.touches (c.in_default.ensures.touches beside.touches.known name beside.is_open) in
     let filled = c.in_default.ensures.filled beside.touches.known name beside.is_open beside.empty in
@@ -138,7 +181,9 @@ returns-clause-durable g c known =
     let mid = g.F.Folder.disk c.fill.new.folder in
     let end = g.F.Folder.disk c.exchange.new.folder in
     let name = c.as_str-2.result.now in
-    let beside = subst (λ (n : List ℕ). IsMadeBeside c.args.target.now n start made) (sym c.as_str-2.ensures.value) (c.in_ok-name.ensures.made known) in
+    let beside =
+    subst (λ (n : List ℕ). IsMadeBeside c.args.target.now n start made) (sym c.as_str-2.ensures.value)
+    (c.in_ok-name.ensures.made known) in
     let differs = subst (λ (n : List ℕ). n ≢ c.args.target.now) (sym c.as_str-2.ensures.value) c.in_ok-name.ensures.distinct in
     let touches = one_then_one name start made mid beside.touches (c.in_default.ensures.touches beside.touches.known name beside.is_open) in
     let filled = c.in_default.ensures.filled beside.touches.known name beside.is_open beside.empty in
@@ -152,12 +197,16 @@ returns-clause-failed g c known =
     let mid = g.F.Folder.disk c.fill.new.folder in
     let end = g.F.Folder.disk c.exchange.new.folder in
     let name = c.as_str-2.result.now in
-    let beside = subst (λ (n : List ℕ). IsMadeBeside c.args.target.now n start made) (sym c.as_str-2.ensures.value) (c.in_ok-name.ensures.made known) in
+    let beside =
+    subst (λ (n : List ℕ). IsMadeBeside c.args.target.now n start made) (sym c.as_str-2.ensures.value)
+    (c.in_ok-name.ensures.made known) in
     let differs = subst (λ (n : List ℕ). n ≢ c.args.target.now) (sym c.as_str-2.ensures.value) c.in_ok-name.ensures.distinct in
     let touches = one_then_one name start made mid beside.touches (c.in_default.ensures.touches beside.touches.known name beside.is_open) in
     let filled = c.in_default.ensures.filled beside.touches.known name beside.is_open beside.empty in
-    after_exchange c.exchange.result name c.args.target.now c.args.text.now (g.F.Folder.failures c.fill.new.folder) (g.F.Folder.failures c.exchange.new.folder) start mid end
-    (either_exchanged name c.args.target.now c.args.text.now start mid end differs touches filled) filled.full (c.exchange.ensures.failed touches.known)
+    after_exchange c.exchange.result name c.args.target.now c.args.text.now (g.F.Folder.failures c.fill.new.folder)
+    (g.F.Folder.failures c.exchange.new.folder) start mid end
+    (either_exchanged name c.args.target.now c.args.text.now start mid end differs touches filled) filled.full
+    (c.exchange.ensures.failed touches.known)
 
 pub returns-clause-taken : goal.returns-clause-taken
 returns-clause-taken g c known =
@@ -166,11 +215,14 @@ returns-clause-taken g c known =
     let mid = g.F.Folder.disk c.fill.new.folder in
     let end = g.F.Folder.disk c.exchange.new.folder in
     let name = c.as_str-2.result.now in
-    let beside = subst (λ (n : List ℕ). IsMadeBeside c.args.target.now n start made) (sym c.as_str-2.ensures.value) (c.in_ok-name.ensures.made known) in
+    let beside =
+    subst (λ (n : List ℕ). IsMadeBeside c.args.target.now n start made) (sym c.as_str-2.ensures.value)
+    (c.in_ok-name.ensures.made known) in
     let differs = subst (λ (n : List ℕ). n ≢ c.args.target.now) (sym c.as_str-2.ensures.value) c.in_ok-name.ensures.distinct in
     let touches = one_then_one name start made mid beside.touches (c.in_default.ensures.touches beside.touches.known name beside.is_open) in
     let filled = c.in_default.ensures.filled beside.touches.known name beside.is_open beside.empty in
-    taken_kept c.args.target.now name start made end beside (kept_exchanged name c.args.target.now start mid end touches (c.exchange.ensures.exchange touches.known))
+    taken_kept c.args.target.now name start made end beside
+    (kept_exchanged name c.args.target.now start mid end touches (c.exchange.ensures.exchange touches.known))
 
 pub returns-clause-others : goal.returns-clause-others
 returns-clause-others g c known =
@@ -179,11 +231,14 @@ returns-clause-others g c known =
     let mid = g.F.Folder.disk c.fill.new.folder in
     let end = g.F.Folder.disk c.exchange.new.folder in
     let name = c.as_str-2.result.now in
-    let beside = subst (λ (n : List ℕ). IsMadeBeside c.args.target.now n start made) (sym c.as_str-2.ensures.value) (c.in_ok-name.ensures.made known) in
+    let beside =
+    subst (λ (n : List ℕ). IsMadeBeside c.args.target.now n start made) (sym c.as_str-2.ensures.value)
+    (c.in_ok-name.ensures.made known) in
     let differs = subst (λ (n : List ℕ). n ≢ c.args.target.now) (sym c.as_str-2.ensures.value) c.in_ok-name.ensures.distinct in
     let touches = one_then_one name start made mid beside.touches (c.in_default.ensures.touches beside.touches.known name beside.is_open) in
     let filled = c.in_default.ensures.filled beside.touches.known name beside.is_open beside.empty in
-    others_kept c.args.target.now name start made end beside (kept_exchanged name c.args.target.now start mid end touches (c.exchange.ensures.exchange touches.known))
+    others_kept c.args.target.now name start made end beside
+    (kept_exchanged name c.args.target.now start mid end touches (c.exchange.ensures.exchange touches.known))
 
 pub returns-clause-alone : goal.returns-clause-alone
 returns-clause-alone g c known =
@@ -192,12 +247,17 @@ returns-clause-alone g c known =
     let mid = g.F.Folder.disk c.fill.new.folder in
     let end = g.F.Folder.disk c.exchange.new.folder in
     let name = c.as_str-2.result.now in
-    let beside = subst (λ (n : List ℕ). IsMadeBeside c.args.target.now n start made) (sym c.as_str-2.ensures.value) (c.in_ok-name.ensures.made known) in
+    let beside =
+    subst (λ (n : List ℕ). IsMadeBeside c.args.target.now n start made) (sym c.as_str-2.ensures.value)
+    (c.in_ok-name.ensures.made known) in
     let differs = subst (λ (n : List ℕ). n ≢ c.args.target.now) (sym c.as_str-2.ensures.value) c.in_ok-name.ensures.distinct in
     let touches = one_then_one name start made mid beside.touches (c.in_default.ensures.touches beside.touches.known name beside.is_open) in
     let filled = c.in_default.ensures.filled beside.touches.known name beside.is_open beside.empty in
     on_ok_by c.exchange.result (IsExchanged name c.args.target.now mid end) (OthersHold c.args.target.now start end)
-    (λ exchanged. others_hold c.args.target.now name start made end beside (kept_exchanged name c.args.target.now start mid end touches (c.exchange.ensures.exchange touches.known)) exchanged.gone) (c.exchange.ensures.done touches.known)
+    (λ exchanged.
+    others_hold c.args.target.now name start made end beside
+    (kept_exchanged name c.args.target.now start mid end touches (c.exchange.ensures.exchange touches.known))
+    exchanged.gone) (c.exchange.ensures.done touches.known)
 
 pub returns-clause-names_taken : goal.returns-clause-names_taken
 returns-clause-names_taken g c known is =
@@ -206,11 +266,19 @@ returns-clause-names_taken g c known is =
     let mid = g.F.Folder.disk c.fill.new.folder in
     let end = g.F.Folder.disk c.exchange.new.folder in
     let name = c.as_str-2.result.now in
-    let beside = subst (λ (n : List ℕ). IsMadeBeside c.args.target.now n start made) (sym c.as_str-2.ensures.value) (c.in_ok-name.ensures.made known) in
+    let beside =
+    subst (λ (n : List ℕ). IsMadeBeside c.args.target.now n start made) (sym c.as_str-2.ensures.value)
+    (c.in_ok-name.ensures.made known) in
     let differs = subst (λ (n : List ℕ). n ≢ c.args.target.now) (sym c.as_str-2.ensures.value) c.in_ok-name.ensures.distinct in
     let touches = one_then_one name start made mid beside.touches (c.in_default.ensures.touches beside.touches.known name beside.is_open) in
     let filled = c.in_default.ensures.filled beside.touches.known name beside.is_open beside.empty in
-    absurd (subst (λ (answer : Result (Unit {0}) ReplaceError). IfErr answer (IsExchangeError name c.args.target.now (g.F.Folder.failures c.fill.new.folder) (g.F.Folder.failures c.exchange.new.folder) mid end)) is (c.exchange.ensures.failed touches.known))
+    absurd
+    (subst
+    (λ (answer : Result (Unit {0}) ReplaceError).
+    IfErr answer
+    (IsExchangeError name c.args.target.now (g.F.Folder.failures c.fill.new.folder)
+    (g.F.Folder.failures c.exchange.new.folder) mid end)) is
+    (c.exchange.ensures.failed touches.known))
 
 pub returns-clause-removed : goal.returns-clause-removed
 returns-clause-removed g c known =
@@ -219,11 +287,26 @@ returns-clause-removed g c known =
     let mid = g.F.Folder.disk c.fill.new.folder in
     let end = g.F.Folder.disk c.exchange.new.folder in
     let name = c.as_str-2.result.now in
-    let beside = subst (λ (n : List ℕ). IsMadeBeside c.args.target.now n start made) (sym c.as_str-2.ensures.value) (c.in_ok-name.ensures.made known) in
+    let beside =
+    subst (λ (n : List ℕ). IsMadeBeside c.args.target.now n start made) (sym c.as_str-2.ensures.value)
+    (c.in_ok-name.ensures.made known) in
     let differs = subst (λ (n : List ℕ). n ≢ c.args.target.now) (sym c.as_str-2.ensures.value) c.in_ok-name.ensures.distinct in
     let touches = one_then_one name start made mid beside.touches (c.in_default.ensures.touches beside.touches.known name beside.is_open) in
     let filled = c.in_default.ensures.filled beside.touches.known name beside.is_open beside.empty in
-    on_err_by c.exchange.result ((end.holds name ≡ None) ⊎ AreTwoFailed (g.F.Folder.failures c.fill.new.folder) (g.F.Folder.failures c.exchange.new.folder)) (OthersHold c.args.target.now start end ⊎ AreTwoFailed (g.F.Folder.failures c.args.folder.now) (g.F.Folder.failures c.exchange.new.folder))
-    (λ gone. ⊎_elim {C = OthersHold c.args.target.now start end ⊎ AreTwoFailed (g.F.Folder.failures c.args.folder.now) (g.F.Folder.failures c.exchange.new.folder)} (λ none. inl (others_hold c.args.target.now name start made end beside (kept_exchanged name c.args.target.now start mid end touches (c.exchange.ensures.exchange touches.known)) none))
+    on_err_by c.exchange.result
+    ((end.holds name ≡ None)
+    ⊎ AreTwoFailed (g.F.Folder.failures c.fill.new.folder) (g.F.Folder.failures c.exchange.new.folder))
+    (OthersHold c.args.target.now start end
+    ⊎ AreTwoFailed (g.F.Folder.failures c.args.folder.now) (g.F.Folder.failures c.exchange.new.folder))
+    (λ gone. ⊎_elim
+    {C =
+    OthersHold c.args.target.now start end
+    ⊎ AreTwoFailed (g.F.Folder.failures c.args.folder.now) (g.F.Folder.failures c.exchange.new.folder)}
+    (λ none.
+    inl
+    (others_hold c.args.target.now name start made end beside
+    (kept_exchanged name c.args.target.now start mid end touches
+    (c.exchange.ensures.exchange touches.known)) none))
     (λ two. inr (two ∙ ap (λ (n : ℕ). min (n + 2) (2 ^ 64 - 1)) (c.in_default.ensures.counted ∙ c.in_ok-name.ensures.counted))) gone)
-    (gone_or_two c.exchange.result name c.args.target.now (g.F.Folder.failures c.fill.new.folder) (g.F.Folder.failures c.exchange.new.folder) mid end (c.exchange.ensures.failed touches.known))
+    (gone_or_two c.exchange.result name c.args.target.now (g.F.Folder.failures c.fill.new.folder)
+    (g.F.Folder.failures c.exchange.new.folder) mid end (c.exchange.ensures.failed touches.known))

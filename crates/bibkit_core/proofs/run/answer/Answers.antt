@@ -13,20 +13,26 @@ returns-in_err-status-in-Lint-clause-stopped g c =
     rw (p.1, p.2, c.in-Lint.is) (c.in_err-status-in-Lint.ensures.stopped)
 
 pub returns-in_ok-status-in-Explain-clause-printed : goal.returns-in_ok-status-in-Explain-clause-printed
-returns-in_ok-status-in-Explain-clause-printed g c = rw c.in-Explain.is (printed_so (λ text p. meaning_answer text _ p) c.in_ok-status-in-Explain.ensures.printed)
+returns-in_ok-status-in-Explain-clause-printed g c =
+    rw c.in-Explain.is (printed_so (λ text p. meaning_answer text _ p) c.in_ok-status-in-Explain.ensures.printed)
 
 pub returns-in_err-status-in-Explain-clause-stopped : goal.returns-in_err-status-in-Explain-clause-stopped
 returns-in_err-status-in-Explain-clause-stopped g c =
     let p = err_from_is_err_and c.from_residual-in_err-status-in-Explain.result c.from_residual-in_err-status-in-Explain.ensures.1 in
-    rw (p.1, p.2, c.in-Explain.is) (stopped_so (λ text p. meaning_answer text None p) (λ unread. absurd unread) c.in_err-status-in-Explain.ensures.stopped)
+    rw (p.1, p.2, c.in-Explain.is)
+    (stopped_so (λ text p. meaning_answer text None p) (λ unread. absurd unread)
+    c.in_err-status-in-Explain.ensures.stopped)
 
 pub returns-in_ok-status-in-Entries-clause-printed : goal.returns-in_ok-status-in-Entries-clause-printed
-returns-in_ok-status-in-Entries-clause-printed g c = rw c.in-Entries.is (printed_so (λ text p. entries_answer text _ p) c.in_ok-status-in-Entries.ensures.printed)
+returns-in_ok-status-in-Entries-clause-printed g c =
+    rw c.in-Entries.is (printed_so (λ text p. entries_answer text _ p) c.in_ok-status-in-Entries.ensures.printed)
 
 pub returns-in_err-status-in-Entries-clause-stopped : goal.returns-in_err-status-in-Entries-clause-stopped
 returns-in_err-status-in-Entries-clause-stopped g c =
     let p = err_from_is_err_and c.from_residual-in_err-status-in-Entries.result c.from_residual-in_err-status-in-Entries.ensures.1 in
-    rw (p.1, p.2, c.in-Entries.is) (stopped_so (λ text p. entries_answer text None p) (λ unread. absurd unread) c.in_err-status-in-Entries.ensures.stopped)
+    rw (p.1, p.2, c.in-Entries.is)
+    (stopped_so (λ text p. entries_answer text None p) (λ unread. absurd unread)
+    c.in_err-status-in-Entries.ensures.stopped)
 
 pub returns-in_ok-status-in-Cited-clause-printed : goal.returns-in_ok-status-in-Cited-clause-printed
 returns-in_ok-status-in-Cited-clause-printed g c = rw c.in-Cited.is (c.in_ok-status-in-Cited.ensures.printed)

@@ -18,7 +18,9 @@ returns-clause-printed g c =
     record {
       text = meaning_text c.args.code meaning;
       prints = IsMeaningPrinted.all meaning;
-      printed = subst (λ t. Appends (g.K.Sink.taken c.args.output.now) (g.K.Sink.taken c.print.new.output) t) spelled c.in_ok-print.ensures.printed;
+      printed =
+          subst (λ t. Appends (g.K.Sink.taken c.args.output.now) (g.K.Sink.taken c.print.new.output) t) spelled
+          c.in_ok-print.ensures.printed;
     }
 
 pub returns-in_err-text-clause-stopped : goal.returns-in_err-text-clause-stopped
@@ -29,4 +31,6 @@ returns-in_err-text-clause-stopped g c =
 pub returns-in_err-print-clause-stopped : goal.returns-in_err-print-clause-stopped
 returns-in_err-print-clause-stopped g c =
     let p = err_from_is_err_and c.from_residual-in_err-print.result c.from_residual-in_err-print.ensures.1 in
-    rw (p.1, p.2) (stopped_so (λ text none. subst (λ u. IsMeaningPrinted c.args.code u None) (sym none) IsMeaningPrinted.nothing) (λ unread. absurd unread) c.in_err-print.ensures.stopped)
+    rw (p.1, p.2)
+    (stopped_so (λ text none. subst (λ u. IsMeaningPrinted c.args.code u None) (sym none) IsMeaningPrinted.nothing)
+    (λ unread. absurd unread) c.in_err-print.ensures.stopped)

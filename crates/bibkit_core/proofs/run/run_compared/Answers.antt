@@ -11,7 +11,9 @@ use Rattle.bibkit_core.proofs.run.run_compared.Goals as goal
 pub returns-in_err-text-clause-stopped : goal.returns-in_err-text-clause-stopped
 returns-in_err-text-clause-stopped g c =
     let p = err_from_is_err_and c.from_residual.result c.from_residual.ensures.1 in
-    rw (p.1, p.2) (stopped_without_text g.F.Files.reads c.args.files.now c.document_text.new.files c.args.cited.name.now c.args.output.now _ (λ unread. (c.document_text.new.files, unread)) c.in_err-text.ensures.unread)
+    rw (p.1, p.2)
+    (stopped_without_text g.F.Files.reads c.args.files.now c.document_text.new.files c.args.cited.name.now
+    c.args.output.now _ (λ unread. (c.document_text.new.files, unread)) c.in_err-text.ensures.unread)
 
 pub returns-in_err-document-clause-stopped : goal.returns-in_err-document-clause-stopped
 returns-in_err-document-clause-stopped g c =
@@ -21,24 +23,32 @@ returns-in_err-document-clause-stopped g c =
 pub returns-clause-printed : goal.returns-clause-printed
 returns-clause-printed g c =
     let task = c.new-task.result in
-    let begins = subst (λ (d : Document). BeginsDocument c.args.cited.name.now c.as_str.result.now c.args.cited.has_unused d) (sym c.new-task.ensures.document) c.in_ok-document.ensures in
+    let begins =
+    subst (λ (d : Document). BeginsDocument c.args.cited.name.now c.as_str.result.now c.args.cited.has_unused d)
+    (sym c.new-task.ensures.document) c.in_ok-document.ensures in
     printed_so (λ text p. record {
       found = task.document.citations;
       document = c.as_str.result.now;
       files' = c.document_text.new.files;
       read = document_read c.as_str.result.now c.as_str.ensures.value c.in_ok-text.ensures.read begins.cited;
-      printed = compared_seen c.args.lint.now c.args.cited.has_unused c.args.cited.name.now c.as_str.result.now task c.new-task.ensures.linting begins text _ p;
+      printed =
+          compared_seen c.args.lint.now c.args.cited.has_unused c.args.cited.name.now c.as_str.result.now task
+          c.new-task.ensures.linting begins text _ p;
     }) c.in_ok-status.ensures.printed
 
 pub returns-in_err-status-clause-stopped : goal.returns-in_err-status-clause-stopped
 returns-in_err-status-clause-stopped g c =
     let p = err_from_is_err_and c.from_residual-in_err-status.result c.from_residual-in_err-status.ensures.1 in
     let task = c.new-task.result in
-    let begins = subst (λ (d : Document). BeginsDocument c.args.cited.name.now c.as_str.result.now c.args.cited.has_unused d) (sym c.new-task.ensures.document) c.in_ok-document.ensures in
+    let begins =
+    subst (λ (d : Document). BeginsDocument c.args.cited.name.now c.as_str.result.now c.args.cited.has_unused d)
+    (sym c.new-task.ensures.document) c.in_ok-document.ensures in
     rw (p.1, p.2) (stopped_so (λ text p. record {
       found = task.document.citations;
       document = c.as_str.result.now;
       files' = c.document_text.new.files;
       read = document_read c.as_str.result.now c.as_str.ensures.value c.in_ok-text.ensures.read begins.cited;
-      printed = compared_seen c.args.lint.now c.args.cited.has_unused c.args.cited.name.now c.as_str.result.now task c.new-task.ensures.linting begins text None p;
+      printed =
+          compared_seen c.args.lint.now c.args.cited.has_unused c.args.cited.name.now c.as_str.result.now task
+          c.new-task.ensures.linting begins text None p;
     }) (λ unread. absurd unread) c.in_err-status.ensures.stopped)

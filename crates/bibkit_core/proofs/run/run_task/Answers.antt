@@ -8,9 +8,16 @@ use Rattle.bibkit_core.proofs.run.run_task.Goals as goal
 
 pub returns-clause-printed : goal.returns-clause-printed
 returns-clause-printed g c =
-    let first = subst (λ t. Appends (g.K.Sink.taken c.args.output.now) (g.K.Sink.taken c.print.new.output) t) c.begin.ensures c.in_ok-print.ensures.printed in
-    let last = subst (λ t. Appends (g.K.Sink.taken c.run_files.new.output) (g.K.Sink.taken c.print-2.new.output) t) c.deref.ensures c.in_ok-print-2.ensures.printed in
-    rw c.status_of.ensures (has_printed c.args.output.now c.print.new.output c.run_files.new.output c.print-2.new.output (string_bytes c.in_ok-end.end.text) c.in_ok-end.end.status first c.in_ok-are_read.ensures.printed c.in_ok-end.ensures last)
+    let first =
+    subst (λ t. Appends (g.K.Sink.taken c.args.output.now) (g.K.Sink.taken c.print.new.output) t) c.begin.ensures
+    c.in_ok-print.ensures.printed in
+    let last =
+    subst (λ t. Appends (g.K.Sink.taken c.run_files.new.output) (g.K.Sink.taken c.print-2.new.output) t)
+    c.deref.ensures c.in_ok-print-2.ensures.printed in
+    rw c.status_of.ensures
+    (has_printed c.args.output.now c.print.new.output c.run_files.new.output c.print-2.new.output
+    (string_bytes c.in_ok-end.end.text) c.in_ok-end.end.status first c.in_ok-are_read.ensures.printed
+    c.in_ok-end.ensures last)
 
 pub returns-in_err-print-clause-stopped : goal.returns-in_err-print-clause-stopped
 returns-in_err-print-clause-stopped g c =
@@ -20,8 +27,12 @@ returns-in_err-print-clause-stopped g c =
 pub returns-in_err-are_read-clause-stopped : goal.returns-in_err-are_read-clause-stopped
 returns-in_err-are_read-clause-stopped g c =
     let p = err_from_is_err_and c.from_residual-in_err-are_read.result c.from_residual-in_err-are_read.ensures.1 in
-    let first = subst (λ t. Appends (g.K.Sink.taken c.args.output.now) (g.K.Sink.taken c.print.new.output) t) c.begin.ensures c.in_ok-print.ensures.printed in
-    rw (p.1, p.2) (stopped_among c.args.output.now c.print.new.output c.run_files.new.output first c.in_ok-print.ensures.same c.in_err-are_read.ensures.stopped)
+    let first =
+    subst (λ t. Appends (g.K.Sink.taken c.args.output.now) (g.K.Sink.taken c.print.new.output) t) c.begin.ensures
+    c.in_ok-print.ensures.printed in
+    rw (p.1, p.2)
+    (stopped_among c.args.output.now c.print.new.output c.run_files.new.output first c.in_ok-print.ensures.same
+    c.in_err-are_read.ensures.stopped)
 
 pub returns-in_err-end-clause-stopped : goal.returns-in_err-end-clause-stopped
 returns-in_err-end-clause-stopped g c =
@@ -31,5 +42,10 @@ returns-in_err-end-clause-stopped g c =
 pub returns-in_err-print-2-clause-stopped : goal.returns-in_err-print-2-clause-stopped
 returns-in_err-print-2-clause-stopped g c =
     let p = err_from_is_err_and c.from_residual-in_err-print-2.result c.from_residual-in_err-print-2.ensures.1 in
-    let first = subst (λ t. Appends (g.K.Sink.taken c.args.output.now) (g.K.Sink.taken c.print.new.output) t) c.begin.ensures c.in_ok-print.ensures.printed in
-    rw (p.1, p.2) (stopped_last c.args.output.now c.print.new.output c.run_files.new.output c.print-2.new.output first c.in_ok-print.ensures.same c.in_ok-are_read.ensures.printed c.in_ok-are_read.ensures.same c.in_err-print-2.ensures.stopped)
+    let first =
+    subst (λ t. Appends (g.K.Sink.taken c.args.output.now) (g.K.Sink.taken c.print.new.output) t) c.begin.ensures
+    c.in_ok-print.ensures.printed in
+    rw (p.1, p.2)
+    (stopped_last c.args.output.now c.print.new.output c.run_files.new.output c.print-2.new.output first
+    c.in_ok-print.ensures.same c.in_ok-are_read.ensures.printed c.in_ok-are_read.ensures.same
+    c.in_err-print-2.ensures.stopped)

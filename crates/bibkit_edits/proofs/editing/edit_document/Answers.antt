@@ -9,4 +9,7 @@ use Rattle.bibkit_edits.proofs.editing.edit_document.Goals as goal
 pub returns-in_ok-add_entries-in-Add-clause-made : goal.returns-in_ok-add_entries-in-Add-clause-made
 returns-in_ok-add_entries-in-Add-clause-made c =
     let P : Edit → Type 0 = λ e. IsEdited (EditOutcome e c.args.document.now) (string_bytes c.in_ok-add_entries-in-Add.field-0) in
-    subst P (sym c.in-Add.is) (adds_made c.in_ok-more-in-Add.more (record { same = c.in_ok-more-in-Add.ensures.same; read = c.in_ok-more-in-Add.ensures.read }) c.in_ok-add_entries-in-Add.ensures.added)
+    subst P (sym c.in-Add.is)
+    (adds_made c.in_ok-more-in-Add.more
+    (record { same = c.in_ok-more-in-Add.ensures.same; read = c.in_ok-more-in-Add.ensures.read })
+    c.in_ok-add_entries-in-Add.ensures.added)

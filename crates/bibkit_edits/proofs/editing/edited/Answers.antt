@@ -9,10 +9,14 @@ edits-init c = first_none c.args.text.now
 pub returns-in_err-edited_once-clause-refused : goal.returns-in_err-edited_once-clause-refused
 returns-in_err-edited_once-clause-refused c =
     let p = err_from_is_err_and c.from_residual.result c.from_residual.ensures.1 in
-    rw (p.1, p.2) (refused_at c.args.edits.now c.edits.index _ c.in_err-edited_once.field-0.0 c.edits-test.true c.edits.invariant c.latest.ensures c.in_err-edited_once.ensures.refused)
+    rw (p.1, p.2)
+    (refused_at c.args.edits.now c.edits.index _ c.in_err-edited_once.field-0.0 c.edits-test.true c.edits.invariant
+    c.latest.ensures c.in_err-edited_once.ensures.refused)
 
 pub edits-preserved : goal.edits-preserved
-edits-preserved c = first_more c.args.edits.now c.edits.index _ c.edits-test.true c.edits.invariant c.latest.ensures c.in_ok-edited_once.ensures.made
+edits-preserved c =
+    first_more c.args.edits.now c.edits.index _ c.edits-test.true c.edits.invariant c.latest.ensures
+    c.in_ok-edited_once.ensures.made
 
 pub returns-in_err-from_str-in-None-clause-refused :
     goal.returns-in_err-from_str-in-None-clause-refused

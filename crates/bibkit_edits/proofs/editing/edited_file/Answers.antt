@@ -7,7 +7,10 @@ use Rattle.bibkit_edits.proofs.editing.edited_file.Goals as goal
 pub returns-in_err-new-in-Ok-clause-refused : goal.returns-in_err-new-in-Ok-clause-refused
 returns-in_err-new-in-Ok-clause-refused c =
     let p = err_from_is_err_and c.from_residual.result c.from_residual.ensures.1 in
-    rw (p.1, p.2) (text c.in-Ok.ensures.utf8 (subst (λ t. AreRefused c.args.edits.now t c.in_err-new-in-Ok.field-0.0) c.in-Ok.ensures.text c.in_err-new-in-Ok.ensures.refused))
+    rw (p.1, p.2)
+    (text c.in-Ok.ensures.utf8
+    (subst (λ t. AreRefused c.args.edits.now t c.in_err-new-in-Ok.field-0.0) c.in-Ok.ensures.text
+    c.in_err-new-in-Ok.ensures.refused))
 
 pub returns-in_err-with_mark-in-Ok-clause-refused :
     goal.returns-in_err-with_mark-in-Ok-clause-refused

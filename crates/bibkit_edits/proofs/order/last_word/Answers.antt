@@ -23,7 +23,9 @@ bytes-preserved c =
           let byte : get_or words i 0 ≡ 32 = sym (ap (λ t. get_or t i 0) same) ∙ w.if-byte-eq32.true in
           record {
             is = omega (arith, w.start-is, after_space words i within (eq-eqb (get_or words i 0) 32 byte));
-            boundary = subst (IsCharBoundary words) (sym w.start-is) (IsCharBoundary-after_ascii words i c.utf8.words within (omega (arith, byte)));
+            boundary =
+                subst (IsCharBoundary words) (sym w.start-is)
+                (IsCharBoundary-after_ascii words i c.utf8.words within (omega (arith, byte)));
           }
       | else-byte-eq32 w ↦
           let other = ne_eqb (get_or words i 0) 32 (λ is. w.if-byte-eq32.false (ap (λ t. get_or t i 0) same ∙ is)) in
@@ -38,4 +40,10 @@ returns-clause-is c =
     let words = c.args.words.now in
     let same = c.as_bytes-byte-items.ensures.value in
     let all : c.bytes.index ≡ length words = omega (arith, c.bytes-test.false, c.bytes.auto.index-end, ap length same) in
-    omega (arith, c.bytes.invariant.is, all, ap (λ n. length (after_last is_word_space (take n words))) all, ap (λ ws. length (after_last is_word_space ws)) (take_all (length words) words (omega arith)))
+    omega (
+      arith,
+      c.bytes.invariant.is,
+      all,
+      ap (λ n. length (after_last is_word_space (take n words))) all,
+      ap (λ ws. length (after_last is_word_space ws)) (take_all (length words) words (omega arith)),
+    )

@@ -26,5 +26,7 @@ returns-clause-printed g c =
       diff = diff;
       is = subst (λ t. IsDiff c.args.name.now c.args.bytes.now t diff) c.deref.ensures c.in_ok-diff.ensures;
       differ = ap not (c.is_empty.ensures ∙ ap (λ t. length t == 0) c.as_str.ensures.value);
-      printed = subst (λ t. Appends (g.K.Sink.taken c.args.output.now) (g.K.Sink.taken c.hand_over.new.output) t) c.deref-2.ensures c.in_ok-hand_over.ensures.taken;
+      printed =
+          subst (λ t. Appends (g.K.Sink.taken c.args.output.now) (g.K.Sink.taken c.hand_over.new.output) t)
+          c.deref-2.ensures c.in_ok-hand_over.ensures.taken;
     }

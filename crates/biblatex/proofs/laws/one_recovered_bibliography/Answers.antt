@@ -12,4 +12,5 @@ pub returns-clause-origins : goal.returns-clause-origins
 returns-clause-origins c text one other origins indices skipped passed errors others first second =
     let same = kept_once one other first second in
     origins_once 0 first.says.entries origins indices first.kept (recovered_rises first.recovery) first.origin
-    (subst (λ k. AllZip (IsKeptFrom first.says.entries) indices k) (sym same.1) (subst (λ s. AllZip (IsKeptFrom s) indices second.kept) (sym same.0) second.origin))
+    (subst (λ k. AllZip (IsKeptFrom first.says.entries) indices k) (sym same.1)
+    (subst (λ s. AllZip (IsKeptFrom s) indices second.kept) (sym same.0) second.origin))

@@ -11,6 +11,9 @@ returns-then-is_key_among c =
 
 pub returns-else-is_key_among : goal.returns-else-is_key_among
 returns-else-is_key_among c =
-    found_after c.args.entries.now c.args.index c.index-entries-index.result c.is_key_among.result c.is_key_among-else-is_key_among.result c.requires c.index-entries-index.is
+    found_after c.args.entries.now c.args.index c.index-entries-index.result c.is_key_among.result
+    c.is_key_among-else-is_key_among.result c.requires c.index-entries-index.is
     (rw (c.as_str-key.ensures, ← c.index-entries-index.is) at c.is_key_among.ensures) c.if-is_key_among.false
-    (rw (c.as_str-key.ensures, ← c.index-entries-index.is) at c.is_key_among-else-is_key_among.ensures ∙ ap (list_any (λ x. bytes_eq c.index-entries-index.result.key x.key)) (to_end c.args.entries.now (c.args.index + 1)))
+    (rw (c.as_str-key.ensures, ← c.index-entries-index.is) at c.is_key_among-else-is_key_among.ensures
+    ∙ ap (list_any (λ x. bytes_eq c.index-entries-index.result.key x.key))
+    (to_end c.args.entries.now (c.args.index + 1)))

@@ -13,5 +13,7 @@ returns-then-not-is_id_start c = never (no_identifier (rw c.new-scanner.ensures 
 pub returns : goal.returns
 returns c =
     let longest : Longest is_id_continue c.eat.new.self c.eat_while.new.self = c.eat_while.ensures.longest _ (λ x r post. search rules) in
-    let whole = whole_run c.args.text.now c.done.result (c.in-Some.ensures.same ∙ ap (λ p. p.text) c.new-scanner.ensures) longest c.done.ensures in
+    let whole =
+    whole_run c.args.text.now c.done.result (c.in-Some.ensures.same ∙ ap (λ p. p.text) c.new-scanner.ensures)
+    longest c.done.ensures in
     identifier_whole c.args.text.now c.done.result (rw c.new-scanner.ensures at c.in-Some.ensures) (sym c.if-not-is_id_start.ensures) whole

@@ -12,4 +12,6 @@ returns-in_err-write_next-clause-handed g c =
 pub returns-clause-handed : goal.returns-clause-handed
 returns-clause-handed g c =
     let text = text_of (entry_in c.args.dialect) c.args.is_first c.args.entry.now in
-    one_refused g.K.Sink.hands_over _ _ _ _ (c.deref.ensures ∙ c.in_ok-write_next.ensures ∙ ap (λ bs. bs ++ text) c.new-text.ensures.bytes) c.if-write_str.ensures.handed
+    one_refused g.K.Sink.hands_over _ _ _ _
+    (c.deref.ensures ∙ c.in_ok-write_next.ensures ∙ ap (λ bs. bs ++ text) c.new-text.ensures.bytes)
+    c.if-write_str.ensures.handed

@@ -7,5 +7,12 @@ use Rattle.biblatex.proofs.write.text_of.Goals as goal
 
 pub entries-preserved : goal.entries-preserved
 entries-preserved c =
-    let written = next_written (entry_in c.args.dialect) c.args.entries.now c.entries.entry-index c.entry-item.result c.entries.is_first c.entries-test.true c.entry-item.is c.entries.invariant.1 in
-    (c.in_ok-write_next.ensures ∙ ap (λ bs. bs ++ (parting c.entries.is_first ++ (entry_in c.args.dialect c.entry-item.result ++ codes "\n"))) c.entries.invariant.0 ∙ sym written, not_first c.entries.entry-index)
+    let written =
+    next_written (entry_in c.args.dialect) c.args.entries.now c.entries.entry-index c.entry-item.result
+    c.entries.is_first c.entries-test.true c.entry-item.is c.entries.invariant.1 in (
+      c.in_ok-write_next.ensures
+          ∙ ap
+          (λ bs. bs ++ (parting c.entries.is_first ++ (entry_in c.args.dialect c.entry-item.result ++ codes "\n")))
+          c.entries.invariant.0 ∙ sym written,
+      not_first c.entries.entry-index,
+    )

@@ -6,18 +6,24 @@ use Rattle.biblatex_c.proofs.editing.add_to.Goals as goal
 pub returns-in_err-document-clause-fails : goal.returns-in_err-document-clause-fails
 returns-in_err-document-clause-fails c =
     let p = err_from_is_err_and c.from_residual-in_err-document.result c.from_residual-in_err-document.ensures.1 in
-    rw (p.1, p.2) (text_fails c.args.text.now c.args.added.now c.in_ok-text_of.field-0.now c.in_err-document.field-0.0 c.in_ok-text_of.ensures.text c.in_err-document.ensures.refused)
+    rw (p.1, p.2)
+    (text_fails c.args.text.now c.args.added.now c.in_ok-text_of.field-0.now c.in_err-document.field-0.0
+    c.in_ok-text_of.ensures.text c.in_err-document.ensures.refused)
 
 pub returns-in_err-more-clause-fails : goal.returns-in_err-more-clause-fails
 returns-in_err-more-clause-fails c =
     let p = err_from_is_err_and c.from_residual-in_err-more.result c.from_residual-in_err-more.ensures.1 in
-    rw (p.1, p.2) (added_fails c.args.text.now c.args.added.now c.in_ok-text_of-2.field-0.now c.in_err-more.field-0.0 c.in_ok-text_of-2.ensures.text c.in_err-more.ensures.refused)
+    rw (p.1, p.2)
+    (added_fails c.args.text.now c.args.added.now c.in_ok-text_of-2.field-0.now c.in_err-more.field-0.0
+    c.in_ok-text_of-2.ensures.text c.in_err-more.ensures.refused)
 
 pub returns-in_err-add_entries-clause-fails : goal.returns-in_err-add_entries-clause-fails
 returns-in_err-add_entries-clause-fails c =
     let p = err_from_is_err_and c.from_residual-in_err-add_entries.result c.from_residual-in_err-add_entries.ensures.1 in
     rw (p.1, p.2) (add_fails c.args.text.now c.args.added.now c.in_ok-document.document c.in_ok-more.more c.in_err-add_entries.field-0.0
-    (c.in_ok-document.ensures.same ∙ c.in_ok-text_of.ensures.text) c.in_ok-document.ensures.read (c.in_ok-more.ensures.same ∙ c.in_ok-text_of-2.ensures.text) c.in_ok-more.ensures.read c.in_err-add_entries.ensures.refused)
+    (c.in_ok-document.ensures.same ∙ c.in_ok-text_of.ensures.text) c.in_ok-document.ensures.read
+    (c.in_ok-more.ensures.same ∙ c.in_ok-text_of-2.ensures.text) c.in_ok-more.ensures.read
+    c.in_err-add_entries.ensures.refused)
 
 pub returns-clause-made : goal.returns-clause-made
 returns-clause-made c = let added = c.in_ok-add_entries.ensures.added in record {

@@ -8,7 +8,9 @@ use Rattle.biblatex_c.proofs.reading.keys_of.Goals as goal
 pub returns-in_err-raw-clause-fails : goal.returns-in_err-raw-clause-fails
 returns-in_err-raw-clause-fails c =
     let p = err_from_is_err_and c.from_residual-in_err-raw.result c.from_residual-in_err-raw.ensures.1 in
-    rw (p.1, p.2) (file_fails c.args.bytes.now c.in_ok-text_of.field-0.now c.in_err-raw.field-0.0 c.in_ok-text_of.ensures.text c.in_err-raw.ensures.refused)
+    rw (p.1, p.2)
+    (file_fails c.args.bytes.now c.in_ok-text_of.field-0.now c.in_err-raw.field-0.0 c.in_ok-text_of.ensures.text
+    c.in_err-raw.ensures.refused)
 
 pub returns-clause-keys : goal.returns-clause-keys
 returns-clause-keys c = record {

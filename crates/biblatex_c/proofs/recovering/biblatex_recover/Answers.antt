@@ -2,4 +2,8 @@ use Rattle.biblatex_c.proofs.EndFacts.{end_of}
 use Rattle.biblatex_c.proofs.recovering.biblatex_recover.Goals as goal
 
 pub returns : goal.returns
-returns c = record { status = c.end.result; is = c.number.ensures; ends = end_of c.recovered_in.result c.recovered_in.ensures.text c.recovered_in.ensures.fails c.end.ensures }
+returns c = record {
+  status = c.end.result;
+  is = c.number.ensures;
+  ends = end_of c.recovered_in.result c.recovered_in.ensures.text c.recovered_in.ensures.fails c.end.ensures;
+}

@@ -16,4 +16,5 @@ returns-in-Normal-clause-said c =
 
 pub returns-in-Normal-clause-placed : goal.returns-in-Normal-clause-placed
 returns-in-Normal-clause-placed c = λ p named long low placed.
-    text_placed c.args.out.now c.contents.new.out c.args.piece.now c.in-Normal.text p low c.in-Normal.is named long (c.in_ok-contents.ensures.placed low) placed
+    text_placed c.args.out.now c.contents.new.out c.args.piece.now c.in-Normal.text p low c.in-Normal.is named long
+    (c.in_ok-contents.ensures.placed low) placed

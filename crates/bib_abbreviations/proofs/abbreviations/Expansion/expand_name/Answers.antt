@@ -18,8 +18,10 @@ returns-in_err-run-clause-refused c =
 pub returns-clause-said : goal.returns-clause-said
 returns-clause-said c =
     let taken = rw c.in-Some.is at (c.in_ok-frame.ensures.taken _ c.requires.sound) in
-    let x : Expands (known_to c.args.self) c.args.self.is_verbatim c.args.memo.now.values.items c.run.new.memo.values.items (piece_of c.args.piece.now ∷ []) =
+    let x : Expands (known_to c.args.self) c.args.self.is_verbatim c.args.memo.now.values.items
+    c.run.new.memo.values.items (piece_of c.args.piece.now ∷ []) =
     rw taken.1 (expands_opened c.take.new.memo c.run.new.memo taken.0 c.in-Some.frame taken.2 c.in_ok-run.ensures.said) in
     let at : c.len-start.result ≡ length c.args.memo.now.values.items = search rules in
-    let following : chunks_between c.len-start.result (length c.deref-2.result.now) c.deref-2.result.now ≡ x.more = said_after x c.len-start.result c.deref-2.result.now at c.deref-2.ensures.value in
+    let following : chunks_between c.len-start.result (length c.deref-2.result.now) c.deref-2.result.now ≡ x.more =
+    said_after x c.len-start.result c.deref-2.result.now at c.deref-2.ensures.value in
     (styled x.more, x.says, c.in_ok-append_copies-2.ensures.styled ∙ ap (λ cs. styled c.args.out.now ++ styled cs) following)

@@ -9,12 +9,15 @@ pieces-init c = record { sound = c.requires.sound; read = rw (c.from_vec-out.ens
 pub pieces-preserved : goal.pieces-preserved
 pieces-preserved c = let x = c.in_ok-expand.ensures in record {
   sound = x.sound;
-  read = read_step c.args.field.now.items c.deref-piece-items.result.now c.pieces.piece-index _ c.deref-piece-items.ensures.value c.pieces-test.true
+  read =
+      read_step c.args.field.now.items c.deref-piece-items.result.now c.pieces.piece-index _
+      c.deref-piece-items.ensures.value c.pieces-test.true
       c.pieces.invariant.read x.said.1 x.said.2 x.joined x.placed;
 }
 
 pub returns-in_err-expand-clause-refused : goal.returns-in_err-expand-clause-refused
 returns-in_err-expand-clause-refused c =
     let p = err_from_is_err_and c.from_residual-in_err-expand.result c.from_residual-in_err-expand.ensures.1 in
-    rw (p.1, p.2) (read_stop c.args.field.now.items c.deref-piece-items.result.now c.pieces.piece-index _ _ c.deref-piece-items.ensures.value c.pieces-test.true
+    rw (p.1, p.2) (read_stop c.args.field.now.items c.deref-piece-items.result.now c.pieces.piece-index _ _
+    c.deref-piece-items.ensures.value c.pieces-test.true
     c.pieces.invariant.read c.in_err-expand.ensures.refused)

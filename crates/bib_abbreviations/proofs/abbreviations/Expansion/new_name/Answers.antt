@@ -18,5 +18,8 @@ returns-in_default-month-clause-refused c = inr (λ path rest.
 
 pub returns-clause-taken : goal.returns-clause-taken
 returns-clause-taken c =
-    let absent = sym c.in_default.ensures in
-    (expands_month (part_at c.args.name.now c.args.span.now) c.new.result _ absent c.in-Some-month.ensures (ap (λ (s : Spanned Chunk). s.v) c.new.ensures) c.in_ok-from_str-2.ensures c.in_ok-push.ensures.items, refl)
+    let absent = sym c.in_default.ensures in (
+      expands_month (part_at c.args.name.now c.args.span.now) c.new.result _ absent c.in-Some-month.ensures
+          (ap (λ (s : Spanned Chunk). s.v) c.new.ensures) c.in_ok-from_str-2.ensures c.in_ok-push.ensures.items,
+      refl,
+    )

@@ -13,4 +13,5 @@ returns-in_err-contents-clause-refused c =
 pub returns-clause-said : goal.returns-clause-said
 returns-clause-said c = λ p same.
     let read = rw c.new-part.ensures at c.in_ok-contents.ensures.read in
-    expands_text c.contents.new.out p c.args.text.now read.1 read.2 (c.in_ok-append.ensures.items ∙ ap (λ part. c.args.memo.now.values.items ++ part) c.into_vec.ensures) same
+    expands_text c.contents.new.out p c.args.text.now read.1 read.2
+    (c.in_ok-append.ensures.items ∙ ap (λ part. c.args.memo.now.values.items ++ part) c.into_vec.ensures) same

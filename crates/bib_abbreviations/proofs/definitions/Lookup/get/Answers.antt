@@ -6,4 +6,7 @@ use Rattle.bib_abbreviations.proofs.definitions.Lookup.get.Goals as goal
 
 pub returns-in-Sorted : goal.returns-in-Sorted
 returns-in-Sorted c =
-    rw c.in-Sorted.is (ap (option_map (λ field. map piece_of field.now.items)) (c.copied-in-Sorted.ensures ∙ c.get-in-Sorted.ensures.value ∙ lookup_sorted c.args.name.now c.in-Sorted.definitions.now.entries))
+    rw c.in-Sorted.is
+    (ap (option_map (λ field. map piece_of field.now.items))
+    (c.copied-in-Sorted.ensures ∙ c.get-in-Sorted.ensures.value
+    ∙ lookup_sorted c.args.name.now c.in-Sorted.definitions.now.entries))

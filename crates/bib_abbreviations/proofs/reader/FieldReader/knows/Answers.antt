@@ -12,14 +12,16 @@ pub returns-then-is_some : goal.returns-then-is_some
 returns-then-is_some c =
     let same = sorted_given c.self.inside.definitions ∙ ap given_by c.self.view_is in
     let there : is_some (given_by c.args.self.now c.args.name.now) ≡ c.is_some.result =
-    ap (λ d. is_some (d c.args.name.now)) (sym same) ∙ ap is_some (sym c.get.ensures) ∙ is_some_mapped _ c.get.result ∙ sym c.is_some.ensures in
+    ap (λ d. is_some (d c.args.name.now)) (sym same) ∙ ap is_some (sym c.get.ensures) ∙ is_some_mapped _ c.get.result
+    ∙ sym c.is_some.ensures in
     c.if-is_some.true ∙ ap (λ b. b || is_some (month c.args.name.now)) (sym (there ∙ c.if-is_some.true))
 
 pub returns-else-is_some : goal.returns-else-is_some
 returns-else-is_some c =
     let same = sorted_given c.self.inside.definitions ∙ ap given_by c.self.view_is in
     let there : is_some (given_by c.args.self.now c.args.name.now) ≡ c.is_some.result =
-    ap (λ d. is_some (d c.args.name.now)) (sym same) ∙ ap is_some (sym c.get.ensures) ∙ is_some_mapped _ c.get.result ∙ sym c.is_some.ensures in
+    ap (λ d. is_some (d c.args.name.now)) (sym same) ∙ ap is_some (sym c.get.ensures) ∙ is_some_mapped _ c.get.result
+    ∙ sym c.is_some.ensures in
     let begins : c.is_some-else-is_some.result ≡ is_some (month c.args.name.now) =
     c.is_some-else-is_some.ensures ∙ sym (is_some_mapped _ c.month.result) ∙ ap is_some c.month.ensures in
     begins ∙ ap (λ b. b || is_some (month c.args.name.now)) (sym (there ∙ c.if-is_some.false))

@@ -14,8 +14,14 @@ invariant-pieces l = record {
   utf8 : shadow (Utf8 l.rest);
   within : length l.rest ≤ length l.whole;
   so_far : (following : List (List (Spanned Chunk)))
-      → all_parts l.parts (joined_parts (pieces_between (width l.separator) l.whole l.span (length l.whole - length l.rest) l.following (between_cuts l.separator (chars l.rest))) following)
-      ≡ all_parts l.initial.parts (joined_parts (pieces_between (width l.separator) l.whole l.span 0 false (between_cuts l.separator (chars l.whole))) following);
+      → all_parts l.parts
+      (joined_parts
+      (pieces_between (width l.separator) l.whole l.span (length l.whole - length l.rest) l.following
+      (between_cuts l.separator (chars l.rest))) following)
+      ≡ all_parts l.initial.parts
+      (joined_parts
+      (pieces_between (width l.separator) l.whole l.span 0 false (between_cuts l.separator (chars l.whole)))
+      following);
 }
 
 abbrev pub decreases-pieces : goal.decreases-pieces

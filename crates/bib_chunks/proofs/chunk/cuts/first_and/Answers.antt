@@ -17,15 +17,20 @@ range_from-rest-requires c = λ _. IsCharBoundary-from_drop c.args.text.now c.te
 
 pub returns-in-Some : goal.returns-in-Some
 returns-in-Some c =
-    searched_word c.args.text.now c.text.at c.range.result.now c.in-Some.following.now (rw c.if-space.true at c.text.invariant) (simp unary_clauses at c.range.ensures.value) c.range.utf8 (rw c.range_from-rest.ensures.value at c.in-Some.ensures)
+    searched_word c.args.text.now c.text.at c.range.result.now c.in-Some.following.now
+    (rw c.if-space.true at c.text.invariant) (simp unary_clauses at c.range.ensures.value) c.range.utf8
+    (rw c.range_from-rest.ensures.value at c.in-Some.ensures)
 
 pub text-preserved : goal.text-preserved
 text-preserved c =
     let here = sym c.range_from-rest.ensures.value ∙ sym c.chars.ensures.rest ∙ c.in-Some-next.ensures.steps.0 in
-    let char : CharAt (place c.args.text.now c.text.at) c.in-Some-next.c (place c.args.text.now (c.text.at + c.len_utf8-at.result)) = rw c.len_utf8-at.ensures.value (char_here c.args.text.now _ c.text.at c.in-Some-next.c here) in
+    let char : CharAt (place c.args.text.now c.text.at) c.in-Some-next.c
+    (place c.args.text.now (c.text.at + c.len_utf8-at.result)) =
+    rw c.len_utf8-at.ensures.value (char_here c.args.text.now _ c.text.at c.in-Some-next.c here) in
     let none : word_here c.text.space (chars (drop c.text.at c.args.text.now)) ≡ false =
     elim c.if-space.branch [
-      | then-space+in_default w ↦ no_word c.text.space (drop c.text.at c.args.text.now) c.text.invariant.passed.utf8 (rw c.range_from-rest.ensures.value at w.in_default.ensures)
+      | then-space+in_default w ↦ no_word c.text.space (drop c.text.at c.args.text.now) c.text.invariant.passed.utf8
+          (rw c.range_from-rest.ensures.value at w.in_default.ensures)
       | else-space w ↦ not_spaced c.text.space _ w.if-space.false
     ] in
     rw c.is_whitespace-space.ensures (searched_char c.args.text.now c.text.at _ c.in-Some-next.c c.text.space c.text.invariant char none)

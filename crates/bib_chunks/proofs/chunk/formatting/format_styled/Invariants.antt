@@ -7,4 +7,5 @@ use Rattle.bib_chunks.proofs.chunk.formatting.format_styled.Given as goal
 -- the output followed by the rest, formatted, is the whole text
 abbrev pub invariant-chunks : goal.invariant-chunks
 invariant-chunks l =
-    string_bytes l.out ++ encode_utf8_all (formatted_atoms l.space (styled (drop l.chunk-index l.chunks))) ≡ encode_utf8_all (formatted_atoms false (styled l.chunks))
+    string_bytes l.out ++ encode_utf8_all (formatted_atoms l.space (styled (drop l.chunk-index l.chunks)))
+    ≡ encode_utf8_all (formatted_atoms false (styled l.chunks))

@@ -11,8 +11,11 @@ text-init c = rw c.new-scanner.ensures (refl, c.utf8.text, refl, refl)
 pub returns-in_default : goal.returns-in_default
 returns-in_default c =
     let longest : Longest goes_on c.text.scanner c.eat_while-run.new.self = c.eat_while-run.ensures.longest _ (λ x r post. search rules) in
-    let both = flowing_end (string_bytes c.text.out) (string_bytes c.push_str.new.self) _ c.eat_while-run.result.now c.text.after c.ends_in_space-after.result _ longest c.text.invariant.1 c.eat_while-run.utf8 c.eat_while-run.ensures.eaten c.in_default.ensures.0
-    (pushed_part _ _ _ _ c.eat_while-run.result.now c.in_ok-push_str.was c.push_str.ensures.bytes refl) c.ends_in_space-after.ensures c.text.invariant.2 c.text.invariant.3 in
+    let both = flowing_end (string_bytes c.text.out) (string_bytes c.push_str.new.self) _ c.eat_while-run.result.now
+    c.text.after c.ends_in_space-after.result _ longest c.text.invariant.1 c.eat_while-run.utf8
+    c.eat_while-run.ensures.eaten c.in_default.ensures.0
+    (pushed_part _ _ _ _ c.eat_while-run.result.now c.in_ok-push_str.was c.push_str.ensures.bytes refl)
+    c.ends_in_space-after.ensures c.text.invariant.2 c.text.invariant.3 in
     record { written = both.0; following = both.1 }
 
 pub text-smaller : goal.text-smaller
@@ -23,6 +26,9 @@ text-smaller c =
 pub text-preserved : goal.text-preserved
 text-preserved c =
     let longest : Longest goes_on c.text.scanner c.eat_while-run.new.self = c.eat_while-run.ensures.longest _ (λ x r post. search rules) in
-    let step = flowing_step (string_bytes c.text.out) (string_bytes c.push_str.new.self) (string_bytes c.write_break.new.out) _ c.eat_while-run.result.now c.text.after c.ends_in_space-after.result _ longest c.text.invariant.1 c.eat_while-run.utf8 c.eat_while-run.ensures.eaten c.in-Some.ensures
-    (pushed_part _ _ _ _ c.eat_while-run.result.now c.in_ok-push_str.was c.push_str.ensures.bytes refl) c.ends_in_space-after.ensures c.in_ok-write_break.ensures c.text.invariant.2 c.text.invariant.3 in
+    let step = flowing_step (string_bytes c.text.out) (string_bytes c.push_str.new.self)
+    (string_bytes c.write_break.new.out) _ c.eat_while-run.result.now c.text.after c.ends_in_space-after.result _
+    longest c.text.invariant.1 c.eat_while-run.utf8 c.eat_while-run.ensures.eaten c.in-Some.ensures
+    (pushed_part _ _ _ _ c.eat_while-run.result.now c.in_ok-push_str.was c.push_str.ensures.bytes refl)
+    c.ends_in_space-after.ensures c.in_ok-write_break.ensures c.text.invariant.2 c.text.invariant.3 in
     (step.0 ∙ c.text.invariant.0, step.1, step.2, step.3)

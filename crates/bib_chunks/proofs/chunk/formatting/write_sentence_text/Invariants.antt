@@ -10,7 +10,10 @@ abbrev pub invariant-text : goal.invariant-text
 invariant-text l =
     (l.scanner.text ≡ l.text)
     × IsUtf8 (ahead l.scanner)
-    × (string_bytes l.out ++ encode_utf8_all (sentence_case l.first (flowing l.after (chars (ahead l.scanner)))) ≡ string_bytes l.initial.out ++ encode_utf8_all (sentence_case l.fn.begins (flowing l.fn.space (chars l.text))))
+    ×
+    (string_bytes l.out ++ encode_utf8_all (sentence_case l.first (flowing l.after (chars (ahead l.scanner))))
+    ≡ string_bytes l.initial.out
+    ++ encode_utf8_all (sentence_case l.fn.begins (flowing l.fn.space (chars l.text))))
     × (ends_in_space l.after (flowing l.after (chars (ahead l.scanner))) ≡ ends_in_space l.fn.space (flowing l.fn.space (chars l.text)))
 
 abbrev pub decreases-text : goal.decreases-text

@@ -15,20 +15,30 @@ returns-then-is_verbatim c =
 
 pub returns-then-is_reserved : goal.returns-then-is_reserved
 returns-then-is_reserved c =
-    rw (spelled_reserved c.args.is_verbatim c.args.c (sym c.is_grouping.ensures ∙ c.if-is_grouping.false) c.if-is_verbatim.false (sym c.is_reserved.ensures ∙ c.if-is_reserved.true))
+    rw
+    (spelled_reserved c.args.is_verbatim c.args.c (sym c.is_grouping.ensures ∙ c.if-is_grouping.false)
+    c.if-is_verbatim.false (sym c.is_reserved.ensures ∙ c.if-is_reserved.true))
     c.write_hidden-then-is_reserved.ensures
 
 pub returns-then-c-eq126 : goal.returns-then-c-eq126
 returns-then-c-eq126 c =
-    rw (spelled_tilde c.args.is_verbatim c.args.c (sym c.is_grouping.ensures ∙ c.if-is_grouping.false) c.if-is_verbatim.false (sym c.is_reserved.ensures ∙ c.if-is_reserved.false) c.if-c-eq126.true)
+    rw
+    (spelled_tilde c.args.is_verbatim c.args.c (sym c.is_grouping.ensures ∙ c.if-is_grouping.false)
+    c.if-is_verbatim.false (sym c.is_reserved.ensures ∙ c.if-is_reserved.false) c.if-c-eq126.true)
     (pushed_chars _ _ _ _ (codes "\\textasciitilde{}") c.in_ok-push_str.was c.push_str.ensures.bytes tilde_bytes)
 
 pub returns-then-c-eq94 : goal.returns-then-c-eq94
 returns-then-c-eq94 c =
-    rw (spelled_circumflex c.args.is_verbatim c.args.c (sym c.is_grouping.ensures ∙ c.if-is_grouping.false) c.if-is_verbatim.false (sym c.is_reserved.ensures ∙ c.if-is_reserved.false) c.if-c-eq126.false c.if-c-eq94.true)
+    rw
+    (spelled_circumflex c.args.is_verbatim c.args.c (sym c.is_grouping.ensures ∙ c.if-is_grouping.false)
+    c.if-is_verbatim.false (sym c.is_reserved.ensures ∙ c.if-is_reserved.false) c.if-c-eq126.false
+    c.if-c-eq94.true)
     (pushed_chars _ _ _ _ (codes "\\textasciicircum{}") c.in_ok-push_str-2.was c.push_str-then-c-eq94.ensures.bytes circumflex_bytes)
 
 pub returns : goal.returns
 returns c =
-    rw (spelled_other c.args.is_verbatim c.args.c (sym c.is_grouping.ensures ∙ c.if-is_grouping.false) c.if-is_verbatim.false (sym c.is_reserved.ensures ∙ c.if-is_reserved.false) c.if-c-eq126.false c.if-c-eq94.false)
+    rw
+    (spelled_other c.args.is_verbatim c.args.c (sym c.is_grouping.ensures ∙ c.if-is_grouping.false)
+    c.if-is_verbatim.false (sym c.is_reserved.ensures ∙ c.if-is_reserved.false) c.if-c-eq126.false
+    c.if-c-eq94.false)
     (pushed_chars _ _ _ _ (c.args.c ∷ []) c.in_ok-push-2.was c.push-2.ensures.bytes (encode_one c.args.c))

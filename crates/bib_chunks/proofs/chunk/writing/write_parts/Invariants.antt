@@ -6,4 +6,5 @@ use Rattle.bib_chunks.proofs.chunk.writing.write_parts.Given as goal
 -- the output followed by the rest, written, is the whole value
 abbrev pub invariant-parts : goal.invariant-parts
 invariant-parts l =
-    string_bytes l.out ++ encode_utf8_all (written_chunks l.is_verbatim l.is_open (drop l.chunk-index l.chunks)) ≡ string_bytes l.initial.out ++ encode_utf8_all (written_chunks l.is_verbatim false l.chunks)
+    string_bytes l.out ++ encode_utf8_all (written_chunks l.is_verbatim l.is_open (drop l.chunk-index l.chunks))
+    ≡ string_bytes l.initial.out ++ encode_utf8_all (written_chunks l.is_verbatim false l.chunks)

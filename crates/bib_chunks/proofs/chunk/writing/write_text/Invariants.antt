@@ -10,7 +10,9 @@ abbrev pub invariant-text : goal.invariant-text
 invariant-text l =
     (l.scanner.text ≡ l.text)
     × IsUtf8 (ahead l.scanner)
-    × (string_bytes l.out ++ encode_utf8_all (spelling l.is_verbatim (chars (ahead l.scanner))) ≡ string_bytes l.initial.out ++ encode_utf8_all (spelling l.is_verbatim (chars l.text)))
+    ×
+    (string_bytes l.out ++ encode_utf8_all (spelling l.is_verbatim (chars (ahead l.scanner)))
+    ≡ string_bytes l.initial.out ++ encode_utf8_all (spelling l.is_verbatim (chars l.text)))
 
 abbrev pub decreases-text : goal.decreases-text
 decreases-text l = length l.scanner.text - l.scanner.at

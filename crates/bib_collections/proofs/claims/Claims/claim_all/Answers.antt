@@ -17,7 +17,8 @@ names-preserved c =
       claims = (
         so_far.0 ++ name,
         so_far.1 ∙ ap (λ l. so_far.0 ++ l) c.in-Some.ensures.steps.0 ∙ sym (append_assoc so_far.0 name (into_iter_items c.next.new.self)),
-        c.in_ok-claim.ensures.claimed ∙ ap (λ m. insert m c.in-Some.name c.args.index) so_far.2 ∙ sym (claimed_next c.args.self.now c.args.index so_far.0 c.in-Some.name),
+        c.in_ok-claim.ensures.claimed ∙ ap (λ m. insert m c.in-Some.name c.args.index) so_far.2
+            ∙ sym (claimed_next c.args.self.now c.args.index so_far.0 c.in-Some.name),
       );
     }
 
@@ -27,5 +28,8 @@ returns-in_err-claim-clause-refused c =
     let p = err_from_is_err_and c.from_residual.result c.from_residual.ensures.1 in
     rw (p.1) (
       length so_far.0,
-      c.in_err-claim.ensures.refused ∙ so_far.2 ∙ ap (λ l. claimed c.args.self.now (claims_for l c.args.index)) (sym (take-append_seam so_far.0 (into_iter_items c.names.name-iterator)) ∙ ap (λ l. take (length so_far.0) l) (sym so_far.1)),
+      c.in_err-claim.ensures.refused ∙ so_far.2
+          ∙ ap (λ l. claimed c.args.self.now (claims_for l c.args.index))
+          (sym (take-append_seam so_far.0 (into_iter_items c.names.name-iterator))
+          ∙ ap (λ l. take (length so_far.0) l) (sym so_far.1)),
     )

@@ -8,5 +8,6 @@ abbrev pub invariant-names : goal.invariant-names
 invariant-names l = record {
   can_next : (goal.iterator-names).can_next l.name-iterator;
   is_finite : (goal.iterator-names).is_finite l.name-iterator;
-  claims : (done : List (List ℕ)) × (l.fn.names.items ≡ done ++ into_iter_items l.name-iterator) × (l.self ≡ claimed l.fn.self (claims_for done l.index));
+  claims : (done : List (List ℕ)) × (l.fn.names.items ≡ done ++ into_iter_items l.name-iterator)
+      × (l.self ≡ claimed l.fn.self (claims_for done l.index));
 }

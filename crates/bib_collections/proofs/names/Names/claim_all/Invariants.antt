@@ -10,6 +10,7 @@ invariant-names l = record {
   can_next : (goal.iterator-names).can_next l.name-iterator;
   is_finite : (goal.iterator-names).is_finite l.name-iterator;
   sorted : IsSorted l.self-inside.pairs.items;
-  claims : claimed (map_of l.self-inside.pairs.items) (claims_for (into_iter_items l.name-iterator) l.index) ≡ claimed l.fn.self (claims_for l.fn.names.items l.index);
+  claims : claimed (map_of l.self-inside.pairs.items) (claims_for (into_iter_items l.name-iterator) l.index)
+      ≡ claimed l.fn.self (claims_for l.fn.names.items l.index);
   room : vec_len l.self-inside.pairs + length (into_iter_items l.name-iterator) ≤ vec_capacity l.self-inside.pairs;
 }

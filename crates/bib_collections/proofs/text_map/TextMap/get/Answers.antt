@@ -16,4 +16,5 @@ returns-in-Err g c =
 
 pub returns-then-len-le-FEW : goal.returns-then-len-le-FEW
 returns-then-len-le-FEW g c =
-    c.find_linear.ensures ∙ ap (map.find by_bytes c.args.name.now) c.as_slice.ensures.value ∙ sym (get_found _ _ c.self.view_is c.self.invariant _)
+    c.find_linear.ensures ∙ ap (map.find by_bytes c.args.name.now) c.as_slice.ensures.value
+    ∙ sym (get_found _ _ c.self.view_is c.self.invariant _)

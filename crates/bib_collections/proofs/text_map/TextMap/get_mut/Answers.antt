@@ -10,8 +10,15 @@ invariant_of-self-lent g c w =
 
 pub returns-in-Ok : goal.returns-in-Ok
 returns-in-Ok g c =
-    let at : IsIndexOf c.self.inside.pairs.items c.args.name.now c.in-Ok.index = rw (← c.as_slice.ensures.value) c.in-Ok.ensures in
-    (lent _ _ _ (λ w. set_written c.args.self.now c.self.inside.pairs.items c.self.view_is c.self.invariant c.args.name.now c.in-Ok.index at c.index_mut.result.now c.index_mut.ensures.value w), sym (get_at _ _ c.self.view_is c.self.invariant _ _ at c.index_mut.result.now ∙ ap (λ p. Some p.1) (sym c.index_mut.ensures.value)))
+    let at : IsIndexOf c.self.inside.pairs.items c.args.name.now c.in-Ok.index = rw (← c.as_slice.ensures.value) c.in-Ok.ensures in (
+      lent _ _ _
+          (λ w.
+          set_written c.args.self.now c.self.inside.pairs.items c.self.view_is c.self.invariant c.args.name.now
+          c.in-Ok.index at c.index_mut.result.now c.index_mut.ensures.value w),
+      sym
+          (get_at _ _ c.self.view_is c.self.invariant _ _ at c.index_mut.result.now
+          ∙ ap (λ p. Some p.1) (sym c.index_mut.ensures.value)),
+    )
 
 pub returns-in-Err : goal.returns-in-Err
 returns-in-Err g c =

@@ -15,6 +15,10 @@ invariant_of-self g c =
 
 pub returns : goal.returns
 returns g c =
-    let sorted = is_true _ (sorted-retained _ (λ s x b t y called. search rules) _ _ _ _ c.retain_mut.ensures.filtered (holds _ c.self.invariant)) in
+    let sorted =
+    is_true _
+    (sorted-retained _ (λ s x b t y called. search rules) _ _ _ _ c.retain_mut.ensures.filtered
+    (holds _ c.self.invariant)) in
     rw (entries_are _ _ c.self.view_is c.self.invariant, entries_are _ _ refl sorted)
-    (pairs_retained _ (λ s x b t y called. search rules) (CalledAtPair g.F.FnMut) (λ s. s.0.now) (λ s x b t y called. search rules) _ _ _ c.retain_mut.ensures.filtered)
+    (pairs_retained _ (λ s x b t y called. search rules) (CalledAtPair g.F.FnMut) (λ s. s.0.now)
+    (λ s x b t y called. search rules) _ _ _ c.retain_mut.ensures.filtered)

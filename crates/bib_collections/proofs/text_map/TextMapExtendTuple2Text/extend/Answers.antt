@@ -7,7 +7,10 @@ use Rattle.bib_collections.proofs.text_map.TextMapExtendTuple2Text.extend.Goals 
 
 pub pairs-init : goal.pairs-init
 pairs-init g c =
-    let asked : (s : g.row.U-IntoIter.Denot) → g.U.IntoIterator.into_iter_gives c.args.iter s → g.U.IntoIter.Iterator.can_next s × EndsFrom g.U.IntoIter.Iterator.remaining s × it.Along g.U.IntoIter.Iterator.next_gives s (λ _. Unit {0}) = search rules in
+    let asked : (s : g.row.U-IntoIter.Denot) → g.U.IntoIterator.into_iter_gives c.args.iter s
+    → g.U.IntoIter.Iterator.can_next s × EndsFrom g.U.IntoIter.Iterator.remaining s
+    × it.Along g.U.IntoIter.Iterator.next_gives s (λ _. Unit {0}) =
+    search rules in
     let made = asked c.into_iter-name-iterator.result c.into_iter-name-iterator.ensures.into_iter_gives in
     it.begun made.0 made.1 (sym (of_its_entries c.args.self.now))
 

@@ -19,19 +19,22 @@ pub returns-then-done-clause-read : goal.returns-then-done-clause-read
 returns-then-done-clause-read c whole base read =
     let all = c.eat_while-run.ensures.longest (is_ordinary false) (λ x r post. search rules) in
     let ran = read_run (chars c.eat_while-run.result.now) read c.eat_while-run.ensures.passed.left all.0
-    (pushed_chars _ _ _ _ (chars c.eat_while-run.result.now) c.in_ok-push_str.was c.push_str.ensures.bytes (sym (encodes-chars _ c.eat_while-run.utf8))) in
+    (pushed_chars _ _ _ _ (chars c.eat_while-run.result.now) c.in_ok-push_str.was c.push_str.ensures.bytes
+    (sym (encodes-chars _ c.eat_while-run.utf8))) in
     (rw c.if-done.ensures at ran, c.if-done.ensures)
 
 pub returns-in_default-clause-refused : goal.returns-in_default-clause-refused
 returns-in_default-clause-refused c whole base read =
     let all = c.eat_while-run.ensures.longest (is_ordinary false) (λ x r post. search rules) in
     let ran = read_run (chars c.eat_while-run.result.now) read c.eat_while-run.ensures.passed.left all.0
-    (pushed_chars _ _ _ _ (chars c.eat_while-run.result.now) c.in_ok-push_str.was c.push_str.ensures.bytes (sym (encodes-chars _ c.eat_while-run.utf8))) in
+    (pushed_chars _ _ _ _ (chars c.eat_while-run.result.now) c.in_ok-push_str.was c.push_str.ensures.bytes
+    (sym (encodes-chars _ c.eat_while-run.utf8))) in
     inr (fails_on ran (c.in_default.ensures.fails c.if-done.ensures) c.ended.ensures.kind)
 
 pub returns-clause-kept : goal.returns-clause-kept
 returns-clause-kept c =
-    let within : c.eat_while-run.new.self.at ≤ length c.eat_while-run.new.self.text = passes_within c.eat_while-run.ensures.passed c.requires.right.within in
+    let within : c.eat_while-run.new.self.at ≤ length c.eat_while-run.new.self.text =
+    passes_within c.eat_while-run.ensures.passed c.requires.right.within in
     let inside : c.eat_unit.new.s.at ≤ length c.eat_unit.new.s.text = rw (← c.cursor.ensures.place) c.cursor.ensures.boundary.0 in
     let next = unit_place c.in-Some.ensures.found c.in-Some.ensures.same c.cursor-start.ensures.utf8 c.cursor.ensures.utf8 within inside in
     let ahead : c.args.self.now.s.at ≤ c.eat_while-run.new.self.at = passes_ahead c.eat_while-run.ensures.passed in
@@ -46,7 +49,8 @@ returns-clause-kept c =
 
 pub returns-clause-right : goal.returns-clause-right
 returns-clause-right c =
-    let within : c.eat_while-run.new.self.at ≤ length c.eat_while-run.new.self.text = passes_within c.eat_while-run.ensures.passed c.requires.right.within in
+    let within : c.eat_while-run.new.self.at ≤ length c.eat_while-run.new.self.text =
+    passes_within c.eat_while-run.ensures.passed c.requires.right.within in
     let inside : c.eat_unit.new.s.at ≤ length c.eat_unit.new.s.text = rw (← c.cursor.ensures.place) c.cursor.ensures.boundary.0 in
     let next = unit_place c.in-Some.ensures.found c.in-Some.ensures.same c.cursor-start.ensures.utf8 c.cursor.ensures.utf8 within inside in
     let ahead : c.args.self.now.s.at ≤ c.eat_while-run.new.self.at = passes_ahead c.eat_while-run.ensures.passed in
@@ -62,42 +66,54 @@ pub returns-clause-read : goal.returns-clause-read
 returns-clause-read c whole base read =
     let all = c.eat_while-run.ensures.longest (is_ordinary false) (λ x r post. search rules) in
     let ran = read_run (chars c.eat_while-run.result.now) read c.eat_while-run.ensures.passed.left all.0
-    (pushed_chars _ _ _ _ (chars c.eat_while-run.result.now) c.in_ok-push_str.was c.push_str.ensures.bytes (sym (encodes-chars _ c.eat_while-run.utf8))) in
+    (pushed_chars _ _ _ _ (chars c.eat_while-run.result.now) c.in_ok-push_str.was c.push_str.ensures.bytes
+    (sym (encodes-chars _ c.eat_while-run.utf8))) in
     c.in_ok-next.ensures.read whole base (left c.eat_while-run.new.self) c.in-Some.ensures.found ran
 
 pub returns-clause-shorter : goal.returns-clause-shorter
 returns-clause-shorter c =
     let ahead : c.args.self.now.s.at ≤ c.eat_while-run.new.self.at = passes_ahead c.eat_while-run.ensures.passed in
     let fewer : length (left c.eat_while-run.new.self) ≤ length (left c.args.self.now.s) = passes_shorter c.eat_while-run.ensures.passed in
-    let stands = subst (λ t. IsArgumentBetween t c.eat_while-run.new.self.at c.in-Some.unit c.eat_unit.new.s.at) (sym c.in-Some.ensures.same) c.in-Some.ensures.inside in
-    shorter_wider c.in_ok-next.next _ _ _ _ _ _ c.take.new.self.s (c.in_ok-next.ensures.shorter (left c.eat_while-run.new.self) c.eat_while-run.new.self.at c.in-Some.ensures.found stands) fewer ahead (c.in-Some.ensures.same ∙ c.eat_while-run.ensures.passed.same)
+    let stands =
+    subst (λ t. IsArgumentBetween t c.eat_while-run.new.self.at c.in-Some.unit c.eat_unit.new.s.at)
+    (sym c.in-Some.ensures.same) c.in-Some.ensures.inside in
+    shorter_wider c.in_ok-next.next _ _ _ _ _ _ c.take.new.self.s
+    (c.in_ok-next.ensures.shorter (left c.eat_while-run.new.self) c.eat_while-run.new.self.at
+    c.in-Some.ensures.found stands) fewer ahead (c.in-Some.ensures.same ∙ c.eat_while-run.ensures.passed.same)
 
 pub returns-in_err-next-clause-refused : goal.returns-in_err-next-clause-refused
 returns-in_err-next-clause-refused c whole base read =
     let all = c.eat_while-run.ensures.longest (is_ordinary false) (λ x r post. search rules) in
     let ran = read_run (chars c.eat_while-run.result.now) read c.eat_while-run.ensures.passed.left all.0
-    (pushed_chars _ _ _ _ (chars c.eat_while-run.result.now) c.in_ok-push_str.was c.push_str.ensures.bytes (sym (encodes-chars _ c.eat_while-run.utf8))) in
+    (pushed_chars _ _ _ _ (chars c.eat_while-run.result.now) c.in_ok-push_str.was c.push_str.ensures.bytes
+    (sym (encodes-chars _ c.eat_while-run.utf8))) in
     let p = err_from_is_err_and c.from_residual-in_err-next.result c.from_residual-in_err-next.ensures.1 in
     rw (p.1, p.2) (c.in_err-next.ensures.refused whole base (left c.eat_while-run.new.self) c.in-Some.ensures.found ran)
 
 pub returns-in_err-next-clause-within : goal.returns-in_err-next-clause-within
 returns-in_err-next-clause-within c fits =
-    let within : c.eat_while-run.new.self.at ≤ length c.eat_while-run.new.self.text = passes_within c.eat_while-run.ensures.passed c.requires.right.within in
+    let within : c.eat_while-run.new.self.at ≤ length c.eat_while-run.new.self.text =
+    passes_within c.eat_while-run.ensures.passed c.requires.right.within in
     let inside : c.eat_unit.new.s.at ≤ length c.eat_unit.new.s.text = rw (← c.cursor.ensures.place) c.cursor.ensures.boundary.0 in
     let next = unit_place c.in-Some.ensures.found c.in-Some.ensures.same c.cursor-start.ensures.utf8 c.cursor.ensures.utf8 within inside in
     let ahead : c.args.self.now.s.at ≤ c.eat_while-run.new.self.at = passes_ahead c.eat_while-run.ensures.passed in
     let more : c.eat_while-run.new.self.at + 1 ≤ c.eat_unit.new.s.at = unit_ahead _ _ _ c.in-Some.ensures.found next in
-    let same : length c.eat_unit.new.s.text ≡ length c.args.self.now.s.text = ap length (c.in-Some.ensures.same ∙ c.eat_while-run.ensures.passed.same) in
+    let same : length c.eat_unit.new.s.text ≡ length c.args.self.now.s.text =
+    ap length (c.in-Some.ensures.same ∙ c.eat_while-run.ensures.passed.same) in
     let start = c.saturating_add-end.ensures in
     let following = c.saturating_add-following.ensures in
     let at = c.cursor-start.ensures.place in
     let at_end = c.cursor.ensures.place in
     let p = err_from_is_err_and c.from_residual-in_err-next.result c.from_residual-in_err-next.ensures.1 in
-    rw (p.1, p.2) (stays_wider (c.in_err-next.ensures.within (omega (arith, start, following, at, at_end, more))) (omega (arith, start, at, ahead, fits, within, inside, same)) (omega (arith, following, at_end, inside, same, fits)))
+    rw (p.1, p.2)
+    (stays_wider (c.in_err-next.ensures.within (omega (arith, start, following, at, at_end, more)))
+    (omega (arith, start, at, ahead, fits, within, inside, same))
+    (omega (arith, following, at_end, inside, same, fits)))
 
 pub returns-in_default-clause-within : goal.returns-in_default-clause-within
 returns-in_default-clause-within c fits =
-    let same : length c.eat_unit.new.s.text ≡ length c.args.self.now.s.text = ap length (c.in_default.ensures.same ∙ c.eat_while-run.ensures.passed.same) in
+    let same : length c.eat_unit.new.s.text ≡ length c.args.self.now.s.text =
+    ap length (c.in_default.ensures.same ∙ c.eat_while-run.ensures.passed.same) in
     let size = c.len.ensures in
     let place = c.saturating_add.ensures in
     let within : c.args.self.now.s.at ≤ length c.args.self.now.s.text = c.requires.right.within in

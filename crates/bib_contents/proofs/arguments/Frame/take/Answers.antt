@@ -8,8 +8,11 @@ use Rattle.bib_contents.proofs.arguments.Frame.take.Goals as goal
 use Rattle.bib_contents.proofs.arguments.Frame.take.Goals.{in-Shown+in_ok-write_unit-in-Shown, in-Formula+in_ok-write_math-in-Formula, in-Opening, in-Closing+else-self-eq0}
 
 pub returns-in-Applied-clause-shorter : goal.returns-in-Applied-clause-shorter
-returns-in-Applied-clause-shorter c before low one stands =
-    (applied_shorter (chars c.in-Applied.name.now) (chars c.in-Applied.field-1.now) (left c.in-Applied.inside) before (left c.args.self.now.s) (rw c.in-Applied.is at one), rw c.in-Applied.is at stands)
+returns-in-Applied-clause-shorter c before low one stands = (
+  applied_shorter (chars c.in-Applied.name.now) (chars c.in-Applied.field-1.now) (left c.in-Applied.inside) before
+      (left c.args.self.now.s) (rw c.in-Applied.is at one),
+  rw c.in-Applied.is at stands,
+)
 
 pub returns-then-self-eq0-clause-refused : goal.returns-then-self-eq0-clause-refused
 returns-then-self-eq0-clause-refused c whole base before one read =
@@ -17,8 +20,11 @@ returns-then-self-eq0-clause-refused c whole base before one read =
 
 pub returns-clause-read : goal.returns-clause-read
 returns-clause-read c whole base before one read = elim c.match-unit.branch [
-  | in-Shown+in_ok-write_unit-in-Shown w ↦ rw (w.text-is, w.self-is) (read_text w.in-Shown.shown read (rw w.in-Shown.is at one) (rw w.is_flat_here.ensures at w.in_ok-write_unit-in-Shown.ensures))
-  | in-Formula+in_ok-write_math-in-Formula w ↦ rw (w.text-is, w.self-is) (read_math (chars w.in-Formula.math.now) read (rw w.in-Formula.is at one) w.in_ok-write_math-in-Formula.ensures)
+  | in-Shown+in_ok-write_unit-in-Shown w ↦ rw (w.text-is, w.self-is)
+      (read_text w.in-Shown.shown read (rw w.in-Shown.is at one)
+      (rw w.is_flat_here.ensures at w.in_ok-write_unit-in-Shown.ensures))
+  | in-Formula+in_ok-write_math-in-Formula w ↦ rw (w.text-is, w.self-is)
+      (read_math (chars w.in-Formula.math.now) read (rw w.in-Formula.is at one) w.in_ok-write_math-in-Formula.ensures)
   | in-Opening w ↦ rw (w.text-is, w.self-is) (read_opening read (rw w.in-Opening.is at one) refl)
   | in-Closing+else-self-eq0 w ↦ rw (w.text-is, w.self-is) (read_closing read (rw w.in-Closing.is at one) w.if-self-eq0.false refl)
 ]

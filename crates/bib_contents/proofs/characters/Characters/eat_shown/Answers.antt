@@ -10,7 +10,8 @@ pub run-init : goal.run-init
 run-init c = (
   omega arith,
   rw c.self.invariant.1 c.cursor-start.ensures.boundary,
-  itself_start c.args.is_verbatim c.self.inside.text.now c.cursor-start.result (rw (c.self.invariant.1, c.cursor-start.ensures.place) c.self.invariant.2),
+  itself_start c.args.is_verbatim c.self.inside.text.now c.cursor-start.result
+      (rw (c.self.invariant.1, c.cursor-start.ensures.place) c.self.invariant.2),
 )
 
 pub is_alone-requires : goal.is_alone-requires
@@ -25,7 +26,9 @@ run-preserved-then-byte-lt128 c =
     let bytes = c.as_bytes-bytes.ensures.value in
     let within : c.run.at < length c.self.inside.text.now = rw bytes at c.run-test.true in
     let ascii : get_or c.self.inside.text.now c.run.at 0 < 128 = rw bytes at c.if-byte-lt128.true in
-    let char : CharAt (place c.self.inside.text.now c.run.at) (get_or c.as_bytes-bytes.result.now c.run.at 0) (place c.self.inside.text.now (c.run.at + 1)) = rw bytes (ascii_here c.self.inside.text.now c.run.at within ascii) in (
+    let char : CharAt (place c.self.inside.text.now c.run.at) (get_or c.as_bytes-bytes.result.now c.run.at 0)
+    (place c.self.inside.text.now (c.run.at + 1)) =
+    rw bytes (ascii_here c.self.inside.text.now c.run.at within ascii) in (
       omega (arith, c.run.invariant.0),
       IsCharBoundary-after_ascii _ _ c.self.invariant.0 within ascii,
       elim c.if-is_ordinary.branch [
@@ -39,10 +42,13 @@ run-preserved c =
     let width = c.len_utf8.ensures.value in (
       omega (arith, c.run.invariant.0),
       rw width (boundary_after _ _ refl c.self.invariant.0 c.run.invariant.1 c.in-Some.ensures.1),
-      rw width (itself_char _ _ c.run.invariant.2 c.in-Some.ensures.1 (sym c.is_ordinary-else-byte-lt128.ensures ∙ c.if-not-is_ordinary.false)),
+      rw width
+          (itself_char _ _ c.run.invariant.2 c.in-Some.ensures.1
+          (sym c.is_ordinary-else-byte-lt128.ensures ∙ c.if-not-is_ordinary.false)),
     )
 
 pub returns : goal.returns
 returns c =
-    rw (← c.self.view_is) (reads_moved c.self.inside.text.now c.cursor-start.result c.run.at c.self.inside.scanner c.jump.new.self c.self.invariant.1 c.cursor-start.ensures.place c.jump.ensures
+    rw (← c.self.view_is) (reads_moved c.self.inside.text.now c.cursor-start.result c.run.at c.self.inside.scanner
+    c.jump.new.self c.self.invariant.1 c.cursor-start.ensures.place c.jump.ensures
     (itself_reads c.range.result.now c.run.invariant.2 c.range.utf8 c.range.ensures.value))

@@ -12,9 +12,13 @@ truncate-requires c within =
 
 pub returns-in_ok-push_str-in-Symbol : goal.returns-in_ok-push_str-in-Symbol
 returns-in_ok-push_str-in-Symbol c base name inside size is =
-    rw c.in-Symbol.is (symbol_end base inside _ _ _ c.in-Symbol.text.now (rw c.in-Symbol.is at size) (rw c.in-Symbol.is at is) c.truncate.ensures.bytes
-    (pushed_part _ _ _ _ c.in-Symbol.text.now c.in_ok-push_str-in-Symbol.was c.push_str.ensures.bytes refl) (rw c.in-Symbol.is at c.requires.fit))
+    rw c.in-Symbol.is (symbol_end base inside _ _ _ c.in-Symbol.text.now (rw c.in-Symbol.is at size)
+    (rw c.in-Symbol.is at is) c.truncate.ensures.bytes
+    (pushed_part _ _ _ _ c.in-Symbol.text.now c.in_ok-push_str-in-Symbol.was c.push_str.ensures.bytes refl)
+    (rw c.in-Symbol.is at c.requires.fit))
 
 pub returns-in_ok-push-in-Unknown : goal.returns-in_ok-push-in-Unknown
 returns-in_ok-push-in-Unknown c base name inside size is =
-    rw c.in-Unknown.is (unknown_end base name inside _ _ (rw c.in-Unknown.is at is) (pushed_chars _ _ _ _ (125 ∷ []) c.in_ok-push-in-Unknown.was c.push.ensures.bytes (encode_one 125)))
+    rw c.in-Unknown.is
+    (unknown_end base name inside _ _ (rw c.in-Unknown.is at is)
+    (pushed_chars _ _ _ _ (125 ∷ []) c.in_ok-push-in-Unknown.was c.push.ensures.bytes (encode_one 125)))

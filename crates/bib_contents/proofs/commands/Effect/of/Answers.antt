@@ -4,7 +4,8 @@ use Rattle.bib_contents.proofs.CommandFacts.{mark_stays, stroke_stays, given_acc
 use Rattle.bib_contents.proofs.commands.Effect.of.Goals as goal
 
 pub returns-in-Some-clause-made : goal.returns-in-Some-clause-made
-returns-in-Some-clause-made c argument = given_accent (chars c.args.name.now) (Some argument) c.in-Some.mark (sym c.accent_mark.ensures ∙ c.in-Some.is)
+returns-in-Some-clause-made c argument =
+    given_accent (chars c.args.name.now) (Some argument) c.in-Some.mark (sym c.accent_mark.ensures ∙ c.in-Some.is)
 
 pub returns-in-Some-clause-fit : goal.returns-in-Some-clause-fit
 returns-in-Some-clause-fit c = mark_stays (chars c.args.name.now) c.in-Some.mark (sym c.accent_mark.ensures ∙ c.in-Some.is)
@@ -22,7 +23,8 @@ returns-in-Some-symbol-clause-fit c =
 
 pub returns-in-o-clause-made : goal.returns-in-o-clause-made
 returns-in-o-clause-made c argument =
-    given_other (chars c.args.name.now) (Some argument) (sym c.accent_mark.ensures ∙ c.in_default.is) (symbol_none _ c.in_default-symbol.ensures)
+    given_other (chars c.args.name.now) (Some argument) (sym c.accent_mark.ensures ∙ c.in_default.is)
+    (symbol_none _ c.in_default-symbol.ensures)
     ∙ other_o_with c.args.name.now argument c.in-o.is
 
 pub returns-in-o-clause-fit : goal.returns-in-o-clause-fit
@@ -30,11 +32,13 @@ returns-in-o-clause-fit c = stroke_stays
 
 pub returns-in-copyright-clause-made : goal.returns-in-copyright-clause-made
 returns-in-copyright-clause-made c argument =
-    given_other (chars c.args.name.now) (Some argument) (sym c.accent_mark.ensures ∙ c.in_default.is) (symbol_none _ c.in_default-symbol.ensures)
+    given_other (chars c.args.name.now) (Some argument) (sym c.accent_mark.ensures ∙ c.in_default.is)
+    (symbol_none _ c.in_default-symbol.ensures)
     ∙ other_copyright_with c.args.name.now argument c.in-copyright.is
 
 pub returns-in_default-name-clause-made : goal.returns-in_default-name-clause-made
 returns-in_default-name-clause-made c argument =
-    given_other (chars c.args.name.now) (Some argument) (sym c.accent_mark.ensures ∙ c.in_default.is) (symbol_none _ c.in_default-symbol.ensures)
+    given_other (chars c.args.name.now) (Some argument) (sym c.accent_mark.ensures ∙ c.in_default.is)
+    (symbol_none _ c.in_default-symbol.ensures)
     ∙ other_unknown_with c.args.name.now argument c.utf8.name c.in_default-name.not-o c.in_default-name.not-copyright
     ∙ unknown_shape (chars c.args.name.now) argument

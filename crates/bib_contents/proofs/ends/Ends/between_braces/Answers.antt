@@ -10,22 +10,30 @@ eat_while-requires-clause-is_test c = (is_no_brace, λ x r post. search rules)
 pub braces-init : goal.braces-init
 braces-init c =
     let within : c.args.s.at ≤ length c.args.s.text = rw (← c.cursor-start.ensures.place) c.cursor-start.ensures.boundary.0 in
-    read_none refl c.cursor-start.ensures.place within (c.in_ok-places.ensures.items_if_clones_equal (λ y same. same) ∙ ap (λ n. replicate (n - c.cursor-start.result) 0) c.len.ensures) c.new-open.ensures.items
+    read_none refl c.cursor-start.ensures.place within
+    (c.in_ok-places.ensures.items_if_clones_equal (λ y same. same)
+    ∙ ap (λ n. replicate (n - c.cursor-start.result) 0) c.len.ensures) c.new-open.ensures.items
 
 pub braces-preserved-in-Continue-branch-2 : goal.braces-preserved-in-Continue-branch-2
 braces-preserved-in-Continue-branch-2 c =
     let run = c.eat_while.ensures.longest is_no_brace (λ x r post. search rules) in
     read_opened c.braces.invariant c.eat_while.ensures.passed run.0 c.in-Some.ensures c.if-brace-eq123.true
-    (reversed_push c.push.new.self.items c.braces.open.items c.cursor.result c.in_ok-push.ensures.items ∙ ap (λ n. n ∷ reverse c.braces.open.items) c.cursor.ensures.place)
+    (reversed_push c.push.new.self.items c.braces.open.items c.cursor.result c.in_ok-push.ensures.items
+    ∙ ap (λ n. n ∷ reverse c.braces.open.items) c.cursor.ensures.place)
 
 pub index_mut-requires : goal.index_mut-requires
 index_mut-requires c =
     let run = c.eat_while.ensures.longest is_no_brace (λ x r post. search rules) in
-    let closed = read_closed {rest = c.pop.new.self.items} c.braces.invariant c.eat_while.ensures.passed run.0 run.1 c.in-Some.ensures c.if-brace-eq123.false (reversed_push c.braces.open.items c.pop.new.self.items c.in-Some-pop.begin c.in-Some-pop.ensures.items) in
-    let inside : c.eat.new.self.at ≤ length c.eat.new.self.text = passes_within c.in-Some.ensures (passes_within c.eat_while.ensures.passed c.braces.invariant.within) in
+    let closed =
+    read_closed {rest = c.pop.new.self.items} c.braces.invariant c.eat_while.ensures.passed run.0 run.1
+    c.in-Some.ensures c.if-brace-eq123.false
+    (reversed_push c.braces.open.items c.pop.new.self.items c.in-Some-pop.begin c.in-Some-pop.ensures.items) in
+    let inside : c.eat.new.self.at ≤ length c.eat.new.self.text =
+    passes_within c.in-Some.ensures (passes_within c.eat_while.ensures.passed c.braces.invariant.within) in
     let ahead = passes_ahead c.eat_while.ensures.passed in
     let more = passes_one c.in-Some.ensures in
-    let same : length c.eat.new.self.text ≡ length c.args.s.text = ap length (c.in-Some.ensures.same ∙ c.eat_while.ensures.passed.same ∙ c.braces.invariant.same) in
+    let same : length c.eat.new.self.text ≡ length c.args.s.text =
+    ap length (c.in-Some.ensures.same ∙ c.eat_while.ensures.passed.same ∙ c.braces.invariant.same) in
     let low : c.cursor-start.result ≤ c.in-Some-pop.begin = closed.0 in
     let high : c.in-Some-pop.begin ≤ c.braces.s.at = closed.1 in
     let size : length c.braces.places.items + c.cursor-start.result ≡ length c.args.s.text = c.braces.invariant.size in
@@ -34,17 +42,25 @@ index_mut-requires c =
 pub overflow_sub-begin : goal.overflow_sub-begin
 overflow_sub-begin c =
     let run = c.eat_while.ensures.longest is_no_brace (λ x r post. search rules) in
-    let closed = read_closed {rest = c.pop.new.self.items} c.braces.invariant c.eat_while.ensures.passed run.0 run.1 c.in-Some.ensures c.if-brace-eq123.false (reversed_push c.braces.open.items c.pop.new.self.items c.in-Some-pop.begin c.in-Some-pop.ensures.items) in
+    let closed =
+    read_closed {rest = c.pop.new.self.items} c.braces.invariant c.eat_while.ensures.passed run.0 run.1
+    c.in-Some.ensures c.if-brace-eq123.false
+    (reversed_push c.braces.open.items c.pop.new.self.items c.in-Some-pop.begin c.in-Some-pop.ensures.items) in
     closed.0
 
 pub braces-preserved-in-Some-pop : goal.braces-preserved-in-Some-pop
 braces-preserved-in-Some-pop c =
     let run = c.eat_while.ensures.longest is_no_brace (λ x r post. search rules) in
-    let closed = read_closed {rest = c.pop.new.self.items} c.braces.invariant c.eat_while.ensures.passed run.0 run.1 c.in-Some.ensures c.if-brace-eq123.false (reversed_push c.braces.open.items c.pop.new.self.items c.in-Some-pop.begin c.in-Some-pop.ensures.items) in
-    let inside : c.eat.new.self.at ≤ length c.eat.new.self.text = passes_within c.in-Some.ensures (passes_within c.eat_while.ensures.passed c.braces.invariant.within) in
+    let closed =
+    read_closed {rest = c.pop.new.self.items} c.braces.invariant c.eat_while.ensures.passed run.0 run.1
+    c.in-Some.ensures c.if-brace-eq123.false
+    (reversed_push c.braces.open.items c.pop.new.self.items c.in-Some-pop.begin c.in-Some-pop.ensures.items) in
+    let inside : c.eat.new.self.at ≤ length c.eat.new.self.text =
+    passes_within c.in-Some.ensures (passes_within c.eat_while.ensures.passed c.braces.invariant.within) in
     let ahead = passes_ahead c.eat_while.ensures.passed in
     let more = passes_one c.in-Some.ensures in
-    let same : length c.eat.new.self.text ≡ length c.args.s.text = ap length (c.in-Some.ensures.same ∙ c.eat_while.ensures.passed.same ∙ c.braces.invariant.same) in
+    let same : length c.eat.new.self.text ≡ length c.args.s.text =
+    ap length (c.in-Some.ensures.same ∙ c.eat_while.ensures.passed.same ∙ c.braces.invariant.same) in
     let low : c.cursor-start.result ≤ c.in-Some-pop.begin = closed.0 in
     let high : c.in-Some-pop.begin ≤ c.braces.s.at = closed.1 in
     let size : length c.braces.places.items + c.cursor-start.result ≡ length c.args.s.text = c.braces.invariant.size in
@@ -53,4 +69,5 @@ braces-preserved-in-Some-pop c =
 pub braces-preserved : goal.braces-preserved
 braces-preserved c =
     let none = no_elements c.braces.open.items (omega (arith, c.in_default-pop.ensures.cases.0, c.braces.open.ok.0)) in
-    read_alone c.braces.invariant c.eat_while.ensures.passed c.in-Some.ensures (sym (append-nil c.pop.new.self.items) ∙ sym c.in_default-pop.ensures.items ∙ none)
+    read_alone c.braces.invariant c.eat_while.ensures.passed c.in-Some.ensures
+    (sym (append-nil c.pop.new.self.items) ∙ sym c.in_default-pop.ensures.items ∙ none)

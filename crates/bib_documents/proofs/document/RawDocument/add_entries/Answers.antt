@@ -14,8 +14,16 @@ returns-clause-added c =
     let seen : d ≡ c.args.self.now = c.self.view_is in
     let other_seen : other ≡ c.args.more.now = c.more.view_is in
     let fresh : SharesNoKey d other =
-    subst (λ es. AllByRecursion (λ e. first_position (is_keyed e.key.text) (map entry_reading_of c.self.inside.raw.entries.items) ≡ None) (map entry_reading_of es)) c.deref-2.ensures.value
-    (subst (λ es. AllByRecursion (λ e. first_position (is_keyed e.key.text) (map entry_reading_of es) ≡ None) (map entry_reading_of c.deref-2.result.now)) c.deref.ensures.value (on_no _ _ c.in_ok-shares_key.field-0 c.if-branch.false c.in_ok-shares_key.ensures)) in
+    subst
+    (λ es.
+    AllByRecursion
+    (λ e. first_position (is_keyed e.key.text) (map entry_reading_of c.self.inside.raw.entries.items) ≡ None)
+    (map entry_reading_of es)) c.deref-2.ensures.value
+    (subst
+    (λ es.
+    AllByRecursion (λ e. first_position (is_keyed e.key.text) (map entry_reading_of es) ≡ None)
+    (map entry_reading_of c.deref-2.result.now)) c.deref.ensures.value
+    (on_no _ _ c.in_ok-shares_key.field-0 c.if-branch.false c.in_ok-shares_key.ensures)) in
     let edit : IsEdited (EntriesAdded d other) (string_bytes c.in_ok-joined.field-0) = record {
       document = joined_documents d other;
       outcome = EntriesAdded.added fresh;

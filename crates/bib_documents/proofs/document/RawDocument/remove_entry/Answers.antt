@@ -11,7 +11,9 @@ without_entry-requires c =
     let d : Document = record { text = c.self.inside.text.now; says = file_of c.self.inside.raw } in
     let e = entry_reading_of c.in-Some.entry.now in
     let found = c.in-Some.ensures in
-    let entry = has_entry d (map entry_reading_of c.deref.result.now) c.args.key.now found.0 e (ap (map entry_reading_of) c.deref.ensures.value) found.1 found.2 in
+    let entry =
+    has_entry d (map entry_reading_of c.deref.result.now) c.args.key.now found.0 e
+    (ap (map entry_reading_of) c.deref.ensures.value) found.1 found.2 in
     entry_placed d found.0 e c.self.invariant entry.here
 
 pub returns-in_ok-without_entry-in-Some-clause-removed : goal.returns-in_ok-without_entry-in-Some-clause-removed
@@ -20,6 +22,9 @@ returns-in_ok-without_entry-in-Some-clause-removed c =
     let seen : d ≡ c.args.self.now = c.self.view_is in
     let e = entry_reading_of c.in-Some.entry.now in
     let found = c.in-Some.ensures in
-    let entry = has_entry d (map entry_reading_of c.deref.result.now) c.args.key.now found.0 e (ap (map entry_reading_of) c.deref.ensures.value) found.1 found.2 in
+    let entry =
+    has_entry d (map entry_reading_of c.deref.result.now) c.args.key.now found.0 e
+    (ap (map entry_reading_of) c.deref.ensures.value) found.1 found.2 in
     subst (λ x. IsEdited (EntryRemoved x c.args.key.now) (string_bytes c.in_ok-without_entry-in-Some.field-0)) seen
-    (entry_taken string_bytes d c.args.key.now found.0 e c.in_ok-without_entry-in-Some.field-0 c.self.invariant entry c.in_ok-without_entry-in-Some.ensures)
+    (entry_taken string_bytes d c.args.key.now found.0 e c.in_ok-without_entry-in-Some.field-0 c.self.invariant entry
+    c.in_ok-without_entry-in-Some.ensures)

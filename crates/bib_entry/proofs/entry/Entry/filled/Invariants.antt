@@ -6,4 +6,6 @@ use Rattle.bib_entry.proofs.entry.Entry.filled.Given as goal
 
 -- the names found so far, followed by those with chunks among the remaining names, are all with chunks
 abbrev pub invariant-loop-name : goal.invariant-loop-name
-invariant-loop-name l = texts l.found.items ++ filter (has_chunks l.self) (texts (drop l.name-index l.names)) ≡ filter (has_chunks l.self) (texts l.names)
+invariant-loop-name l =
+    texts l.found.items ++ filter (has_chunks l.self) (texts (drop l.name-index l.names))
+    ≡ filter (has_chunks l.self) (texts l.names)

@@ -6,6 +6,7 @@ use Rattle.bib_entry.proofs.entry.EntryClone.clone.Goals as goal
 
 pub returns : goal.returns
 returns c =
-    let fields : c.in_ok-fields.fields ≡ c.args.self.now.fields = same_copy _ (λ v w z. same_from_all_zip _ v w z (λ s t r. search rules)) _ _ c.in_ok-fields.ensures.cases in
+    let fields : c.in_ok-fields.fields ≡ c.args.self.now.fields =
+    same_copy _ (λ v w z. same_from_all_zip _ v w z (λ s t r. search rules)) _ _ c.in_ok-fields.ensures.cases in
     let type : c.in_ok-entry_type.entry_type ≡ c.args.self.now.entry_type = same_type _ _ c.in_ok-entry_type.ensures.cases in
     record { cases = λ i. record { key = c.in_ok-key.ensures.cases i; entry_type = type i; fields = fields i } }

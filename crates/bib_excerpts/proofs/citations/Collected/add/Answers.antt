@@ -9,7 +9,10 @@ returns-then-contains_key c =
     let one : Citation = record { key = c.args.key.now; at = c.args.at } in
     let other : bytes_eq c.args.key.now (codes "*") ≡ false = sym c.eq.ensures ∙ c.if-eq.false in
     record {
-      keys = sym (known_keys c.args.self.now.keys.items one (sym (c.requires c.args.key.now) ∙ sym c.contains_key.ensures ∙ c.if-contains_key.true));
+      keys =
+          sym
+          (known_keys c.args.self.now.keys.items one
+          (sym (c.requires c.args.key.now) ∙ sym c.contains_key.ensures ∙ c.if-contains_key.true));
       all = not_all c.args.self.now.all one other;
       seen = c.requires;
     }
@@ -19,7 +22,11 @@ returns c =
     let one : Citation = record { key = c.args.key.now; at = c.args.at } in
     let other : bytes_eq c.args.key.now (codes "*") ≡ false = sym c.eq.ensures ∙ c.if-eq.false in
     record {
-      keys = c.in_ok-push.ensures.keys ∙ sym (new_keys c.args.self.now.keys.items one other (sym (c.requires c.args.key.now) ∙ sym c.contains_key.ensures ∙ c.if-contains_key.false));
+      keys =
+          c.in_ok-push.ensures.keys
+          ∙ sym
+          (new_keys c.args.self.now.keys.items one other
+          (sym (c.requires c.args.key.now) ∙ sym c.contains_key.ensures ∙ c.if-contains_key.false));
       all = c.in_ok-push.ensures.all ∙ not_all c.args.self.now.all one other;
       seen = c.in_ok-push.ensures.seen;
     }

@@ -14,11 +14,14 @@ pub bytes-preserved : goal.bytes-preserved
 bytes-preserved c = record {
   after = λ before is.
       c.passed-position.ensures.after (before ++ take c.bytes.byte-index c.args.bytes.now) (c.bytes.invariant.after before is)
-      ∙ ap position_after (append_assoc before (take c.bytes.byte-index c.args.bytes.now) (get_or c.args.bytes.now c.bytes.byte-index 0 ∷ [])
+      ∙ ap position_after (append_assoc before (take c.bytes.byte-index c.args.bytes.now)
+      (get_or c.args.bytes.now c.bytes.byte-index 0 ∷ [])
       ∙ ap (λ t. before ++ t) (take_one c.args.bytes.now c.bytes.byte-index c.bytes-test.true));
   line = omega (arith, c.bytes.invariant.line, c.passed-position.ensures.line);
   column = omega (arith, c.bytes.invariant.column, c.passed-position.ensures.column);
 }
 
 pub returns : goal.returns
-returns c = λ before is. c.bytes.invariant.after before is ∙ ap (λ t. position_after (before ++ t)) (take_all c.bytes.byte-index c.args.bytes.now c.bytes-test.false)
+returns c = λ before is.
+    c.bytes.invariant.after before is
+    ∙ ap (λ t. position_after (before ++ t)) (take_all c.bytes.byte-index c.args.bytes.now c.bytes-test.false)

@@ -24,4 +24,8 @@ returns-clause-found c =
     let end = c.min-end.result in
     let known = c.known_before-start in
     c.passed_all-position.ensures (take known.result.0 c.args.self.now) known.ensures.position
-    ∙ rw (← c.self.view_is) (ap position_after (joined c.self.inside.bytes.now known.result.0 end known.ensures.before ∙ ap (λ n. take n c.self.inside.bytes.now) c.min-end.ensures ∙ take_min c.args.at c.self.inside.bytes.now))
+    ∙ rw (← c.self.view_is)
+    (ap position_after
+    (joined c.self.inside.bytes.now known.result.0 end known.ensures.before
+    ∙ ap (λ n. take n c.self.inside.bytes.now) c.min-end.ensures
+    ∙ take_min c.args.at c.self.inside.bytes.now))

@@ -6,7 +6,11 @@ use Rattle.bib_strings.proofs.taken.Taken.take_definitions.Given as goal
 
 abbrev pub invariant-definitions : goal.invariant-definitions
 invariant-definitions l = record {
-  taken : (other : List ℕ) → is_taken l.self other ≡ (is_one_in_any_case (definition_names (map field_of (take l.definition-index l.definitions))) other || is_taken l.initial.self other);
+  taken : (other : List ℕ)
+      → is_taken l.self other
+      ≡
+      (is_one_in_any_case (definition_names (map field_of (take l.definition-index l.definitions))) other
+      || is_taken l.initial.self other);
   bounded : IsBounded l.self;
   longer : l.initial.self.longest ≤ l.self.longest;
 }

@@ -6,7 +6,11 @@ use Rattle.bib_strings.proofs.taken.Taken.take_elements.Given as goal
 
 abbrev pub invariant-pieces : goal.invariant-pieces
 invariant-pieces l = record {
-  taken : (other : List ℕ) → is_taken l.self other ≡ (is_one_in_any_case (element_names (map piece_of (take l.piece-index l.pieces))) other || is_taken l.initial.self other);
+  taken : (other : List ℕ)
+      → is_taken l.self other
+      ≡
+      (is_one_in_any_case (element_names (map piece_of (take l.piece-index l.pieces))) other
+      || is_taken l.initial.self other);
   bounded : IsBounded l.self;
   longer : l.initial.self.longest ≤ l.self.longest;
 }

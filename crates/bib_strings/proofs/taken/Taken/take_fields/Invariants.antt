@@ -6,7 +6,11 @@ use Rattle.bib_strings.proofs.taken.Taken.take_fields.Given as goal
 
 abbrev pub invariant-fields : goal.invariant-fields
 invariant-fields l = record {
-  taken : (other : List ℕ) → is_taken l.self other ≡ (is_one_in_any_case (used_names (map field_of (take l.field-index l.fields))) other || is_taken l.initial.self other);
+  taken : (other : List ℕ)
+      → is_taken l.self other
+      ≡
+      (is_one_in_any_case (used_names (map field_of (take l.field-index l.fields))) other
+      || is_taken l.initial.self other);
   bounded : IsBounded l.self;
   longer : l.initial.self.longest ≤ l.self.longest;
 }

@@ -16,18 +16,24 @@ start q p text same texts at = same ∙ same_place {u = p} {v = place text 0} te
 
 pub returns-clause-read : goal.returns-clause-read
 returns-clause-read c =
-    subst (λ p. File longest p (file_of c.in_ok-blocks.field-0)) (start _ _ _ c.new.ensures c.self.view_is c.self.invariant) c.in_ok-blocks.ensures.found
+    subst (λ p. File longest p (file_of c.in_ok-blocks.field-0))
+    (start _ _ _ c.new.ensures c.self.view_is c.self.invariant) c.in_ok-blocks.ensures.found
 
 pub returns-clause-accepted : goal.returns-clause-accepted
-returns-clause-accepted c =
-    (_, file_any (subst (λ p. File longest p (file_of c.in_ok-blocks.field-0)) (start _ _ _ c.new.ensures c.self.view_is c.self.invariant) c.in_ok-blocks.ensures.found))
+returns-clause-accepted c = (
+  _,
+  file_any
+      (subst (λ p. File longest p (file_of c.in_ok-blocks.field-0))
+      (start _ _ _ c.new.ensures c.self.view_is c.self.invariant) c.in_ok-blocks.ensures.found),
+)
 
 pub returns-in_err-blocks-clause-refused : goal.returns-in_err-blocks-clause-refused
 returns-in_err-blocks-clause-refused c =
     let p = err_from_is_err_and c.from_residual.result c.from_residual.ensures.1 in
     let at = start _ _ _ c.new.ensures c.self.view_is c.self.invariant in
     rw (p.1, p.2) (refuses_from {u = place c.args.self 0} _ _ (ahead_same at)
-    (λ r read. let l = file_longest read.1 in file_unread r.fails (subst (λ q. File longest q l.0) (sym at) l.1)) c.in_err-blocks.ensures.fails)
+    (λ r read. let l = file_longest read.1 in file_unread r.fails (subst (λ q. File longest q l.0) (sym at) l.1))
+    c.in_err-blocks.ensures.fails)
 
 pub returns-in_err-blocks-clause-reported : goal.returns-in_err-blocks-clause-reported
 returns-in_err-blocks-clause-reported c =

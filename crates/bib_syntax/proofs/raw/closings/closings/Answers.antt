@@ -5,5 +5,8 @@ use Rattle.bib_syntax.proofs.raw.closings.closings.Goals as goal
 
 pub returns : goal.returns
 returns c =
-    let noted = c.in_ok-pass_all.ensures.noted c.args.text.now (rw (c.new.ensures.items, c.new-2.ensures.items, c.new-3.ensures) (nothing_noted c.args.text.now)) in
-    All-permutation (IsClosing c.args.text.now) _ _ c.sort_unstable_by_key.ensures.permutation (c.in_ok-end.ensures c.args.text.now _ c.in_ok-pass_all.ensures.end noted)
+    let noted =
+    c.in_ok-pass_all.ensures.noted c.args.text.now
+    (rw (c.new.ensures.items, c.new-2.ensures.items, c.new-3.ensures) (nothing_noted c.args.text.now)) in
+    All-permutation (IsClosing c.args.text.now) _ _ c.sort_unstable_by_key.ensures.permutation
+    (c.in_ok-end.ensures c.args.text.now _ c.in_ok-pass_all.ensures.end noted)

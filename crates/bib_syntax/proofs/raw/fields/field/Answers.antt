@@ -10,7 +10,11 @@ use Rattle.bib_syntax.proofs.raw.fields.field.Goals as goal
 pub returns-in_err-name-clause-fails : goal.returns-in_err-name-clause-fails
 returns-in_err-name-clause-fails c =
     let p = err_from_is_err_and c.from_residual.result c.from_residual.ensures.1 in
-    rw (p.1, p.2) (inr (c.in_err-name.ensures.error, reports_as (λ kind v f. absurd (identifier_begins c.requires f)) c.in_err-name.ensures.fails))
+    rw (p.1, p.2)
+    (inr (
+      c.in_err-name.ensures.error,
+      reports_as (λ kind v f. absurd (identifier_begins c.requires f)) c.in_err-name.ensures.fails,
+    ))
 
 pub returns-in_err-expect-clause-fails : goal.returns-in_err-expect-clause-fails
 returns-in_err-expect-clause-fails c =
@@ -29,5 +33,7 @@ returns-in_err-pieces-clause-fails c =
     let white = c.eat_whitespace.ensures.longest in
     let sign = c.in_ok-expect.ensures.found in
     let white2 = c.eat_whitespace-2.ensures.longest in
-    let passed = ahead_then (ahead_identifier name) (ahead_then (ahead_run white.run) (ahead_then (ahead_char sign) (ahead_run white2.run))) in
+    let passed =
+    ahead_then (ahead_identifier name)
+    (ahead_then (ahead_run white.run) (ahead_then (ahead_char sign) (ahead_run white2.run))) in
     rw (p.1, p.2) (refuses_from _ _ passed (reports_as (λ kind v f. fails.value name white sign white2 f)) c.in_err-pieces.ensures.fails)

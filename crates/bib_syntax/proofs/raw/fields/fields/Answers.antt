@@ -18,18 +18,28 @@ begun : (c : In_ok-push) → FailBefore c.args.s.now.text c.args.starts.now.item
 begun c = rw c.in_ok-push.ensures.items (here_fails _ c.fields.invariant.2 c.fields.invariant.0.text c.cursor.ensures.place)
 
 pub fields-init : goal.fields-init
-fields-init c = (ahead_here c.args.s.now, rw c.new-pairs.ensures.items (no_fields_read c.args.s.now), none_more c.args.s.now.text c.args.starts.now.items c.args.s.now)
+fields-init c = (
+  ahead_here c.args.s.now,
+  rw c.new-pairs.ensures.items (no_fields_read c.args.s.now),
+  none_more c.args.s.now.text c.args.starts.now.items c.args.s.now,
+)
 
 pub fields-smaller : goal.fields-smaller
-fields-smaller c = left_smaller (ahead_then (ahead_field c.in_ok-pair.ensures.found) (ahead_gap c.gap.ensures)) c.if-not-eat_if.ensures (ahead_gap c.gap-in-fields.ensures)
+fields-smaller c =
+    left_smaller (ahead_then (ahead_field c.in_ok-pair.ensures.found) (ahead_gap c.gap.ensures)) c.if-not-eat_if.ensures
+    (ahead_gap c.gap-in-fields.ensures)
 
 pub fields-preserved : goal.fields-preserved
 fields-preserved c =
     let one = c.in_ok-pair.ensures.found in (
-      ahead_then c.fields.invariant.0 (ahead_then (ahead_field one) (ahead_then (ahead_gap c.gap.ensures) (ahead_then (ahead_char c.if-not-eat_if.ensures) (ahead_gap c.gap-in-fields.ensures)))),
+      ahead_then c.fields.invariant.0
+          (ahead_then (ahead_field one)
+          (ahead_then (ahead_gap c.gap.ensures)
+          (ahead_then (ahead_char c.if-not-eat_if.ensures) (ahead_gap c.gap-in-fields.ensures)))),
       rw (c.in_ok-push-2.ensures.items, map-append field_of c.fields.pairs.items _)
           (field_read _ c.fields.invariant.1 one c.gap.ensures c.if-not-eat_if.ensures c.gap-in-fields.ensures),
-      further_fails (begun (goal.at.fields-preserved c).In_ok-push) (λ kind v f. fails.more one c.gap.ensures c.if-not-eat_if.ensures c.gap-in-fields.ensures f),
+      further_fails (begun (goal.at.fields-preserved c).In_ok-push)
+          (λ kind v f. fails.more one c.gap.ensures c.if-not-eat_if.ensures c.gap-in-fields.ensures f),
     )
 
 pub returns-in-Some-clause-fails : goal.returns-in-Some-clause-fails
@@ -46,7 +56,9 @@ pub returns-in_err-pair-clause-fails : goal.returns-in_err-pair-clause-fails
 returns-in_err-pair-clause-fails c =
     let p = err_from_is_err_and c.from_residual-in_err-pair.result c.from_residual-in_err-pair.ensures.1 in
     let read = c.fields.invariant.1 in
-    rw (p.1, p.2) (refuses_from _ _ c.fields.invariant.0 (reports_as (λ kind v f. read.fails kind v (fails.first f))) c.in_err-pair.ensures.fails)
+    rw (p.1, p.2)
+    (refuses_from _ _ c.fields.invariant.0 (reports_as (λ kind v f. read.fails kind v (fails.first f)))
+    c.in_err-pair.ensures.fails)
 
 pub returns-in_err-pair-clause-from_each : goal.returns-in_err-pair-clause-from_each
 returns-in_err-pair-clause-from_each c =
@@ -59,7 +71,9 @@ returns-then-not-at-clause-fails c =
     let one = c.in_ok-pair.ensures.found in
     let same = c.if-not-eat_if.ensures.0 in
     let passed = ahead_then c.fields.invariant.0 (ahead_then (ahead_field one) (ahead_then (ahead_gap c.gap.ensures) (ahead_same same))) in
-    let stops = stops_either (λ d. d == 44) (λ d. d == 125) (stops_without 44 c.if-not-eat_if.ensures.1) (stops_without 125 (λ x. rw (← same) (c.if-not-at.ensures x))) in
+    let stops =
+    stops_either (λ d. d == 44) (λ d. d == 125) (stops_without 44 c.if-not-eat_if.ensures.1)
+    (stops_without 125 (λ x. rw (← same) (c.if-not-at.ensures x))) in
     let failed = c.fields.invariant.1.fails _ _ (fails.comma one c.gap.ensures stops) in
     inr (error_back passed c.error.ensures.syntax, reports_at _ (reported_same c.error.ensures.here same) failed)
 
@@ -68,7 +82,9 @@ returns-then-not-at-clause-from_each c some all =
     let one = c.in_ok-pair.ensures.found in
     let same = c.if-not-eat_if.ensures.0 in
     let passed = ahead_then c.fields.invariant.0 (ahead_then (ahead_field one) (ahead_then (ahead_gap c.gap.ensures) (ahead_same same))) in
-    let stops = stops_either (λ d. d == 44) (λ d. d == 125) (stops_without 44 c.if-not-eat_if.ensures.1) (stops_without 125 (λ x. rw (← same) (c.if-not-at.ensures x))) in
+    let stops =
+    stops_either (λ d. d == 44) (λ d. d == 125) (stops_without 44 c.if-not-eat_if.ensures.1)
+    (stops_without 125 (λ x. rw (← same) (c.if-not-at.ensures x))) in
     let failed = reports_at _ (reported_same c.error.ensures.here same) (fails.comma one c.gap.ensures stops) in
     (begun (goal.at.returns-then-not-at-clause-from_each c).In_ok-push).each _ (error_back passed c.error.ensures.syntax) failed all
 
@@ -80,12 +96,18 @@ returns-then-not-eat_if-clause-found c =
 pub returns-in_err-closed-clause-fails : goal.returns-in_err-closed-clause-fails
 returns-in_err-closed-clause-fails c =
     let p = err_from_is_err_and c.from_residual-in_err-closed.result c.from_residual-in_err-closed.ensures.1 in
-    rw (p.1, p.2) (inr (error_back c.fields.invariant.0 c.in_err-closed.ensures.error, reports_as c.fields.invariant.1.fails c.in_err-closed.ensures.fails))
+    rw (p.1, p.2)
+    (inr (
+      error_back c.fields.invariant.0 c.in_err-closed.ensures.error,
+      reports_as c.fields.invariant.1.fails c.in_err-closed.ensures.fails,
+    ))
 
 pub returns-in_err-closed-clause-from_each : goal.returns-in_err-closed-clause-from_each
 returns-in_err-closed-clause-from_each c =
     let p = err_from_is_err_and c.from_residual-in_err-closed.result c.from_residual-in_err-closed.ensures.1 in
-    rw (p.1, p.2) (each_fails _ c.fields.invariant.2 c.fields.invariant.0.text (λ r. r) (inr (c.in_err-closed.ensures.error, c.in_err-closed.ensures.fails)))
+    rw (p.1, p.2)
+    (each_fails _ c.fields.invariant.2 c.fields.invariant.0.text (λ r. r)
+    (inr (c.in_err-closed.ensures.error, c.in_err-closed.ensures.fails)))
 
 pub returns-clause-found : goal.returns-clause-found
 returns-clause-found c = fields_end c.fields.invariant.1 c.in_ok-closed.ensures.found.0

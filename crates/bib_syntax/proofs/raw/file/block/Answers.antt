@@ -17,30 +17,46 @@ pub returns-in_err-comment-in-Comment-clause-fails : goal.returns-in_err-comment
 returns-in_err-comment-in-Comment-clause-fails c =
     let p = err_from_is_err_and c.from_residual-in_err-comment-in-Comment.result c.from_residual-in_err-comment-in-Comment.ensures.1 in
     let head = c.in_ok-kind.ensures.found in
-    rw (p.1, p.2) (inr (error_back (ahead_head head) c.in_err-comment-in-Comment.ensures.error, reports_as (λ kind v f. body_fails _ head c.in-Comment.ensures f) c.in_err-comment-in-Comment.ensures.fails))
+    rw (p.1, p.2)
+    (inr (
+      error_back (ahead_head head) c.in_err-comment-in-Comment.ensures.error,
+      reports_as (λ kind v f. body_fails _ head c.in-Comment.ensures f)
+          c.in_err-comment-in-Comment.ensures.fails,
+    ))
 
 pub returns-in_err-preamble-in-Preamble-clause-fails : goal.returns-in_err-preamble-in-Preamble-clause-fails
 returns-in_err-preamble-in-Preamble-clause-fails c =
     let p = err_from_is_err_and c.from_residual-in_err-preamble-in-Preamble.result c.from_residual-in_err-preamble-in-Preamble.ensures.1 in
     let head = c.in_ok-kind.ensures.found in
-    rw (p.1, p.2) (inr (error_back (ahead_head head) c.in_err-preamble-in-Preamble.ensures.error, reports_as (λ kind v f. body_fails _ head c.in-Preamble.ensures f) c.in_err-preamble-in-Preamble.ensures.fails))
+    rw (p.1, p.2)
+    (inr (
+      error_back (ahead_head head) c.in_err-preamble-in-Preamble.ensures.error,
+      reports_as (λ kind v f. body_fails _ head c.in-Preamble.ensures f)
+          c.in_err-preamble-in-Preamble.ensures.fails,
+    ))
 
 pub returns-in_err-strings-in-Strings-clause-fails : goal.returns-in_err-strings-in-Strings-clause-fails
 returns-in_err-strings-in-Strings-clause-fails c =
     let p = err_from_is_err_and c.from_residual-in_err-strings-in-Strings.result c.from_residual-in_err-strings-in-Strings.ensures.1 in
     let head = c.in_ok-kind.ensures.found in
-    rw (p.1, p.2) (refuses_from _ _ (ahead_head head) (reports_as (λ kind v f. body_fails _ head c.in-Strings.ensures f)) c.in_err-strings-in-Strings.ensures.fails)
+    rw (p.1, p.2)
+    (refuses_from _ _ (ahead_head head) (reports_as (λ kind v f. body_fails _ head c.in-Strings.ensures f))
+    c.in_err-strings-in-Strings.ensures.fails)
 
 pub returns-in_err-entry-in-Entry-clause-fails : goal.returns-in_err-entry-in-Entry-clause-fails
 returns-in_err-entry-in-Entry-clause-fails c =
     let p = err_from_is_err_and c.from_residual-in_err-entry-in-Entry.result c.from_residual-in_err-entry-in-Entry.ensures.1 in
     let head = c.in_ok-kind.ensures.found in
-    rw (p.1, p.2) (refuses_from _ _ (ahead_head head) (reports_as (λ kind v f. body_fails _ head c.in-Entry.ensures f)) c.in_err-entry-in-Entry.ensures.fails)
+    rw (p.1, p.2)
+    (refuses_from _ _ (ahead_head head) (reports_as (λ kind v f. body_fails _ head c.in-Entry.ensures f))
+    c.in_err-entry-in-Entry.ensures.fails)
 
 pub returns-in_err-strings-in-Strings-clause-from_each : goal.returns-in_err-strings-in-Strings-clause-from_each
 returns-in_err-strings-in-Strings-clause-from_each c =
     let p = err_from_is_err_and c.from_residual-in_err-strings-in-Strings.result c.from_residual-in_err-strings-in-Strings.ensures.1 in
-    rw (p.1, p.2) (each_of_none _ _ c.clear.ensures.items (ahead_head c.in_ok-kind.ensures.found) c.in_err-strings-in-Strings.ensures.from_each)
+    rw (p.1, p.2)
+    (each_of_none _ _ c.clear.ensures.items (ahead_head c.in_ok-kind.ensures.found)
+    c.in_err-strings-in-Strings.ensures.from_each)
 
 pub returns-in_err-entry-in-Entry-clause-from_each : goal.returns-in_err-entry-in-Entry-clause-from_each
 returns-in_err-entry-in-Entry-clause-from_each c =

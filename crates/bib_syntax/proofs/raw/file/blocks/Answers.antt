@@ -11,20 +11,27 @@ pub returns-in_err-item-clause-fails : goal.returns-in_err-item-clause-fails
 returns-in_err-item-clause-fails c =
     let p = err_from_is_err_and c.from_residual.result c.from_residual.ensures.1 in
     let read = c.file.invariant.1 in
-    rw (p.1, p.2) (refuses_from _ _ c.file.invariant.0 (reports_as (λ kind v f. read.fails kind v (fails.first f))) c.in_err-item.ensures.fails)
+    rw (p.1, p.2)
+    (refuses_from _ _ c.file.invariant.0 (reports_as (λ kind v f. read.fails kind v (fails.first f)))
+    c.in_err-item.ensures.fails)
 
 pub file-smaller-in-Continue-branch-2 : goal.file-smaller-in-Continue-branch-2
 file-smaller-in-Continue-branch-2 c = block_smaller c.in_ok-item.ensures.found
 
 pub file-preserved-in-Continue-branch-2 : goal.file-preserved-in-Continue-branch-2
-file-preserved-in-Continue-branch-2 c =
-    (ahead_then c.file.invariant.0 (ahead_block c.in_ok-item.ensures.found), rw c.in_ok-add.ensures (block_read c.file.invariant.1 c.in_ok-item.ensures.found))
+file-preserved-in-Continue-branch-2 c = (
+  ahead_then c.file.invariant.0 (ahead_block c.in_ok-item.ensures.found),
+  rw c.in_ok-add.ensures (block_read c.file.invariant.1 c.in_ok-item.ensures.found),
+)
 
 pub file-smaller-then-c-eq37 : goal.file-smaller-then-c-eq37
 file-smaller-then-c-eq37 c = line_comment_smaller c.line_comment.ensures
 
 pub file-preserved-then-c-eq37 : goal.file-preserved-then-c-eq37
-file-preserved-then-c-eq37 c = (ahead_then c.file.invariant.0 (ahead_line_comment c.line_comment.ensures), line_comment_read c.file.invariant.1 c.line_comment.ensures)
+file-preserved-then-c-eq37 c = (
+  ahead_then c.file.invariant.0 (ahead_line_comment c.line_comment.ensures),
+  line_comment_read c.file.invariant.1 c.line_comment.ensures,
+)
 
 pub file-smaller : goal.file-smaller
 file-smaller c =

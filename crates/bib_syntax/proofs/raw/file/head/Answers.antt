@@ -23,7 +23,9 @@ returns-in_err-brace-clause-fails c =
     let p = err_from_is_err_and c.from_residual-in_err-brace.result c.from_residual-in_err-brace.ensures.1 in
     let at = (goal.at.returns-in_err-brace-clause-fails c).After-eat_if in
     let stops = stops_unless (λ d. d == 123 || d == 34) c.in_err-brace.ensures.none in
-    rw (p.1, p.2) (reports_at _ c.in_err-brace.ensures.here (fails.brace (sign at) c.in_ok-kind.ensures.found c.eat_whitespace.ensures.longest stops))
+    rw (p.1, p.2)
+    (reports_at _ c.in_err-brace.ensures.here
+    (fails.brace (sign at) c.in_ok-kind.ensures.found c.eat_whitespace.ensures.longest stops))
 
 pub returns-in_err-kind-clause-error : goal.returns-in_err-kind-clause-error
 returns-in_err-kind-clause-error c =
@@ -33,7 +35,9 @@ returns-in_err-kind-clause-error c =
 pub returns-in_err-brace-clause-error : goal.returns-in_err-brace-clause-error
 returns-in_err-brace-clause-error c =
     let p = err_from_is_err_and c.from_residual-in_err-brace.result c.from_residual-in_err-brace.ensures.1 in
-    let passed = ahead_then (ahead_char (sign (goal.at.returns-in_err-brace-clause-error c).After-eat_if)) (ahead_then (ahead_identifier c.in_ok-kind.ensures.found) (ahead_run c.eat_whitespace.ensures.longest.run)) in
+    let passed =
+    ahead_then (ahead_char (sign (goal.at.returns-in_err-brace-clause-error c).After-eat_if))
+    (ahead_then (ahead_identifier c.in_ok-kind.ensures.found) (ahead_run c.eat_whitespace.ensures.longest.run)) in
     rw (p.1, p.2) (error_back passed c.in_err-brace.ensures.error)
 
 pub returns-clause-found : goal.returns-clause-found

@@ -24,15 +24,23 @@ pub returns-in_err-brace-clause-fails : goal.returns-in_err-brace-clause-fails
 returns-in_err-brace-clause-fails c =
     let p = err_from_is_err_and c.from_residual-in_err-brace.result c.from_residual-in_err-brace.ensures.1 in
     let stops = stops_unless (λ d. d == 125 || d == 34) c.in_err-brace.ensures.none in
-    rw (p.1, p.2) (reports_at _ c.in_err-brace.ensures.here (fails.preamble_end c.in_ok-quoted.ensures.found c.eat_whitespace.ensures.longest stops))
+    rw (p.1, p.2)
+    (reports_at _ c.in_err-brace.ensures.here
+    (fails.preamble_end c.in_ok-quoted.ensures.found c.eat_whitespace.ensures.longest stops))
 
 pub returns-in_err-brace-clause-error : goal.returns-in_err-brace-clause-error
 returns-in_err-brace-clause-error c =
     let p = err_from_is_err_and c.from_residual-in_err-brace.result c.from_residual-in_err-brace.ensures.1 in
-    rw (p.1, p.2) (error_back (ahead_then (ahead_quoted c.in_ok-quoted.ensures.found) (ahead_run c.eat_whitespace.ensures.longest.run)) c.in_err-brace.ensures.error)
+    rw (p.1, p.2)
+    (error_back
+    (ahead_then (ahead_quoted c.in_ok-quoted.ensures.found) (ahead_run c.eat_whitespace.ensures.longest.run))
+    c.in_err-brace.ensures.error)
 
 pub returns-clause-found : goal.returns-clause-found
 returns-clause-found c u p =
     let close = c.in_ok-brace.ensures.found in
-    let text = ap (λ q. q.text) (part_from _ c.quoted.new.s.at _ (ahead_quoted c.in_ok-quoted.ensures.found) c.cursor-start.ensures.place refl c.from-text.ensures) in
+    let text =
+    ap (λ q. q.text)
+    (part_from _ c.quoted.new.s.at _ (ahead_quoted c.in_ok-quoted.ensures.found) c.cursor-start.ensures.place
+    refl c.from-text.ensures) in
     rw text (body.preamble c.in_ok-quoted.ensures.found c.eat_whitespace.ensures.longest close.1 close.2)

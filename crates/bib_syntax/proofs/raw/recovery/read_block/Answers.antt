@@ -18,4 +18,5 @@ jump-requires c =
 pub returns-clause-found : goal.returns-clause-found
 returns-clause-found c =
     let block = read (goal.at.returns-clause-found c).In_ok-item in
-    subst (λ v. Block longest c.args.s.now (item_of c.in_ok-item.item) v) (sym (follows _ (ahead_block block) c.cursor.ensures.place c.jump.ensures)) block
+    subst (λ v. Block longest c.args.s.now (item_of c.in_ok-item.item) v)
+    (sym (follows _ (ahead_block block) c.cursor.ensures.place c.jump.ensures)) block

@@ -6,5 +6,13 @@ pub returns : goal.returns
 returns c =
     let start = place c.args.src.now 0 in
     all_recovered _ _
-    (c.in_ok-add_blocks.ensures.found start (rw (c.new.ensures.bytes, c.new-2.ensures.items, c.new-3.ensures.items, c.new-4.ensures.items, c.new-6.ensures, c.new-5.ensures) (nothing_recovered start)))
+    (c.in_ok-add_blocks.ensures.found start
+    (rw (
+      c.new.ensures.bytes,
+      c.new-2.ensures.items,
+      c.new-3.ensures.items,
+      c.new-4.ensures.items,
+      c.new-6.ensures,
+      c.new-5.ensures,
+    ) (nothing_recovered start)))
     c.in_ok-add_blocks.ensures.end

@@ -11,6 +11,7 @@ returns-then-not-eat_if c =
     let longest = c.eat_until.ensures.longest (λ d. d == 125) (λ d answer post. search rules) in
     let stopped = end_map (λ d post. search rules) c.eat_until.ensures.stopped in
     let end = comment_at_end stopped (λ d is. is) c.if-not-eat_if.ensures.1 in (
-      stretch_made 125 _ _ _ _ _ c.utf8.text c.braces.invariant same c.cursor-start.ensures.place c.cursor-end.ensures.place longest stopped c.cursor-end.ensures.boundary,
+      stretch_made 125 _ _ _ _ _ c.utf8.text c.braces.invariant same c.cursor-start.ensures.place
+          c.cursor-end.ensures.place longest stopped c.cursor-end.ensures.boundary,
       c.cursor-end.ensures.place ∙ end ∙ ap length same,
     )

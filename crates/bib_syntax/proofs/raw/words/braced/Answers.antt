@@ -7,4 +7,6 @@ use Rattle.bib_syntax.proofs.raw.words.braced.Goals as goal
 pub returns-in_err-text-clause-fails : goal.returns-in_err-text-clause-fails
 returns-in_err-text-clause-fails c =
     let p = err_from_is_err_and c.from_residual-in_err-text.result c.from_residual-in_err-text.ensures.1 in
-    rw (p.1, p.2) (reports_end (ahead_char c.in_ok-expect.ensures.found) c.in_err-text.ensures.end (fails.unclosed c.in_ok-expect.ensures.found c.in_err-text.ensures.none))
+    rw (p.1, p.2)
+    (reports_end (ahead_char c.in_ok-expect.ensures.found) c.in_err-text.ensures.end
+    (fails.unclosed c.in_ok-expect.ensures.found c.in_err-text.ensures.none))

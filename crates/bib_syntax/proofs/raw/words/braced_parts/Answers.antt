@@ -6,6 +6,7 @@ use Rattle.bib_syntax.proofs.raw.words.braced_parts.Goals as goal
 
 pub from-requires-clause-following : goal.from-requires-clause-following
 from-requires-clause-following c =
-    let closes : ClosesAt c.args.s.now (place c.args.s.now.text c.in-Some-close.at) = subst (IsNoted c.args.s.now) c.in-Some-close.is c.in-Some.ensures in
+    let closes : ClosesAt c.args.s.now (place c.args.s.now.text c.in-Some-close.at) =
+    subst (IsNoted c.args.s.now) c.in-Some-close.is c.in-Some.ensures in
     let ahead = (ahead_parts closes.0).at in
     omega (arith, ahead, c.cursor-start.ensures.place, ap (λ p. p.at) c.jump.ensures)

@@ -20,17 +20,23 @@ returns-then-not-eat_if-clause-found c =
 pub returns-then-at-clause-fails : goal.returns-then-at-clause-fails
 returns-then-at-clause-fails c =
     let at = (goal.at.returns-then-at-clause-fails c).After-eat_while in
-    reports_at _ c.error.ensures.here (fails.second_point (run at) c.if-not-eat_if.ensures (c.eat_while-2.ensures.longest is_ascii_digit (λ x r post. post)) c.if-at.ensures.1)
+    reports_at _ c.error.ensures.here
+    (fails.second_point (run at) c.if-not-eat_if.ensures
+    (c.eat_while-2.ensures.longest is_ascii_digit (λ x r post. post)) c.if-at.ensures.1)
 
 pub returns-then-at-clause-error : goal.returns-then-at-clause-error
 returns-then-at-clause-error c =
     let at = (goal.at.returns-then-at-clause-error c).After-eat_while in
-    let more : Longest is_ascii_digit c.eat_if.new.self c.eat_while-2.new.self = c.eat_while-2.ensures.longest is_ascii_digit (λ x r post. post) in
-    error_back (ahead_then (ahead_run (run at).run) (ahead_then (ahead_char c.if-not-eat_if.ensures) (ahead_run more.run))) c.error.ensures.syntax
+    let more : Longest is_ascii_digit c.eat_if.new.self c.eat_while-2.new.self =
+    c.eat_while-2.ensures.longest is_ascii_digit (λ x r post. post) in
+    error_back
+    (ahead_then (ahead_run (run at).run) (ahead_then (ahead_char c.if-not-eat_if.ensures) (ahead_run more.run)))
+    c.error.ensures.syntax
 
 pub returns-clause-found : goal.returns-clause-found
 returns-clause-found c =
     let at = (goal.at.returns-clause-found c).After-eat_while in
-    let more : Longest is_ascii_digit c.eat_if.new.self c.eat_while-2.new.self = c.eat_while-2.ensures.longest is_ascii_digit (λ x r post. post) in
+    let more : Longest is_ascii_digit c.eat_if.new.self c.eat_while-2.new.self =
+    c.eat_while-2.ensures.longest is_ascii_digit (λ x r post. post) in
     let first = c.requires in
     number_broken first.2 first.3 (run at) c.if-not-eat_if.ensures more c.if-at.ensures

@@ -27,18 +27,23 @@ returns-in_err-identifier-clause-fails c =
 
 pub returns-clause-fails : goal.returns-clause-fails
 returns-clause-fails c =
-    reports_at _ c.error.ensures.here (fails.missing (no_beginning c.if-at.ensures c.if-at-2.ensures c.if-begins_number.ensures c.if-begins_identifier.ensures))
+    reports_at _ c.error.ensures.here
+    (fails.missing
+    (no_beginning c.if-at.ensures c.if-at-2.ensures c.if-begins_number.ensures c.if-begins_identifier.ensures))
 
 pub returns-then-at-clause-found : goal.returns-then-at-clause-found
 returns-then-at-clause-found c = braced_element _ _ c.map.ensures.value c.map.ensures.span c.in_ok-braced.ensures.found
 
 pub returns-then-at-2-clause-found : goal.returns-then-at-2-clause-found
-returns-then-at-2-clause-found c = quoted_element _ _ c.map-then-at-2.ensures.value c.map-then-at-2.ensures.span c.in_ok-quoted.ensures.found
+returns-then-at-2-clause-found c =
+    quoted_element _ _ c.map-then-at-2.ensures.value c.map-then-at-2.ensures.span c.in_ok-quoted.ensures.found
 
 pub returns-then-begins_number-clause-found : goal.returns-then-begins_number-clause-found
 returns-then-begins_number-clause-found c =
-    number_piece _ _ c.map-then-begins_number.ensures.value c.map-then-begins_number.ensures.span c.in_ok-number.ensures.found c.in_ok-number.ensures.reading
+    number_piece _ _ c.map-then-begins_number.ensures.value c.map-then-begins_number.ensures.span
+    c.in_ok-number.ensures.found c.in_ok-number.ensures.reading
 
 pub returns-then-begins_identifier-clause-found : goal.returns-then-begins_identifier-clause-found
 returns-then-begins_identifier-clause-found c =
-    named_piece _ _ c.map-then-begins_identifier.ensures.value c.map-then-begins_identifier.ensures.span (no_digit_without c.if-begins_number.ensures) c.in_ok-identifier.ensures.found
+    named_piece _ _ c.map-then-begins_identifier.ensures.value c.map-then-begins_identifier.ensures.span
+    (no_digit_without c.if-begins_number.ensures) c.in_ok-identifier.ensures.found

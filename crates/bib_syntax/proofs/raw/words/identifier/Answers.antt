@@ -11,4 +11,6 @@ returns-then-not-begins_identifier-clause-fails c = reports_at _ c.error.ensures
 pub returns-clause-found : goal.returns-clause-found
 returns-clause-found c =
     identifier_found c.if-not-begins_identifier.ensures (c.eat_while-text.ensures.longest is_id_continue (λ x r post. post))
-    (rw c.new.ensures (part_eaten c.args.s.now c.eat_while-text.new.self _ _ _ c.cursor-start.ensures.place c.cursor.ensures.place c.eat_while-text.ensures.eaten))
+    (rw c.new.ensures
+    (part_eaten c.args.s.now c.eat_while-text.new.self _ _ _ c.cursor-start.ensures.place c.cursor.ensures.place
+    c.eat_while-text.ensures.eaten))

@@ -11,4 +11,6 @@ from-requires-clause-following c = not_after _ (ahead_number c.in_ok-digits.ensu
 
 pub returns-clause-reading : goal.returns-clause-reading
 returns-clause-reading c =
-    rw c.new.ensures (part_from _ _ _ (ahead_number c.in_ok-digits.ensures.found) c.cursor-start.ensures.place c.cursor.ensures.place c.from.ensures)
+    rw c.new.ensures
+    (part_from _ _ _ (ahead_number c.in_ok-digits.ensures.found) c.cursor-start.ensures.place c.cursor.ensures.place
+    c.from.ensures)

@@ -12,4 +12,6 @@ returns-in_err-expect-clause-fails c =
 pub returns-in_err-text-clause-fails : goal.returns-in_err-text-clause-fails
 returns-in_err-text-clause-fails c =
     let p = err_from_is_err_and c.from_residual-in_err-text.result c.from_residual-in_err-text.ensures.1 in
-    rw (p.1, p.2) (reports_end (ahead_char c.in_ok-expect.ensures.found) c.in_err-text.ensures.end (fails.unclosed c.in_ok-expect.ensures.found c.in_err-text.ensures.none))
+    rw (p.1, p.2)
+    (reports_end (ahead_char c.in_ok-expect.ensures.found) c.in_err-text.ensures.end
+    (fails.unclosed c.in_ok-expect.ensures.found c.in_err-text.ensures.none))

@@ -15,10 +15,13 @@ passed : (c : After-eat_until_either) → Ahead c.args.s.now c.eat_until_either.
 passed c = ahead_then c.parts.invariant.0 (ahead_run (run c).run)
 
 pub from-requires-clause-boundary : goal.from-requires-clause-boundary
-from-requires-clause-boundary c = boundary_ahead _ (passed (goal.at.from-requires-clause-boundary c).After-eat_until_either) c.cursor-start.ensures.boundary
+from-requires-clause-boundary c =
+    boundary_ahead _ (passed (goal.at.from-requires-clause-boundary c).After-eat_until_either)
+    c.cursor-start.ensures.boundary
 
 pub from-requires-clause-following : goal.from-requires-clause-following
-from-requires-clause-following c = not_after _ (passed (goal.at.from-requires-clause-following c).After-eat_until_either) c.cursor-start.ensures.place
+from-requires-clause-following c =
+    not_after _ (passed (goal.at.from-requires-clause-following c).After-eat_until_either) c.cursor-start.ensures.place
 
 pub returns-then-at-clause-found : goal.returns-then-at-clause-found
 returns-then-at-clause-found c =
@@ -29,7 +32,9 @@ returns-then-at-clause-found c =
 
 pub returns-then-at-clause-reading : goal.returns-then-at-clause-reading
 returns-then-at-clause-reading c =
-    rw c.new.ensures (part_from _ _ _ (passed (goal.at.returns-then-at-clause-reading c).After-eat_until_either) c.cursor-start.ensures.place c.cursor.ensures.place c.from.ensures)
+    rw c.new.ensures
+    (part_from _ _ _ (passed (goal.at.returns-then-at-clause-reading c).After-eat_until_either)
+    c.cursor-start.ensures.place c.cursor.ensures.place c.from.ensures)
 
 pub returns-then-not-eat_if-clause-none : goal.returns-then-not-eat_if-clause-none
 returns-then-not-eat_if-clause-none c v w parts quote =
@@ -39,15 +44,20 @@ returns-then-not-eat_if-clause-none c v w parts quote =
 
 pub returns-then-not-eat_if-clause-error : goal.returns-then-not-eat_if-clause-error
 returns-then-not-eat_if-clause-error c =
-    error_back (ahead_then (passed (goal.at.returns-then-not-eat_if-clause-error c).After-eat_until_either) (ahead_same c.if-not-eat_if.ensures.0)) c.error.ensures.syntax
+    error_back
+    (ahead_then (passed (goal.at.returns-then-not-eat_if-clause-error c).After-eat_until_either)
+    (ahead_same c.if-not-eat_if.ensures.0)) c.error.ensures.syntax
 
 pub returns-then-not-eat_if-clause-end : goal.returns-then-not-eat_if-clause-end
 returns-then-not-eat_if-clause-end c =
     let end = quoted_at_end c.eat_until_either.ensures.stopped c.if-at.ensures c.if-not-eat_if.ensures.1 in
-    reported_at_end c.error.ensures.here c.if-not-eat_if.ensures.0 (passed (goal.at.returns-then-not-eat_if-clause-end c).After-eat_until_either) end
+    reported_at_end c.error.ensures.here c.if-not-eat_if.ensures.0
+    (passed (goal.at.returns-then-not-eat_if-clause-end c).After-eat_until_either) end
 
 pub parts-smaller : goal.parts-smaller
-parts-smaller c = left_smaller (ahead_run (run (goal.at.parts-smaller c).After-eat_until_either).run) c.if-not-eat_if.ensures (ahead_taken _ c.eat.ensures)
+parts-smaller c =
+    left_smaller (ahead_run (run (goal.at.parts-smaller c).After-eat_until_either).run) c.if-not-eat_if.ensures
+    (ahead_taken _ c.eat.ensures)
 
 pub parts-preserved : goal.parts-preserved
 parts-preserved c =

@@ -45,7 +45,9 @@ overflow_add-depth c =
     omega arith
 
 pub parts-smaller-then-eat_if : goal.parts-smaller-then-eat_if
-parts-smaller-then-eat_if c = left_smaller (ahead_run (run (goal.at.parts-smaller-then-eat_if c).After-eat_until_any).run) c.if-eat_if.ensures (ahead_here _)
+parts-smaller-then-eat_if c =
+    left_smaller (ahead_run (run (goal.at.parts-smaller-then-eat_if c).After-eat_until_any).run) c.if-eat_if.ensures
+    (ahead_here _)
 
 pub parts-preserved-then-eat_if : goal.parts-preserved-then-eat_if
 parts-preserved-then-eat_if c =
@@ -79,12 +81,15 @@ parts-preserved-then-at c =
 pub parts-smaller : goal.parts-smaller
 parts-smaller c =
     let at = (goal.at.parts-smaller c).After-eat_until_any in
-    left_smaller (ahead_then (ahead_run (run at).run) (ahead_same c.if-eat_if.ensures.0)) c.if-eat_if-2.ensures (ahead_taken _ c.eat.ensures)
+    left_smaller (ahead_then (ahead_run (run at).run) (ahead_same c.if-eat_if.ensures.0)) c.if-eat_if-2.ensures
+    (ahead_taken _ c.eat.ensures)
 
 pub parts-preserved : goal.parts-preserved
 parts-preserved c =
     let at = (goal.at.parts-preserved c).After-eat_until_any in
-    let here = ahead_then (ahead_same c.if-eat_if.ensures.0) (ahead_then (ahead_char c.if-eat_if-2.ensures) (ahead_taken _ c.eat.ensures)) in (
+    let here =
+    ahead_then (ahead_same c.if-eat_if.ensures.0)
+    (ahead_then (ahead_char c.if-eat_if-2.ensures) (ahead_taken _ c.eat.ensures)) in (
       ahead_then (passed at) here,
       braced_then (braced_same (all at) c.if-eat_if.ensures.0) (braced_hidden _ _ c.if-eat_if-2.ensures c.eat.ensures),
       omega (arith, c.parts.invariant.2, (ahead_run (run at).run).at, here.at),
@@ -95,18 +100,24 @@ returns-else-eat_if-2-clause-none c v w parts close =
     let at = (goal.at.returns-else-eat_if-2-clause-none c).After-eat_until_any in
     let same = c.if-eat_if.ensures.0 in
     let there = (all at).back v w (last parts) close in
-    braced_stuck (run at).stops c.if-eat_if.ensures.1 (λ x. rw (← same) (c.if-at.ensures x)) (λ x. rw (← same) (c.if-eat_if-2.ensures.1 x)) there close
+    braced_stuck (run at).stops c.if-eat_if.ensures.1 (λ x. rw (← same) (c.if-at.ensures x))
+    (λ x. rw (← same) (c.if-eat_if-2.ensures.1 x)) there close
 
 pub returns-else-eat_if-2-clause-error : goal.returns-else-eat_if-2-clause-error
 returns-else-eat_if-2-clause-error c =
     let at = (goal.at.returns-else-eat_if-2-clause-error c).After-eat_until_any in
-    error_back (ahead_then (passed at) (ahead_then (ahead_same c.if-eat_if.ensures.0) (ahead_same c.if-eat_if-2.ensures.0))) c.error.ensures.syntax
+    error_back
+    (ahead_then (passed at) (ahead_then (ahead_same c.if-eat_if.ensures.0) (ahead_same c.if-eat_if-2.ensures.0)))
+    c.error.ensures.syntax
 
 pub returns-else-eat_if-2-clause-end : goal.returns-else-eat_if-2-clause-end
 returns-else-eat_if-2-clause-end c =
     let same = c.if-eat_if.ensures.0 in
-    let end = braced_at_end c.eat_until_any.ensures.stopped c.if-eat_if.ensures.1 (λ x. rw (← same) (c.if-at.ensures x)) (λ x. rw (← same) (c.if-eat_if-2.ensures.1 x)) in
-    reported_at_end c.error.ensures.here (c.if-eat_if-2.ensures.0 ∙ same) (passed (goal.at.returns-else-eat_if-2-clause-end c).After-eat_until_any) end
+    let end =
+    braced_at_end c.eat_until_any.ensures.stopped c.if-eat_if.ensures.1 (λ x. rw (← same) (c.if-at.ensures x))
+    (λ x. rw (← same) (c.if-eat_if-2.ensures.1 x)) in
+    reported_at_end c.error.ensures.here (c.if-eat_if-2.ensures.0 ∙ same)
+    (passed (goal.at.returns-else-eat_if-2-clause-end c).After-eat_until_any) end
 
 pub from-requires-clause-boundary : goal.from-requires-clause-boundary
 from-requires-clause-boundary c =
@@ -121,4 +132,6 @@ from-requires-clause-following c =
 pub returns-then-depth-eq0-clause-reading : goal.returns-then-depth-eq0-clause-reading
 returns-then-depth-eq0-clause-reading c =
     let at = (goal.at.returns-then-depth-eq0-clause-reading c).After-eat_until_any in
-    rw c.new.ensures (part_from _ _ _ (ahead_then (passed at) (ahead_same c.if-eat_if.ensures.0)) c.cursor-start.ensures.place c.cursor.ensures.place c.from.ensures)
+    rw c.new.ensures
+    (part_from _ _ _ (ahead_then (passed at) (ahead_same c.if-eat_if.ensures.0)) c.cursor-start.ensures.place
+    c.cursor.ensures.place c.from.ensures)

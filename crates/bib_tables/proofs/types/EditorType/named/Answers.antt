@@ -5,5 +5,25 @@ use Rattle.bib_tables.proofs.types.EditorType.named.Goals as goal
 
 pub returns-in_default : goal.returns-in_default
 returns-in_default c =
-    sym (named_none editor_types c.args.text.now
-    (c.in_default.not-editor, (c.in_default.not-compiler, (c.in_default.not-founder, (c.in_default.not-continuator, (c.in_default.not-redactor, (c.in_default.not-reviser, (c.in_default.not-collaborator, (c.in_default.not-organizer, (c.in_default.not-director, tt))))))))))
+    sym (named_none editor_types c.args.text.now (
+      c.in_default.not-editor,
+      (
+        c.in_default.not-compiler,
+        (
+          c.in_default.not-founder,
+          (
+            c.in_default.not-continuator,
+            (
+              c.in_default.not-redactor,
+              (
+                c.in_default.not-reviser,
+                (
+                  c.in_default.not-collaborator,
+                  (c.in_default.not-organizer, (c.in_default.not-director, tt)),
+                ),
+              ),
+            ),
+          ),
+        ),
+      ),
+    ))

@@ -31,7 +31,8 @@ pub returns : goal.returns
 returns g c =
     let stopped : EndsOr (λ x. goal.F-post g c.args.test x false) (place c.self.inside.text.now c.run.at) = elim c.run-test.branch [
       | else-run-test w ↦
-          let end : AtEnd (place c.self.inside.text.now c.run.at) = omega (arith, c.run.invariant.1.0, w.run-test.false, c.as_bytes-bytes.ensures.len) in
+          let end : AtEnd (place c.self.inside.text.now c.run.at) =
+          omega (arith, c.run.invariant.1.0, w.run-test.false, c.as_bytes-bytes.ensures.len) in
           inl end
       | then-run-test+then-byte-lt128+then-not-test w ↦
           let bytes = c.as_bytes-bytes.ensures.value in

@@ -11,4 +11,6 @@ returns c is =
     let visible = rw (is, bytes) at c.is_ascii_graphic.ensures.cases in
     let low : 33 ≤ get_or c.self.inside.text.now c.self.inside.at 0 = omega (arith, visible) in
     let high : get_or c.self.inside.text.now c.self.inside.at 0 < 127 = omega (arith, visible) in
-    rw (← c.self.view_is) (stops_at is_whitespace (ascii_here c.self.inside.text.now c.self.inside.at within (omega arith)) (not_white _ low high))
+    rw (← c.self.view_is)
+    (stops_at is_whitespace (ascii_here c.self.inside.text.now c.self.inside.at within (omega arith))
+    (not_white _ low high))

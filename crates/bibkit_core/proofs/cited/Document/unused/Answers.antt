@@ -9,9 +9,14 @@ pub returns-then-asks_for_unused : goal.returns-then-asks_for_unused
 returns-then-asks_for_unused c =
     let document = c.args.self.now in
     let text = c.args.text.now in
-    IfOk-weaker c.uncited_entries.result (λ found. AreUncited text (cited_keys document.citations) found.items) (λ found. AreUnused document text found.items)
-    (λ found are. subst (λ l. AreUnused document text l) (sym are.are) (unused_asked document text are.parts (sym c.asks_for_unused.ensures ∙ c.if-asks_for_unused.true) are.uncited)) c.uncited_entries.ensures
+    IfOk-weaker c.uncited_entries.result (λ found. AreUncited text (cited_keys document.citations) found.items)
+    (λ found. AreUnused document text found.items)
+    (λ found are.
+    subst (λ l. AreUnused document text l) (sym are.are)
+    (unused_asked document text are.parts (sym c.asks_for_unused.ensures ∙ c.if-asks_for_unused.true)
+    are.uncited)) c.uncited_entries.ensures
 
 pub returns-else-asks_for_unused : goal.returns-else-asks_for_unused
 returns-else-asks_for_unused c =
-    subst (λ l. AreUnused c.args.self.now c.args.text.now l) (sym c.new.ensures.items) (unused_unasked c.args.self.now c.args.text.now (sym c.asks_for_unused.ensures ∙ c.if-asks_for_unused.false))
+    subst (λ l. AreUnused c.args.self.now c.args.text.now l) (sym c.new.ensures.items)
+    (unused_unasked c.args.self.now c.args.text.now (sym c.asks_for_unused.ensures ∙ c.if-asks_for_unused.false))

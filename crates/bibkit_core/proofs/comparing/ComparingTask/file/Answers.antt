@@ -10,9 +10,16 @@ returns c =
     let before = c.file.new.self.tally in
     let after = c.print.new.self.tally in
     let text = string_bytes c.in_ok-more.more in
-    let of_lint = subst (λ l. ArePrinted l.style c.args.name.now c.as_bytes.result.now (asked l.selection c.deref.result.now) before text after) c.in_ok-text.ensures.0 c.in_ok-more.ensures.printed in
+    let of_lint =
+    subst
+    (λ l.
+    ArePrinted l.style c.args.name.now c.as_bytes.result.now (asked l.selection c.deref.result.now) before
+    text after) c.in_ok-text.ensures.0 c.in_ok-more.ensures.printed in
     let lint = c.args.self.now.linting.lint.now in
-    let listed = subst (λ f. ArePrinted lint.style c.args.name.now c.as_bytes.result.now (asked lint.selection f) before text after) c.deref.ensures.value of_lint in
+    let listed =
+    subst
+    (λ f. ArePrinted lint.style c.args.name.now c.as_bytes.result.now (asked lint.selection f) before text after)
+    c.deref.ensures.value of_lint in
     record {
       first = string_bytes c.in_ok-text.text;
       second = text;
@@ -23,8 +30,16 @@ returns c =
       document = c.in_ok-unused.ensures.same;
       found = c.in_ok-text.ensures.1;
       of_bytes = c.in_ok-decoded.ensures;
-      known = subst (λ t. AreKnownWith t c.args.self.now.document c.compare.new.self.known.items) c.as_str.ensures.value c.in_ok-unused.ensures.known;
-      are_unused = subst (λ t. AreUnused c.args.self.now.document t c.in_ok-unused.unused.items) c.as_str.ensures.value c.in_ok-unused.ensures.unused;
-      more = subst (λ b. ArePrinted lint.style c.args.name.now b (asked lint.selection c.in_ok-unused.unused.items) before text after) c.as_bytes.ensures.value listed;
+      known =
+          subst (λ t. AreKnownWith t c.args.self.now.document c.compare.new.self.known.items) c.as_str.ensures.value
+          c.in_ok-unused.ensures.known;
+      are_unused =
+          subst (λ t. AreUnused c.args.self.now.document t c.in_ok-unused.unused.items) c.as_str.ensures.value
+          c.in_ok-unused.ensures.unused;
+      more =
+          subst
+          (λ b.
+          ArePrinted lint.style c.args.name.now b (asked lint.selection c.in_ok-unused.unused.items) before text
+          after) c.as_bytes.ensures.value listed;
       is = c.in_ok-push_str.ensures.bytes ∙ ap (λ t. string_bytes c.in_ok-text.text ++ t) c.deref-2.ensures;
     }

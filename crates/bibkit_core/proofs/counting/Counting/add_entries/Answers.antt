@@ -9,5 +9,8 @@ entries-init c = adds_no_entries c.args.self.now
 
 pub entries-preserved : goal.entries-preserved
 entries-preserved c =
-    subst (λ entries. AddsEntries entries c.args.self.now c.add_entry.new.self) (sym (mapped_more entry_reading_of c.args.entries.now c.entries.entry-index c.entry-item.result c.entries-test.true c.entry-item.is))
+    subst (λ entries. AddsEntries entries c.args.self.now c.add_entry.new.self)
+    (sym
+    (mapped_more entry_reading_of c.args.entries.now c.entries.entry-index c.entry-item.result
+    c.entries-test.true c.entry-item.is))
     (adds_more_entries c.entries.invariant c.in_ok-add_entry.ensures)

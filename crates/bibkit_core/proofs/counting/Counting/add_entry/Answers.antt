@@ -9,6 +9,8 @@ pub returns : goal.returns
 returns c =
     adds_entry (entry_reading_of c.args.entry.now) c.args.self.now _ c.saturating_add-self.ensures
     (subst (λ n. AddsNames (n ∷ []) c.args.self.now.types c.add.new.self) c.in_ok-lowercase.ensures c.in_ok-add.ensures)
-    (subst (λ l. AddsNames (lowercase_names (map field_of l)) c.args.self.now.fields c.count_fields.new.counts) c.deref.ensures.value c.in_ok-count_fields.ensures)
-    (subst (λ l. AddsNames (years_in (map field_of l)) c.args.self.now.years c.count_year.new.counts) c.deref-2.ensures.value c.in_ok-count_year.ensures)
+    (subst (λ l. AddsNames (lowercase_names (map field_of l)) c.args.self.now.fields c.count_fields.new.counts)
+    c.deref.ensures.value c.in_ok-count_fields.ensures)
+    (subst (λ l. AddsNames (years_in (map field_of l)) c.args.self.now.years c.count_year.new.counts)
+    c.deref-2.ensures.value c.in_ok-count_year.ensures)
     refl

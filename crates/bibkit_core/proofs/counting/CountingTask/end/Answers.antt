@@ -21,9 +21,14 @@ returns c = record {
         fields_are = fields.1;
         years_are = years.1;
         findings_are = findings.1;
-        is = tables_after (string_bytes c.in_ok-text.text) (string_bytes c.push_by_count.new.text) (string_bytes c.push_by_count-2.new.text) (string_bytes c.push_by_name.new.text) (string_bytes c.push_by_count-3.new.text)
-            (table_text (codes "types") types.0) (table_text (codes "fields") fields.0) (table_text (codes "years") years.0) (table_text (codes "findings") findings.0) (codes "entries: ") _
-            (c.in_ok-text.ensures.ok ∙ ap (λ n. codes "entries: " ++ (decimal n ++ codes "\n")) same.entries) types.2 fields.2 years.2 findings.2;
+        is =
+            tables_after (string_bytes c.in_ok-text.text) (string_bytes c.push_by_count.new.text)
+            (string_bytes c.push_by_count-2.new.text) (string_bytes c.push_by_name.new.text)
+            (string_bytes c.push_by_count-3.new.text)
+            (table_text (codes "types") types.0) (table_text (codes "fields") fields.0)
+            (table_text (codes "years") years.0) (table_text (codes "findings") findings.0) (codes "entries: ") _
+            (c.in_ok-text.ensures.ok ∙ ap (λ n. codes "entries: " ++ (decimal n ++ codes "\n")) same.entries) types.2
+            fields.2 years.2 findings.2;
         done = refl;
       };
 }

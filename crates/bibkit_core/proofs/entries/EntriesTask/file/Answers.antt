@@ -9,7 +9,9 @@ returns c = (
   record {
     decoded = c.in_ok-decoded.decoded;
     of_bytes = c.in_ok-decoded.ensures;
-    answer = subst (λ t. IsTextAnswer c.args.self.now.request.now t (string_bytes c.in_ok-text.text)) c.as_str.ensures.value c.in_ok-text.ensures;
+    answer =
+        subst (λ t. IsTextAnswer c.args.self.now.request.now t (string_bytes c.in_ok-text.text)) c.as_str.ensures.value
+        c.in_ok-text.ensures;
   },
   c.is_found_with-self.ensures ∙ ap (λ t. c.args.self.now.is_found || not (length t == 0)) c.as_str-2.ensures.value,
 )

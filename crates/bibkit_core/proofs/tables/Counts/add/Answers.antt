@@ -10,9 +10,11 @@ pub returns : goal.returns
 returns c = record {
   adds = λ names was. record {
     held = λ other.
-        btree_map_updates_text (string_bytes c.args.name) c.args.self.now.counts c.insert.new.self (Some c.saturating_add.result) c.in_ok-insert.ensures.updates other
+        btree_map_updates_text (string_bytes c.args.name) c.args.self.now.counts c.insert.new.self
+        (Some c.saturating_add.result) c.in_ok-insert.ensures.updates other
         ∙ met_more names (string_bytes c.args.name) other c.saturating_add.result (get_by_text c.args.self.now.counts other)
-        (c.saturating_add.ensures ∙ ap (λ n. min (n + 1) 18446744073709551615) (c.count-count.ensures ∙ ap (λ t. unwrap_or (get_by_text c.args.self.now.counts t) 0) c.as_str.ensures.value
+        (c.saturating_add.ensures ∙ ap (λ n. min (n + 1) 18446744073709551615) (c.count-count.ensures
+        ∙ ap (λ t. unwrap_or (get_by_text c.args.self.now.counts t) 0) c.as_str.ensures.value
         ∙ ap (λ o. unwrap_or o 0) (was.held (string_bytes c.args.name))))
         (was.held other);
   };

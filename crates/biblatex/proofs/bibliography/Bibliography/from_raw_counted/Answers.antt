@@ -23,7 +23,8 @@ pub resolve-requires-clause-as_long : goal.resolve-requires-clause-as_long
 resolve-requires-clause-as_long c =
     let spans = c.deref-2.ensures.value ∙ c.in_ok-spans.ensures ∙ ap (map (λ r. r.span)) c.deref.ensures.value in
     ap length spans ∙ length-map c.args.raw.entries.items (λ r. r.span) ∙ sym (length-map c.args.raw.entries.items entry_reading_of)
-    ∙ entries_count (map entry_reading_of c.args.raw.entries.items) c.in_ok-entries.entries.items c.in_ok-entries.ensures.loaded.read ∙ sym (ap length c.deref_mut.ensures.value)
+    ∙ entries_count (map entry_reading_of c.args.raw.entries.items) c.in_ok-entries.entries.items
+    c.in_ok-entries.ensures.loaded.read ∙ sym (ap length c.deref_mut.ensures.value)
 
 pub returns-in_err-turns-clause-refused : goal.returns-in_err-turns-clause-refused
 returns-in_err-turns-clause-refused c =
@@ -34,17 +35,22 @@ returns-in_err-turns-clause-refused c =
     rw (p.1, p.2) (elim c.in_err-turns.ensures.refused [
       | inl memory ↦ inl memory
       | inr error ↦
-          let reported = resolving_reported c.args.raw.entries.items own names _ refl c.in_ok-entries.ensures.loaded.read (ap (λ l. l.names) c.in_ok-entries.ensures.loaded.bibliography)
+          let reported = resolving_reported c.args.raw.entries.items own names _ refl
+          c.in_ok-entries.ensures.loaded.read (ap (λ l. l.names) c.in_ok-entries.ensures.loaded.bibliography)
           (subst (λ s. IsResolvingError s own (graph_by names own) c.in_err-turns.field-0.0) spans
-          (subst (λ es. IsResolvingError c.deref-2.result.now es (graph_by names es) c.in_err-turns.field-0.0) c.deref_mut.ensures.value error))
+          (subst (λ es. IsResolvingError c.deref-2.result.now es (graph_by names es) c.in_err-turns.field-0.0)
+          c.deref_mut.ensures.value error))
           in
           inr (reported, λ accepted. accepted_faultless accepted reported)
     ])
 
 pub from_names-requires : goal.from_names-requires
 from_names-requires c =
-    let count : length c.resolve.new.entries ≡ length c.in_ok-entries.entries.items = c.in_ok-turns.ensures.length ∙ ap length c.deref_mut.ensures.value in
-    let all = all_taken c.in_ok-entries.entries.len c.resolve.new.entries c.in_ok-entries.entries.items (count ∙ sym c.in_ok-entries.entries.ok.0) in
+    let count : length c.resolve.new.entries ≡ length c.in_ok-entries.entries.items =
+    c.in_ok-turns.ensures.length ∙ ap length c.deref_mut.ensures.value in
+    let all =
+    all_taken c.in_ok-entries.entries.len c.resolve.new.entries c.in_ok-entries.entries.items
+    (count ∙ sym c.in_ok-entries.entries.ok.0) in
     subst (λ n. AreIndicesBelow n c.in_ok-entries.names) (sym (ap length all ∙ count)) c.in_ok-entries.ensures.below
 
 pub returns-clause-loaded : goal.returns-clause-loaded
@@ -54,5 +60,6 @@ returns-clause-loaded c =
     let count : length c.resolve.new.entries ≡ length own = c.in_ok-turns.ensures.length ∙ ap length c.deref_mut.ensures.value in
     let all = all_taken c.in_ok-entries.entries.len c.resolve.new.entries own (count ∙ sym c.in_ok-entries.entries.ok.0) in
     subst (IsLoaded (file_of c.args.raw)) (sym (c.from_names.ensures ∙ ap (λ es. with_names es names) all))
-    (loaded own c.resolve.new.entries names c.in_ok-entries.ensures.loaded.read (ap (λ l. l.names) c.in_ok-entries.ensures.loaded.bibliography)
+    (loaded own c.resolve.new.entries names c.in_ok-entries.ensures.loaded.read
+    (ap (λ l. l.names) c.in_ok-entries.ensures.loaded.bibliography)
     (subst (λ es. AreResolved es (graph_by names es) c.resolve.new.entries) c.deref_mut.ensures.value c.in_ok-turns.ensures.resolved))

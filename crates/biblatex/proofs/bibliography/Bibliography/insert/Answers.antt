@@ -7,7 +7,13 @@ use Rattle.biblatex.proofs.bibliography.Bibliography.insert.Goals as goal
 pub invariant_of-self-2 : goal.invariant_of-self-2
 invariant_of-self-2 c =
     let count = length c.self.inside.entries.items in
-    let longer = ap length (c.push_reserved.ensures.items ∙ ap (λ es. es ++ c.args.entry ∷ []) c.in_default-claim_next.ensures.same_entries) ∙ length-append c.self.inside.entries.items (c.args.entry ∷ []) in
+    let longer =
+    ap length
+    (c.push_reserved.ensures.items
+    ∙ ap (λ es. es ++ c.args.entry ∷ []) c.in_default-claim_next.ensures.same_entries)
+    ∙ length-append c.self.inside.entries.items (c.args.entry ∷ []) in
     let old = below_more count (count + 1) c.self.inside.names c.self.invariant (omega arith) in
-    let new : AreIndicesBelow (count + 1) c.claim_next.new.names = rw c.in_default-claim_next.ensures.claimed (below_claimed (count + 1) (claims c.args.entry) c.self.inside.names count old (omega arith)) in
+    let new : AreIndicesBelow (count + 1) c.claim_next.new.names =
+    rw c.in_default-claim_next.ensures.claimed
+    (below_claimed (count + 1) (claims c.args.entry) c.self.inside.names count old (omega arith)) in
     below_more (count + 1) _ c.claim_next.new.names new (omega (arith, longer))

@@ -19,4 +19,6 @@ pub returns-clause-refused : goal.returns-clause-refused
 returns-clause-refused c = refused_text c.args.src.now c.from_raw.result c.in_ok-raw.ensures.read c.from_raw.ensures.refused
 
 pub returns-clause-inside : goal.returns-clause-inside
-returns-clause-inside c = refused_inside _ c.args.src.now c.from_raw.result (omega (arith, c.type_inv.src)) c.in_ok-raw.ensures.read c.from_raw.ensures.refused
+returns-clause-inside c =
+    refused_inside _ c.args.src.now c.from_raw.result (omega (arith, c.type_inv.src)) c.in_ok-raw.ensures.read
+    c.from_raw.ensures.refused

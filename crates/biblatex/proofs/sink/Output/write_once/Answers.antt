@@ -22,8 +22,11 @@ moves_front : (all done rest : List ℕ) (n : ℕ) → all ≡ done ++ rest → 
 moves_front all done rest n split = split_more all done rest n split ∙ ap (λ l. (done ++ take n rest) ++ l) (sym (take_rest rest n))
 
 -- whatever a write answers, a first part of the text was appended after it
-part_after : {E : Type 0} (a b c : Option (List ℕ)) (all done rest : List ℕ) (r : Result ℕ E) → all ≡ done ++ rest → Appends a b done → WriteAppends b c r rest → AppendsPart a c all
-part_after a b c all done rest (Ok n) split appended more = part_of a c all (done ++ take n rest) (drop n rest) (split_more all done rest n split) (Appends-trans a b c done (take n rest) appended more)
+part_after : {E : Type 0} (a b c : Option (List ℕ)) (all done rest : List ℕ) (r : Result ℕ E) → all ≡ done ++ rest
+    → Appends a b done → WriteAppends b c r rest → AppendsPart a c all
+part_after a b c all done rest (Ok n) split appended more =
+    part_of a c all (done ++ take n rest) (drop n rest) (split_more all done rest n split)
+    (Appends-trans a b c done (take n rest) appended more)
 part_after a b c all done rest (Err e) split appended kept = part_of a c all done rest split (Appends-kept a b c done appended kept)
 
 pub returns-then-is_refusal-clause-part : goal.returns-then-is_refusal-clause-part
@@ -44,8 +47,13 @@ writes-preserved g c =
       | in-Ok w ↦
           let n = w.in-Ok.count in
           let moved = moves_front c.args.bytes.now done rest n split in
-          let written : Appends mid end (take n rest) = subst (λ r. WriteAppends mid end r rest) w.in-Ok.is c.write-written.ensures.bytes in
-          (done ++ take n rest, moved ∙ ap (λ (r : Bor (List ℕ)). (done ++ take n rest) ++ r.now) (sym w.rest-is), Appends-trans start mid end done (take n rest) appended written, kept')
+          let written : Appends mid end (take n rest) =
+          subst (λ r. WriteAppends mid end r rest) w.in-Ok.is c.write-written.ensures.bytes in (
+            done ++ take n rest,
+            moved ∙ ap (λ (r : Bor (List ℕ)). (done ++ take n rest) ++ r.now) (sym w.rest-is),
+            Appends-trans start mid end done (take n rest) appended written,
+            kept',
+          )
       | in-Err w ↦
           let kept : Keeps mid end = subst (λ r. WriteAppends mid end r rest) w.in-Err.is c.write-written.ensures.bytes in
           (done, split ∙ ap (λ (r : Bor (List ℕ)). done ++ r.now) (sym w.rest-is), Appends-kept start mid end done appended kept, kept')
@@ -54,5 +62,7 @@ writes-preserved g c =
 pub returns-clause-part : goal.returns-clause-part
 returns-clause-part g c =
     let (done, split, appended, same) = c.writes.invariant in
-    let grown = subst (λ w. Appends (g.W.Write.contents c.args.self.now.writer) (g.W.Write.contents w) done) (sym c.refuse.ensures.writer) appended in
+    let grown =
+    subst (λ w. Appends (g.W.Write.contents c.args.self.now.writer) (g.W.Write.contents w) done)
+    (sym c.refuse.ensures.writer) appended in
     part_of _ _ c.args.bytes.now done c.writes.rest.now split grown

@@ -24,21 +24,27 @@ pub returns-then-at-clause-noted : goal.returns-then-at-clause-noted
 returns-then-at-clause-noted c text noted =
     let at = (goal.at.returns-then-at-clause-noted c).After-eat_until_any in
     let close = taken_if 125 _ c.eat_if-then-at.ensures c.if-at.ensures in
-    noted_close text _ _ _ _ _ close c.cursor-then-at.ensures.place c.in_ok-close.ensures (noted_same text _ _ c.if-eat_if.ensures.0 (noted_run text _ _ (run at).run noted))
+    noted_close text _ _ _ _ _ close c.cursor-then-at.ensures.place c.in_ok-close.ensures
+    (noted_same text _ _ c.if-eat_if.ensures.0 (noted_run text _ _ (run at).run noted))
 
 pub returns-then-at-clause-goes_on : goal.returns-then-at-clause-goes_on
 returns-then-at-clause-goes_on c =
     let close = taken_if 125 _ c.eat_if-then-at.ensures c.if-at.ensures in
-    left_smaller (ahead_then (ahead_run (run (goal.at.returns-then-at-clause-goes_on c).After-eat_until_any).run) (ahead_same c.if-eat_if.ensures.0)) close (ahead_here _)
+    left_smaller
+    (ahead_then (ahead_run (run (goal.at.returns-then-at-clause-goes_on c).After-eat_until_any).run)
+    (ahead_same c.if-eat_if.ensures.0)) close (ahead_here _)
 
 pub returns-then-eat_if-2-clause-noted : goal.returns-then-eat_if-2-clause-noted
 returns-then-eat_if-2-clause-noted c text noted =
     let at = (goal.at.returns-then-eat_if-2-clause-noted c).After-eat_until_any in
-    noted_hidden text _ _ _ c.if-eat_if-2.ensures c.eat.ensures (noted_same text _ _ c.if-eat_if.ensures.0 (noted_run text _ _ (run at).run noted))
+    noted_hidden text _ _ _ c.if-eat_if-2.ensures c.eat.ensures
+    (noted_same text _ _ c.if-eat_if.ensures.0 (noted_run text _ _ (run at).run noted))
 
 pub returns-then-eat_if-2-clause-goes_on : goal.returns-then-eat_if-2-clause-goes_on
 returns-then-eat_if-2-clause-goes_on c =
-    left_smaller (ahead_then (ahead_run (run (goal.at.returns-then-eat_if-2-clause-goes_on c).After-eat_until_any).run) (ahead_same c.if-eat_if.ensures.0)) c.if-eat_if-2.ensures (ahead_taken _ c.eat.ensures)
+    left_smaller
+    (ahead_then (ahead_run (run (goal.at.returns-then-eat_if-2-clause-goes_on c).After-eat_until_any).run)
+    (ahead_same c.if-eat_if.ensures.0)) c.if-eat_if-2.ensures (ahead_taken _ c.eat.ensures)
 
 pub returns-clause-noted : goal.returns-clause-noted
 returns-clause-noted c text noted =
@@ -48,5 +54,7 @@ returns-clause-noted c text noted =
 pub returns-clause-goes_on : goal.returns-clause-goes_on
 returns-clause-goes_on c =
     let same = c.if-eat_if.ensures.0 in
-    let end = braced_at_end c.eat_until_any.ensures.stopped c.if-eat_if.ensures.1 (λ x. rw (← same) (c.if-at.ensures x)) (λ x. rw (← same) (c.if-eat_if-2.ensures.1 x)) in
+    let end =
+    braced_at_end c.eat_until_any.ensures.stopped c.if-eat_if.ensures.1 (λ x. rw (← same) (c.if-at.ensures x))
+    (λ x. rw (← same) (c.if-eat_if-2.ensures.1 x)) in
     subst AtEnd (sym (c.if-eat_if-2.ensures.0 ∙ same)) end

@@ -5,4 +5,5 @@ use Rattle.bib_syntax.proofs.raw.reader.Reader.eat_whitespace.Goals as goal
 
 pub invariant_of-self : goal.invariant_of-self
 invariant_of-self c =
-    subst (λ text. IfSome c.self.inside.notes (λ notes. AreNotes text notes.now)) (sym (ahead_run c.eat_whitespace.ensures.longest.run).text) c.self.invariant
+    subst (λ text. IfSome c.self.inside.notes (λ notes. AreNotes text notes.now))
+    (sym (ahead_run c.eat_whitespace.ensures.longest.run).text) c.self.invariant

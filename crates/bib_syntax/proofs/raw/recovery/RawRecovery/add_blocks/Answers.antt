@@ -9,8 +9,11 @@ pub file-smaller-then-c-eq37 : goal.file-smaller-then-c-eq37
 file-smaller-then-c-eq37 c = line_comment_smaller c.line_comment.ensures
 
 pub file-preserved-then-c-eq37 : goal.file-preserved-then-c-eq37
-file-preserved-then-c-eq37 c =
-    ((λ start read. comment_recovered _ _ (c.file.invariant.0 start read) c.line_comment.ensures), (ahead_line_comment c.line_comment.ensures).text ∙ c.file.invariant.1, c.file.invariant.2)
+file-preserved-then-c-eq37 c = (
+  (λ start read. comment_recovered _ _ (c.file.invariant.0 start read) c.line_comment.ensures),
+  (ahead_line_comment c.line_comment.ensures).text ∙ c.file.invariant.1,
+  c.file.invariant.2,
+)
 
 pub file-smaller : goal.file-smaller
 file-smaller c =
@@ -19,5 +22,8 @@ file-smaller c =
 
 pub file-preserved : goal.file-preserved
 file-preserved c =
-    let run : Longest is_skipped c.file.s c.eat_until_either.new.self = c.eat_until_either.ensures.longest in
-    ((λ start read. skip_recovered _ _ (c.file.invariant.0 start read) run), (ahead_run run.run).text ∙ c.file.invariant.1, c.file.invariant.2)
+    let run : Longest is_skipped c.file.s c.eat_until_either.new.self = c.eat_until_either.ensures.longest in (
+      (λ start read. skip_recovered _ _ (c.file.invariant.0 start read) run),
+      (ahead_run run.run).text ∙ c.file.invariant.1,
+      c.file.invariant.2,
+    )
