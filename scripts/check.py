@@ -13,7 +13,8 @@ crates for docs/CONTRIBUTING.md.
 - No comment has a name with an underscore outside of backticks: a name that a script put there reads as prose.
 - The public surface of `biblatex` is that of tests/surface.txt (tests/surface.py).
 - Each word that a public contract cites has a comment in specs/. No word is defined in two files of specs/, and no
-  definition says the code of a character that has a name.
+  definition or clause says the code of a character that has a name.
+- No line of a definition or a proof is over 140 characters, except imports and literal texts.
 - Each public call of `biblatex` that may be refused memory is named in a test, which calls it where memory is there.
 - No function builds an error that says that memory was refused unless it was given one (out_of_memory.py).
 - The rows of each layer, tests/rows/NAME, stand in NAME.stdout in the same order, each with an answer.
@@ -39,6 +40,7 @@ CRATES = TOP / "crates"
 FOLDERS = ("must-fail", "wrong")
 DEFINITION = re.compile(r"(?:(?:pub|abbrev|unfoldable|opaque|data|record) )+([A-Za-z_][\w'-]*)(?=[ :(]|$)")
 NAMED = re.compile(r"(?m)^(\w+) = (\d+)$")
+CLAUSE = re.compile(r" *(?:ensures|requires)\*?(?: \w+)? \{")
 CODE = re.compile(r"(?:== |≡ |CharAt [\w']+ |cut_at [\w'.]+ )(\d+)\b|(?<![\w'.])(\d+)(?= ∷)")
 # Wrong bodies that the promises of the library name, each with the edits in must-fail/ that stand for it, or the file and the
 # text of a test that shows it.
@@ -252,15 +254,39 @@ def check_words():
 
 
 def check_characters():
-    """Definitions name characters, and write no codes."""
+    """Definitions and contracts name characters, and write no codes."""
     characters = CRATES / "bib_text" / "specs" / "Characters.antt"
     names = {int(code): name for name, code in NAMED.findall(characters.read_text())}
-    for file in sorted(CRATES.glob("*/specs/*.antt")):
+    for file in sorted([*CRATES.glob("*/specs/*.antt"), *CRATES.glob("*/src/**/*.rt")]):
+        if file == characters:
+            continue
+        for number, line in enumerate(clauses(file).splitlines(), 1):
+            for code in {int(one or other) for one, other in CODE.findall(line)} & set(names):
+                error(file, f"line {number} says {code} where it means char.{names[code]}")
+
+
+def clauses(file):
+    """The text of a file of definitions; of code, only that in the braces of its clauses, with all line ends."""
+    text = file.read_text()
+    if file.suffix == ".antt":
+        return text
+    kept, depth = [], 0
+    for line in text.splitlines():
+        begins = depth == 0 and CLAUSE.match(line)
+        if depth or begins:
+            depth += line.count("{") - line.count("}")
+            kept.append(line)
+        else:
+            kept.append("")
+    return "\n".join(kept)
+
+
+def check_widths():
+    """No line of a definition or a proof is over 140 characters, except imports and literal texts."""
+    for file in sorted([*CRATES.glob("*/specs/*.antt"), *CRATES.glob("*/proofs/**/*.antt")]):
         for number, line in enumerate(file.read_text().splitlines(), 1):
-            codes = [int(one or other) for one, other in CODE.findall(line)] if file != characters else []
-            for code in codes:
-                if code in names:
-                    error(file, f"line {number} says {code} where it means char.{names[code]}")
+            if len(line) > 140 and not line.startswith(("use ", "pub use ")) and not line.lstrip().startswith('"'):
+                error(file, f"line {number} has {len(line)} characters")
 
 
 def exported():
@@ -442,6 +468,7 @@ def main():
     check_specs()
     check_words()
     check_characters()
+    check_widths()
     check_calls()
     check_memory()
     check_rows()

@@ -7,6 +7,7 @@ ghost use Rattle.bib_text.specs.Braces.{IsParts};
 ghost use Rattle.bib_chunks.specs.Settled.{is_pair, IsSettled};
 ghost use Rattle.bib_chunks.specs.Settling.{MayFollow, neighbour, character_atom, text_atoms, Continues, IsUnsettledAfter, ContinuesIn, IsStuckIn, IsSettledMath};
 ghost use Rattle.bib_chunks.specs.Styled.{atoms_of, styled};
+ghost use Rattle.bib_text.specs.Characters as char;
 
 use crate::chunk::{Chunk, ChunksRef};
 use bib_text::scanner::Scanner;
@@ -70,7 +71,7 @@ fn after_text(text: &str, is_braced: bool, before: Before) -> Option<Before>
 
 // Returns whether the text contains a dollar sign.
 fn holds_dollar(text: &str) -> bool
-    ensures { result ≡ list_any (λ c. c == 36) (chars text.now) }
+    ensures { result ≡ list_any (λ c. c == char.dollar) (chars text.now) }
 {
     let mut scanner = Scanner::new(text);
     scanner.eat_while(|c| c != '$');

@@ -3,6 +3,7 @@
 ghost use Rattle.std.specs.Prelude.{◌≡◌, ◌<◌, ◌∷◌, [], true, length, IfOk, OnOk, MatchOption};
 ghost use Rattle.bib_contents.specs.Contents as contents;
 ghost use Rattle.bib_contents.specs.Progress.{left, Passes, Renders};
+ghost use Rattle.bib_text.specs.Characters as char;
 
 use crate::characters::Characters;
 use crate::classes::{is_escaped, is_space};
@@ -14,7 +15,7 @@ use std::alloc::AllocError;
 fn eat_escaped(s: &mut Characters<'_>, is_verbatim: bool) -> Option<char>
     ensures { MatchOption result
         (s.new ≡ s.old)
-        (λ c. Passes s.old (92 ∷ c ∷ []) s.new × (contents.is_escaped is_verbatim c ≡ true)) }
+        (λ c. Passes s.old (char.backslash ∷ c ∷ []) s.new × (contents.is_escaped is_verbatim c ≡ true)) }
 {
     let mut ahead = s.copy();
     if !ahead.eat_if('\\') {

@@ -9,6 +9,7 @@ ghost use Rattle.bib_contents.specs.Contents as contents;
 ghost use Rattle.bib_contents.specs.Contents.{ContentUnit, IsNext, begins, balances, is_argument, argument_spelling};
 ghost use Rattle.bib_contents.specs.Progress.{left, Passes};
 ghost use Rattle.bib_contents.specs.UnitViews.{found_of, unit_of};
+ghost use Rattle.bib_text.specs.Characters as char;
 
 use crate::characters::Characters;
 use crate::classes::{
@@ -56,7 +57,7 @@ pub(crate) fn hyphens(s: &mut Characters<'_>) -> usize
     ensures passed { (cs : List ℕ) × Passes s.old cs s.new }
     ensures same { s.new.text ≡ s.old.text }
     ensures spelt { left s.old ≡ replicate result 45 ++ left s.new }
-    ensures whole { begins (λ c. c == 45) (left s.new) ≡ false }
+    ensures whole { begins (λ c. c == char.hyphen) (left s.new) ≡ false }
 {
     s.eat_while(|c| c == '-').len()
 }
@@ -65,9 +66,9 @@ pub(crate) fn hyphens(s: &mut Characters<'_>) -> usize
 fn formula<'s>(s: &mut Characters<'s>) -> Option<Unit<'s>>
     ensures same { s.new.text ≡ s.old.text }
     ensures found { MatchOption result
-        ((u : ContentUnit) (rest : List ℕ) → IsNext false u (36 ∷ left s.old) rest → ⊥)
-        (λ u. IsNext false (unit_of u) (36 ∷ left s.old) (left s.new)) }
-    ensures fails { IfNone result (UnitFails false (36 ∷ left s.old)) }
+        ((u : ContentUnit) (rest : List ℕ) → IsNext false u (char.dollar ∷ left s.old) rest → ⊥)
+        (λ u. IsNext false (unit_of u) (char.dollar ∷ left s.old) (left s.new)) }
+    ensures fails { IfNone result (UnitFails false (char.dollar ∷ left s.old)) }
 {
     let text = s.eat_while(|c| c != '$');
     if !s.eat_if('$') {
@@ -80,7 +81,7 @@ fn formula<'s>(s: &mut Characters<'s>) -> Option<Unit<'s>>
 fn search<'s>(s: &mut Characters<'s>) -> Option<Characters<'s>>
     ensures same { s.new.text ≡ s.old.text }
     ensures found { MatchOption result
-        ((text rest : List ℕ) → left s.old ≡ text ++ 125 ∷ rest → balances 0 text ≡ true → ⊥)
+        ((text rest : List ℕ) → left s.old ≡ text ++ char.close_brace ∷ rest → balances 0 text ≡ true → ⊥)
         (λ inside. Encloses s.old inside s.new) }
 {
     let start = s.cursor();
@@ -106,7 +107,7 @@ fn braced<'s>(s: &mut Characters<'s>, ends: &Ends) -> Option<Characters<'s>>
     requires known { AreKnown ends.now s.old.text }
     ensures same { s.new.text ≡ s.old.text }
     ensures found { MatchOption result
-        ((text rest : List ℕ) → left s.old ≡ text ++ 125 ∷ rest → balances 0 text ≡ true → ⊥)
+        ((text rest : List ℕ) → left s.old ≡ text ++ char.close_brace ∷ rest → balances 0 text ≡ true → ⊥)
         (λ inside. Encloses s.old inside s.new) }
 {
     let start = s.cursor();
@@ -138,7 +139,7 @@ fn eat_argument<'s>(
         (λ a. (left s.old ≡ argument_spelling (found_of a) ++ left s.new) ×
         (is_argument takes_next is_spaced (found_of a) (left s.new) ≡ true)) }
     ensures unclosed { IfNone result ((is_spaced ≡ false) × ((inside : List ℕ) ×
-        (left s.old ≡ 123 ∷ inside) × ((text rest : List ℕ) → inside ≡ text ++ 125 ∷ rest →
+        (left s.old ≡ char.open_brace ∷ inside) × ((text rest : List ℕ) → inside ≡ text ++ char.close_brace ∷ rest →
         balances 0 text ≡ true → ⊥))) }
     ensures inside { IfSome result
         (λ a. IsFoundIn s.old.text s.old.at a s.new.at) }
@@ -205,9 +206,9 @@ fn command<'s>(s: &mut Characters<'s>, first: char, ends: &Ends) -> Option<Unit<
     requires known { AreKnown ends.now s.old.text }
     ensures same { s.new.text ≡ s.old.text }
     ensures found { MatchOption result
-        ((u : ContentUnit) (rest : List ℕ) → IsNext false u (92 ∷ left s.old) rest → ⊥)
-        (λ u. IsNext false (unit_of u) (92 ∷ left s.old) (left s.new)) }
-    ensures fails { IfNone result (UnitFails false (92 ∷ left s.old)) }
+        ((u : ContentUnit) (rest : List ℕ) → IsNext false u (char.backslash ∷ left s.old) rest → ⊥)
+        (λ u. IsNext false (unit_of u) (char.backslash ∷ left s.old) (left s.new)) }
+    ensures fails { IfNone result (UnitFails false (char.backslash ∷ left s.old)) }
     ensures inside { IfSome result
         (λ u. IsArgumentBetween s.old.text s.old.at u s.new.at) }
 {
@@ -229,9 +230,9 @@ fn escape<'s>(s: &mut Characters<'s>, is_verbatim: bool, ends: &Ends) -> Option<
     requires known { AreKnown ends.now s.old.text }
     ensures same { s.new.text ≡ s.old.text }
     ensures found { MatchOption result
-        ((u : ContentUnit) (rest : List ℕ) → IsNext is_verbatim u (92 ∷ left s.old) rest → ⊥)
-        (λ u. IsNext is_verbatim (unit_of u) (92 ∷ left s.old) (left s.new)) }
-    ensures fails { IfNone result (UnitFails is_verbatim (92 ∷ left s.old)) }
+        ((u : ContentUnit) (rest : List ℕ) → IsNext is_verbatim u (char.backslash ∷ left s.old) rest → ⊥)
+        (λ u. IsNext is_verbatim (unit_of u) (char.backslash ∷ left s.old) (left s.new)) }
+    ensures fails { IfNone result (UnitFails is_verbatim (char.backslash ∷ left s.old)) }
     ensures inside { IfSome result
         (λ u. IsArgumentBetween s.old.text s.old.at u s.new.at) }
 {

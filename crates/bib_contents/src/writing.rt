@@ -8,6 +8,7 @@ ghost use Rattle.bib_contents.specs.Arguments.{laid, unit_written};
 ghost use Rattle.bib_contents.specs.Commands.{command_text};
 ghost use Rattle.bib_contents.specs.Contents.{dashes};
 ghost use Rattle.bib_contents.specs.UnitViews.{text_unit_of};
+ghost use Rattle.bib_text.specs.Characters as char;
 
 use crate::commands::{write_alone, write_command};
 use crate::units::{Argument, TextUnit};
@@ -112,7 +113,7 @@ pub(crate) fn write_math(
     is_flat: bool,
 ) -> Result<(), AllocError>
     ensures { OnOk result (Writes text.old text.new
-        (36 ∷ (laid is_flat (chars math.now) ++ 36 ∷ []))) }
+        (char.dollar ∷ (laid is_flat (chars math.now) ++ char.dollar ∷ []))) }
 {
     text.push('$')?;
     write_laid(text, alloc, math, is_flat)?;

@@ -2,6 +2,7 @@
 
 ghost use Rattle.std.specs.Prelude.{◌≡◌, ◌+◌, ◌^◌, ◌<◌, ◌≤◌, None, pos, ◌↔◌, ◌==◌, IsTrue, IfOk, IfSome, is_some};
 ghost use Rattle.std.specs.List.{before_first, after_first};
+ghost use Rattle.bib_text.specs.Characters as char;
 ghost use Rattle.jiff_core.specs.Calendar.{IsDate, IsYear, days_in_month};
 ghost use Rattle.bib_tables.specs.declared.type_error.TypeErrorKind.TheVariants.{DayOutOfRange};
 ghost use Rattle.bib_dates.specs.Code.{reading, parsed};
@@ -283,8 +284,8 @@ fn range(from: &str, to: &str) -> Result<DateValue, ReadError>
 // Returns the texts before and after the first slash.
 fn sides(text: &str) -> Option<(&str, &str)>
     ensures some { is_some result ≡ Spec.holds 47 text.now }
-    ensures from { IfSome result (λ p. p.0.now ≡ before_first (λ b. b == 47) text.now) }
-    ensures to { IfSome result (λ p. p.1.now ≡ after_first (λ b. b == 47) text.now) }
+    ensures from { IfSome result (λ p. p.0.now ≡ before_first (λ b. b == char.slash) text.now) }
+    ensures to { IfSome result (λ p. p.1.now ≡ after_first (λ b. b == char.slash) text.now) }
 {
     text.split_once('/')
 }

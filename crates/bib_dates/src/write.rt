@@ -4,6 +4,7 @@ ghost use Rattle.std.specs.Prelude.{◌≡◌, ◌∷◌, IfOk, Some, string_byt
 ghost use Rattle.std.specs.Fmt.{WritesOnOk};
 ghost use Rattle.std.specs.Option.{option_map};
 ghost use Rattle.bib_dates.specs.Written.{year_text, count_text, padded, month_text, day_text, datetime_text, first_side, second_side, mark_text, date_text};
+ghost use Rattle.bib_text.specs.Characters as char;
 
 use crate::date::{Date, DateValue, Datetime};
 use std::alloc::{AllocError, Global};
@@ -46,7 +47,7 @@ fn four_wide<W: fmt::Write>(f: &mut fmt::Formatter<W>, n: u32) -> fmt::Result
 
 // Writes a hyphen and a month or a day, which counts from 0.
 fn count<W: fmt::Write>(f: &mut fmt::Formatter<W>, n: u8) -> fmt::Result
-    ensures { WritesOnOk W.write_str_gives f.old result (45 ∷ count_text n) f.new }
+    ensures { WritesOnOk W.write_str_gives f.old result (char.hyphen ∷ count_text n) f.new }
 {
     let n = u16::from(n) + 1;
     write!(f, "-{n:02}")

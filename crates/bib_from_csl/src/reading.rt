@@ -4,6 +4,7 @@ ghost use Rattle.std.specs.Prelude.{◌≡◌, ◌==◌, map, IfOk, IfSome, is_s
 ghost use Rattle.std.specs.List.{before_first, after_first};
 ghost use Rattle.std.specs.Option.{option_map};
 ghost use Rattle.bib_dates.specs.Dates.{holds as has_byte};
+ghost use Rattle.bib_text.specs.Characters as char;
 ghost use Rattle.json.specs.Value.{value_view};
 ghost use Rattle.bib_from_csl.specs.GivenItems as spec;
 
@@ -82,8 +83,8 @@ fn dashed_text(alloc: Global, text: &str) -> Result<Text, AllocError>
 // The two sides of the first hyphen.
 fn sides(text: &str) -> Option<(&str, &str)>
     ensures some { is_some result ≡ has_byte 45 text.now }
-    ensures from { IfSome result (λ p. p.0.now ≡ before_first (λ b. b == 45) text.now) }
-    ensures to { IfSome result (λ p. p.1.now ≡ after_first (λ b. b == 45) text.now) }
+    ensures from { IfSome result (λ p. p.0.now ≡ before_first (λ b. b == char.hyphen) text.now) }
+    ensures to { IfSome result (λ p. p.1.now ≡ after_first (λ b. b == char.hyphen) text.now) }
 {
     text.split_once('-')
 }

@@ -3,6 +3,7 @@
 ghost use Rattle.std.specs.Prelude.{◌≡◌, ℕ, length, IfOk, MatchBool, MatchOption};
 ghost use Rattle.std.specs.String.{string_bytes};
 ghost use Rattle.bib_text.specs.Braces.{Parts, is_plain};
+ghost use Rattle.bib_text.specs.Characters as char;
 ghost use Rattle.bib_text.specs.Places.{AtEnd, CharAt, Place, place};
 ghost use Rattle.bib_syntax.specs.Grammar.{Braced};
 ghost use Rattle.bib_syntax.specs.Reading.{Part};
@@ -22,8 +23,8 @@ fn is_plain(c: char) -> bool
 // The parts of a braced text, up to the brace that closes it, if there is one.
 fn parts<'s>(s: &mut Scanner<'s>) -> Option<&'s str>
     ensures { MatchOption result
-        ((v w : Place) → Parts s.old v → CharAt v 125 w → ⊥)
-        (λ text. Parts s.old s.new × ((v : Place) × CharAt s.new 125 v)) }
+        ((v w : Place) → Parts s.old v → CharAt v char.close_brace w → ⊥)
+        (λ text. Parts s.old s.new × ((v : Place) × CharAt s.new char.close_brace v)) }
 {
     let start = s.cursor();
     let mut depth = 0usize;
@@ -47,8 +48,8 @@ fn parts<'s>(s: &mut Scanner<'s>) -> Option<&'s str>
 
 // Takes the brace that stands here, and says whether the text ends after it.
 fn closes(s: &mut Scanner<'_>) -> bool
-    requires { (v : Place) × CharAt s.old 125 v }
-    ensures brace { CharAt s.old 125 s.new }
+    requires { (v : Place) × CharAt s.old char.close_brace v }
+    ensures brace { CharAt s.old char.close_brace s.new }
     ensures end { MatchBool result (AtEnd s.new) (AtEnd s.new → ⊥) }
 {
     s.eat_if('}');

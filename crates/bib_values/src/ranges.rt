@@ -5,6 +5,7 @@ ghost use Rattle.std.specs.Char.{is_ascii_digit, is_whitespace};
 ghost use Rattle.std.specs.Option.{option_map};
 ghost use Rattle.std.specs.Str.{chars};
 ghost use Rattle.std.specs.Fmt.{decimal};
+ghost use Rattle.bib_text.specs.Characters as char;
 ghost use Rattle.bib_values.specs.Ranges.{leading_number, is_dash, after_dash, up_to, goes_on_with, starts_with, range_of, ranges_read, range_read, range_text, range_written, ranges_written};
 ghost use Rattle.bib_text.specs.Runs.{leading_run, rest_after};
 
@@ -29,7 +30,7 @@ fn digits(text: &str) -> (&str, &str)
 
 // Returns a text without the hyphens at its start.
 fn after_hyphens(text: &str) -> &str
-    ensures { chars result.now ≡ rest_after (λ c. c == 45) (chars text.now) }
+    ensures { chars result.now ≡ rest_after (λ c. c == char.hyphen) (chars text.now) }
 {
     let mut scanner = Scanner::new(text);
     let _hyphens = scanner.eat_while(|c| c == '-');

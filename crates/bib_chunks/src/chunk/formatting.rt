@@ -6,6 +6,7 @@ ghost use Rattle.std.specs.Str.{IsUtf8, chars};
 ghost use Rattle.bib_chunks.specs.Formatted.{is_break, ends_in_space, unbroken, flowing, formatted, formatted_atoms, formatted_chunk, space_after, cased, sentence_case, sentence};
 ghost use Rattle.bib_chunks.specs.Styled.{styled, text_of, is_shown};
 ghost use Rattle.bib_chunks.specs.Writing.{Writes};
+ghost use Rattle.bib_text.specs.Characters as char;
 
 use super::{Chunk, ChunksRef};
 use bib_text::scanner::Scanner;
@@ -35,7 +36,7 @@ fn ends_in_space(text: &str, empty: bool) -> bool
 
 // Writes a space for a line break, or nothing after white space.
 fn write_break(out: &mut String, space: bool) -> Result<(), AllocError>
-    ensures { OnOk result (Writes out.old out.new (if space then [] else 32 ∷ [])) }
+    ensures { OnOk result (Writes out.old out.new (if space then [] else char.space ∷ [])) }
 {
     if !space {
         out.push(' ')?;
@@ -85,7 +86,7 @@ fn write_chunk(out: &mut String, chunk: &Chunk, space: bool) -> Result<bool, All
 
 // Writes a math text between dollar signs.
 fn write_math(out: &mut String, text: &str) -> Result<(), AllocError>
-    ensures { OnOk result (Writes out.old out.new (36 ∷ (chars text.now ++ 36 ∷ []))) }
+    ensures { OnOk result (Writes out.old out.new (char.dollar ∷ (chars text.now ++ char.dollar ∷ []))) }
 {
     out.push('$')?;
     out.push_str(text)?;

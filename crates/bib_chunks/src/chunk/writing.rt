@@ -4,6 +4,7 @@ ghost use Rattle.std.specs.Prelude.{◌≡◌, ◌∷◌, [], ◌++◌, false, O
 ghost use Rattle.std.specs.Str.{chars};
 ghost use Rattle.bib_chunks.specs.Written.{is_grouping, is_reserved, spelled, spelling, lead, trail, is_open_after, written_chunk, written_chunks, written_value};
 ghost use Rattle.bib_chunks.specs.Writing.{Writes, is_bare};
+ghost use Rattle.bib_text.specs.Characters as char;
 
 use super::{Chunk, ChunksRef};
 use bib_text::scanner::Scanner;
@@ -44,7 +45,7 @@ fn is_bare(is_verbatim: bool, c: char) -> bool
 
 // Writes a backslash and a character.
 fn write_hidden(out: &mut String, c: char) -> Result<(), AllocError>
-    ensures { OnOk result (Writes out.old out.new (92 ∷ c ∷ [])) }
+    ensures { OnOk result (Writes out.old out.new (char.backslash ∷ c ∷ [])) }
 {
     out.push('\\')?;
     out.push(c)?;

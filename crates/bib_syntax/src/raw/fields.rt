@@ -2,6 +2,7 @@
 
 ghost use Rattle.std.specs.Prelude.{◌≡◌, ◌≢◌, ℕ, true, List, map, IfOk, IfErr, OnOk, OnErr};
 ghost use Rattle.std.specs.Char.{is_whitespace};
+ghost use Rattle.bib_text.specs.Characters as char;
 ghost use Rattle.bib_text.specs.Places.{Place, CharAt, Stops, Longest};
 ghost use Rattle.bib_syntax.specs.Characters.{is_id_start};
 ghost use Rattle.bib_syntax.specs.Errors.{IsSyntaxError, Refuses, out_of_memory};
@@ -19,7 +20,7 @@ use std::alloc::Global;
 
 // Moves past a percent sign and the rest of its line, without the line feed.
 pub(crate) fn line_comment(s: &mut Reader<'_, '_>)
-    requires { (v : Place) × CharAt s.old 37 v }
+    requires { (v : Place) × CharAt s.old char.percent v }
     ensures { LineComment s.old s.new }
 {
     s.eat_if('%');
@@ -74,7 +75,7 @@ fn field<'s>(s: &mut Reader<'s, '_>, alloc: Global) -> Result<Pair<'s>, ParseErr
 fn closed(s: &mut Reader<'_, '_>) -> Result<(), ParseError>
     requires { Stops is_id_start s.old }
     ensures found { OnOk result (Longest is_whitespace s.old s.new ×
-        ((v : Place) × CharAt s.new 125 v)) }
+        ((v : Place) × CharAt s.new char.close_brace v)) }
     ensures fails { IfErr result (Reports (FieldsFails s.old)) }
     ensures error { IfErr result (IsSyntaxError s.old.text) }
 {
@@ -96,7 +97,7 @@ pub(crate) fn fields<'s>(
     starts: &mut Vec<usize>,
 ) -> Result<Vec<Pair<'s>>, ParseError>
     ensures found { IfOk result (λ pairs. Fields longest s.old (map field_of pairs.items) s.new) }
-    ensures closed { OnOk result ((v : Place) × CharAt s.new 125 v) }
+    ensures closed { OnOk result ((v : Place) × CharAt s.new char.close_brace v) }
     ensures fails { IfErr result (λ e. Refuses s.old.text e (Reports (FieldsFails s.old) e)) }
     ensures from_each { IfErr result (λ e. e ≢ out_of_memory →
         AllFail s.old.text e starts.old.items → AllFail s.old.text e starts.new.items) }

@@ -1,6 +1,7 @@
 //! Parses blocks, and files of blocks.
 
 ghost use Rattle.std.specs.Prelude.{◌≡◌, ◌≢◌, ℕ, List, [], ◌∷◌, ◌==◌, ◌&&◌, ◌||◌, not, true, IfOk, IfErr, OnOk, OnErr};
+ghost use Rattle.bib_text.specs.Characters as char;
 ghost use Rattle.bib_text.specs.Places.{Place, CharAt, place};
 ghost use Rattle.bib_syntax.specs.Blocks.{item_of, block_kind_of};
 ghost use Rattle.bib_syntax.specs.Grammar as grammar;
@@ -59,7 +60,7 @@ pub(crate) enum Item<'s> {
 
 // Parses the head of a block: its at sign, its name, a brace or a quote, and white space.
 fn head<'s>(s: &mut Reader<'s, '_>) -> Result<Spanned<&'s str>, ParseError>
-    requires { (v : Place) × CharAt s.old 64 v }
+    requires { (v : Place) × CharAt s.old char.at v }
     ensures found { IfOk result (λ kind. Head longest s.old (part_of kind) s.new) }
     ensures fails { IfErr result (Reports (HeadFails s.old)) }
     ensures error { IfErr result (IsSyntaxError s.old.text) }
@@ -150,7 +151,7 @@ pub(crate) fn block<'s>(
     alloc: Global,
     starts: &mut Vec<usize>,
 ) -> Result<Item<'s>, ParseError>
-    requires { (v : Place) × CharAt s.old 64 v }
+    requires { (v : Place) × CharAt s.old char.at v }
     ensures found { IfOk result (λ item. Block longest s.old (item_of item) s.new) }
     ensures fails { IfErr result (λ e. Refuses s.old.text e (Reports (BlockFails s.old) e)) }
     ensures from_each { IfErr result (λ e. e ≢ out_of_memory → AllFail s.old.text e starts.new.items) }

@@ -3,6 +3,7 @@
 ghost use Rattle.std.specs.Prelude.{◌≡◌, ◌==◌, ◌&&◌, ℕ, ◌≤◌, ◌<◌, ◌^◌, Bool, true, false, not, length, take, MatchOption, MatchBool, IsTrue, IfOk, IfSome, ◌↔◌};
 ghost use Rattle.std.specs.Char.{is_whitespace};
 ghost use Rattle.std.specs.Str.{IsCharBoundary};
+ghost use Rattle.bib_text.specs.Characters as char;
 ghost use Rattle.bib_text.specs.Places.{Place, place, CharAt, Longest, AllBetween, AtEnd, EndsOr, Answers, between};
 ghost use Rattle.bib_syntax.specs.Closings.{IsNoted};
 ghost use Rattle.bib_syntax.specs.Failures.{FailsAt};
@@ -132,8 +133,8 @@ impl<'s, 'n> Reader<'s, 'n> {
 
     // Moves to the next closing brace, or to the end of the text.
     pub(crate) fn eat_to_brace(&mut self)
-        ensures longest { Longest (λ c. not (c == 125)) self.old self.new }
-        ensures stopped { EndsOr (λ c. c == 125 ≡ true) self.new }
+        ensures longest { Longest (λ c. not (c == char.close_brace)) self.old self.new }
+        ensures stopped { EndsOr (λ c. c == char.close_brace ≡ true) self.new }
     {
         match self.noted_tail() {
             Some(end) => self.jump(end),
@@ -145,7 +146,7 @@ impl<'s, 'n> Reader<'s, 'n> {
 
     // Moves to the next line feed, or to the end of the text.
     pub(crate) fn eat_line(&mut self)
-        ensures { Longest (λ c. not (c == 10)) self.old self.new }
+        ensures { Longest (λ c. not (c == char.line_feed)) self.old self.new }
     {
         match self.noted_line() {
             Some(end) => self.jump(end),
@@ -230,7 +231,7 @@ impl<'s, 'n> Reader<'s, 'n> {
 
     // Returns the end of the text if it is noted that no closing brace occurs from here on.
     fn noted_tail(&self) -> Option<usize>
-        ensures { IfSome result (IsStretchFrom 125 self.now) }
+        ensures { IfSome result (IsStretchFrom char.close_brace self.now) }
     {
         let notes = self.notes?;
         if !notes.tail.holds(self.scanner.cursor()) {
@@ -241,7 +242,7 @@ impl<'s, 'n> Reader<'s, 'n> {
 
     // Returns the end of the line, before its line feed, if it is noted.
     fn noted_line(&self) -> Option<usize>
-        ensures { IfSome result (IsStretchFrom 10 self.now) }
+        ensures { IfSome result (IsStretchFrom char.line_feed self.now) }
     {
         let notes = self.notes?;
         let at = self.scanner.cursor();

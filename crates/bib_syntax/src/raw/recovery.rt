@@ -1,6 +1,7 @@
 //! Parses a file even if some of its blocks can't be parsed.
 
 ghost use Rattle.std.specs.Prelude.{◌≡◌, ◌≢◌, ◌⊎◌, ◌<◌, ◌-◌, ◌==◌, ◌++◌, [], ◌∷◌, ℕ, List, not, true, false, length, take, MatchBool, IfSome, IfOk, IfErr, OnOk, OnErr};
+ghost use Rattle.bib_text.specs.Characters as char;
 ghost use Rattle.bib_text.specs.Places.{Place, CharAt, AtEnd, place};
 ghost use Rattle.bib_syntax.specs.Blocks.{item_of};
 ghost use Rattle.bib_syntax.specs.Errors.{Refuses, out_of_memory};
@@ -64,7 +65,7 @@ fn begins_line(s: &Reader<'_, '_>) -> bool
 
 // Returns whether `c` isn't an at sign.
 fn is_other(c: char) -> bool
-    ensures { result ≡ not (c == 64) }
+    ensures { result ≡ not (c == char.at) }
 {
     c != '@'
 }
@@ -89,7 +90,7 @@ fn read_block<'s>(
     notes: Option<&Notes>,
     starts: &mut Vec<usize>,
 ) -> Result<Item<'s>, ParseError>
-    requires sign { (v : Place) × CharAt s.old 64 v }
+    requires sign { (v : Place) × CharAt s.old char.at v }
     requires noted { IfSome notes (λ notes. AreNotes s.old.text notes.now) }
     ensures found { IfOk result (λ item. Block longest s.old (item_of item) s.new) }
     ensures fails { IfErr result (λ e. Refuses s.old.text e (Reports (BlockFails s.old) e)) }
@@ -120,8 +121,8 @@ fn note_failures(
 impl<'s> RawRecovery<'s> {
     // Skips the block at this at sign, and keeps its error.
     fn skip(&mut self, s: &mut Reader<'s, '_>, error: ParseError) -> Result<(), AllocError>
-        requires { (v : Place) × CharAt s.old 64 v }
-        ensures passed { OnOk result ((v : Place) × CharAt s.old 64 v × GoesOnAt v s.new) }
+        requires { (v : Place) × CharAt s.old char.at v }
+        ensures passed { OnOk result ((v : Place) × CharAt s.old char.at v × GoesOnAt v s.new) }
         ensures kept { OnOk result (self.new.raw ≡ self.old.raw) }
         ensures skipped { OnOk result (self.new.skipped.items ≡
             self.old.skipped.items ++ skipped_block error s.old s.new ∷ []) }
@@ -143,7 +144,7 @@ impl<'s> RawRecovery<'s> {
         notes: &mut Option<Notes>,
         starts: &mut Vec<usize>,
     ) -> Result<(), AllocError>
-        requires sign { (v : Place) × CharAt s.old 64 v }
+        requires sign { (v : Place) × CharAt s.old char.at v }
         requires noted { IfSome notes.old (AreNotes s.old.text) }
         ensures found { OnOk result ((start : Place) →
             RecoveredTo start (file_of self.old.raw) self.old.skipped.items s.old →

@@ -2,6 +2,7 @@
 
 ghost use Rattle.std.specs.Prelude.{◌≡◌, ℕ, ◌≤◌, ◌+◌, ◌||◌, ◌&&◌, ◌==◌, not, true, false, length, IfOk, IfErr, OnOk, OnErr, IsTrue, MatchBool};
 ghost use Rattle.std.specs.Char.{is_ascii_digit};
+ghost use Rattle.bib_text.specs.Characters as char;
 ghost use Rattle.bib_text.specs.Places.{Place, CharAt, Longest};
 ghost use Rattle.bib_text.specs.Braces.{Parts};
 ghost use Rattle.bib_syntax.specs.Characters as characters;
@@ -46,9 +47,9 @@ pub(crate) fn expect(s: &mut Reader<'_, '_>, c: char, token: Token) -> Result<()
 
 // Moves past the next character if it is the brace `c` or a quote, and otherwise reports that `token` was expected.
 pub(crate) fn brace(s: &mut Reader<'_, '_>, c: char, token: Token) -> Result<(), ParseError>
-    ensures found { OnOk result ((d : ℕ) × CharAt s.old d s.new × (d == c || d == 34 ≡ true)) }
+    ensures found { OnOk result ((d : ℕ) × CharAt s.old d s.new × (d == c || d == char.quote ≡ true)) }
     ensures none { OnErr result ((d : ℕ) (v : Place) → CharAt s.old d v →
-        d == c || d == 34 ≡ true → ⊥) }
+        d == c || d == char.quote ≡ true → ⊥) }
     ensures error { IfErr result (IsSyntaxError s.old.text) }
     ensures here { IfErr result (λ e. e ≡ error_at_place (Expected token) s.old) }
 {
@@ -133,9 +134,9 @@ fn number<'s>(s: &mut Reader<'s, '_>) -> Result<Spanned<&'s str>, ParseError>
 
 // Parses a quoted text from after its first quote up to the quote that closes it, without moving past that quote.
 fn quoted_parts<'s>(s: &mut Reader<'s, '_>) -> Result<Spanned<&'s str>, ParseError>
-    ensures found { OnOk result (QuotedParts s.old s.new × ((v : Place) × CharAt s.new 34 v)) }
+    ensures found { OnOk result (QuotedParts s.old s.new × ((v : Place) × CharAt s.new char.quote v)) }
     ensures reading { IfOk result (λ text. part_of text ≡ part s.old s.new) }
-    ensures none { OnErr result ((v w : Place) → QuotedParts s.old v → CharAt v 34 w → ⊥) }
+    ensures none { OnErr result ((v w : Place) → QuotedParts s.old v → CharAt v char.quote w → ⊥) }
     ensures error { IfErr result (IsSyntaxError s.old.text) }
     ensures end { IfErr result (λ e. e ≡ error_at_place UnexpectedEof (text_end s.old)) }
 {
@@ -167,9 +168,9 @@ pub(crate) fn quoted<'s>(s: &mut Reader<'s, '_>) -> Result<Spanned<&'s str>, Par
 // Parses a braced text from after its opening brace up to the brace that closes it, without moving past that brace. Doesn't
 // use notes.
 fn scanned_parts<'s>(s: &mut Reader<'s, '_>) -> Result<Spanned<&'s str>, ParseError>
-    ensures found { OnOk result (Parts s.old s.new × ((v : Place) × CharAt s.new 125 v)) }
+    ensures found { OnOk result (Parts s.old s.new × ((v : Place) × CharAt s.new char.close_brace v)) }
     ensures reading { IfOk result (λ text. part_of text ≡ part s.old s.new) }
-    ensures none { OnErr result ((v w : Place) → Parts s.old v → CharAt v 125 w → ⊥) }
+    ensures none { OnErr result ((v w : Place) → Parts s.old v → CharAt v char.close_brace w → ⊥) }
     ensures error { IfErr result (IsSyntaxError s.old.text) }
     ensures end { IfErr result (λ e. e ≡ error_at_place UnexpectedEof (text_end s.old)) }
 {
@@ -196,9 +197,9 @@ fn scanned_parts<'s>(s: &mut Reader<'s, '_>) -> Result<Spanned<&'s str>, ParseEr
 // Parses a braced text from after its opening brace up to the brace that closes it, without moving past that brace. Uses the
 // notes if there are any.
 fn braced_parts<'s>(s: &mut Reader<'s, '_>) -> Result<Spanned<&'s str>, ParseError>
-    ensures found { OnOk result (Parts s.old s.new × ((v : Place) × CharAt s.new 125 v)) }
+    ensures found { OnOk result (Parts s.old s.new × ((v : Place) × CharAt s.new char.close_brace v)) }
     ensures reading { IfOk result (λ text. part_of text ≡ part s.old s.new) }
-    ensures none { OnErr result ((v w : Place) → Parts s.old v → CharAt v 125 w → ⊥) }
+    ensures none { OnErr result ((v w : Place) → Parts s.old v → CharAt v char.close_brace w → ⊥) }
     ensures error { IfErr result (IsSyntaxError s.old.text) }
     ensures end { IfErr result (λ e. e ≡ error_at_place UnexpectedEof (text_end s.old)) }
 {
@@ -216,7 +217,7 @@ fn braced_parts<'s>(s: &mut Reader<'s, '_>) -> Result<Spanned<&'s str>, ParseErr
 
 // Parses a braced text with its braces, and returns the text between them.
 fn braced<'s>(s: &mut Reader<'s, '_>) -> Result<Spanned<&'s str>, ParseError>
-    requires { (v : Place) × CharAt s.old 123 v }
+    requires { (v : Place) × CharAt s.old char.open_brace v }
     ensures found { IfOk result (λ text. Braced s.old (part_of text) s.new) }
     ensures fails { IfErr result (Reports (BracedFails s.old)) }
     ensures error { IfErr result (IsSyntaxError s.old.text) }
