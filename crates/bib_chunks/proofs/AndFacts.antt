@@ -10,7 +10,7 @@ use Rattle.std.proofs.lemmas.Str.{encodes-chars, chars-nil}
 use Rattle.bib_chunks.specs.declared.chunk.Chunk.{Chunk}
 use Rattle.bib_text.specs.declared.spanned.Spanned.{Spanned}
 use Rattle.bib_text.specs.Places.{place, CharAt}
-use Rattle.bib_chunks.specs.Cuts.{begins_with_space, is_and, prepend, between_ands, trimmed, trimmed_from}
+use Rattle.bib_chunks.specs.Cuts.{begins_with_space, is_and, prepend, between_ands, trimmed_chunk, trimmed_chunks}
 use Rattle.bib_chunks.specs.Cutting.{IsAnd, NoAnd, IsFirstAnd}
 use Rattle.bib_text.proofs.TextFacts.{Passed, passed_char, passed_append, chars_past, chars_whole}
 
@@ -166,10 +166,11 @@ searched_all text at space so_far nothing =
     ∙ ap (λ xs. (so_far.cs ++ xs) ∷ []) (sym left) ∙ ap (λ xs. xs ∷ []) (sym so_far.passed.spelt)
 
 trimmed_cons : (first last : Bool) (x : Spanned Chunk) (rest : List (Spanned Chunk)) → last ≡ nat_eq (length rest) 0
-    → trimmed_from first (x ∷ rest) ≡ trimmed first last x.v x.span ∷ trimmed_from false rest
-trimmed_cons first last x [] is_last = ap (λ b. trimmed first b x.v x.span ∷ []) (sym is_last)
+    → trimmed_chunks first (x ∷ rest) ≡ trimmed_chunk first last x.v x.span ∷ trimmed_chunks false rest
+trimmed_cons first last x [] is_last = ap (λ b. trimmed_chunk first b x.v x.span ∷ []) (sym is_last)
 trimmed_cons first last x (next ∷ more) is_last =
-    ap (λ b. trimmed first b x.v x.span ∷ trimmed_from false (next ∷ more)) (sym (is_last ∙ ne_eqb _ 0 (λ none. omega (arith, none))))
+    ap (λ b. trimmed_chunk first b x.v x.span ∷ trimmed_chunks false (next ∷ more))
+    (sym (is_last ∙ ne_eqb _ 0 (λ none. omega (arith, none))))
 
 same_test : (m n : ℕ) → m ≡ n + 1 → nat_eq m 1 ≡ nat_eq n 0
 same_test m n more = ⊎_elim
@@ -180,10 +181,10 @@ same_test m n more = ⊎_elim
 -- a step of the loop: a trimmed chunk is added, the last one exactly if no chunk follows
 pub trimmed_step : (first last : Bool) (x : Spanned Chunk) (chunks : List (Spanned Chunk)) (i : ℕ) → i < length chunks
     → x ≡ get_or chunks i x → last ≡ nat_eq (length chunks - i) 1
-    → trimmed_from first (drop i chunks) ≡ trimmed first last x.v x.span ∷ trimmed_from false (drop (i + 1) chunks)
+    → trimmed_chunks first (drop i chunks) ≡ trimmed_chunk first last x.v x.span ∷ trimmed_chunks false (drop (i + 1) chunks)
 trimmed_step first last x chunks i within is is_last =
     let split : drop i chunks ≡ x ∷ drop (i + 1) chunks = drop_more chunks i x within ∙ ap (λ y. y ∷ drop (i + 1) chunks) (sym is) in
     let left : length (drop (i + 1) chunks) ≡ length chunks - (i + 1) = length-drop (i + 1) chunks in
-    ap (trimmed_from first) split
+    ap (trimmed_chunks first) split
     ∙ trimmed_cons first last x (drop (i + 1) chunks)
     (is_last ∙ same_test (length chunks - i) (length (drop (i + 1) chunks)) (omega arith))

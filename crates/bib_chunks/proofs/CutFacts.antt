@@ -18,7 +18,7 @@ use Rattle.bib_chunks.specs.declared.chunk.cuts.Parts.{Parts}
 use Rattle.bib_chunks.specs.declared.chunk.cuts.Separator.{Separator}
 use Rattle.bib_chunks.specs.declared.chunk.cuts.Separator.TheVariants.{Comma, And}
 use Rattle.bib_chunks.specs.declared.chunk.Chunk.TheVariants.{Normal}
-use Rattle.bib_chunks.specs.Cuts.{further, placed, chunk_part, piece, pieces, pieces_between, onto, joined_parts, list_parts, between_commas, between_ands, cut_characters, both_pieces, halves}
+use Rattle.bib_chunks.specs.Cuts.{further, with_span, chunk_part, piece, pieces, pieces_between, onto, joined_parts, list_parts, between_commas, between_ands, cut_characters, both_pieces, halves}
 use Rattle.bib_chunks.specs.Cutting.{between_cuts, width, all_parts, ReadsPieces, IsFirstCut, IsFirstAnd}
 use Rattle.bib_chunks.proofs.AndFacts.{ands_some}
 
@@ -77,8 +77,8 @@ pub part_further : (whole text : List ℕ) (span : Range ℕ) (at skipped : ℕ)
 part_further whole text span at skipped =
     ap
     (λ n.
-    if length text == length whole then placed (Normal text) span.start span.end
-    else placed (Normal text) n (further n (length text)))
+    if length text == length whole then with_span (Normal text) span.start span.end
+    else with_span (Normal text) n (further n (length text)))
     (further_twice span.start at skipped)
 
 -- `before` and `after` are the texts before and after the first `c` of a text, both UTF-8

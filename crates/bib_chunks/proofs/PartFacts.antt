@@ -12,7 +12,7 @@ use Rattle.bib_chunks.specs.declared.chunk.Chunk.{Chunk}
 use Rattle.bib_chunks.specs.declared.chunk.Chunk.TheVariants.{Normal, Verbatim, Math}
 use Rattle.bib_text.specs.declared.spanned.Spanned.{Spanned}
 use Rattle.bib_chunks.specs.Styled.{Atom, atoms_of, styled, text_of}
-use Rattle.bib_chunks.specs.Cuts.{piece, pieces, pieces_between, onto, joined_parts, list_parts, between_commas, comma_list, trimmed}
+use Rattle.bib_chunks.specs.Cuts.{piece, pieces, pieces_between, onto, joined_parts, list_parts, between_commas, comma_list, trimmed_chunk}
 use Rattle.bib_chunks.specs.Parted.{AreTexts, HoldsNoComma, is_normal_comma}
 use Rattle.bib_chunks.proofs.TrimFacts.{IsTrimmed, SaysPiece, piece_says, scalars_parts}
 use Rattle.bib_chunks.proofs.WholeFacts.{rejoined, commas_whole}

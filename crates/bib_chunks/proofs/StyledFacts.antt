@@ -10,7 +10,7 @@ use Rattle.bib_chunks.specs.declared.chunk.Chunk.{Chunk}
 use Rattle.bib_chunks.specs.declared.chunk.Chunk.TheVariants.{Normal, Verbatim, Math}
 use Rattle.bib_text.specs.declared.spanned.Spanned.{Spanned}
 use Rattle.bib_text.proofs.TextFacts.{written_more}
-use Rattle.bib_chunks.specs.Formatted.{flowing, unbroken, ends_in_space, space_after, formatted_chunk, formatted_atoms}
+use Rattle.bib_chunks.specs.Formatted.{flowing, char_on_line, ends_in_space, space_after, formatted_chunk, formatted_atoms}
 use Rattle.bib_chunks.specs.Styled.{Atom, atoms_of, styled, text_of, is_shown}
 use Rattle.bib_chunks.proofs.FormattedFacts.{ends-append}
 
@@ -20,7 +20,7 @@ normal_text : (space : Bool) (cs : List ℕ) (more : List Atom)
     ≡ flowing space cs ++ formatted_atoms (ends_in_space space (flowing space cs)) more
 normal_text space [] more = refl
 normal_text space (c ∷ cs) more =
-    let one = unbroken space c in
+    let one = char_on_line space c in
     ap (λ xs. one ++ xs) (normal_text (ends_in_space space one) cs more)
     ∙ sym (append_assoc one (flowing (ends_in_space space one) cs) _)
     ∙ ap (λ b. (one ++ flowing (ends_in_space space one) cs) ++ formatted_atoms b more)

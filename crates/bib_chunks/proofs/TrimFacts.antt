@@ -13,7 +13,7 @@ use Rattle.bib_chunks.specs.declared.chunk.Chunk.{Chunk}
 use Rattle.bib_chunks.specs.declared.chunk.Chunk.TheVariants.{Normal}
 use Rattle.bib_text.specs.declared.spanned.Spanned.{Spanned}
 use Rattle.bib_chunks.specs.Styled.{Atom, atoms_of}
-use Rattle.bib_chunks.specs.Cuts.{further, placed, trimmed_start, trimmed_end, chunk_part, piece}
+use Rattle.bib_chunks.specs.Cuts.{further, with_span, trimmed_start, trimmed_end, chunk_part, piece}
 
 -- a text is white space and the text that is left without it
 skipped : (cs : List ℕ) → (lead : List ℕ) × (cs ≡ lead ++ skip_leading_whitespace cs) × (list_all is_whitespace lead ≡ true)
@@ -106,8 +106,8 @@ part_chunk : (whole : List ℕ) (span : Range ℕ) (at : ℕ) (text : List ℕ) 
 part_chunk whole span at text =
     elim (length text == length whole) as
     (λ b.
-    (if b then placed (Normal text) span.start span.end
-    else placed (Normal text) (further span.start at) (further (further span.start at) (length text))).v
+    (if b then with_span (Normal text) span.start span.end
+    else with_span (Normal text) (further span.start at) (further (further span.start at) (length text))).v
     ≡ Normal text) [
       | true ↦ refl
       | false ↦ refl

@@ -13,7 +13,7 @@ use Rattle.bib_chunks.specs.declared.chunk.Chunk.{Chunk}
 use Rattle.bib_chunks.specs.declared.chunk.Chunk.TheVariants.{Normal, Verbatim, Math}
 use Rattle.bib_text.specs.declared.spanned.Spanned.{Spanned}
 use Rattle.bib_chunks.specs.Styled.{Atom, atoms_of, styled, text_of}
-use Rattle.bib_chunks.specs.Cuts.{is_and, prepend, between_ands, piece, and_list, trimmed, trimmed_from, trimmed_ends}
+use Rattle.bib_chunks.specs.Cuts.{is_and, prepend, between_ands, piece, and_list, trimmed_chunk, trimmed_chunks, trimmed_ends}
 use Rattle.bib_chunks.specs.Parted.{AreTexts, IsList, IsSpaced, and_word, HasNoAnd, HoldsNoAnd, IsWithoutAnd}
 use Rattle.bib_chunks.proofs.AndFacts.{ands_some, word_here, word_letters}
 use Rattle.bib_chunks.proofs.TrimFacts.{IsTrimmed, SaysPiece, piece_says}
@@ -154,12 +154,12 @@ chunk_no_and text valid none = subst HasNoAnd (sym (chars-encodes text valid)) n
 
 -- a trimmed normal chunk has the trimmed text
 pub trimmed_says : (first last : Bool) (text : List ℕ) (span : Range ℕ) → IsUtf8 text
-    → SaysPiece first last (chars text) (trimmed first last (Normal text) span)
+    → SaysPiece first last (chars text) (trimmed_chunk first last (Normal text) span)
 trimmed_says first last text span utf8 =
     subst (λ bs. SaysPiece first last (chars text) (piece text span 0 first last bs)) (encodes-chars text utf8)
     (piece_says text span 0 first last (chars text) (scalars-chars text utf8))
 
-trimmed_text : (first last : Bool) (v : Chunk) (span : Range ℕ) → IsUtf8 (text_of v) → IsUtf8 (text_of (trimmed first last v span).v)
+trimmed_text : (first last : Bool) (v : Chunk) (span : Range ℕ) → IsUtf8 (text_of v) → IsUtf8 (text_of (trimmed_chunk first last v span).v)
 trimmed_text first last (Normal text) span utf8 =
     let says = trimmed_says first last text span utf8 in
     subst (λ v. IsUtf8 (text_of v)) (sym says.is) (says.left, (says.valid, refl))
@@ -167,7 +167,7 @@ trimmed_text first last (Verbatim text) span utf8 = utf8
 trimmed_text first last (Math text) span utf8 = utf8
 
 -- the texts of trimmed chunks are UTF-8
-pub trimmed_texts : (first : Bool) (chunks : List (Spanned Chunk)) → AreTexts chunks → AreTexts (trimmed_from first chunks)
+pub trimmed_texts : (first : Bool) (chunks : List (Spanned Chunk)) → AreTexts chunks → AreTexts (trimmed_chunks first chunks)
 trimmed_texts first [] texts = tt
 trimmed_texts first (c ∷ []) texts = (trimmed_text first true c.v c.span texts.0, tt)
 trimmed_texts first (c ∷ after ∷ more) texts = (trimmed_text first false c.v c.span texts.0, trimmed_texts false (after ∷ more) texts.1)
@@ -198,7 +198,8 @@ same_spaced first last v here is = record {
   ends = λ _. refl;
 }
 
-chunk_spaced : (first last : Bool) (v : Chunk) (span : Range ℕ) → IsUtf8 (text_of v) → ChunkSpaced first last v (trimmed first last v span)
+chunk_spaced : (first last : Bool) (v : Chunk) (span : Range ℕ) → IsUtf8 (text_of v)
+    → ChunkSpaced first last v (trimmed_chunk first last v span)
 chunk_spaced first last (Normal text) span utf8 =
     let says = trimmed_says first last text span utf8 in
     let cut = says.trimmed in
@@ -221,7 +222,7 @@ chunk_spaced first last (Math text) span utf8 = same_spaced first last (Math tex
 record AreSpaced (first : Bool) (chunks : List (Spanned Chunk)) : Type 0 where
   lead : List ℕ
   trail : List ℕ
-  is : styled chunks ≡ normal lead ++ (styled (trimmed_from first chunks) ++ normal trail)
+  is : styled chunks ≡ normal lead ++ (styled (trimmed_chunks first chunks) ++ normal trail)
   white : list_all is_whitespace lead ≡ true
   blank : list_all is_whitespace trail ≡ true
   begins : first ≡ false → lead ≡ []
@@ -236,7 +237,7 @@ are_spaced first (c ∷ []) texts =
       is =
           append-nil (atoms_of c.v) ∙ one.is
           ∙ ap (λ l. normal one.lead ++ (l ++ normal one.trail))
-          (sym (append-nil (atoms_of (trimmed first true c.v c.span).v)));
+          (sym (append-nil (atoms_of (trimmed_chunk first true c.v c.span).v)));
       white = one.white;
       blank = one.blank;
       begins = one.begins;
@@ -244,8 +245,8 @@ are_spaced first (c ∷ []) texts =
 are_spaced first (c ∷ after ∷ more) texts =
     let one = chunk_spaced first false c.v c.span texts.0 in
     let rest = are_spaced false (after ∷ more) texts.1 in
-    let here = atoms_of (trimmed first false c.v c.span).v in
-    let others = styled (trimmed_from false (after ∷ more)) in
+    let here = atoms_of (trimmed_chunk first false c.v c.span).v in
+    let others = styled (trimmed_chunks false (after ∷ more)) in
     let first_atoms : atoms_of c.v ≡ normal one.lead ++ here =
     one.is ∙ ap (λ l. normal one.lead ++ (here ++ normal l)) (one.ends refl)
     ∙ ap (λ l. normal one.lead ++ l) (append-nil here) in

@@ -6,7 +6,7 @@ use Rattle.bib_text.specs.Places.{Place, place, AllBetween, CharAt, Run, AtEnd}
 use Rattle.bib_text.specs.Braces.{is_plain}
 use Rattle.bib_text.proofs.PlaceFacts.{same_place, ahead_run}
 use Rattle.bib_syntax.specs.Closings.{NeverCloses, ClosesAt, IsClosing, AreClosings}
-use Rattle.bib_syntax.specs.OpenBraces.{SameBraced, AreOpen, AreNoted, Closed}
+use Rattle.bib_syntax.specs.OpenBraces.{SameBraced, AreOpen, AreNoted, ClosesLast}
 use Rattle.bib_syntax.specs.OpenBraces.ClosesOpen.{last}
 use Rattle.bib_syntax.specs.declared.raw.closings.Closing.{Closing}
 use Rattle.bib_syntax.proofs.BraceFacts.{same_braced, braced_then, braced_run, braced_open, braced_close, braced_hidden, found_parts, closes_end}
@@ -56,7 +56,7 @@ noted_open {u} {v} text opened opened' found start brace here grown noted =
 
 -- moving past a closing brace, which closes the last open brace
 pub noted_close : {u v : Place} (text opened opened' : List ℕ) (found found' : List Closing) (at : ℕ) → CharAt u 125 v
-    → at ≡ u.at → Closed opened found at opened' found' → AreNoted text opened found u → AreNoted text opened' found' v
+    → at ≡ u.at → ClosesLast opened found at opened' found' → AreNoted text opened found u → AreNoted text opened' found' v
 noted_close {u} {v} text opened opened' found found' at brace here (inl (none, none', same)) noted =
     let opens : AreOpen text zero (reverse []) v = _ in
     record {
