@@ -12,7 +12,7 @@ use Rattle.bib_text.specs.declared.spanned.Spanned.{Spanned}
 use Rattle.bib_text.specs.Places.{place, CharAt}
 use Rattle.bib_chunks.specs.Cuts.{begins_with_space, is_and, prepend, between_ands, trimmed_chunk, trimmed_chunks}
 use Rattle.bib_chunks.specs.Cutting.{IsAnd, NoAnd, IsFirstAnd}
-use Rattle.bib_text.proofs.TextFacts.{Passed, passed_char, passed_append, chars_past, chars_whole}
+use Rattle.bib_text.proofs.TextFacts.{MovesPast, passed_char, passed_append, chars_past, chars_whole}
 
 -- whether the word is at the start of these characters, with white space after it and, by the flag, before it
 abbrev pub word_here : Bool → List ℕ → Bool
@@ -105,13 +105,13 @@ prepend_none space cs = let some = ands_some space cs in rw some.2 refl
 
 -- the characters `cs` before the position `at` contain no such word; `space` says whether white space comes right
 -- before it
-pub record Searched (text : List ℕ) (at : ℕ) (space : Bool) : Type 0 where
+pub record IsSearchedTo (text : List ℕ) (at : ℕ) (space : Bool) : Type 0 where
   pub cs : List ℕ
-  pub passed : Passed (place text 0) cs (place text at)
+  pub passed : MovesPast (place text 0) cs (place text at)
   pub texts : between_ands false (chars text) ≡ prepend cs (between_ands space (chars (drop at text)))
 
 -- at the start of a text no character was passed
-pub searched_none : (text : List ℕ) → IsUtf8 text → Searched text 0 false
+pub searched_none : (text : List ℕ) → IsUtf8 text → IsSearchedTo text 0 false
 searched_none text utf8 = record {
   cs = [];
   passed = record { same = refl; here = refl; next = refl; spelt = refl; utf8 = utf8 };
@@ -119,11 +119,11 @@ searched_none text utf8 = record {
 }
 
 -- the search goes on after a character at which no such word begins
-pub searched_char : (text : List ℕ) (at next c : ℕ) (space : Bool) → Searched text at space
+pub searched_char : (text : List ℕ) (at next c : ℕ) (space : Bool) → IsSearchedTo text at space
     → CharAt (place text at) c (place text next) → word_here space (chars (drop at text)) ≡ false
-    → Searched text next (is_whitespace c)
+    → IsSearchedTo text next (is_whitespace c)
 searched_char text at next c space so_far char none =
-    let one : Passed (place text at) (c ∷ []) (place text next) = passed_char char so_far.passed.utf8 in
+    let one : MovesPast (place text at) (c ∷ []) (place text next) = passed_char char so_far.passed.utf8 in
     let here : word_here space (c ∷ chars (drop next text)) ≡ false = rw one.spelt at none in
     record {
       cs = so_far.cs ++ c ∷ [];
@@ -135,13 +135,13 @@ searched_char text at next c space so_far char none =
     }
 
 -- the text before a position is that of the passed characters
-before_place : (text : List ℕ) (at : ℕ) (cs : List ℕ) → Passed (place text 0) cs (place text at) → take at text ≡ encode_utf8_all cs
+before_place : (text : List ℕ) (at : ℕ) (cs : List ℕ) → MovesPast (place text 0) cs (place text at) → take at text ≡ encode_utf8_all cs
 before_place text at cs passed =
     let next : at ≡ 0 + length (encode_utf8_all cs) = passed.next in
     ap (take at) passed.here ∙ take_at (encode_utf8_all cs) (drop at text) at (omega arith)
 
 -- the word at a position is the first one
-pub searched_word : (text : List ℕ) (at : ℕ) (before following : List ℕ) → Searched text at true → before ≡ take at text
+pub searched_word : (text : List ℕ) (at : ℕ) (before following : List ℕ) → IsSearchedTo text at true → before ≡ take at text
     → IsUtf8 before → IsAnd (drop at text) following → IsFirstAnd text before following
 searched_word text at before following so_far leading_run prefix_utf8 word =
     let letters = and_chars (drop at text) following so_far.passed.utf8 word.word in
@@ -158,7 +158,7 @@ searched_word text at before following so_far leading_run prefix_utf8 word =
     }
 
 -- at the end of the text the search has found no such word
-pub searched_all : (text : List ℕ) (at : ℕ) (space : Bool) → Searched text at space → drop at text ≡ []
+pub searched_all : (text : List ℕ) (at : ℕ) (space : Bool) → IsSearchedTo text at space → drop at text ≡ []
     → between_ands false (chars text) ≡ chars text ∷ []
 searched_all text at space so_far nothing =
     let left : chars (drop at text) ≡ [] = ap chars nothing ∙ chars-nil in

@@ -13,7 +13,7 @@ use Rattle.bib_chunks.specs.declared.chunk.Chunk.TheVariants.{Verbatim}
 use Rattle.bib_text.specs.declared.spanned.Spanned.{Spanned}
 use Rattle.bib_text.specs.Places.{Place, CharAt, Run, Longest, AtEnd, between}
 use Rattle.bib_chunks.specs.Formatted.{is_break, ends_in_space, char_on_line, flowing, space_after, formatted_chunk, formatted_chars_after, upper_or_lower, sentence_case, sentence_after}
-use Rattle.bib_text.proofs.TextFacts.{ahead, Passed, passed_char, passed_run, passed_between, written_more, written_all, chars_at_end, chars_past, chars_whole}
+use Rattle.bib_text.proofs.TextFacts.{ahead, MovesPast, passed_char, passed_run, passed_between, written_more, written_all, chars_at_end, chars_past, chars_whole}
 
 -- a character that isn't a line break
 abbrev pub goes_on : ℕ → Bool
@@ -99,7 +99,7 @@ flowing_step out one two total run {u} {w} {x} {c} space after ends longest utf8
     second before before_ends =
     let (same, w_utf8, middle, middle_ends) =
     run_written out one total run space after ends longest.run utf8 run_utf8 is_run first decides before before_ends in
-    let passed : Passed w (c ∷ []) x = passed_char char w_utf8 in
+    let passed : MovesPast w (c ∷ []) x = passed_char char w_utf8 in
     let breaks : is_break c ≡ true = not-false (is_break c) (longest.stops c x char) in
     let cut : flowing after (chars (ahead w)) ≡ gap after ++ flowing true (chars (ahead x)) =
     ap (flowing after) passed.spelt ∙ flowing_break after c (chars (ahead x)) breaks in (
@@ -158,7 +158,7 @@ pub sentence_skip : (out total : List ℕ) {u x : Place} {c : ℕ} (first space 
     × (out ++ encode_utf8_all (sentence_case first (flowing space (chars (ahead x)))) ≡ total)
     × (ends_in_space space (flowing space (chars (ahead x))) ≡ ends)
 sentence_skip out total {u} {x} {c} first space ends r char utf8 none becomes before before_ends =
-    let passed : Passed u (c ∷ []) x = passed_char char utf8 in
+    let passed : MovesPast u (c ∷ []) x = passed_char char utf8 in
     let nothing : char_on_line space c ≡ [] = sym becomes ∙ ap option_to_list none in
     let same : flowing space (chars (ahead u)) ≡ flowing space (chars (ahead x)) =
     ap (flowing space) passed.spelt ∙ ap (λ ys. ys ++ flowing (ends_in_space space ys) (chars (ahead x))) nothing in (
@@ -178,7 +178,7 @@ pub sentence_step : (out more total : List ℕ) {u x : Place} {c : ℕ} (d : ℕ
     × (more ++ encode_utf8_all (sentence_case false (flowing after (chars (ahead x)))) ≡ total)
     × (ends_in_space after (flowing after (chars (ahead x))) ≡ ends)
 sentence_step out more total {u} {x} {c} d first space after ends r char utf8 some becomes written decides before before_ends =
-    let passed : Passed u (c ∷ []) x = passed_char char utf8 in
+    let passed : MovesPast u (c ∷ []) x = passed_char char utf8 in
     let one : char_on_line space c ≡ d ∷ [] = sym becomes ∙ ap option_to_list some in
     let cut : flowing space (chars (ahead u)) ≡ d ∷ flowing after (chars (ahead x)) =
     ap (flowing space) passed.spelt ∙ ap (λ ys. ys ++ flowing (ends_in_space space ys) (chars (ahead x))) one

@@ -14,7 +14,7 @@ use Rattle.bib_text.specs.Places.{Place, CharAt, Longest, AtEnd}
 use Rattle.bib_chunks.specs.Styled.{Atom, atoms_of}
 use Rattle.bib_chunks.specs.Settled.{IsSettledAtom, runs_together, AreApart, IsSettled}
 use Rattle.bib_chunks.specs.Settling.{character_atom, text_atoms, neighbour, runs_into, MayFollow, AreSettledAfter, Continues, ContinuesIn, IsUnsettledAfter, IsStuckIn, IsSettledMath}
-use Rattle.bib_text.proofs.TextFacts.{ahead, Passed, passed_char, passed_run, chars_at_end}
+use Rattle.bib_text.proofs.TextFacts.{ahead, MovesPast, passed_char, passed_run, chars_at_end}
 
 -- a character that is settled in a verbatim field is settled in every field
 settled_anywhere : (v b : Bool) (c : ℕ) → IsSettledAtom true (character_atom b c) → IsSettledAtom v (character_atom b c)
@@ -59,7 +59,7 @@ dollar_found {u} {w} x None found longest utf8 end decides =
     decides ∙ sym (ap (list_any (λ c. c == 36)) (passed.spelt ∙ ap (λ xs. cs ++ xs) (chars_at_end w end.0)) ∙ no_dollar cs [] all)
 dollar_found {u} {w} x (Some c) found longest utf8 char decides =
     let (cs, passed, all) = passed_run longest.run utf8 in
-    let one : Passed w (c ∷ []) x = passed_char char passed.utf8 in
+    let one : MovesPast w (c ∷ []) x = passed_char char passed.utf8 in
     let stops : (c == 36) ≡ true = not-false (c == 36) (longest.stops c x char) in
     let here : list_any (λ d. d == 36) (c ∷ chars (ahead x)) ≡ true = or_left (c == 36) _ stops in
     decides

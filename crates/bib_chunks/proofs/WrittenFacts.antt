@@ -12,7 +12,7 @@ use Rattle.bib_chunks.specs.declared.chunk.Chunk.TheVariants.{Normal, Verbatim, 
 use Rattle.bib_text.specs.declared.spanned.Spanned.{Spanned}
 use Rattle.bib_chunks.specs.Written.{is_grouping, is_reserved, char_spelling, spelling, lead, trail, is_open_after, written_chunk, written_chunks}
 use Rattle.bib_chunks.specs.Writing.{is_bare}
-use Rattle.bib_text.proofs.TextFacts.{ahead, Passed, passed_char, passed_run, passed_between, flat_map_same, written_more, written_all, chars_at_end, three_parts}
+use Rattle.bib_text.proofs.TextFacts.{ahead, MovesPast, passed_char, passed_run, passed_between, flat_map_same, written_more, written_all, chars_at_end, three_parts}
 
 pub spelled_grouping : (v : Bool) (c : ℕ) → is_grouping c ≡ true → char_spelling v c ≡ 92 ∷ c ∷ []
 unfolding char_spelling
@@ -77,7 +77,7 @@ pub written_run_char : (out one two total : List ℕ) {u w x : Place} {c : ℕ} 
     → (x.text ≡ u.text) × IsUtf8 (ahead x) × (two ++ encode_utf8_all (spelling v (chars (ahead x))) ≡ total)
 written_run_char out one two total {u} {w} {x} {c} v run utf8 char first second before =
     let (cs, passed, all) = passed_run run utf8 in
-    let following : Passed w (c ∷ []) x = passed_char char passed.utf8 in
+    let following : MovesPast w (c ∷ []) x = passed_char char passed.utf8 in
     let run_spelling : spelling v cs ≡ cs = flat_map_same (is_bare v) (char_spelling v) (spelled_bare v) cs all in
     let cut : spelling v (chars (ahead u)) ≡ cs ++ spelling v (chars (ahead w)) =
     ap (spelling v) passed.spelt ∙ flat_map-append (char_spelling v) cs _

@@ -50,7 +50,7 @@ opened_there brace inner close (last parts) = last (nested brace inner close par
 opened_there brace inner close (level parts close' rest) = level (nested brace inner close parts) close' rest
 
 -- the parts in a pair of braces, and the parts after the closing brace
-pub record Opened (v x : Place) : Type 0 where
+pub record BracePair (v x : Place) : Type 0 where
   pub inner_end : Place
   pub following : Place
   pub inner : Parts v inner_end
@@ -58,7 +58,7 @@ pub record Opened (v x : Place) : Type 0 where
   pub rest : Parts following x
 
 -- parts from an opening brace up to a closing brace have a closing brace of their own
-pub opened_parts : {u v x y : Place} → CharAt u 123 v → Parts u x → CharAt x 125 y → Opened v x
+pub opened_parts : {u v x y : Place} → CharAt u 123 v → Parts u x → CharAt x 125 y → BracePair v x
 opened_parts brace none closing = absurd (char_clash brace closing refl)
 opened_parts brace (plain char passes parts) closing = absurd (pass_clash is_plain char passes brace refl)
 opened_parts brace (hidden slash any parts) closing = absurd (char_clash brace slash refl)

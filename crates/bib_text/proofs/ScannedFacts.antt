@@ -9,7 +9,7 @@ use Rattle.std.proofs.lemmas.Bool.{and_parts, cond-true, cond-false}
 use Rattle.std.proofs.lemmas.Str.{encodes-chars, chars_from_encodes, encodes-IsAscii}
 use Rattle.bib_text.specs.Places.{Place, place, CharAt, Longest, Stops, AtEnd, between}
 use Rattle.bib_text.proofs.PlaceFacts.{char_here}
-use Rattle.bib_text.proofs.TextFacts.{ahead, Passed, passed_run, passed_between, passed_char, chars_at_end}
+use Rattle.bib_text.proofs.TextFacts.{ahead, MovesPast, passed_run, passed_between, passed_char, chars_at_end}
 use Rattle.bib_text.specs.Runs.{leading_run, rest_after}
 
 -- if all of `run` passes the test and `rest` doesn't begin with a passing character, the leading run of both is `run`
@@ -37,14 +37,14 @@ stopped test v (c ∷ cs) utf8 is stops =
     (cond-false (test c) (c ∷ leading_run test cs) [] no, cond-false (test c) (rest_after test cs) (c ∷ cs) no)
 
 -- a scanner moved from `u` to `v`, past the leading run of the characters ahead
-pub record Eaten (test : ℕ → Bool) (u v : Place) : Type 0 where
+pub record EatsRun (test : ℕ → Bool) (u v : Place) : Type 0 where
   pub same : v.text ≡ u.text
   pub run : between u v ≡ encode_utf8_all (leading_run test (chars (ahead u)))
   pub utf8 : IsUtf8 (ahead v)
   pub rest : chars (ahead v) ≡ rest_after test (chars (ahead u))
 
 -- a longest run is the leading run of the characters ahead
-pub eaten : (test : ℕ → Bool) {u v : Place} → Longest test u v → IsUtf8 (ahead u) → Eaten test u v
+pub eaten : (test : ℕ → Bool) {u v : Place} → Longest test u v → IsUtf8 (ahead u) → EatsRun test u v
 eaten test {u} {v} longest utf8 =
     let passed = passed_run longest.run utf8 in
     let stops = stopped test v (chars (ahead v)) passed.1.utf8 refl longest.stops in
@@ -80,7 +80,7 @@ pub eaten_new : (test : ℕ → Bool) (text : List ℕ) {u v : Place} → u ≡ 
     × (chars (ahead v) ≡ rest_after test (chars text))
 eaten_new test text {u} {v} is utf8 longest =
     let here : ahead u ≡ text = ap ahead is in
-    let ate : Eaten test u v = eaten test longest (rw here utf8) in (
+    let ate : EatsRun test u v = eaten test longest (rw here utf8) in (
       ate.same ∙ ap (λ p. p.text) is,
       ate.run ∙ ap (λ bs. encode_utf8_all (leading_run test (chars bs))) here,
       ate.rest ∙ ap (λ bs. rest_after test (chars bs)) here,
@@ -120,7 +120,7 @@ pub eaten_char : (text : List ℕ) (at : ℕ) {u v : Place} {c : ℕ} → u ≡ 
     → at ≡ v.at → chars text ≡ c ∷ chars (drop at text)
 eaten_char text at {u} {v} {c} is utf8 char there =
     let here : ahead u ≡ text = ap ahead is in
-    let passed : Passed u (c ∷ []) v = passed_char char (rw here utf8) in
+    let passed : MovesPast u (c ∷ []) v = passed_char char (rw here utf8) in
     let same : v.text ≡ text = char.same ∙ ap (λ p. p.text) is in
     ap chars (sym here) ∙ passed.spelt ∙ ap (λ bs. c ∷ chars (drop v.at bs)) same ∙ ap (λ n. c ∷ chars (drop n text)) (sym there)
 
