@@ -48,6 +48,7 @@ module _ {K X Y : Type 0} (R : K → K → Ordering) (f : X → Option Y) where
       elim (f e.1) as (λ o. T (below_all R x (cons_option (option_map (λ v. (e.0, v)) o) (filter_map (revalue f) es))))
       [ None ↦ rest | Some v ↦ both _ _ (first _ _ h) rest ]
 
+  -- pairs stay sorted if some get other values and the others are removed
   pub sorted-revalued : (es : List (K × X)) → T (is_sorted R es) → T (is_sorted R (filter_map (revalue f) es))
   sorted-revalued [] h = tt
   sorted-revalued (e ∷ es) h =

@@ -27,6 +27,7 @@ named-append-some (row ∷ rows) more text value found =
     here true first all this value following found = found
     here false first all this value following found = following found
 
+-- a name that the first table lacks is looked up in the second one
 pub named-append-none : {A : Type 0} (rows more : List (List ℕ × A)) (text : List ℕ) → value_named rows text ≡ None
     → value_named (rows ++ more) text ≡ value_named more text
 named-append-none [] more text none = refl

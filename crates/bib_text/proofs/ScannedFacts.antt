@@ -20,6 +20,7 @@ split_prefix test (c ∷ run) rest all stops =
     let parts = and_parts (test c) (list_all test run) all in
     cond-true (test c) (c ∷ leading_run test (run ++ rest)) [] parts.0 ∙ ap (λ xs. c ∷ xs) (split_prefix test run rest parts.1 stops)
 
+-- if all of `run` passes and `rest` doesn't begin with a passing character, `rest` comes after the leading run
 pub split_after : (test : ℕ → Bool) (run rest : List ℕ) → list_all test run ≡ true → (rest_after test rest ≡ rest)
     → rest_after test (run ++ rest) ≡ rest
 split_after test [] rest all stops = stops
@@ -108,9 +109,11 @@ prefix_ascii (c ∷ cs) = here (is_ascii_digit c) c (leading_run is_ascii_digit 
     here true c cs is more (suc k) = more k
     here false c cs is more k = omega arith
 
+-- each digit is encoded in one byte, which is its code point
 digits_encode : (cs : List ℕ) → encode_utf8_all (leading_run is_ascii_digit cs) ≡ leading_run is_ascii_digit cs
 digits_encode cs = encodes-IsAscii (leading_run is_ascii_digit cs) (prefix_ascii cs)
 
+-- the longest run of digits from the start of a text, in bytes, is the leading run of its characters
 pub eaten_digits : (text : List ℕ) {u v : Place} → u ≡ place text 0 → IsUtf8 text → Longest is_ascii_digit u v
     → between u v ≡ leading_run is_ascii_digit (chars text)
 eaten_digits text is utf8 longest = (eaten_new is_ascii_digit text is utf8 longest).1 ∙ digits_encode (chars text)
@@ -124,6 +127,7 @@ eaten_char text at {u} {v} {c} is utf8 char there =
     let same : v.text ≡ text = char.same ∙ ap (λ p. p.text) is in
     ap chars (sym here) ∙ passed.spelt ∙ ap (λ bs. c ∷ chars (drop v.at bs)) same ∙ ap (λ n. c ∷ chars (drop n text)) (sym there)
 
+-- the place after the first character of a text has the same text, and so the same character boundaries
 pub boundary_char : (at : ℕ) (text : List ℕ) {u v : Place} {c : ℕ} → u ≡ place text 0 → CharAt u c v
     → IsCharBoundary v.text at → IsCharBoundary text at
 boundary_char at text is char boundary = rw (sym (char.same ∙ ap (λ p. p.text) is)) boundary

@@ -24,6 +24,7 @@ pub record MovesPast (u : Place) (cs : List ℕ) (v : Place) : Type 0 where
   pub spelt : chars (ahead u) ≡ cs ++ chars (ahead v)
   pub utf8 : IsUtf8 (ahead v)
 
+-- `MovesPast` for no characters
 pub passed_none : (u : Place) → IsUtf8 (ahead u) → MovesPast u [] u
 passed_none u utf8 = record { same = refl; here = refl; next = omega arith; spelt = refl; utf8 = utf8 }
 
@@ -143,6 +144,7 @@ two_parts out one two xs ys first second =
     second ∙ ap (λ bs. bs ++ encode_utf8_all ys) first ∙ append_assoc out (encode_utf8_all xs) (encode_utf8_all ys)
     ∙ ap (λ bs. out ++ bs) (sym (encodes-append xs ys))
 
+-- three texts appended one after another are the encoding of all their characters
 pub three_parts : (out one two three xs ys zs : List ℕ) → one ≡ out ++ encode_utf8_all xs
     → two ≡ one ++ encode_utf8_all ys → three ≡ two ++ encode_utf8_all zs
     → three ≡ out ++ encode_utf8_all (xs ++ ys ++ zs)
