@@ -41,6 +41,7 @@ and_bytes : (bs : List ℕ) → codes "and" ++ bs ≡ encode_utf8_all (97 ∷ 11
 unfolding encode
 and_bytes bs = refl
 
+-- the bytes of the word `and` and of the characters after it
 and_bytes_all : (cs : List ℕ) → codes "and" ++ encode_utf8_all cs ≡ encode_utf8_all (97 ∷ 110 ∷ 100 ∷ cs)
 unfolding encode
 and_bytes_all cs = refl
@@ -50,6 +51,7 @@ and_chars : (text following : List ℕ) → IsUtf8 text → text ≡ codes "and"
     → (chars text ≡ 97 ∷ 110 ∷ 100 ∷ chars following) × IsUtf8 following
 and_chars text following utf8 word = chars_past (97 ∷ 110 ∷ 100 ∷ []) text following utf8 (word ∙ and_bytes following)
 
+-- no word is at the start of a text without white space before it
 never : (cs : List ℕ) → word_here false cs ≡ false
 never [] = refl
 never (a ∷ []) = refl
@@ -77,6 +79,7 @@ between_other space c [] here = refl
 between_other space c (n ∷ []) here = refl
 between_other space c (n ∷ d ∷ rest) here = cond-false (space && is_and c n d && begins_with_space rest) _ _ here
 
+-- a word after white space ends the first text, which is empty
 between_word : (rest : List ℕ) → begins_with_space rest ≡ true → between_ands true (97 ∷ 110 ∷ 100 ∷ rest) ≡ [] ∷ between_ands false rest
 between_word rest spaced = cond-true (begins_with_space rest) _ _ spaced
 
@@ -100,6 +103,7 @@ ands_some space (a ∷ n ∷ d ∷ rest) =
     cond_some (space && is_and a n d && begins_with_space rest) (between_ands false rest) a
     (between_ands (is_whitespace a) (n ∷ d ∷ rest)) more
 
+-- prepending no characters to the texts between words changes nothing
 prepend_none : (space : Bool) (cs : List ℕ) → prepend [] (between_ands space cs) ≡ between_ands space cs
 prepend_none space cs = let some = ands_some space cs in rw some.2 refl
 
@@ -165,6 +169,7 @@ searched_all text at space so_far nothing =
     so_far.texts ∙ ap (λ xs. prepend so_far.cs (between_ands space xs)) left
     ∙ ap (λ xs. (so_far.cs ++ xs) ∷ []) (sym left) ∙ ap (λ xs. xs ∷ []) (sym so_far.passed.spelt)
 
+-- the first of trimmed chunks is trimmed at its end exactly if no chunk follows it
 trimmed_cons : (first last : Bool) (x : Spanned Chunk) (rest : List (Spanned Chunk)) → last ≡ nat_eq (length rest) 0
     → trimmed_chunks first (x ∷ rest) ≡ trimmed_chunk first last x.v x.span ∷ trimmed_chunks false rest
 trimmed_cons first last x [] is_last = ap (λ b. trimmed_chunk first b x.v x.span ∷ []) (sym is_last)

@@ -56,6 +56,7 @@ flowing_run space (c ∷ cs) rest all =
     let stays : char_on_line space c ≡ c ∷ [] = cond-false (is_break c) _ _ (not-true (is_break c) parts.0) in
     ap (λ xs. xs ++ flowing (ends_in_space space xs) (cs ++ rest)) stays ∙ ap (λ xs. c ∷ xs) (flowing_run (is_whitespace c) cs rest parts.1)
 
+-- after the replacement of a line break, the last character is white space
 gap_ends : (space : Bool) → ends_in_space space (gap space) ≡ true
 gap_ends true = refl
 gap_ends false = refl

@@ -29,6 +29,7 @@ joined_same (Verbatim a) (Normal b) e h = absurd (false≢true h)
 joined_same (Verbatim a) (Math b) e h = absurd (false≢true h)
 joined_same (Math a) d e h = absurd (false≢true h)
 
+-- a merged chunk is of the kind of the first one
 same_joined : (c d e : Chunk) → is_same_kind c (lengthened_chunk d e) ≡ is_same_kind c d
 same_joined (Normal a) (Normal b) (Normal e) = refl
 same_joined (Normal a) (Normal b) (Verbatim e) = refl
@@ -46,6 +47,7 @@ same_joined (Verbatim a) (Verbatim b) (Math e) = refl
 same_joined (Verbatim a) (Math b) e = refl
 same_joined (Math a) d e = refl
 
+-- in which order three chunks are merged doesn't matter
 lengthened_twice : (c d e : Chunk) → is_same_kind c d ≡ true → is_same_kind d e ≡ true
     → lengthened_chunk c (lengthened_chunk d e) ≡ lengthened_chunk (lengthened_chunk c d) e
 lengthened_twice (Normal a) (Normal b) (Normal e) h k = ap Normal (sym (append_assoc a b e))
@@ -126,10 +128,12 @@ chunks_of-append [] more n is = is
 chunks_of-append (a ∷ atoms) more n is =
     ap (before (at_start (chunk_of a))) (chunks_of-append atoms more n is) ∙ before-with_chunk _ (chunks_of atoms) n
 
+-- one or more normal atoms are one chunk
 normal_run : (c : ℕ) (cs : List ℕ) → chunks_of (map Atom.normal (c ∷ cs)) ≡ at_start (Normal (encode_utf8_all (c ∷ cs))) ∷ []
 normal_run c [] = ap (λ t. at_start (Normal t) ∷ []) (sym (append-nil (encode_utf8 c)))
 normal_run c (d ∷ cs) = ap (before (at_start (Normal (encode_utf8 c)))) (normal_run d cs)
 
+-- one or more verbatim atoms are one chunk
 verbatim_run : (c : ℕ) (cs : List ℕ) → chunks_of (map Atom.verbatim (c ∷ cs)) ≡ at_start (Verbatim (encode_utf8_all (c ∷ cs))) ∷ []
 verbatim_run c [] = ap (λ t. at_start (Verbatim t) ∷ []) (sym (append-nil (encode_utf8 c)))
 verbatim_run c (d ∷ cs) = ap (before (at_start (Verbatim (encode_utf8 c)))) (verbatim_run d cs)
@@ -141,6 +145,7 @@ with_chunk-last [] last n = refl
 with_chunk-last (x ∷ []) last n = refl
 with_chunk-last (x ∷ y ∷ leading_run) last n = ap (λ l. x ∷ l) (with_chunk-last (y ∷ leading_run) last n)
 
+-- a chunk is unchanged if the other one isn't of its kind
 not_lengthened : (c d : Chunk) → is_same_kind c d ≡ false → lengthened_chunk c d ≡ c
 not_lengthened (Normal a) (Normal b) h = absurd (false≢true (sym h))
 not_lengthened (Verbatim a) (Verbatim b) h = absurd (false≢true (sym h))
@@ -177,6 +182,7 @@ module _ (old leading_run now : List (Spanned Chunk)) (last : Spanned Chunk) (v 
       (ap (λ l. with_chunk l (at_start chunk)) was ∙ with_chunk-last leading_run last (at_start chunk)
       ∙ ap (λ l. leading_run ++ l) (before_apart last (at_start chunk) h []))
 
+-- the atoms of a text that isn't empty are one chunk, if this is so for one or more atoms of their kind
 one_run : (kind : ℕ → Atom) (to : List ℕ → Chunk)
     (run : (c : ℕ) (cs : List ℕ) → chunks_of (map kind (c ∷ cs)) ≡ at_start (to (encode_utf8_all (c ∷ cs))) ∷ [])
     (text : List ℕ) → IsUtf8 text → not (length text == 0) ≡ true

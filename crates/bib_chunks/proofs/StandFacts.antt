@@ -147,6 +147,7 @@ module _ (separator : List ℕ) (w : ℕ) (width : w ≡ length (encode_utf8_all
     pieces_in all rest texts.1 long.1 stand.1,
   )
 
+  -- each chunk of each part is in one of `all`, if each of `chunks` is
   pub list_stands : (all chunks : List (Spanned Chunk)) → AreTexts chunks → AllByRecursion IsAsLong chunks
       → AllByRecursion (StandsInOne all) chunks
       → AllByRecursion (AllByRecursion (StandsInOne all)) (list_parts w cut chunks)
@@ -160,6 +161,7 @@ contains_all : (chunks : List (Spanned Chunk)) → AllByRecursion (Contains chun
 contains_all [] = tt
 contains_all (c ∷ rest) = ((0, omega arith, refl), all_map (Contains rest) (Contains (c ∷ rest)) (later c rest) rest (contains_all rest))
 
+-- chunks of a list are each in one chunk of the list
 stand_all : (all chunks : List (Spanned Chunk)) → AllByRecursion IsAsLong chunks → AllByRecursion (Contains all) chunks
     → AllByRecursion (StandsInOne all) chunks
 stand_all all [] long inside = tt
@@ -174,6 +176,7 @@ and_width : 3 ≡ length (encode_utf8_all letters)
 unfolding encode
 and_width = refl
 
+-- each chunk of each part of a comma list is in one chunk of the list
 pub comma_list_stands : (chunks : List (Spanned Chunk)) → AreTexts chunks → AllByRecursion IsAsLong chunks
     → AllByRecursion (AllByRecursion (StandsInOne chunks)) (comma_list chunks)
 comma_list_stands chunks texts long =
@@ -191,6 +194,7 @@ trimmed_stands first last (Normal text) span utf8 long =
 trimmed_stands first last (Verbatim text) span utf8 long = stands_whole (record { v = Verbatim text; span = span }) long
 trimmed_stands first last (Math text) span utf8 long = stands_whole (record { v = Math text; span = span }) long
 
+-- a chunk is in one of `all`, and is as long as its span
 abbrev StandsLong : List (Spanned Chunk) → Spanned Chunk → Type 0
 StandsLong all c = StandsInOne all c × IsAsLong c
 
@@ -200,6 +204,7 @@ one_trimmed all first last c utf8 long inside =
     let stands = trimmed_stands first last c.v c.span utf8 long in
     ((c, inside, stands), stands_long c (trimmed_chunk first last c.v c.span) long stands)
 
+-- trimmed chunks are in the untrimmed ones, and as long as their spans
 all_trimmed : (all : List (Spanned Chunk)) (first : Bool) (chunks : List (Spanned Chunk)) → AreTexts chunks
     → AllByRecursion IsAsLong chunks → AllByRecursion (Contains all) chunks
     → AllByRecursion (StandsLong all) (trimmed_chunks first chunks)
@@ -208,6 +213,7 @@ all_trimmed all first (c ∷ []) texts long inside = (one_trimmed all first true
 all_trimmed all first (c ∷ after ∷ more) texts long inside =
     (one_trimmed all first false c texts.0 long.0 inside.0, all_trimmed all false (after ∷ more) texts.1 long.1 inside.1)
 
+-- each chunk of each part of an `and` list is in one chunk of the list
 pub and_list_stands : (chunks : List (Spanned Chunk)) → AreTexts chunks → AllByRecursion IsAsLong chunks
     → AllByRecursion (AllByRecursion (StandsInOne chunks)) (and_list chunks)
 and_list_stands chunks texts long =

@@ -26,6 +26,7 @@ normal_text space (c ∷ cs) more =
     ∙ ap (λ b. (one ++ flowing (ends_in_space space one) cs) ++ formatted_atoms b more)
     (sym (ends-append space one (flowing (ends_in_space space one) cs)))
 
+-- verbatim atoms are formatted as their characters
 verbatim_text : (space : Bool) (cs : List ℕ) (more : List Atom)
     → formatted_atoms space (map Atom.verbatim cs ++ more) ≡ cs ++ formatted_atoms (ends_in_space space cs) more
 verbatim_text space [] more = refl
@@ -35,6 +36,7 @@ verbatim_text space (c ∷ cs) more = ap (λ xs. c ∷ xs) (verbatim_text (is_wh
 pub no_characters : (text : List ℕ) → IsUtf8 text → chars text ≡ [] → text ≡ []
 no_characters text utf8 none = sym (encodes-chars text utf8) ∙ ap encode_utf8_all none
 
+-- an empty text has no characters
 pub no_text : (text : List ℕ) → not (length text == 0) ≡ false → chars text ≡ []
 no_text [] none = chars-nil
 no_text (b ∷ text) none = absurd (false≢true (sym none ∙ ap not (ne_eqb _ _ (λ e. omega arith))))

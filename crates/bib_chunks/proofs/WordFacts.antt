@@ -37,6 +37,7 @@ cut_rejoined text more = refl
 same_letters : (a n d : ℕ) (rest : List ℕ) → word_here true (a ∷ n ∷ d ∷ rest) ≡ true → 97 ∷ 110 ∷ 100 ∷ rest ≡ a ∷ n ∷ d ∷ rest
 same_letters a n d rest here = let (others, is, spaced) = word_letters true (a ∷ n ∷ d ∷ rest) here in cc
 
+-- if the word is here by either flag, it is here with white space before it
 at_true : (space : Bool) (cs : List ℕ) → word_here space cs ≡ true → word_here true cs ≡ true
 at_true true cs here = here
 at_true false cs here = let (others, is, spaced) = word_letters false cs here in rw is (ap (λ b. b) spaced)
@@ -107,6 +108,7 @@ one_free false space a n d rest here cut on =
     (sym here ∙ ap (λ l. word_here space (a ∷ l)) starts ∙ word_longer space (a ∷ text) tail found)) in
     subst (λ ts. AreFree space (prepend (a ∷ []) ts)) (sym some) (ap (λ b. b || holds_and (is_whitespace a) text) none ∙ free.0, free.1)
 
+-- no text between words contains a word
 ands_free : (space : Bool) (cs : List ℕ) → AreFree space (between_ands space cs)
 ands_free space [] = (refl, tt)
 ands_free space (a ∷ []) = (refl, tt)
@@ -121,6 +123,7 @@ or_right false b holds = holds
 or_left : (a b : Bool) → a ≡ true → (a || b) ≡ true
 or_left a b holds = ap (λ c. c || b) holds
 
+-- characters with `and` between two white space characters contain a word
 found_and : (space : Bool) (before following : List ℕ) (s t : ℕ) → is_whitespace s ≡ true → is_whitespace t ≡ true
     → holds_and space (before ++ (s ∷ 97 ∷ 110 ∷ 100 ∷ t ∷ following)) ≡ true
 found_and space [] following s t white blank =
@@ -131,6 +134,7 @@ found_and space (c ∷ before) following s t white blank =
     or_right (word_here space (c ∷ (before ++ (s ∷ 97 ∷ 110 ∷ 100 ∷ t ∷ following)))) _
     (found_and (is_whitespace c) before following s t white blank)
 
+-- characters that contain no word have no `and` between white space
 free_no_and : (text : List ℕ) → holds_and false text ≡ false → HasNoAnd text
 free_no_and text free before following s t white blank is =
     absurd (false≢true (sym free ∙ ap (holds_and false) is ∙ found_and false before following s t white blank))
@@ -142,6 +146,7 @@ all_no_and (text ∷ texts) free = (free_no_and text free.0, all_no_and texts fr
 between_no_and : (cs : List ℕ) → AllByRecursion HasNoAnd (between_ands false cs)
 between_no_and cs = all_no_and (between_ands false cs) (all_free (between_ands false cs) (ands_free false cs))
 
+-- characters without such an `and` have none after trimming
 left_no_and : (first last : Bool) (text left : List ℕ) → IsTrimmed first last text left → HasNoAnd text → HasNoAnd left
 left_no_and first last text left cut none before following s t white blank is =
     none (cut.lead ++ before) (following ++ cut.trail) s t white blank
@@ -149,6 +154,7 @@ left_no_and first last text left cut none before following s t white blank is =
     ∙ ap (λ l. cut.lead ++ l) (append_assoc before (s ∷ 97 ∷ 110 ∷ 100 ∷ t ∷ following) cut.trail)
     ∙ sym (append_assoc cut.lead before _))
 
+-- a normal chunk of such characters has none either
 chunk_no_and : (text : List ℕ) → scalars text ≡ true → HasNoAnd text → IsWithoutAnd (Normal (encode_utf8_all text))
 chunk_no_and text valid none = subst HasNoAnd (sym (chars-encodes text valid)) none
 
@@ -159,6 +165,7 @@ trimmed_says first last text span utf8 =
     subst (λ bs. SaysPiece first last (chars text) (piece text span 0 first last bs)) (encodes-chars text utf8)
     (piece_says text span 0 first last (chars text) (scalars-chars text utf8))
 
+-- the text of a trimmed chunk is UTF-8
 trimmed_text : (first last : Bool) (v : Chunk) (span : Range ℕ) → IsUtf8 (text_of v) → IsUtf8 (text_of (trimmed_chunk first last v span).v)
 trimmed_text first last (Normal text) span utf8 =
     let says = trimmed_says first last text span utf8 in
@@ -172,6 +179,7 @@ trimmed_texts first [] texts = tt
 trimmed_texts first (c ∷ []) texts = (trimmed_text first true c.v c.span texts.0, tt)
 trimmed_texts first (c ∷ after ∷ more) texts = (trimmed_text first false c.v c.span texts.0, trimmed_texts false (after ∷ more) texts.1)
 
+-- no normal chunk of a part of an `and` list contains the word between white space
 pub and_list_no_and : (chunks : List (Spanned Chunk)) → AreTexts chunks → AllByRecursion HoldsNoAnd (and_list chunks)
 and_list_no_and chunks texts =
     parts_hold HasNoAnd IsWithoutAnd left_no_and chunk_no_and letters 3 (between_ands false) (ands_whole false)
@@ -187,6 +195,7 @@ record ChunkSpaced (first last : Bool) (v : Chunk) (here : Spanned Chunk) : Type
   begins : first ≡ false → lead ≡ []
   ends : last ≡ false → trail ≡ []
 
+-- a chunk that isn't trimmed has no white space to remove
 same_spaced : (first last : Bool) (v : Chunk) (here : Spanned Chunk) → here.v ≡ v → ChunkSpaced first last v here
 same_spaced first last v here is = record {
   lead = [];
@@ -264,6 +273,7 @@ are_spaced first (c ∷ after ∷ more) texts =
       begins = one.begins;
     }
 
+-- the parts of an `and` list, with the word between them, are its styled text without white space at the ends
 pub and_list_whole : (chunks : List (Spanned Chunk)) → AreTexts chunks
     → (inside : List Atom) × IsSpaced inside (styled chunks) × IsList and_word (map styled (and_list chunks)) inside
 and_list_whole chunks texts =

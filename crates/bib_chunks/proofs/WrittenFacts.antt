@@ -14,6 +14,7 @@ use Rattle.bib_chunks.specs.Written.{is_grouping, is_reserved, char_spelling, sp
 use Rattle.bib_chunks.specs.Writing.{is_bare}
 use Rattle.bib_text.proofs.TextFacts.{ahead, MovesPast, passed_char, passed_run, passed_between, flat_map_same, written_more, written_all, chars_at_end, three_parts}
 
+-- how a character is written, in each of the cases of `char_spelling`
 pub spelled_grouping : (v : Bool) (c : ℕ) → is_grouping c ≡ true → char_spelling v c ≡ 92 ∷ c ∷ []
 unfolding char_spelling
 spelled_grouping v c grouping = rw grouping refl
@@ -56,6 +57,7 @@ bare_cases false false false true circumflex c bare = absurd (false≢true bare)
 bare_cases false false false false true c bare = absurd (false≢true bare)
 bare_cases false false false false false c bare = refl
 
+-- a bare character is written unchanged
 pub spelled_bare : (v : Bool) (c : ℕ) → is_bare v c ≡ true → char_spelling v c ≡ c ∷ []
 unfolding is_bare char_spelling
 spelled_bare v c bare = bare_cases v (is_grouping c) (is_reserved c) (nat_eq c 126) (nat_eq c 94) c bare
