@@ -13,6 +13,7 @@ use Rattle.bib_tables.specs.declared.mechanics.requirements.AuthorMode.TheVarian
 use Rattle.bib_tables.specs.declared.mechanics.requirements.PagesChapterMode.{PagesChapterMode}
 use Rattle.bib_tables.specs.declared.mechanics.requirements.PagesChapterMode.TheVariants as pages
 
+-- field names
 abbrev pub Names : Type 0
 Names = List (List ℕ)
 
@@ -28,9 +29,11 @@ fields names = words (codes names)
 abbrev pub core : Names
 core = fields "titleaddon subtitle url urldate doi eprint eprintclass eprinttype pubstate language addendum"
 
+-- the same with `note` and `location`
 abbrev pub base : Names
 base = codes "note" ∷ codes "location" ∷ core
 
+-- the same only with `note`
 abbrev pub base_without_location : Names
 base_without_location = codes "note" ∷ core
 
