@@ -10,9 +10,9 @@ use Rattle.std.proofs.lemmas.Str.{encodes-chars, chars-nil}
 use Rattle.bib_chunks.specs.declared.chunk.Chunk.{Chunk}
 use Rattle.bib_text.specs.declared.spanned.Spanned.{Spanned}
 use Rattle.bib_text.specs.Places.{place, CharAt}
-use Rattle.bib_chunks.specs.Cuts.{begins_with_space, is_and, prepend, between_ands, trimmed, trimmed_from}
+use Rattle.bib_chunks.specs.Cuts.{begins_with_space, is_and, prepend, between_ands, trimmed_chunk, trimmed_chunks}
 use Rattle.bib_chunks.specs.Cutting.{IsAnd, NoAnd, IsFirstAnd}
-use Rattle.bib_text.proofs.TextFacts.{Passed, passed_char, passed_append, chars_past, chars_whole}
+use Rattle.bib_text.proofs.TextFacts.{MovesPast, passed_char, passed_append, chars_past, chars_whole}
 
 -- whether the word is at the start of these characters, with white space after it and, by the flag, before it
 abbrev pub word_here : Bool → List ℕ → Bool
@@ -41,6 +41,7 @@ and_bytes : (bs : List ℕ) → codes "and" ++ bs ≡ encode_utf8_all (97 ∷ 11
 unfolding encode
 and_bytes bs = refl
 
+-- the bytes of the word `and` and of the characters after it
 and_bytes_all : (cs : List ℕ) → codes "and" ++ encode_utf8_all cs ≡ encode_utf8_all (97 ∷ 110 ∷ 100 ∷ cs)
 unfolding encode
 and_bytes_all cs = refl
@@ -50,6 +51,7 @@ and_chars : (text following : List ℕ) → IsUtf8 text → text ≡ codes "and"
     → (chars text ≡ 97 ∷ 110 ∷ 100 ∷ chars following) × IsUtf8 following
 and_chars text following utf8 word = chars_past (97 ∷ 110 ∷ 100 ∷ []) text following utf8 (word ∙ and_bytes following)
 
+-- no word is at the start of a text without white space before it
 never : (cs : List ℕ) → word_here false cs ≡ false
 never [] = refl
 never (a ∷ []) = refl
@@ -77,6 +79,7 @@ between_other space c [] here = refl
 between_other space c (n ∷ []) here = refl
 between_other space c (n ∷ d ∷ rest) here = cond-false (space && is_and c n d && begins_with_space rest) _ _ here
 
+-- a word after white space ends the first text, which is empty
 between_word : (rest : List ℕ) → begins_with_space rest ≡ true → between_ands true (97 ∷ 110 ∷ 100 ∷ rest) ≡ [] ∷ between_ands false rest
 between_word rest spaced = cond-true (begins_with_space rest) _ _ spaced
 
@@ -100,18 +103,19 @@ ands_some space (a ∷ n ∷ d ∷ rest) =
     cond_some (space && is_and a n d && begins_with_space rest) (between_ands false rest) a
     (between_ands (is_whitespace a) (n ∷ d ∷ rest)) more
 
+-- prepending no characters to the texts between words changes nothing
 prepend_none : (space : Bool) (cs : List ℕ) → prepend [] (between_ands space cs) ≡ between_ands space cs
 prepend_none space cs = let some = ands_some space cs in rw some.2 refl
 
 -- the characters `cs` before the position `at` contain no such word; `space` says whether white space comes right
 -- before it
-pub record Searched (text : List ℕ) (at : ℕ) (space : Bool) : Type 0 where
+pub record IsSearchedTo (text : List ℕ) (at : ℕ) (space : Bool) : Type 0 where
   pub cs : List ℕ
-  pub passed : Passed (place text 0) cs (place text at)
+  pub passed : MovesPast (place text 0) cs (place text at)
   pub texts : between_ands false (chars text) ≡ prepend cs (between_ands space (chars (drop at text)))
 
 -- at the start of a text no character was passed
-pub searched_none : (text : List ℕ) → IsUtf8 text → Searched text 0 false
+pub searched_none : (text : List ℕ) → IsUtf8 text → IsSearchedTo text 0 false
 searched_none text utf8 = record {
   cs = [];
   passed = record { same = refl; here = refl; next = refl; spelt = refl; utf8 = utf8 };
@@ -119,11 +123,11 @@ searched_none text utf8 = record {
 }
 
 -- the search goes on after a character at which no such word begins
-pub searched_char : (text : List ℕ) (at next c : ℕ) (space : Bool) → Searched text at space
+pub searched_char : (text : List ℕ) (at next c : ℕ) (space : Bool) → IsSearchedTo text at space
     → CharAt (place text at) c (place text next) → word_here space (chars (drop at text)) ≡ false
-    → Searched text next (is_whitespace c)
+    → IsSearchedTo text next (is_whitespace c)
 searched_char text at next c space so_far char none =
-    let one : Passed (place text at) (c ∷ []) (place text next) = passed_char char so_far.passed.utf8 in
+    let one : MovesPast (place text at) (c ∷ []) (place text next) = passed_char char so_far.passed.utf8 in
     let here : word_here space (c ∷ chars (drop next text)) ≡ false = rw one.spelt at none in
     record {
       cs = so_far.cs ++ c ∷ [];
@@ -135,13 +139,13 @@ searched_char text at next c space so_far char none =
     }
 
 -- the text before a position is that of the passed characters
-before_place : (text : List ℕ) (at : ℕ) (cs : List ℕ) → Passed (place text 0) cs (place text at) → take at text ≡ encode_utf8_all cs
+before_place : (text : List ℕ) (at : ℕ) (cs : List ℕ) → MovesPast (place text 0) cs (place text at) → take at text ≡ encode_utf8_all cs
 before_place text at cs passed =
     let next : at ≡ 0 + length (encode_utf8_all cs) = passed.next in
     ap (take at) passed.here ∙ take_at (encode_utf8_all cs) (drop at text) at (omega arith)
 
 -- the word at a position is the first one
-pub searched_word : (text : List ℕ) (at : ℕ) (before following : List ℕ) → Searched text at true → before ≡ take at text
+pub searched_word : (text : List ℕ) (at : ℕ) (before following : List ℕ) → IsSearchedTo text at true → before ≡ take at text
     → IsUtf8 before → IsAnd (drop at text) following → IsFirstAnd text before following
 searched_word text at before following so_far leading_run prefix_utf8 word =
     let letters = and_chars (drop at text) following so_far.passed.utf8 word.word in
@@ -158,18 +162,20 @@ searched_word text at before following so_far leading_run prefix_utf8 word =
     }
 
 -- at the end of the text the search has found no such word
-pub searched_all : (text : List ℕ) (at : ℕ) (space : Bool) → Searched text at space → drop at text ≡ []
+pub searched_all : (text : List ℕ) (at : ℕ) (space : Bool) → IsSearchedTo text at space → drop at text ≡ []
     → between_ands false (chars text) ≡ chars text ∷ []
 searched_all text at space so_far nothing =
     let left : chars (drop at text) ≡ [] = ap chars nothing ∙ chars-nil in
     so_far.texts ∙ ap (λ xs. prepend so_far.cs (between_ands space xs)) left
     ∙ ap (λ xs. (so_far.cs ++ xs) ∷ []) (sym left) ∙ ap (λ xs. xs ∷ []) (sym so_far.passed.spelt)
 
+-- the first of trimmed chunks is trimmed at its end exactly if no chunk follows it
 trimmed_cons : (first last : Bool) (x : Spanned Chunk) (rest : List (Spanned Chunk)) → last ≡ nat_eq (length rest) 0
-    → trimmed_from first (x ∷ rest) ≡ trimmed first last x.v x.span ∷ trimmed_from false rest
-trimmed_cons first last x [] is_last = ap (λ b. trimmed first b x.v x.span ∷ []) (sym is_last)
+    → trimmed_chunks first (x ∷ rest) ≡ trimmed_chunk first last x.v x.span ∷ trimmed_chunks false rest
+trimmed_cons first last x [] is_last = ap (λ b. trimmed_chunk first b x.v x.span ∷ []) (sym is_last)
 trimmed_cons first last x (next ∷ more) is_last =
-    ap (λ b. trimmed first b x.v x.span ∷ trimmed_from false (next ∷ more)) (sym (is_last ∙ ne_eqb _ 0 (λ none. omega (arith, none))))
+    ap (λ b. trimmed_chunk first b x.v x.span ∷ trimmed_chunks false (next ∷ more))
+    (sym (is_last ∙ ne_eqb _ 0 (λ none. omega (arith, none))))
 
 same_test : (m n : ℕ) → m ≡ n + 1 → nat_eq m 1 ≡ nat_eq n 0
 same_test m n more = ⊎_elim
@@ -180,10 +186,10 @@ same_test m n more = ⊎_elim
 -- a step of the loop: a trimmed chunk is added, the last one exactly if no chunk follows
 pub trimmed_step : (first last : Bool) (x : Spanned Chunk) (chunks : List (Spanned Chunk)) (i : ℕ) → i < length chunks
     → x ≡ get_or chunks i x → last ≡ nat_eq (length chunks - i) 1
-    → trimmed_from first (drop i chunks) ≡ trimmed first last x.v x.span ∷ trimmed_from false (drop (i + 1) chunks)
+    → trimmed_chunks first (drop i chunks) ≡ trimmed_chunk first last x.v x.span ∷ trimmed_chunks false (drop (i + 1) chunks)
 trimmed_step first last x chunks i within is is_last =
     let split : drop i chunks ≡ x ∷ drop (i + 1) chunks = drop_more chunks i x within ∙ ap (λ y. y ∷ drop (i + 1) chunks) (sym is) in
     let left : length (drop (i + 1) chunks) ≡ length chunks - (i + 1) = length-drop (i + 1) chunks in
-    ap (trimmed_from first) split
+    ap (trimmed_chunks first) split
     ∙ trimmed_cons first last x (drop (i + 1) chunks)
     (is_last ∙ same_test (length chunks - i) (length (drop (i + 1) chunks)) (omega arith))

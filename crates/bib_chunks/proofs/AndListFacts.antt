@@ -5,8 +5,8 @@ use Rattle.std.specs.Char.{encode_utf8}
 use Rattle.std.specs.List.{flat_map}
 use Rattle.std.specs.Str.{chars, trim_start, trim_end}
 use Rattle.bib_chunks.specs.declared.chunk.Chunk.TheVariants.{Normal, Verbatim}
-use Rattle.bib_chunks.specs.Formatted.{formatted}
-use Rattle.bib_chunks.specs.Cuts.{further, between_ands, list_parts, trimmed_from, and_list}
+use Rattle.bib_chunks.specs.Formatted.{formatted_chars}
+use Rattle.bib_chunks.specs.Cuts.{further, between_ands, list_parts, trimmed_chunks, and_list}
 use Rattle.bib_chunks.specs.Values.{Value, nowhere, alone}
 use Rattle.bib_chunks.specs.Separated.{after_separator, parts_written}
 use Rattle.bib_chunks.proofs.SeparatedFacts.{IsSeparator, AreWhole, separated_formats}
@@ -26,7 +26,7 @@ after_ands texts = flat_map (after_separator (codes " and ")) (map (λ t. alone 
 
 -- such a list is unchanged by trimming
 untrimmed : (first : Bool) (t : List ℕ) (rest : List (List ℕ))
-    → trimmed_from first (alone (Verbatim t) ++ after_ands rest) ≡ alone (Verbatim t) ++ after_ands rest
+    → trimmed_chunks first (alone (Verbatim t) ++ after_ands rest) ≡ alone (Verbatim t) ++ after_ands rest
 untrimmed first t [] = refl
 untrimmed first t (u ∷ rest) = ap (λ xs. nowhere (Verbatim t) ∷ nowhere (Normal (codes " and ")) ∷ xs) (untrimmed false u rest)
 
@@ -37,7 +37,7 @@ verbatim_whole (t ∷ rest) = (record { one = refl; says = refl }, verbatim_whol
 
 -- the parts of such a list format to its texts
 pub parts_format : (t : List ℕ) (rest : List (List ℕ))
-    → map formatted (and_list (parts_written (map (λ x. alone (Verbatim x)) (t ∷ rest)))) ≡ map chars (t ∷ rest)
+    → map formatted_chars (and_list (parts_written (map (λ x. alone (Verbatim x)) (t ∷ rest)))) ≡ map chars (t ∷ rest)
 parts_format t rest =
-    ap (λ chunks. map formatted (list_parts 3 (between_ands false) chunks)) (untrimmed true t rest)
+    ap (λ chunks. map formatted_chars (list_parts 3 (between_ands false) chunks)) (untrimmed true t rest)
     ∙ separated_formats 3 (between_ands false) (λ u. Verbatim u) (codes " and ") and_separates t rest (verbatim_whole (t ∷ rest))

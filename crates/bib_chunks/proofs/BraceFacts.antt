@@ -20,6 +20,7 @@ parts_plain {w = w} char passes (plain other also rest) = inr (subst (λ p. Part
 parts_plain char passes (hidden other next rest) = absurd (both_ways _ refl (rw (same_char char other).0 at passes))
 parts_plain char passes (nested other inner close rest) = absurd (both_ways _ refl (rw (same_char char other).0 at passes))
 
+-- parts from a backslash are empty, or have the backslash and the character after it first
 parts_hidden : {u v w x : Place} {c : ℕ} → CharAt u 92 v → CharAt v c w → Parts u x → (u ≡ x) ⊎ Parts w x
 parts_hidden slash char none = inl refl
 parts_hidden slash char (plain other also rest) = absurd (both_ways _ refl (rw (sym (same_char slash other).0) at also))
@@ -28,6 +29,7 @@ parts_hidden {x = x} slash char (hidden {w = z} {c = d} other next rest) =
     inr (subst (λ p. Parts p x) (same_char here char).1 rest)
 parts_hidden slash char (nested other inner close rest) = absurd (omega (arith, (same_char slash other).0))
 
+-- parts from a backslash at the end of a text are empty
 parts_slash_end : {u v x : Place} → CharAt u 92 v → AtEnd v → Parts u x → u ≡ x
 parts_slash_end slash end none = refl
 parts_slash_end slash end (plain other also rest) = absurd (both_ways _ refl (rw (sym (same_char slash other).0) at also))
@@ -35,6 +37,7 @@ parts_slash_end slash end (hidden {w = z} {c = d} other next rest) =
     absurd (no_char_at_end end (subst (λ p. CharAt p d z) (same_char other slash).1 next))
 parts_slash_end slash end (nested other inner close rest) = absurd (omega (arith, (same_char slash other).0))
 
+-- parts from an opening brace are empty, or have a pair of braces first
 parts_open : {u v x : Place} → CharAt u 123 v → Parts u x → (u ≡ x) ⊎ ((w : Place) × (y : Place) × Parts v w × CharAt w 125 y × Parts y x)
 parts_open char none = inl refl
 parts_open char (plain other also rest) = absurd (both_ways _ refl (rw (sym (same_char char other).0) at also))
@@ -42,12 +45,14 @@ parts_open char (hidden other next rest) = absurd (omega (arith, (same_char char
 parts_open char (nested {w = w} {x = y} other inner close rest) =
     inr (w, y, subst (λ p. Parts p w) (same_char other char).1 inner, close, rest)
 
+-- parts from a closing brace are empty
 parts_close : {u v x : Place} → CharAt u 125 v → Parts u x → u ≡ x
 parts_close char none = refl
 parts_close char (plain other also rest) = absurd (both_ways _ refl (rw (sym (same_char char other).0) at also))
 parts_close char (hidden other next rest) = absurd (omega (arith, (same_char char other).0))
 parts_close char (nested other inner close rest) = absurd (omega (arith, (same_char char other).0))
 
+-- parts from the end of a text are empty
 parts_end : {u x : Place} → AtEnd u → Parts u x → u ≡ x
 parts_end end none = refl
 parts_end end (plain other also rest) = absurd (no_char_at_end end other)
@@ -87,6 +92,7 @@ closes_slash_end zero e end slash last parts = not_last end slash (parts_slash_e
 closes_slash_end (suc n) e end slash last (w, x, parts, close, rest) =
     let same = (same_char slash (subst (λ p. CharAt p 125 x) (sym (parts_slash_end slash last parts)) close)).0 in omega (arith, same)
 
+-- before an opening brace one brace less is to be closed than after it
 closes_open_suc : (n : ℕ) (e : Place) {u v : Place} → AtEnd e → CharAt u 123 v → Closes n u e ↔ Closes (suc n) v e
 closes_open_suc zero e end char = (
   λ parts. ⊎_elim (λ last. absurd (not_last end char last)) (λ q. q) (parts_open char parts),
@@ -104,6 +110,7 @@ closes_open_suc (suc n) e {u} {v} end char = (
 pub closes_open : (n : ℕ) (e : Place) {u v : Place} → AtEnd e → CharAt u 123 v → Closes n u e ↔ Closes (n + 1) v e
 closes_open n e end char = rw add-one (closes_open_suc n e end char)
 
+-- before a closing brace one brace more is to be closed than after it
 closes_close_suc : (n : ℕ) (e : Place) {u v : Place} → CharAt u 125 v → Closes (suc n) u e ↔ Closes n v e
 closes_close_suc n e {u} {v} char = (
   λ (w, x, parts, close, rest).

@@ -18,10 +18,11 @@ use Rattle.bib_chunks.specs.declared.chunk.cuts.Parts.{Parts}
 use Rattle.bib_chunks.specs.declared.chunk.cuts.Separator.{Separator}
 use Rattle.bib_chunks.specs.declared.chunk.cuts.Separator.TheVariants.{Comma, And}
 use Rattle.bib_chunks.specs.declared.chunk.Chunk.TheVariants.{Normal}
-use Rattle.bib_chunks.specs.Cuts.{further, placed, chunk_part, piece, pieces, pieces_between, onto, joined_parts, list_parts, between_commas, between_ands, cut_characters, both_pieces, halves}
+use Rattle.bib_chunks.specs.Cuts.{further, with_span, chunk_part, piece, pieces, pieces_between, onto, joined_parts, list_parts, between_commas, between_ands, cut_characters, both_pieces, halves}
 use Rattle.bib_chunks.specs.Cutting.{between_cuts, width, all_parts, ReadsPieces, IsFirstCut, IsFirstAnd}
 use Rattle.bib_chunks.proofs.AndFacts.{ands_some}
 
+-- prepending two lists of chunks in turn is prepending both at once
 onto_onto : (xs ys : List (Spanned Chunk)) (parts : List (List (Spanned Chunk))) → onto xs (onto ys parts) ≡ onto (xs ++ ys) parts
 onto_onto xs ys [] = refl
 onto_onto xs ys (part ∷ parts) = ap (λ p. p ∷ parts) (sym (append_assoc xs ys part))
@@ -50,6 +51,7 @@ pub read_one : (old new : Parts) (piece : Spanned Chunk)
 read_one old new piece is following =
     ap (λ p. all_parts p following) is ∙ ap (λ ps. old.done ++ ps) (sym (onto_onto old.last (piece ∷ []) following))
 
+-- the parts with the current one finished, and an empty current one
 ended : Parts → Parts
 ended parts = record { done = parts.done ++ parts.last ∷ []; last = [] }
 
@@ -77,8 +79,8 @@ pub part_further : (whole text : List ℕ) (span : Range ℕ) (at skipped : ℕ)
 part_further whole text span at skipped =
     ap
     (λ n.
-    if length text == length whole then placed (Normal text) span.start span.end
-    else placed (Normal text) n (further n (length text)))
+    if length text == length whole then with_span (Normal text) span.start span.end
+    else with_span (Normal text) n (further n (length text)))
     (further_twice span.start at skipped)
 
 -- `before` and `after` are the texts before and after the first `c` of a text, both UTF-8
@@ -117,6 +119,7 @@ pub split_none : (test : ℕ → Bool) (cs : List ℕ) → NonePass test cs → 
 split_none test [] free = refl
 split_none test (c ∷ cs) free = slice_split-cons_no test c cs free.0 ∙ ap (onto_first c) (split_none test cs free.1)
 
+-- a text is split at the first character that passes
 split_here : (test : ℕ → Bool) (cs : List ℕ) (c : ℕ) (rest : List ℕ) → NonePass test cs → test c ≡ true
     → slice_split test (cs ++ c ∷ rest) ≡ cs ∷ slice_split test rest
 split_here test [] c rest free here = slice_split-cons_yes test c rest here
@@ -159,6 +162,7 @@ commas_some (c ∷ cs) =
     (λ other. (c ∷ rest.0, rest.1, slice_split-cons_no (λ d. d == 44) c cs other ∙ ap (onto_first c) rest.2))
     (cases_Bool (c == 44))
 
+-- there is at least one text between separators
 between_some : (separator : Separator) (cs : List ℕ) → (text : List ℕ) × (more : List (List ℕ)) × (between_cuts separator cs ≡ text ∷ more)
 between_some Comma cs = commas_some cs
 between_some And cs = ands_some false cs
@@ -222,6 +226,7 @@ cut_free : (c : ℕ) (cs : List ℕ) → NonePass (λ d. d == c) cs → cut_char
 cut_free c [] free = refl
 cut_free c (d ∷ cs) free = cond-false (d == c) _ _ free.0 ∙ ap (option_map (λ both. (d ∷ both.0, both.1))) (cut_free c cs free.1)
 
+-- a text is cut at the first character that is `c`
 cut_here : (c : ℕ) (cs rest : List ℕ) → NonePass (λ d. d == c) cs → cut_characters c (cs ++ c ∷ rest) ≡ Some (cs, rest)
 cut_here c [] rest free = cond-true (c == c) _ _ (eq-eqb c c refl)
 cut_here c (d ∷ cs) rest free = cond-false (d == c) _ _ free.0 ∙ ap (option_map (λ both. (d ∷ both.0, both.1))) (cut_here c cs rest free.1)

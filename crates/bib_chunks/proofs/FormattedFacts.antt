@@ -12,8 +12,8 @@ use Rattle.bib_chunks.specs.declared.chunk.Chunk.{Chunk}
 use Rattle.bib_chunks.specs.declared.chunk.Chunk.TheVariants.{Verbatim}
 use Rattle.bib_text.specs.declared.spanned.Spanned.{Spanned}
 use Rattle.bib_text.specs.Places.{Place, CharAt, Run, Longest, AtEnd, between}
-use Rattle.bib_chunks.specs.Formatted.{is_break, ends_in_space, unbroken, flowing, space_after, formatted_chunk, formatted_after, cased, sentence_case, sentence_after}
-use Rattle.bib_text.proofs.TextFacts.{ahead, Passed, passed_char, passed_run, passed_between, written_more, written_all, chars_at_end, chars_past, chars_whole}
+use Rattle.bib_chunks.specs.Formatted.{is_break, ends_in_space, char_on_line, flowing, space_after, formatted_chunk, formatted_chars_after, upper_or_lower, sentence_case, sentence_after}
+use Rattle.bib_text.proofs.TextFacts.{ahead, MovesPast, passed_char, passed_run, passed_between, written_more, written_all, chars_at_end, chars_past, chars_whole}
 
 -- a character that isn't a line break
 abbrev pub goes_on : ℕ → Bool
@@ -53,9 +53,10 @@ pub flowing_run : (space : Bool) (cs rest : List ℕ) → list_all goes_on cs �
 flowing_run space [] rest all = refl
 flowing_run space (c ∷ cs) rest all =
     let parts = and_parts (goes_on c) (list_all goes_on cs) all in
-    let stays : unbroken space c ≡ c ∷ [] = cond-false (is_break c) _ _ (not-true (is_break c) parts.0) in
+    let stays : char_on_line space c ≡ c ∷ [] = cond-false (is_break c) _ _ (not-true (is_break c) parts.0) in
     ap (λ xs. xs ++ flowing (ends_in_space space xs) (cs ++ rest)) stays ∙ ap (λ xs. c ∷ xs) (flowing_run (is_whitespace c) cs rest parts.1)
 
+-- after the replacement of a line break, the last character is white space
 gap_ends : (space : Bool) → ends_in_space space (gap space) ≡ true
 gap_ends true = refl
 gap_ends false = refl
@@ -63,7 +64,7 @@ gap_ends false = refl
 -- a line break is replaced, and the character before the next one is white space
 pub flowing_break : (space : Bool) (c : ℕ) (rest : List ℕ) → is_break c ≡ true → flowing space (c ∷ rest) ≡ gap space ++ flowing true rest
 flowing_break space c rest breaks =
-    let becomes : unbroken space c ≡ gap space = cond-true (is_break c) _ _ breaks in
+    let becomes : char_on_line space c ≡ gap space = cond-true (is_break c) _ _ breaks in
     ap (λ xs. xs ++ flowing (ends_in_space space xs) rest) becomes ∙ ap (λ b. gap space ++ flowing b rest) (gap_ends space)
 
 -- a run was written
@@ -99,7 +100,7 @@ flowing_step out one two total run {u} {w} {x} {c} space after ends longest utf8
     second before before_ends =
     let (same, w_utf8, middle, middle_ends) =
     run_written out one total run space after ends longest.run utf8 run_utf8 is_run first decides before before_ends in
-    let passed : Passed w (c ∷ []) x = passed_char char w_utf8 in
+    let passed : MovesPast w (c ∷ []) x = passed_char char w_utf8 in
     let breaks : is_break c ≡ true = not-false (is_break c) (longest.stops c x char) in
     let cut : flowing after (chars (ahead w)) ≡ gap after ++ flowing true (chars (ahead x)) =
     ap (flowing after) passed.spelt ∙ flowing_break after c (chars (ahead x)) breaks in (
@@ -135,13 +136,13 @@ formatted_verbatim recased space chunk text bytes is same spells =
 pub formatted_part : (space following : Bool) (chunks : List (Spanned Chunk)) (i : ℕ) (x : Spanned Chunk)
     (out more total : List ℕ) → i < length chunks → x ≡ get_or chunks i x
     → more ≡ out ++ encode_utf8_all (formatted_chunk (λ cs. cs) space x.v) → following ≡ space_after space x.v
-    → out ++ encode_utf8_all (formatted_after space (drop i chunks)) ≡ total
-    → more ++ encode_utf8_all (formatted_after following (drop (i + 1) chunks)) ≡ total
+    → out ++ encode_utf8_all (formatted_chars_after space (drop i chunks)) ≡ total
+    → more ++ encode_utf8_all (formatted_chars_after following (drop (i + 1) chunks)) ≡ total
 formatted_part space following chunks i x out more total within is written decides before =
     let split : drop i chunks ≡ x ∷ drop (i + 1) chunks = drop_more chunks i x within ∙ ap (λ y. y ∷ drop (i + 1) chunks) (sym is) in
     let part = formatted_chunk (λ cs. cs) space x.v in
-    let cut : formatted_after space (drop i chunks) ≡ part ++ formatted_after following (drop (i + 1) chunks) =
-    ap (formatted_after space) split ∙ ap (λ b. part ++ formatted_after b (drop (i + 1) chunks)) (sym decides) in
+    let cut : formatted_chars_after space (drop i chunks) ≡ part ++ formatted_chars_after following (drop (i + 1) chunks) =
+    ap (formatted_chars_after space) split ∙ ap (λ b. part ++ formatted_chars_after b (drop (i + 1) chunks)) (sym decides) in
     written_more out more total part _ _ written cut before
 
 -- after its first character a text in sentence case goes on in lower case
@@ -151,15 +152,15 @@ goes_lower (c ∷ cs) = refl
 
 -- a character was consumed that is replaced by nothing
 pub sentence_skip : (out total : List ℕ) {u x : Place} {c : ℕ} (first space ends : Bool) (r : Option ℕ) → CharAt u c x
-    → IsUtf8 (ahead u) → r ≡ None → option_to_list r ≡ unbroken space c
+    → IsUtf8 (ahead u) → r ≡ None → option_to_list r ≡ char_on_line space c
     → out ++ encode_utf8_all (sentence_case first (flowing space (chars (ahead u)))) ≡ total
     → ends_in_space space (flowing space (chars (ahead u))) ≡ ends
     → (x.text ≡ u.text) × IsUtf8 (ahead x)
     × (out ++ encode_utf8_all (sentence_case first (flowing space (chars (ahead x)))) ≡ total)
     × (ends_in_space space (flowing space (chars (ahead x))) ≡ ends)
 sentence_skip out total {u} {x} {c} first space ends r char utf8 none becomes before before_ends =
-    let passed : Passed u (c ∷ []) x = passed_char char utf8 in
-    let nothing : unbroken space c ≡ [] = sym becomes ∙ ap option_to_list none in
+    let passed : MovesPast u (c ∷ []) x = passed_char char utf8 in
+    let nothing : char_on_line space c ≡ [] = sym becomes ∙ ap option_to_list none in
     let same : flowing space (chars (ahead u)) ≡ flowing space (chars (ahead x)) =
     ap (flowing space) passed.spelt ∙ ap (λ ys. ys ++ flowing (ends_in_space space ys) (chars (ahead x))) nothing in (
       passed.same,
@@ -170,25 +171,25 @@ sentence_skip out total {u} {x} {c} first space ends r char utf8 none becomes be
 
 -- a character was consumed, and its replacement was written
 pub sentence_step : (out more total : List ℕ) {u x : Place} {c : ℕ} (d : ℕ) (first space after ends : Bool)
-    (r : Option ℕ) → CharAt u c x → IsUtf8 (ahead u) → r ≡ Some d → option_to_list r ≡ unbroken space c
-    → more ≡ out ++ encode_utf8_all (cased first d) → after ≡ is_whitespace d
+    (r : Option ℕ) → CharAt u c x → IsUtf8 (ahead u) → r ≡ Some d → option_to_list r ≡ char_on_line space c
+    → more ≡ out ++ encode_utf8_all (upper_or_lower first d) → after ≡ is_whitespace d
     → out ++ encode_utf8_all (sentence_case first (flowing space (chars (ahead u)))) ≡ total
     → ends_in_space space (flowing space (chars (ahead u))) ≡ ends
     → (x.text ≡ u.text) × IsUtf8 (ahead x)
     × (more ++ encode_utf8_all (sentence_case false (flowing after (chars (ahead x)))) ≡ total)
     × (ends_in_space after (flowing after (chars (ahead x))) ≡ ends)
 sentence_step out more total {u} {x} {c} d first space after ends r char utf8 some becomes written decides before before_ends =
-    let passed : Passed u (c ∷ []) x = passed_char char utf8 in
-    let one : unbroken space c ≡ d ∷ [] = sym becomes ∙ ap option_to_list some in
+    let passed : MovesPast u (c ∷ []) x = passed_char char utf8 in
+    let one : char_on_line space c ≡ d ∷ [] = sym becomes ∙ ap option_to_list some in
     let cut : flowing space (chars (ahead u)) ≡ d ∷ flowing after (chars (ahead x)) =
     ap (flowing space) passed.spelt ∙ ap (λ ys. ys ++ flowing (ends_in_space space ys) (chars (ahead x))) one
     ∙ ap (λ b. d ∷ flowing b (chars (ahead x))) (sym decides) in
     let cased_cut : sentence_case first (flowing space (chars (ahead u)))
-    ≡ cased first d ++ sentence_case false (flowing after (chars (ahead x))) =
-    ap (sentence_case first) cut ∙ ap (λ ys. cased first d ++ ys) (goes_lower (flowing after (chars (ahead x)))) in (
+    ≡ upper_or_lower first d ++ sentence_case false (flowing after (chars (ahead x))) =
+    ap (sentence_case first) cut ∙ ap (λ ys. upper_or_lower first d ++ ys) (goes_lower (flowing after (chars (ahead x)))) in (
       passed.same,
       passed.utf8,
-      written_more out more total (cased first d) _ _ written cased_cut before,
+      written_more out more total (upper_or_lower first d) _ _ written cased_cut before,
       ap (λ b. ends_in_space b (flowing after (chars (ahead x)))) decides ∙ sym (ap (ends_in_space space) cut) ∙ before_ends,
     )
 

@@ -9,14 +9,14 @@ use Rattle.std.proofs.lemmas.Bool.{false≢true}
 use Rattle.bib_chunks.specs.declared.chunk.Chunk.{Chunk}
 use Rattle.bib_chunks.specs.declared.chunk.Chunk.TheVariants.{Normal, Verbatim, Math}
 use Rattle.bib_text.specs.declared.spanned.Spanned.{Spanned}
-use Rattle.bib_chunks.specs.Cuts.{placed}
+use Rattle.bib_chunks.specs.Cuts.{with_span}
 use Rattle.bib_chunks.specs.Styled.{Atom, atoms_of, styled, text_of, is_shown, is_same_kind}
-use Rattle.bib_chunks.specs.Lists.{lengthened, at_start, chunk_of, before, chunks_of}
+use Rattle.bib_chunks.specs.Lists.{lengthened_chunk, at_start, chunk_of, before, chunks_of}
 use Rattle.bib_chunks.proofs.StyledFacts.{no_characters, hidden}
 use Rattle.bib_chunks.specs.Joining.{with_chunk}
 
 -- a merged chunk has the kind of its second part
-joined_same : (c d e : Chunk) → is_same_kind c d ≡ true → is_same_kind (lengthened c d) e ≡ is_same_kind d e
+joined_same : (c d e : Chunk) → is_same_kind c d ≡ true → is_same_kind (lengthened_chunk c d) e ≡ is_same_kind d e
 joined_same (Normal a) (Normal b) (Normal e) h = refl
 joined_same (Normal a) (Normal b) (Verbatim e) h = refl
 joined_same (Normal a) (Normal b) (Math e) h = refl
@@ -29,7 +29,8 @@ joined_same (Verbatim a) (Normal b) e h = absurd (false≢true h)
 joined_same (Verbatim a) (Math b) e h = absurd (false≢true h)
 joined_same (Math a) d e h = absurd (false≢true h)
 
-same_joined : (c d e : Chunk) → is_same_kind c (lengthened d e) ≡ is_same_kind c d
+-- a merged chunk is of the kind of the first one
+same_joined : (c d e : Chunk) → is_same_kind c (lengthened_chunk d e) ≡ is_same_kind c d
 same_joined (Normal a) (Normal b) (Normal e) = refl
 same_joined (Normal a) (Normal b) (Verbatim e) = refl
 same_joined (Normal a) (Normal b) (Math e) = refl
@@ -46,8 +47,9 @@ same_joined (Verbatim a) (Verbatim b) (Math e) = refl
 same_joined (Verbatim a) (Math b) e = refl
 same_joined (Math a) d e = refl
 
+-- in which order three chunks are merged doesn't matter
 lengthened_twice : (c d e : Chunk) → is_same_kind c d ≡ true → is_same_kind d e ≡ true
-    → lengthened c (lengthened d e) ≡ lengthened (lengthened c d) e
+    → lengthened_chunk c (lengthened_chunk d e) ≡ lengthened_chunk (lengthened_chunk c d) e
 lengthened_twice (Normal a) (Normal b) (Normal e) h k = ap Normal (sym (append_assoc a b e))
 lengthened_twice (Verbatim a) (Verbatim b) (Verbatim e) h k = ap Verbatim (sym (append_assoc a b e))
 lengthened_twice (Normal a) (Normal b) (Verbatim e) h k = absurd (false≢true k)
@@ -62,7 +64,7 @@ lengthened_twice (Math a) d e h k = absurd (false≢true h)
 
 -- two chunks merged into one
 both : Spanned Chunk → Spanned Chunk → Spanned Chunk
-both c d = placed (lengthened c.v d.v) c.span.start c.span.end
+both c d = with_span (lengthened_chunk c.v d.v) c.span.start c.span.end
 
 module _ (c d : Spanned Chunk) where
   before_joined : is_same_kind c.v d.v ≡ true → (rest : List (Spanned Chunk)) → before c (d ∷ rest) ≡ both c d ∷ rest
@@ -83,7 +85,7 @@ module _ (c d : Spanned Chunk) where
       is_same_kind d.v e.v ≡ b → before c (if b then both d e ∷ es else d ∷ e ∷ es) ≡ before (both c d) (e ∷ es)) [
         | true ↦ λ k.
             ap (λ b. if b then both c (both d e) ∷ es else c ∷ both d e ∷ es) (same_joined c.v d.v e.v ∙ h)
-            ∙ ap (λ v. placed v c.span.start c.span.end ∷ es) (lengthened_twice c.v d.v e.v h k)
+            ∙ ap (λ v. with_span v c.span.start c.span.end ∷ es) (lengthened_twice c.v d.v e.v h k)
             ∙ sym (ap (λ b. if b then both (both c d) e ∷ es else both c d ∷ e ∷ es) (joined_same c.v d.v e.v h ∙ k))
         | false ↦ λ k.
             before_joined h (e ∷ es)
@@ -126,10 +128,12 @@ chunks_of-append [] more n is = is
 chunks_of-append (a ∷ atoms) more n is =
     ap (before (at_start (chunk_of a))) (chunks_of-append atoms more n is) ∙ before-with_chunk _ (chunks_of atoms) n
 
+-- one or more normal atoms are one chunk
 normal_run : (c : ℕ) (cs : List ℕ) → chunks_of (map Atom.normal (c ∷ cs)) ≡ at_start (Normal (encode_utf8_all (c ∷ cs))) ∷ []
 normal_run c [] = ap (λ t. at_start (Normal t) ∷ []) (sym (append-nil (encode_utf8 c)))
 normal_run c (d ∷ cs) = ap (before (at_start (Normal (encode_utf8 c)))) (normal_run d cs)
 
+-- one or more verbatim atoms are one chunk
 verbatim_run : (c : ℕ) (cs : List ℕ) → chunks_of (map Atom.verbatim (c ∷ cs)) ≡ at_start (Verbatim (encode_utf8_all (c ∷ cs))) ∷ []
 verbatim_run c [] = ap (λ t. at_start (Verbatim t) ∷ []) (sym (append-nil (encode_utf8 c)))
 verbatim_run c (d ∷ cs) = ap (before (at_start (Verbatim (encode_utf8 c)))) (verbatim_run d cs)
@@ -141,7 +145,8 @@ with_chunk-last [] last n = refl
 with_chunk-last (x ∷ []) last n = refl
 with_chunk-last (x ∷ y ∷ leading_run) last n = ap (λ l. x ∷ l) (with_chunk-last (y ∷ leading_run) last n)
 
-not_lengthened : (c d : Chunk) → is_same_kind c d ≡ false → lengthened c d ≡ c
+-- a chunk is unchanged if the other one isn't of its kind
+not_lengthened : (c d : Chunk) → is_same_kind c d ≡ false → lengthened_chunk c d ≡ c
 not_lengthened (Normal a) (Normal b) h = absurd (false≢true (sym h))
 not_lengthened (Verbatim a) (Verbatim b) h = absurd (false≢true (sym h))
 not_lengthened (Normal a) (Verbatim b) h = refl
@@ -151,32 +156,33 @@ not_lengthened (Verbatim a) (Math b) h = refl
 not_lengthened (Math a) d h = refl
 
 module _ (old leading_run now : List (Spanned Chunk)) (last : Spanned Chunk) (v chunk : Chunk)
-    (was : old ≡ leading_run ++ last ∷ []) (text : v ≡ lengthened last.v chunk) where
+    (was : old ≡ leading_run ++ last ∷ []) (text : v ≡ lengthened_chunk last.v chunk) where
   -- the last chunk was lengthened if the new one is of its kind
-  pub added_joined : is_same_kind last.v chunk ≡ true → now ≡ leading_run ++ placed v last.span.start last.span.end ∷ []
+  pub added_joined : is_same_kind last.v chunk ≡ true → now ≡ leading_run ++ with_span v last.span.start last.span.end ∷ []
       → now ≡ with_chunk old (at_start chunk)
   unfolding both
   added_joined h is =
-      is ∙ ap (λ t. leading_run ++ placed t last.span.start last.span.end ∷ []) text
+      is ∙ ap (λ t. leading_run ++ with_span t last.span.start last.span.end ∷ []) text
       ∙ sym
       (ap (λ l. with_chunk l (at_start chunk)) was ∙ with_chunk-last leading_run last (at_start chunk)
       ∙ ap (λ l. leading_run ++ l) (before_joined last (at_start chunk) h []))
 
   -- otherwise the last chunk is unchanged, and the new one comes after it
   pub added_apart : is_same_kind last.v chunk ≡ false → (middle : List (Spanned Chunk))
-      → middle ≡ leading_run ++ placed v last.span.start last.span.end ∷ [] → now ≡ middle ++ at_start chunk ∷ []
+      → middle ≡ leading_run ++ with_span v last.span.start last.span.end ∷ [] → now ≡ middle ++ at_start chunk ∷ []
       → now ≡ with_chunk old (at_start chunk)
   added_apart h middle back is =
       is
       ∙ ap (λ l. l ++ at_start chunk ∷ [])
       (back
-      ∙ ap (λ t. leading_run ++ placed t last.span.start last.span.end ∷ [])
+      ∙ ap (λ t. leading_run ++ with_span t last.span.start last.span.end ∷ [])
       (text ∙ not_lengthened last.v chunk h))
       ∙ append_assoc leading_run (last ∷ []) (at_start chunk ∷ [])
       ∙ sym
       (ap (λ l. with_chunk l (at_start chunk)) was ∙ with_chunk-last leading_run last (at_start chunk)
       ∙ ap (λ l. leading_run ++ l) (before_apart last (at_start chunk) h []))
 
+-- the atoms of a text that isn't empty are one chunk, if this is so for one or more atoms of their kind
 one_run : (kind : ℕ → Atom) (to : List ℕ → Chunk)
     (run : (c : ℕ) (cs : List ℕ) → chunks_of (map kind (c ∷ cs)) ≡ at_start (to (encode_utf8_all (c ∷ cs))) ∷ [])
     (text : List ℕ) → IsUtf8 text → not (length text == 0) ≡ true

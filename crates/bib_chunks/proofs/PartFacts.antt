@@ -12,7 +12,7 @@ use Rattle.bib_chunks.specs.declared.chunk.Chunk.{Chunk}
 use Rattle.bib_chunks.specs.declared.chunk.Chunk.TheVariants.{Normal, Verbatim, Math}
 use Rattle.bib_text.specs.declared.spanned.Spanned.{Spanned}
 use Rattle.bib_chunks.specs.Styled.{Atom, atoms_of, styled, text_of}
-use Rattle.bib_chunks.specs.Cuts.{piece, pieces, pieces_between, onto, joined_parts, list_parts, between_commas, comma_list, trimmed}
+use Rattle.bib_chunks.specs.Cuts.{piece, pieces, pieces_between, onto, joined_parts, list_parts, between_commas, comma_list, trimmed_chunk}
 use Rattle.bib_chunks.specs.Parted.{AreTexts, HoldsNoComma, is_normal_comma}
 use Rattle.bib_chunks.proofs.TrimFacts.{IsTrimmed, SaysPiece, piece_says, scalars_parts}
 use Rattle.bib_chunks.proofs.WholeFacts.{rejoined, commas_whole}
@@ -44,6 +44,7 @@ module _ (P : Spanned Chunk → Type 0) where
   joined_hold (p ∷ []) parts one hold = onto_hold (p ∷ []) parts one hold
   joined_hold (p ∷ q ∷ more) parts one hold = ((one.0, tt), joined_hold (q ∷ more) parts one.1 hold)
 
+  -- a property of all pieces of a list is one of all chunks of its parts
   pub list_hold : (w : ℕ) (cut : List ℕ → List (List ℕ)) (chunks : List (Spanned Chunk))
       → AllByRecursion (λ c. AllByRecursion P (pieces w cut c.v c.span)) chunks
       → AllByRecursion (AllByRecursion P) (list_parts w cut chunks)
@@ -111,6 +112,7 @@ any-parts test (x ∷ xs) ys none =
 abbrev pub HasNoComma : List ℕ → Type 0
 HasNoComma text = list_any (λ c. c == 44) text ≡ false
 
+-- a text without a comma has none after trimming
 left_no_comma : (first last : Bool) (text left : List ℕ) → IsTrimmed first last text left → HasNoComma text → HasNoComma left
 left_no_comma first last text left trimmed none =
     let parts = any-parts (λ c. c == 44) trimmed.lead (left ++ trimmed.trail) (ap (list_any (λ c. c == 44)) (sym trimmed.is) ∙ none) in
@@ -124,6 +126,7 @@ no_verbatim_commas : (cs : List ℕ) → list_any is_normal_comma (map Atom.verb
 no_verbatim_commas [] = refl
 no_verbatim_commas (c ∷ cs) = no_verbatim_commas cs
 
+-- a normal chunk of a text without a comma has no normal comma
 chunk_no_comma : (text : List ℕ) → scalars text ≡ true → HasNoComma text
     → list_any is_normal_comma (atoms_of (Normal (encode_utf8_all text))) ≡ false
 chunk_no_comma text valid none =
@@ -134,6 +137,7 @@ first_no_comma : (c : ℕ) (texts : List (List ℕ)) → (c == 44) ≡ false →
 first_no_comma c [] other hold = (ap (λ b. b || false) other, tt)
 first_no_comma c (text ∷ texts) other hold = (ap (λ b. b || list_any (λ d. d == 44) text) other ∙ hold.0, hold.1)
 
+-- no text between commas has a comma
 between_no_comma : (cs : List ℕ) → AllByRecursion HasNoComma (between_commas cs)
 between_no_comma [] = (refl, tt)
 between_no_comma (c ∷ cs) =
@@ -154,6 +158,7 @@ all_no_comma : (parts : List (List (Spanned Chunk)))
 all_no_comma [] hold = tt
 all_no_comma (part ∷ parts) hold = (styled_no_comma part hold.0, all_no_comma parts hold.1)
 
+-- no part of a comma list has a normal comma
 pub comma_list_no_comma : (chunks : List (Spanned Chunk)) → AreTexts chunks → AllByRecursion HoldsNoComma (comma_list chunks)
 comma_list_no_comma chunks texts =
     all_no_comma (comma_list chunks)

@@ -6,8 +6,8 @@ use Rattle.std.specs.declared.ops.Range.{Range}
 use Rattle.std.proofs.lemmas.Str.{chars-nil}
 use Rattle.bib_chunks.specs.declared.chunk.Chunk.{Chunk}
 use Rattle.bib_chunks.specs.declared.chunk.Chunk.TheVariants.{Normal}
-use Rattle.bib_chunks.specs.Formatted.{ends_in_space, flowing, space_after, formatted, formatted_chunk, formatted_after}
-use Rattle.bib_chunks.specs.Cuts.{placed, pieces, joined_parts, list_parts}
+use Rattle.bib_chunks.specs.Formatted.{ends_in_space, flowing, space_after, formatted_chars, formatted_chunk, formatted_chars_after}
+use Rattle.bib_chunks.specs.Cuts.{with_span, pieces, joined_parts, list_parts}
 use Rattle.bib_chunks.specs.Values.{Value, nowhere, alone}
 use Rattle.bib_chunks.specs.Separated.{after_separator, joined_by}
 
@@ -17,14 +17,14 @@ no_place = record { start = 2 ^ 64 - 1; end = 2 ^ 64 - 1 }
 
 -- an empty chunk
 abbrev blank : Range ℕ → Value
-blank span = placed (Normal []) span.start span.end ∷ []
+blank span = with_span (Normal []) span.start span.end ∷ []
 
 -- a separator is cut into two empty chunks
 pub record IsSeparator (width : ℕ) (between : List ℕ → List (List ℕ)) (separator : List ℕ) : Type 0 where
   pub before : Range ℕ
   pub after : Range ℕ
   pub cut : pieces width between (Normal separator) no_place
-      ≡ placed (Normal []) before.start before.end ∷ placed (Normal []) after.start after.end ∷ []
+      ≡ with_span (Normal []) before.start before.end ∷ with_span (Normal []) after.start after.end ∷ []
 
 -- a chunk is one piece, and is formatted to these characters
 pub record IsWhole (width : ℕ) (between : List ℕ → List (List ℕ)) (chunk : Chunk) (characters : List ℕ) : Type 0 where
@@ -38,14 +38,14 @@ module _ (width : ℕ) (between : List ℕ → List (List ℕ)) (chunk : List �
 
   -- a text's chunk, followed by chunks that format to nothing, formats to the text
   whole_formats : (t : List ℕ) (following : Value) → IsWhole width between (chunk t) (chars t)
-      → ((space : Bool) → formatted_after space following ≡ []) → formatted (nowhere (chunk t) ∷ following) ≡ chars t
+      → ((space : Bool) → formatted_chars_after space following ≡ []) → formatted_chars (nowhere (chunk t) ∷ following) ≡ chars t
   whole_formats t following whole none =
       ap (λ xs. formatted_chunk (λ cs. cs) false (chunk t) ++ xs) (none (space_after false (chunk t)))
       ∙ append-nil (formatted_chunk (λ cs. cs) false (chunk t)) ∙ whole.says
 
   -- an empty chunk at the start changes nothing
-  blank_prefix : (span : Range ℕ) (xs : Value) → formatted (blank span ++ xs) ≡ formatted xs
-  blank_prefix span xs = ap (λ cs. flowing false cs ++ formatted_after (ends_in_space false (flowing false cs)) xs) chars-nil
+  blank_prefix : (span : Range ℕ) (xs : Value) → formatted_chars (blank span ++ xs) ≡ formatted_chars xs
+  blank_prefix span xs = ap (λ cs. flowing false cs ++ formatted_chars_after (ends_in_space false (flowing false cs)) xs) chars-nil
 
   module _ (separator : List ℕ) (is : IsSeparator width between separator) where
     -- the chunks of texts after separators
@@ -57,8 +57,8 @@ module _ (width : ℕ) (between : List ℕ → List (List ℕ)) (chunk : List �
       pub first : Value
       pub others : List Value
       pub parts : list_parts width between (after_separators texts) ≡ first ∷ others
-      pub none : (space : Bool) → formatted_after space first ≡ []
-      pub formats : map formatted others ≡ map chars texts
+      pub none : (space : Bool) → formatted_chars_after space first ≡ []
+      pub formats : map formatted_chars others ≡ map chars texts
 
     cut : (texts : List (List ℕ)) → AreWhole texts → Cut texts
     cut [] whole = record { first = []; others = []; parts = refl; none = λ space. refl; formats = refl }
@@ -80,17 +80,18 @@ module _ (width : ℕ) (between : List ℕ → List (List ℕ)) (chunk : List �
               ∙ ap (λ ps. joined_parts (blank is.before ++ blank is.after) (joined_parts (alone (chunk t)) ps)) more.parts;
           none = λ space. ap (λ cs. flowing space cs ++ []) chars-nil;
           formats =
-              ap (λ x. x ∷ map formatted more.others)
+              ap (λ x. x ∷ map formatted_chars more.others)
               (blank_prefix is.after (alone (chunk t) ++ more.first) ∙ whole_formats t more.first whole.0 more.none)
               ∙ ap (λ xs. chars t ∷ xs) more.formats;
         }
 
     -- the parts of a list format to its texts
     pub separated_formats : (t : List ℕ) (rest : List (List ℕ)) → AreWhole (t ∷ rest)
-        → map formatted (list_parts width between (joined_by separator (map (λ u. alone (chunk u)) (t ∷ rest)))) ≡ map chars (t ∷ rest)
+        → map formatted_chars (list_parts width between (joined_by separator (map (λ u. alone (chunk u)) (t ∷ rest))))
+        ≡ map chars (t ∷ rest)
     separated_formats t rest whole =
         let more : Cut rest = cut rest whole.1 in
-        ap (λ ps. map formatted (joined_parts ps (list_parts width between (after_separators rest)))) whole.0.one
-        ∙ ap (λ ps. map formatted (joined_parts (alone (chunk t)) ps)) more.parts
-        ∙ ap (λ x. x ∷ map formatted more.others) (whole_formats t more.first whole.0 more.none)
+        ap (λ ps. map formatted_chars (joined_parts ps (list_parts width between (after_separators rest)))) whole.0.one
+        ∙ ap (λ ps. map formatted_chars (joined_parts (alone (chunk t)) ps)) more.parts
+        ∙ ap (λ x. x ∷ map formatted_chars more.others) (whole_formats t more.first whole.0 more.none)
         ∙ ap (λ xs. chars t ∷ xs) more.formats

@@ -14,13 +14,14 @@ use Rattle.bib_text.specs.Places.{Place, CharAt, Longest, AtEnd}
 use Rattle.bib_chunks.specs.Styled.{Atom, atoms_of}
 use Rattle.bib_chunks.specs.Settled.{IsSettledAtom, runs_together, AreApart, IsSettled}
 use Rattle.bib_chunks.specs.Settling.{character_atom, text_atoms, neighbour, runs_into, MayFollow, AreSettledAfter, Continues, ContinuesIn, IsUnsettledAfter, IsStuckIn, IsSettledMath}
-use Rattle.bib_text.proofs.TextFacts.{ahead, Passed, passed_char, passed_run, chars_at_end}
+use Rattle.bib_text.proofs.TextFacts.{ahead, MovesPast, passed_char, passed_run, chars_at_end}
 
 -- a character that is settled in a verbatim field is settled in every field
 settled_anywhere : (v b : Bool) (c : ℕ) → IsSettledAtom true (character_atom b c) → IsSettledAtom v (character_atom b c)
 settled_anywhere v true c settled = settled
 settled_anywhere v false c settled = settled
 
+-- a character that is settled in some field is settled in a verbatim field
 settled_somewhere : (v b : Bool) (c : ℕ) → IsSettledAtom v (character_atom b c) → IsSettledAtom true (character_atom b c)
 settled_somewhere v true c settled = settled
 settled_somewhere v false c settled = settled
@@ -59,7 +60,7 @@ dollar_found {u} {w} x None found longest utf8 end decides =
     decides ∙ sym (ap (list_any (λ c. c == 36)) (passed.spelt ∙ ap (λ xs. cs ++ xs) (chars_at_end w end.0)) ∙ no_dollar cs [] all)
 dollar_found {u} {w} x (Some c) found longest utf8 char decides =
     let (cs, passed, all) = passed_run longest.run utf8 in
-    let one : Passed w (c ∷ []) x = passed_char char passed.utf8 in
+    let one : MovesPast w (c ∷ []) x = passed_char char passed.utf8 in
     let stops : (c == 36) ≡ true = not-false (c == 36) (longest.stops c x char) in
     let here : list_any (λ d. d == 36) (c ∷ chars (ahead x)) ≡ true = or_left (c == 36) _ stops in
     decides
@@ -67,6 +68,7 @@ dollar_found {u} {w} x (Some c) found longest utf8 char decides =
     (ap (list_any (λ d. d == 36)) passed.spelt ∙ no_dollar cs (chars (ahead w)) all
     ∙ ap (list_any (λ d. d == 36)) one.spelt ∙ here)
 
+-- `runs_into` and `runs_together` agree on two neighbouring atoms
 same_runs : (a b : Atom) → runs_into (neighbour a) b ≡ runs_together a b
 same_runs (Atom.normal c) (Atom.normal d) = refl
 same_runs (Atom.normal c) (Atom.verbatim d) = refl
@@ -85,10 +87,12 @@ after_from v before a [] each apart free = (each.0, free, tt)
 after_from v before a (b ∷ rest) each apart free =
     (each.0, free, after_from v (neighbour a) b rest each.1 apart.1 (same_runs a b ∙ apart.0))
 
+-- each atom of a text that is settled from its start on may occur in settled text
 each_from : (v : Bool) (before : Before) (atoms : List Atom) → AreSettledAfter v before atoms → AllByRecursion (IsSettledAtom v) atoms
 each_from v before [] settled = tt
 each_from v before (a ∷ rest) settled = (settled.0, each_from v (neighbour a) rest settled.2)
 
+-- the parser merges no two neighbours of a text that is settled from its start on
 apart_from : (v : Bool) (before : Before) (atoms : List Atom) → AreSettledAfter v before atoms → AreApart atoms
 apart_from v before [] settled = tt
 apart_from v before (a ∷ []) settled = tt
@@ -115,6 +119,7 @@ chunk_of_text : (b v : Bool) (before : Before) (r : Option Before) (atoms : List
 chunk_of_text b v before None atoms cs is stuck = rw is (stuck v)
 chunk_of_text b v before (Some after) atoms cs is on = rw is (on v)
 
+-- the result for the text of a normal chunk is the result for the chunk
 pub chunk_of_normal : (v : Bool) (before : Before) (r : Option Before) (chunk : Chunk) (text bytes : List ℕ)
     → chunk ≡ NormalChunk text → bytes ≡ text
     → MatchOption r (IsUnsettledAfter before (text_atoms false (chars bytes)))
@@ -124,6 +129,7 @@ chunk_of_normal v before r chunk text bytes is same =
     chunk_of_text false v before r (atoms_of chunk) (chars bytes)
     (ap atoms_of is ∙ ap (λ t. text_atoms false (chars t)) (sym same))
 
+-- the result for the text of a verbatim chunk is the result for the chunk
 pub chunk_of_verbatim : (v : Bool) (before : Before) (r : Option Before) (chunk : Chunk) (text bytes : List ℕ)
     → chunk ≡ VerbatimChunk text → bytes ≡ text
     → MatchOption r (IsUnsettledAfter before (text_atoms true (chars bytes)))
@@ -133,6 +139,7 @@ chunk_of_verbatim v before r chunk text bytes is same =
     chunk_of_text true v before r (atoms_of chunk) (chars bytes)
     (ap atoms_of is ∙ ap (λ t. text_atoms true (chars t)) (sym same))
 
+-- the parser merges math with no atom before it
 runs_into_math : (before : Before) (text : List ℕ) → runs_into before (Atom.math text) ≡ false
 runs_into_math Nothing text = refl
 runs_into_math (Normal c) text = refl

@@ -12,7 +12,7 @@ use Rattle.bib_chunks.specs.declared.chunk.Chunk.{Chunk}
 use Rattle.bib_chunks.specs.declared.chunk.Chunk.TheVariants.{Normal, Verbatim, Math}
 use Rattle.bib_text.specs.declared.spanned.Spanned.{Spanned}
 use Rattle.bib_chunks.specs.Styled.{text_of}
-use Rattle.bib_chunks.specs.Cuts.{further, placed, chunk_part, piece, pieces, pieces_between, list_parts, between_commas, comma_list, between_ands, trimmed, trimmed_from, trimmed_ends, and_list}
+use Rattle.bib_chunks.specs.Cuts.{further, with_span, chunk_part, piece, pieces, pieces_between, list_parts, between_commas, comma_list, between_ands, trimmed_chunk, trimmed_chunks, trimmed_ends, and_list}
 use Rattle.bib_chunks.specs.Parted.{AreTexts, IsAsLong, StandsInChunk, StandsInOne}
 use Rattle.bib_chunks.proofs.TrimFacts.{IsPiece, piece_is, scalars_parts}
 use Rattle.bib_chunks.proofs.PartFacts.{list_hold}
@@ -57,8 +57,8 @@ module _ (whole : List ℕ) (span : Range ℕ) (long : IsAsLong (record { v = No
       (λ b.
       (length part == length whole) ≡ b
       → StandsInChunk (record { v = Normal whole; span = span })
-      (if b then placed (Normal part) span.start span.end
-      else placed (Normal part) (further span.start at)
+      (if b then with_span (Normal part) span.start span.end
+      else with_span (Normal part) (further span.start at)
       (further (further span.start at) (length part)))) [
         | true ↦ λ same.
             let equal : length part ≡ length whole = eqb-true (length part) (length whole) same in
@@ -147,6 +147,7 @@ module _ (separator : List ℕ) (w : ℕ) (width : w ≡ length (encode_utf8_all
     pieces_in all rest texts.1 long.1 stand.1,
   )
 
+  -- each chunk of each part is in one of `all`, if each of `chunks` is
   pub list_stands : (all chunks : List (Spanned Chunk)) → AreTexts chunks → AllByRecursion IsAsLong chunks
       → AllByRecursion (StandsInOne all) chunks
       → AllByRecursion (AllByRecursion (StandsInOne all)) (list_parts w cut chunks)
@@ -160,6 +161,7 @@ contains_all : (chunks : List (Spanned Chunk)) → AllByRecursion (Contains chun
 contains_all [] = tt
 contains_all (c ∷ rest) = ((0, omega arith, refl), all_map (Contains rest) (Contains (c ∷ rest)) (later c rest) rest (contains_all rest))
 
+-- chunks of a list are each in one chunk of the list
 stand_all : (all chunks : List (Spanned Chunk)) → AllByRecursion IsAsLong chunks → AllByRecursion (Contains all) chunks
     → AllByRecursion (StandsInOne all) chunks
 stand_all all [] long inside = tt
@@ -174,6 +176,7 @@ and_width : 3 ≡ length (encode_utf8_all letters)
 unfolding encode
 and_width = refl
 
+-- each chunk of each part of a comma list is in one chunk of the list
 pub comma_list_stands : (chunks : List (Spanned Chunk)) → AreTexts chunks → AllByRecursion IsAsLong chunks
     → AllByRecursion (AllByRecursion (StandsInOne chunks)) (comma_list chunks)
 comma_list_stands chunks texts long =
@@ -183,7 +186,7 @@ comma_list_stands chunks texts long =
 -- a trimmed chunk is in its chunk
 trimmed_stands : (first last : Bool) (v : Chunk) (span : Range ℕ) → IsUtf8 (text_of v)
     → IsAsLong (record { v = v; span = span })
-    → StandsInChunk (record { v = v; span = span }) (trimmed first last v span)
+    → StandsInChunk (record { v = v; span = span }) (trimmed_chunk first last v span)
 trimmed_stands first last (Normal text) span utf8 long =
     subst (λ bs. StandsInChunk (record { v = Normal text; span = span }) (piece text span 0 first last bs)) (encodes-chars text utf8)
     (piece_stands text span long [] [] (chars text) 0 first last (scalars-chars text utf8)
@@ -191,23 +194,26 @@ trimmed_stands first last (Normal text) span utf8 long =
 trimmed_stands first last (Verbatim text) span utf8 long = stands_whole (record { v = Verbatim text; span = span }) long
 trimmed_stands first last (Math text) span utf8 long = stands_whole (record { v = Math text; span = span }) long
 
+-- a chunk is in one of `all`, and is as long as its span
 abbrev StandsLong : List (Spanned Chunk) → Spanned Chunk → Type 0
 StandsLong all c = StandsInOne all c × IsAsLong c
 
 one_trimmed : (all : List (Spanned Chunk)) (first last : Bool) (c : Spanned Chunk) → IsUtf8 (text_of c.v) → IsAsLong c
-    → Contains all c → StandsLong all (trimmed first last c.v c.span)
+    → Contains all c → StandsLong all (trimmed_chunk first last c.v c.span)
 one_trimmed all first last c utf8 long inside =
     let stands = trimmed_stands first last c.v c.span utf8 long in
-    ((c, inside, stands), stands_long c (trimmed first last c.v c.span) long stands)
+    ((c, inside, stands), stands_long c (trimmed_chunk first last c.v c.span) long stands)
 
+-- trimmed chunks are in the untrimmed ones, and as long as their spans
 all_trimmed : (all : List (Spanned Chunk)) (first : Bool) (chunks : List (Spanned Chunk)) → AreTexts chunks
     → AllByRecursion IsAsLong chunks → AllByRecursion (Contains all) chunks
-    → AllByRecursion (StandsLong all) (trimmed_from first chunks)
+    → AllByRecursion (StandsLong all) (trimmed_chunks first chunks)
 all_trimmed all first [] texts long inside = tt
 all_trimmed all first (c ∷ []) texts long inside = (one_trimmed all first true c texts.0 long.0 inside.0, tt)
 all_trimmed all first (c ∷ after ∷ more) texts long inside =
     (one_trimmed all first false c texts.0 long.0 inside.0, all_trimmed all false (after ∷ more) texts.1 long.1 inside.1)
 
+-- each chunk of each part of an `and` list is in one chunk of the list
 pub and_list_stands : (chunks : List (Spanned Chunk)) → AreTexts chunks → AllByRecursion IsAsLong chunks
     → AllByRecursion (AllByRecursion (StandsInOne chunks)) (and_list chunks)
 and_list_stands chunks texts long =

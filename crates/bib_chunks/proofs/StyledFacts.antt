@@ -10,7 +10,7 @@ use Rattle.bib_chunks.specs.declared.chunk.Chunk.{Chunk}
 use Rattle.bib_chunks.specs.declared.chunk.Chunk.TheVariants.{Normal, Verbatim, Math}
 use Rattle.bib_text.specs.declared.spanned.Spanned.{Spanned}
 use Rattle.bib_text.proofs.TextFacts.{written_more}
-use Rattle.bib_chunks.specs.Formatted.{flowing, unbroken, ends_in_space, space_after, formatted_chunk, formatted_atoms}
+use Rattle.bib_chunks.specs.Formatted.{flowing, char_on_line, ends_in_space, space_after, formatted_chunk, formatted_atoms}
 use Rattle.bib_chunks.specs.Styled.{Atom, atoms_of, styled, text_of, is_shown}
 use Rattle.bib_chunks.proofs.FormattedFacts.{ends-append}
 
@@ -20,12 +20,13 @@ normal_text : (space : Bool) (cs : List ℕ) (more : List Atom)
     ≡ flowing space cs ++ formatted_atoms (ends_in_space space (flowing space cs)) more
 normal_text space [] more = refl
 normal_text space (c ∷ cs) more =
-    let one = unbroken space c in
+    let one = char_on_line space c in
     ap (λ xs. one ++ xs) (normal_text (ends_in_space space one) cs more)
     ∙ sym (append_assoc one (flowing (ends_in_space space one) cs) _)
     ∙ ap (λ b. (one ++ flowing (ends_in_space space one) cs) ++ formatted_atoms b more)
     (sym (ends-append space one (flowing (ends_in_space space one) cs)))
 
+-- verbatim atoms are formatted as their characters
 verbatim_text : (space : Bool) (cs : List ℕ) (more : List Atom)
     → formatted_atoms space (map Atom.verbatim cs ++ more) ≡ cs ++ formatted_atoms (ends_in_space space cs) more
 verbatim_text space [] more = refl
@@ -35,6 +36,7 @@ verbatim_text space (c ∷ cs) more = ap (λ xs. c ∷ xs) (verbatim_text (is_wh
 pub no_characters : (text : List ℕ) → IsUtf8 text → chars text ≡ [] → text ≡ []
 no_characters text utf8 none = sym (encodes-chars text utf8) ∙ ap encode_utf8_all none
 
+-- an empty text has no characters
 pub no_text : (text : List ℕ) → not (length text == 0) ≡ false → chars text ≡ []
 no_text [] none = chars-nil
 no_text (b ∷ text) none = absurd (false≢true (sym none ∙ ap not (ne_eqb _ _ (λ e. omega arith))))

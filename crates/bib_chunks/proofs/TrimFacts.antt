@@ -13,7 +13,7 @@ use Rattle.bib_chunks.specs.declared.chunk.Chunk.{Chunk}
 use Rattle.bib_chunks.specs.declared.chunk.Chunk.TheVariants.{Normal}
 use Rattle.bib_text.specs.declared.spanned.Spanned.{Spanned}
 use Rattle.bib_chunks.specs.Styled.{Atom, atoms_of}
-use Rattle.bib_chunks.specs.Cuts.{further, placed, trimmed_start, trimmed_end, chunk_part, piece}
+use Rattle.bib_chunks.specs.Cuts.{further, with_span, trimmed_start, trimmed_end, chunk_part, piece}
 
 -- a text is white space and the text that is left without it
 skipped : (cs : List ℕ) → (lead : List ℕ) × (cs ≡ lead ++ skip_leading_whitespace cs) × (list_all is_whitespace lead ≡ true)
@@ -75,18 +75,21 @@ end_left : Bool → List ℕ → List ℕ
 end_left true text = drop_trailing_whitespace text
 end_left false text = text
 
+-- trimming the start of encoded characters is encoding the characters with the start trimmed
 start_bytes : (first : Bool) (text : List ℕ) → scalars text ≡ true
     → trimmed_start first (encode_utf8_all text) ≡ encode_utf8_all (start_left first text)
 unfolding trim_start start_left
 start_bytes true text valid = ap (λ cs. encode_utf8_all (skip_leading_whitespace cs)) (chars-encodes text valid)
 start_bytes false text valid = refl
 
+-- trimming the end of encoded characters is encoding the characters with the end trimmed
 end_bytes : (last : Bool) (text : List ℕ) → scalars text ≡ true
     → trimmed_end last (encode_utf8_all text) ≡ encode_utf8_all (end_left last text)
 unfolding trim_end end_left
 end_bytes true text valid = ap (λ cs. encode_utf8_all (drop_trailing_whitespace cs)) (chars-encodes text valid)
 end_bytes false text valid = refl
 
+-- characters are white space, only if `first`, and then what is left
 start_parts : (first : Bool) (text : List ℕ)
     → (lead : List ℕ) × (text ≡ lead ++ start_left first text) × (list_all is_whitespace lead ≡ true)
     × (first ≡ false → lead ≡ [])
@@ -94,6 +97,7 @@ unfolding start_left
 start_parts true text = let cut = skipped text in (cut.0, cut.1, cut.2, λ no. absurd (false≢true (sym no)))
 start_parts false text = ([], refl, refl, λ _. refl)
 
+-- characters are what is left, and then white space, only if `last`
 end_parts : (last : Bool) (text : List ℕ)
     → (trail : List ℕ) × (text ≡ end_left last text ++ trail) × (list_all is_whitespace trail ≡ true)
     × (last ≡ false → trail ≡ [])
@@ -106,8 +110,8 @@ part_chunk : (whole : List ℕ) (span : Range ℕ) (at : ℕ) (text : List ℕ) 
 part_chunk whole span at text =
     elim (length text == length whole) as
     (λ b.
-    (if b then placed (Normal text) span.start span.end
-    else placed (Normal text) (further span.start at) (further (further span.start at) (length text))).v
+    (if b then with_span (Normal text) span.start span.end
+    else with_span (Normal text) (further span.start at) (further (further span.start at) (length text))).v
     ≡ Normal text) [
       | true ↦ refl
       | false ↦ refl
@@ -120,6 +124,7 @@ pub record IsPiece (whole : List ℕ) (span : Range ℕ) (at : ℕ) (first last 
   pub valid : scalars left ≡ true
   pub is : here ≡ chunk_part whole span (at + length (encode_utf8_all trimmed.lead)) (encode_utf8_all left)
 
+-- a piece of encoded characters is the part of the chunk with what trimming leaves of them
 pub piece_is : (whole : List ℕ) (span : Range ℕ) (at : ℕ) (first last : Bool) (text : List ℕ) → scalars text ≡ true
     → IsPiece whole span at first last text (piece whole span at first last (encode_utf8_all text))
 piece_is whole span at first last text valid =
@@ -163,6 +168,7 @@ pub record SaysPiece (first last : Bool) (text : List ℕ) (here : Spanned Chunk
   pub is : here.v ≡ Normal (encode_utf8_all left)
   pub says : atoms_of here.v ≡ map Atom.normal left
 
+-- a piece of encoded characters is a normal chunk of what trimming leaves of them
 pub piece_says : (whole : List ℕ) (span : Range ℕ) (at : ℕ) (first last : Bool) (text : List ℕ) → scalars text ≡ true
     → SaysPiece first last text (piece whole span at first last (encode_utf8_all text))
 piece_says whole span at first last text valid =

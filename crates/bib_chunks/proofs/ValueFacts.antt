@@ -27,6 +27,7 @@ simple_ascii (b ∷ t) all zero =
     grind (arith, nat_tests)
 simple_ascii (b ∷ t) all (suc k) = simple_ascii t (and_parts (is_simple b) (list_all is_simple t) all).1 k
 
+-- simple bytes are no line breaks
 simple_goes : (t : List ℕ) → list_all is_simple t ≡ true → list_all goes_on t ≡ true
 simple_goes [] all = refl
 simple_goes (b ∷ t) all =

@@ -13,7 +13,7 @@ use Rattle.bib_chunks.specs.declared.chunk.Chunk.{Chunk}
 use Rattle.bib_chunks.specs.declared.chunk.Chunk.TheVariants.{Normal, Verbatim, Math}
 use Rattle.bib_text.specs.declared.spanned.Spanned.{Spanned}
 use Rattle.bib_chunks.specs.Styled.{Atom, atoms_of, styled, text_of}
-use Rattle.bib_chunks.specs.Cuts.{is_and, prepend, between_ands, piece, and_list, trimmed, trimmed_from, trimmed_ends}
+use Rattle.bib_chunks.specs.Cuts.{is_and, prepend, between_ands, piece, and_list, trimmed_chunk, trimmed_chunks, trimmed_ends}
 use Rattle.bib_chunks.specs.Parted.{AreTexts, IsList, IsSpaced, and_word, HasNoAnd, HoldsNoAnd, IsWithoutAnd}
 use Rattle.bib_chunks.proofs.AndFacts.{ands_some, word_here, word_letters}
 use Rattle.bib_chunks.proofs.TrimFacts.{IsTrimmed, SaysPiece, piece_says}
@@ -37,6 +37,7 @@ cut_rejoined text more = refl
 same_letters : (a n d : ℕ) (rest : List ℕ) → word_here true (a ∷ n ∷ d ∷ rest) ≡ true → 97 ∷ 110 ∷ 100 ∷ rest ≡ a ∷ n ∷ d ∷ rest
 same_letters a n d rest here = let (others, is, spaced) = word_letters true (a ∷ n ∷ d ∷ rest) here in cc
 
+-- if the word is here by either flag, it is here with white space before it
 at_true : (space : Bool) (cs : List ℕ) → word_here space cs ≡ true → word_here true cs ≡ true
 at_true true cs here = here
 at_true false cs here = let (others, is, spaced) = word_letters false cs here in rw is (ap (λ b. b) spaced)
@@ -107,6 +108,7 @@ one_free false space a n d rest here cut on =
     (sym here ∙ ap (λ l. word_here space (a ∷ l)) starts ∙ word_longer space (a ∷ text) tail found)) in
     subst (λ ts. AreFree space (prepend (a ∷ []) ts)) (sym some) (ap (λ b. b || holds_and (is_whitespace a) text) none ∙ free.0, free.1)
 
+-- no text between words contains a word
 ands_free : (space : Bool) (cs : List ℕ) → AreFree space (between_ands space cs)
 ands_free space [] = (refl, tt)
 ands_free space (a ∷ []) = (refl, tt)
@@ -121,6 +123,7 @@ or_right false b holds = holds
 or_left : (a b : Bool) → a ≡ true → (a || b) ≡ true
 or_left a b holds = ap (λ c. c || b) holds
 
+-- characters with `and` between two white space characters contain a word
 found_and : (space : Bool) (before following : List ℕ) (s t : ℕ) → is_whitespace s ≡ true → is_whitespace t ≡ true
     → holds_and space (before ++ (s ∷ 97 ∷ 110 ∷ 100 ∷ t ∷ following)) ≡ true
 found_and space [] following s t white blank =
@@ -131,6 +134,7 @@ found_and space (c ∷ before) following s t white blank =
     or_right (word_here space (c ∷ (before ++ (s ∷ 97 ∷ 110 ∷ 100 ∷ t ∷ following)))) _
     (found_and (is_whitespace c) before following s t white blank)
 
+-- characters that contain no word have no `and` between white space
 free_no_and : (text : List ℕ) → holds_and false text ≡ false → HasNoAnd text
 free_no_and text free before following s t white blank is =
     absurd (false≢true (sym free ∙ ap (holds_and false) is ∙ found_and false before following s t white blank))
@@ -142,6 +146,7 @@ all_no_and (text ∷ texts) free = (free_no_and text free.0, all_no_and texts fr
 between_no_and : (cs : List ℕ) → AllByRecursion HasNoAnd (between_ands false cs)
 between_no_and cs = all_no_and (between_ands false cs) (all_free (between_ands false cs) (ands_free false cs))
 
+-- characters without such an `and` have none after trimming
 left_no_and : (first last : Bool) (text left : List ℕ) → IsTrimmed first last text left → HasNoAnd text → HasNoAnd left
 left_no_and first last text left cut none before following s t white blank is =
     none (cut.lead ++ before) (following ++ cut.trail) s t white blank
@@ -149,17 +154,19 @@ left_no_and first last text left cut none before following s t white blank is =
     ∙ ap (λ l. cut.lead ++ l) (append_assoc before (s ∷ 97 ∷ 110 ∷ 100 ∷ t ∷ following) cut.trail)
     ∙ sym (append_assoc cut.lead before _))
 
+-- a normal chunk of such characters has none either
 chunk_no_and : (text : List ℕ) → scalars text ≡ true → HasNoAnd text → IsWithoutAnd (Normal (encode_utf8_all text))
 chunk_no_and text valid none = subst HasNoAnd (sym (chars-encodes text valid)) none
 
 -- a trimmed normal chunk has the trimmed text
 pub trimmed_says : (first last : Bool) (text : List ℕ) (span : Range ℕ) → IsUtf8 text
-    → SaysPiece first last (chars text) (trimmed first last (Normal text) span)
+    → SaysPiece first last (chars text) (trimmed_chunk first last (Normal text) span)
 trimmed_says first last text span utf8 =
     subst (λ bs. SaysPiece first last (chars text) (piece text span 0 first last bs)) (encodes-chars text utf8)
     (piece_says text span 0 first last (chars text) (scalars-chars text utf8))
 
-trimmed_text : (first last : Bool) (v : Chunk) (span : Range ℕ) → IsUtf8 (text_of v) → IsUtf8 (text_of (trimmed first last v span).v)
+-- the text of a trimmed chunk is UTF-8
+trimmed_text : (first last : Bool) (v : Chunk) (span : Range ℕ) → IsUtf8 (text_of v) → IsUtf8 (text_of (trimmed_chunk first last v span).v)
 trimmed_text first last (Normal text) span utf8 =
     let says = trimmed_says first last text span utf8 in
     subst (λ v. IsUtf8 (text_of v)) (sym says.is) (says.left, (says.valid, refl))
@@ -167,11 +174,12 @@ trimmed_text first last (Verbatim text) span utf8 = utf8
 trimmed_text first last (Math text) span utf8 = utf8
 
 -- the texts of trimmed chunks are UTF-8
-pub trimmed_texts : (first : Bool) (chunks : List (Spanned Chunk)) → AreTexts chunks → AreTexts (trimmed_from first chunks)
+pub trimmed_texts : (first : Bool) (chunks : List (Spanned Chunk)) → AreTexts chunks → AreTexts (trimmed_chunks first chunks)
 trimmed_texts first [] texts = tt
 trimmed_texts first (c ∷ []) texts = (trimmed_text first true c.v c.span texts.0, tt)
 trimmed_texts first (c ∷ after ∷ more) texts = (trimmed_text first false c.v c.span texts.0, trimmed_texts false (after ∷ more) texts.1)
 
+-- no normal chunk of a part of an `and` list contains the word between white space
 pub and_list_no_and : (chunks : List (Spanned Chunk)) → AreTexts chunks → AllByRecursion HoldsNoAnd (and_list chunks)
 and_list_no_and chunks texts =
     parts_hold HasNoAnd IsWithoutAnd left_no_and chunk_no_and letters 3 (between_ands false) (ands_whole false)
@@ -187,6 +195,7 @@ record ChunkSpaced (first last : Bool) (v : Chunk) (here : Spanned Chunk) : Type
   begins : first ≡ false → lead ≡ []
   ends : last ≡ false → trail ≡ []
 
+-- a chunk that isn't trimmed has no white space to remove
 same_spaced : (first last : Bool) (v : Chunk) (here : Spanned Chunk) → here.v ≡ v → ChunkSpaced first last v here
 same_spaced first last v here is = record {
   lead = [];
@@ -198,7 +207,8 @@ same_spaced first last v here is = record {
   ends = λ _. refl;
 }
 
-chunk_spaced : (first last : Bool) (v : Chunk) (span : Range ℕ) → IsUtf8 (text_of v) → ChunkSpaced first last v (trimmed first last v span)
+chunk_spaced : (first last : Bool) (v : Chunk) (span : Range ℕ) → IsUtf8 (text_of v)
+    → ChunkSpaced first last v (trimmed_chunk first last v span)
 chunk_spaced first last (Normal text) span utf8 =
     let says = trimmed_says first last text span utf8 in
     let cut = says.trimmed in
@@ -221,7 +231,7 @@ chunk_spaced first last (Math text) span utf8 = same_spaced first last (Math tex
 record AreSpaced (first : Bool) (chunks : List (Spanned Chunk)) : Type 0 where
   lead : List ℕ
   trail : List ℕ
-  is : styled chunks ≡ normal lead ++ (styled (trimmed_from first chunks) ++ normal trail)
+  is : styled chunks ≡ normal lead ++ (styled (trimmed_chunks first chunks) ++ normal trail)
   white : list_all is_whitespace lead ≡ true
   blank : list_all is_whitespace trail ≡ true
   begins : first ≡ false → lead ≡ []
@@ -236,7 +246,7 @@ are_spaced first (c ∷ []) texts =
       is =
           append-nil (atoms_of c.v) ∙ one.is
           ∙ ap (λ l. normal one.lead ++ (l ++ normal one.trail))
-          (sym (append-nil (atoms_of (trimmed first true c.v c.span).v)));
+          (sym (append-nil (atoms_of (trimmed_chunk first true c.v c.span).v)));
       white = one.white;
       blank = one.blank;
       begins = one.begins;
@@ -244,8 +254,8 @@ are_spaced first (c ∷ []) texts =
 are_spaced first (c ∷ after ∷ more) texts =
     let one = chunk_spaced first false c.v c.span texts.0 in
     let rest = are_spaced false (after ∷ more) texts.1 in
-    let here = atoms_of (trimmed first false c.v c.span).v in
-    let others = styled (trimmed_from false (after ∷ more)) in
+    let here = atoms_of (trimmed_chunk first false c.v c.span).v in
+    let others = styled (trimmed_chunks false (after ∷ more)) in
     let first_atoms : atoms_of c.v ≡ normal one.lead ++ here =
     one.is ∙ ap (λ l. normal one.lead ++ (here ++ normal l)) (one.ends refl)
     ∙ ap (λ l. normal one.lead ++ l) (append-nil here) in
@@ -263,6 +273,7 @@ are_spaced first (c ∷ after ∷ more) texts =
       begins = one.begins;
     }
 
+-- the parts of an `and` list, with the word between them, are its styled text without white space at the ends
 pub and_list_whole : (chunks : List (Spanned Chunk)) → AreTexts chunks
     → (inside : List Atom) × IsSpaced inside (styled chunks) × IsList and_word (map styled (and_list chunks)) inside
 and_list_whole chunks texts =

@@ -10,35 +10,36 @@ use Rattle.std.proofs.lemmas.List.{drop_more}
 use Rattle.bib_chunks.specs.declared.chunk.Chunk.{Chunk}
 use Rattle.bib_chunks.specs.declared.chunk.Chunk.TheVariants.{Normal, Verbatim, Math}
 use Rattle.bib_text.specs.declared.spanned.Spanned.{Spanned}
-use Rattle.bib_chunks.specs.Written.{is_grouping, is_reserved, spelled, spelling, lead, trail, is_open_after, written_chunk, written_chunks}
+use Rattle.bib_chunks.specs.Written.{is_grouping, is_reserved, char_spelling, spelling, lead, trail, is_open_after, written_chunk, written_chunks}
 use Rattle.bib_chunks.specs.Writing.{is_bare}
-use Rattle.bib_text.proofs.TextFacts.{ahead, Passed, passed_char, passed_run, passed_between, flat_map_same, written_more, written_all, chars_at_end, three_parts}
+use Rattle.bib_text.proofs.TextFacts.{ahead, MovesPast, passed_char, passed_run, passed_between, flat_map_same, written_more, written_all, chars_at_end, three_parts}
 
-pub spelled_grouping : (v : Bool) (c : ℕ) → is_grouping c ≡ true → spelled v c ≡ 92 ∷ c ∷ []
-unfolding spelled
+-- how a character is written, in each of the cases of `char_spelling`
+pub spelled_grouping : (v : Bool) (c : ℕ) → is_grouping c ≡ true → char_spelling v c ≡ 92 ∷ c ∷ []
+unfolding char_spelling
 spelled_grouping v c grouping = rw grouping refl
 
-pub spelled_verbatim : (v : Bool) (c : ℕ) → is_grouping c ≡ false → v ≡ true → spelled v c ≡ c ∷ []
-unfolding spelled
+pub spelled_verbatim : (v : Bool) (c : ℕ) → is_grouping c ≡ false → v ≡ true → char_spelling v c ≡ c ∷ []
+unfolding char_spelling
 spelled_verbatim v c other verbatim = rw (other, verbatim) refl
 
-pub spelled_reserved : (v : Bool) (c : ℕ) → is_grouping c ≡ false → v ≡ false → is_reserved c ≡ true → spelled v c ≡ 92 ∷ c ∷ []
-unfolding spelled
+pub spelled_reserved : (v : Bool) (c : ℕ) → is_grouping c ≡ false → v ≡ false → is_reserved c ≡ true → char_spelling v c ≡ 92 ∷ c ∷ []
+unfolding char_spelling
 spelled_reserved v c other normal reserved = rw (other, normal, reserved) refl
 
 pub spelled_tilde : (v : Bool) (c : ℕ) → is_grouping c ≡ false → v ≡ false → is_reserved c ≡ false → c ≡ 126
-    → spelled v c ≡ codes "\\textasciitilde{}"
-unfolding spelled
+    → char_spelling v c ≡ codes "\\textasciitilde{}"
+unfolding char_spelling
 spelled_tilde v c other normal free tilde = rw (other, normal, free, eq-eqb c 126 tilde) refl
 
 pub spelled_circumflex : (v : Bool) (c : ℕ) → is_grouping c ≡ false → v ≡ false → is_reserved c ≡ false → (c ≡ 126 → ⊥)
-    → c ≡ 94 → spelled v c ≡ codes "\\textasciicircum{}"
-unfolding spelled
+    → c ≡ 94 → char_spelling v c ≡ codes "\\textasciicircum{}"
+unfolding char_spelling
 spelled_circumflex v c other normal free no_tilde circumflex = rw (other, normal, free, ne_eqb c 126 no_tilde, eq-eqb c 94 circumflex) refl
 
 pub spelled_other : (v : Bool) (c : ℕ) → is_grouping c ≡ false → v ≡ false → is_reserved c ≡ false → (c ≡ 126 → ⊥)
-    → (c ≡ 94 → ⊥) → spelled v c ≡ c ∷ []
-unfolding spelled
+    → (c ≡ 94 → ⊥) → char_spelling v c ≡ c ∷ []
+unfolding char_spelling
 spelled_other v c other normal free no_tilde no_circumflex = rw (other, normal, free, ne_eqb c 126 no_tilde, ne_eqb c 94 no_circumflex) refl
 
 -- a bare character is written unchanged
@@ -56,8 +57,9 @@ bare_cases false false false true circumflex c bare = absurd (false≢true bare)
 bare_cases false false false false true c bare = absurd (false≢true bare)
 bare_cases false false false false false c bare = refl
 
-pub spelled_bare : (v : Bool) (c : ℕ) → is_bare v c ≡ true → spelled v c ≡ c ∷ []
-unfolding is_bare spelled
+-- a bare character is written unchanged
+pub spelled_bare : (v : Bool) (c : ℕ) → is_bare v c ≡ true → char_spelling v c ≡ c ∷ []
+unfolding is_bare char_spelling
 spelled_bare v c bare = bare_cases v (is_grouping c) (is_reserved c) (nat_eq c 126) (nat_eq c 94) c bare
 
 -- the two commands are ASCII
@@ -72,21 +74,21 @@ circumflex_bytes = refl
 -- a run of bare characters was written, and then one character
 pub written_run_char : (out one two total : List ℕ) {u w x : Place} {c : ℕ} (v : Bool) → Run (is_bare v) u w
     → IsUtf8 (ahead u) → CharAt w c x
-    → one ≡ out ++ between u w → two ≡ one ++ encode_utf8_all (spelled v c)
+    → one ≡ out ++ between u w → two ≡ one ++ encode_utf8_all (char_spelling v c)
     → out ++ encode_utf8_all (spelling v (chars (ahead u))) ≡ total
     → (x.text ≡ u.text) × IsUtf8 (ahead x) × (two ++ encode_utf8_all (spelling v (chars (ahead x))) ≡ total)
 written_run_char out one two total {u} {w} {x} {c} v run utf8 char first second before =
     let (cs, passed, all) = passed_run run utf8 in
-    let following : Passed w (c ∷ []) x = passed_char char passed.utf8 in
-    let run_spelling : spelling v cs ≡ cs = flat_map_same (is_bare v) (spelled v) (spelled_bare v) cs all in
+    let following : MovesPast w (c ∷ []) x = passed_char char passed.utf8 in
+    let run_spelling : spelling v cs ≡ cs = flat_map_same (is_bare v) (char_spelling v) (spelled_bare v) cs all in
     let cut : spelling v (chars (ahead u)) ≡ cs ++ spelling v (chars (ahead w)) =
-    ap (spelling v) passed.spelt ∙ flat_map-append (spelled v) cs _
+    ap (spelling v) passed.spelt ∙ flat_map-append (char_spelling v) cs _
     ∙ ap (λ xs. xs ++ spelling v (chars (ahead w))) run_spelling in
     let after : one ++ encode_utf8_all (spelling v (chars (ahead w))) ≡ total =
     written_more out one total cs _ _ (first ∙ ap (λ bs. out ++ bs) (passed_between passed)) cut before in (
       following.same ∙ passed.same,
       following.utf8,
-      written_more one two total (spelled v c) _ _ second (ap (spelling v) following.spelt) after,
+      written_more one two total (char_spelling v c) _ _ second (ap (spelling v) following.spelt) after,
     )
 
 -- a run of bare characters was written, and the text ends
@@ -96,9 +98,9 @@ pub written_run_end : (out one total : List ℕ) {u w : Place} (v : Bool) → Ru
     → one ≡ total
 written_run_end out one total {u} {w} v run utf8 end first before =
     let (cs, passed, all) = passed_run run utf8 in
-    let run_spelling : spelling v cs ≡ cs = flat_map_same (is_bare v) (spelled v) (spelled_bare v) cs all in
+    let run_spelling : spelling v cs ≡ cs = flat_map_same (is_bare v) (char_spelling v) (spelled_bare v) cs all in
     let cut : spelling v (chars (ahead u)) ≡ cs ++ spelling v (chars (ahead w)) =
-    ap (spelling v) passed.spelt ∙ flat_map-append (spelled v) cs _
+    ap (spelling v) passed.spelt ∙ flat_map-append (char_spelling v) cs _
     ∙ ap (λ xs. xs ++ spelling v (chars (ahead w))) run_spelling in
     let after : one ++ encode_utf8_all (spelling v (chars (ahead w))) ≡ total =
     written_more out one total cs _ _ (first ∙ ap (λ bs. out ++ bs) (passed_between passed)) cut before in

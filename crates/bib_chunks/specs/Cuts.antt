@@ -15,8 +15,8 @@ abbrev pub further : ℕ → ℕ → ℕ
 further at n = min (at + n) (2 ^ 64 - 1)
 
 -- a chunk with the span from `start` to `end`
-abbrev pub placed : Chunk → ℕ → ℕ → Spanned Chunk
-placed chunk start end = record { v = chunk; span = record { start = start; end = end } }
+abbrev pub with_span : Chunk → ℕ → ℕ → Spanned Chunk
+with_span chunk start end = record { v = chunk; span = record { start = start; end = end } }
 
 -- a text, without the white space at its start if the flag is true: the text follows a separator or begins the list
 abbrev pub trimmed_start : Bool → List ℕ → List ℕ
@@ -33,8 +33,8 @@ trimmed_end false text = text
 -- whole text has the chunk's span, which may be longer or shorter than the text, as for a command.
 abbrev pub chunk_part : List ℕ → Range ℕ → ℕ → List ℕ → Spanned Chunk
 chunk_part whole span at text =
-    if length text == length whole then placed (Normal text) span.start span.end
-    else placed (Normal text) (further span.start at) (further (further span.start at) (length text))
+    if length text == length whole then with_span (Normal text) span.start span.end
+    else with_span (Normal text) (further span.start at) (further (further span.start at) (length text))
 
 -- the same as `chunk_part`, without the white space at the part's start (if `first`) and at its end (if `last`). Its
 -- span is that of the remaining text.
@@ -56,8 +56,8 @@ pieces_between width whole span at following (text ∷ next ∷ more) =
 -- between the separators of a text. A chunk that isn't normal is one piece.
 abbrev pub pieces : ℕ → (List ℕ → List (List ℕ)) → Chunk → Range ℕ → List (Spanned Chunk)
 pieces width between (Normal text) span = pieces_between width text span 0 false (between (chars text))
-pieces width between (Verbatim text) span = placed (Verbatim text) span.start span.end ∷ []
-pieces width between (Math text) span = placed (Math text) span.start span.end ∷ []
+pieces width between (Verbatim text) span = with_span (Verbatim text) span.start span.end ∷ []
+pieces width between (Math text) span = with_span (Math text) span.start span.end ∷ []
 
 -- parts of a list with these chunks prepended to the first part; if there are no parts, the chunks are the only one
 abbrev pub onto : List (Spanned Chunk) → List (List (Spanned Chunk)) → List (List (Spanned Chunk))
@@ -107,21 +107,21 @@ between_ands space (a ∷ n ∷ d ∷ rest) =
 between_ands space rest = rest ∷ []
 
 -- a copy of a chunk; a normal one is without the white space at its start (if `first`) and at its end (if `last`)
-abbrev pub trimmed : Bool → Bool → Chunk → Range ℕ → Spanned Chunk
-trimmed first last (Normal text) span = piece text span 0 first last text
-trimmed first last (Verbatim text) span = placed (Verbatim text) span.start span.end
-trimmed first last (Math text) span = placed (Math text) span.start span.end
+abbrev pub trimmed_chunk : Bool → Bool → Chunk → Range ℕ → Spanned Chunk
+trimmed_chunk first last (Normal text) span = piece text span 0 first last text
+trimmed_chunk first last (Verbatim text) span = with_span (Verbatim text) span.start span.end
+trimmed_chunk first last (Math text) span = with_span (Math text) span.start span.end
 
 -- chunks without the white space at the start of the first one (if `first`) and at the end of the last one, if these
 -- are normal
-abbrev pub trimmed_from : Bool → List (Spanned Chunk) → List (Spanned Chunk)
-trimmed_from first [] = []
-trimmed_from first (c ∷ []) = trimmed first true c.v c.span ∷ []
-trimmed_from first (c ∷ next ∷ more) = trimmed first false c.v c.span ∷ trimmed_from false (next ∷ more)
+abbrev pub trimmed_chunks : Bool → List (Spanned Chunk) → List (Spanned Chunk)
+trimmed_chunks first [] = []
+trimmed_chunks first (c ∷ []) = trimmed_chunk first true c.v c.span ∷ []
+trimmed_chunks first (c ∷ next ∷ more) = trimmed_chunk first false c.v c.span ∷ trimmed_chunks false (next ∷ more)
 
 -- chunks without the white space at the start of the first one and at the end of the last one, if these are normal
 abbrev pub trimmed_ends : List (Spanned Chunk) → List (Spanned Chunk)
-trimmed_ends = trimmed_from true
+trimmed_ends = trimmed_chunks true
 
 -- the parts of an `and` list: its ends are trimmed, and it is cut at each word `and` between white space inside one
 -- normal chunk

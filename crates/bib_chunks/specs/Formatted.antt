@@ -23,13 +23,13 @@ ends_in_space empty (c ∷ cs) = ends_in_space (is_whitespace c) cs
 
 -- what replaces a character of a normal text. A line break is replaced by a space, or by nothing if the last character
 -- written before it is white space, which the flag says. Any other character is kept.
-abbrev pub unbroken : Bool → ℕ → List ℕ
-unbroken space c = if is_break c then (if space then [] else char.space ∷ []) else c ∷ []
+abbrev pub char_on_line : Bool → ℕ → List ℕ
+char_on_line space c = if is_break c then (if space then [] else char.space ∷ []) else c ∷ []
 
 -- a normal text on one line; the flag says whether the last character written before it is white space
 abbrev pub flowing : Bool → List ℕ → List ℕ
 flowing space [] = []
-flowing space (c ∷ cs) = unbroken space c ++ flowing (ends_in_space space (unbroken space c)) cs
+flowing space (c ∷ cs) = char_on_line space c ++ flowing (ends_in_space space (char_on_line space c)) cs
 
 -- whether the last character written is white space after a chunk, given the same before it. Math leaves it unchanged,
 -- and after an empty verbatim chunk it is false.
@@ -46,33 +46,33 @@ formatted_chunk recased space (Verbatim text) = chars text
 formatted_chunk recased space (Math text) = char.dollar ∷ (chars text ++ char.dollar ∷ [])
 
 -- chunks formatted without change of case; the flag says whether the last character written before them is white space
-abbrev pub formatted_after : Bool → List (Spanned Chunk) → List ℕ
-formatted_after space [] = []
-formatted_after space (c ∷ rest) = formatted_chunk (λ cs. cs) space c.v ++ formatted_after (space_after space c.v) rest
+abbrev pub formatted_chars_after : Bool → List (Spanned Chunk) → List ℕ
+formatted_chars_after space [] = []
+formatted_chars_after space (c ∷ rest) = formatted_chunk (λ cs. cs) space c.v ++ formatted_chars_after (space_after space c.v) rest
 
 -- chunks formatted without change of case
-abbrev pub formatted : List (Spanned Chunk) → List ℕ
-formatted = formatted_after false
+abbrev pub formatted_chars : List (Spanned Chunk) → List ℕ
+formatted_chars = formatted_chars_after false
 
 -- a styled text, formatted: normal characters on one line, verbatim ones unchanged, and math between dollar signs; the
 -- flag says whether the last character written before it is white space
 abbrev pub formatted_atoms : Bool → List Atom → List ℕ
 formatted_atoms space [] = []
-formatted_atoms space (Atom.normal c ∷ rest) = unbroken space c ++ formatted_atoms (ends_in_space space (unbroken space c)) rest
+formatted_atoms space (Atom.normal c ∷ rest) = char_on_line space c ++ formatted_atoms (ends_in_space space (char_on_line space c)) rest
 formatted_atoms space (Atom.verbatim c ∷ rest) = c ∷ formatted_atoms (is_whitespace c) rest
 formatted_atoms space (Atom.math text ∷ rest) = char.dollar ∷ (text ++ char.dollar ∷ formatted_atoms space rest)
 
 -- a character in upper case if it begins a sentence, otherwise in lower case; by Unicode's mappings, which map ASCII
 -- characters to ASCII characters
-abbrev pub cased : Bool → ℕ → List ℕ
-cased true c = to_uppercase c
-cased false c = to_lowercase c
+abbrev pub upper_or_lower : Bool → ℕ → List ℕ
+upper_or_lower true c = to_uppercase c
+upper_or_lower false c = to_lowercase c
 
 -- a text in lower case, character by character, except that the first character is in upper case if the text begins a
 -- sentence
 abbrev pub sentence_case : Bool → List ℕ → List ℕ
 sentence_case begins [] = []
-sentence_case begins (c ∷ cs) = cased begins c ++ flat_map to_lowercase cs
+sentence_case begins (c ∷ cs) = upper_or_lower begins c ++ flat_map to_lowercase cs
 
 -- chunks formatted in sentence case. The first flag says whether the first of them begins the sentence, the second one
 -- whether the last character written before them is white space.

@@ -4,23 +4,23 @@ use Rattle.std.specs.Prelude.{ℕ, false, List, [], ◌∷◌, ◌++◌, map, en
 use Rattle.bib_chunks.specs.declared.chunk.Chunk.{Chunk}
 use Rattle.bib_chunks.specs.declared.chunk.Chunk.TheVariants.{Normal, Verbatim, Math}
 use Rattle.bib_text.specs.declared.spanned.Spanned.{Spanned}
-use Rattle.bib_chunks.specs.Cuts.{placed, comma_list}
+use Rattle.bib_chunks.specs.Cuts.{with_span, comma_list}
 use Rattle.bib_chunks.specs.Formatted.{formatted_atoms}
 use Rattle.bib_chunks.specs.Styled.{Atom, styled, is_same_kind}
 
 -- the first chunk with the text of the second one appended, if both are normal or both verbatim; otherwise unchanged
-abbrev pub lengthened : Chunk → Chunk → Chunk
-lengthened (Normal text) (Normal more) = Normal (text ++ more)
-lengthened (Verbatim text) (Verbatim more) = Verbatim (text ++ more)
-lengthened (Normal text) (Verbatim more) = Normal text
-lengthened (Normal text) (Math more) = Normal text
-lengthened (Verbatim text) (Normal more) = Verbatim text
-lengthened (Verbatim text) (Math more) = Verbatim text
-lengthened (Math text) other = Math text
+abbrev pub lengthened_chunk : Chunk → Chunk → Chunk
+lengthened_chunk (Normal text) (Normal more) = Normal (text ++ more)
+lengthened_chunk (Verbatim text) (Verbatim more) = Verbatim (text ++ more)
+lengthened_chunk (Normal text) (Verbatim more) = Normal text
+lengthened_chunk (Normal text) (Math more) = Normal text
+lengthened_chunk (Verbatim text) (Normal more) = Verbatim text
+lengthened_chunk (Verbatim text) (Math more) = Verbatim text
+lengthened_chunk (Math text) other = Math text
 
 -- a chunk with the span 0 to 0
 abbrev pub at_start : Chunk → Spanned Chunk
-at_start chunk = placed chunk 0 0
+at_start chunk = with_span chunk 0 0
 
 -- the chunk of a single atom
 abbrev pub chunk_of : Atom → Chunk
@@ -33,7 +33,7 @@ chunk_of (Atom.math cs) = Math (encode_utf8_all cs)
 abbrev pub before : Spanned Chunk → List (Spanned Chunk) → List (Spanned Chunk)
 before chunk [] = chunk ∷ []
 before chunk (next ∷ rest) =
-    if is_same_kind chunk.v next.v then placed (lengthened chunk.v next.v) chunk.span.start chunk.span.end ∷ rest
+    if is_same_kind chunk.v next.v then with_span (lengthened_chunk chunk.v next.v) chunk.span.start chunk.span.end ∷ rest
     else chunk ∷ next ∷ rest
 
 -- the chunks of a styled text, each with the span 0 to 0. No normal or verbatim one is empty, and no two neighbours are

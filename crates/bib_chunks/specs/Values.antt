@@ -5,8 +5,8 @@ use Rattle.std.specs.Prelude.{ℕ, ◌-◌, ◌^◌, List, [], ◌∷◌, encode
 use Rattle.std.specs.Str.{str_to_ascii_lowercase}
 use Rattle.bib_chunks.specs.declared.chunk.Chunk.{Chunk}
 use Rattle.bib_text.specs.declared.spanned.Spanned.{Spanned}
-use Rattle.bib_chunks.specs.Formatted.{formatted}
-use Rattle.bib_chunks.specs.Cuts.{placed}
+use Rattle.bib_chunks.specs.Formatted.{formatted_chars}
+use Rattle.bib_chunks.specs.Cuts.{with_span}
 
 -- the chunks of a value
 abbrev pub Value : Type 0
@@ -14,15 +14,15 @@ Value = List (Spanned Chunk)
 
 -- the formatted text of chunks, in bytes
 abbrev pub text : Value → List ℕ
-text chunks = encode_utf8_all (formatted chunks)
+text chunks = encode_utf8_all (formatted_chars chunks)
 
 -- the formatted text of chunks in bytes, with `A` to `Z` in lower case
-abbrev pub lowered : Value → List ℕ
-lowered chunks = str_to_ascii_lowercase (text chunks)
+abbrev pub lowercase_text : Value → List ℕ
+lowercase_text chunks = str_to_ascii_lowercase (text chunks)
 
 -- a chunk with a detached span
 abbrev pub nowhere : Chunk → Spanned Chunk
-nowhere chunk = placed chunk (2 ^ 64 - 1) (2 ^ 64 - 1)
+nowhere chunk = with_span chunk (2 ^ 64 - 1) (2 ^ 64 - 1)
 
 -- a value of one chunk with a detached span
 abbrev pub alone : Chunk → Value

@@ -19,8 +19,8 @@ is_reserved c = c == char.hash || c == char.ampersand || c == char.percent || c 
 -- how a character is written: a grouping one after a backslash in every field, any other unchanged in a verbatim field;
 -- outside verbatim fields a reserved one after a backslash, and the tilde and the circumflex as the commands that print
 -- them
-unfoldable pub spelled : Bool → ℕ → List ℕ
-spelled is_verbatim c =
+unfoldable pub char_spelling : Bool → ℕ → List ℕ
+char_spelling is_verbatim c =
     if is_grouping c then char.backslash ∷ c ∷ []
     else if is_verbatim then c ∷ []
     else if is_reserved c then char.backslash ∷ c ∷ []
@@ -30,7 +30,7 @@ spelled is_verbatim c =
 
 -- how a text is written, character by character
 abbrev pub spelling : Bool → List ℕ → List ℕ
-spelling is_verbatim = flat_map (spelled is_verbatim)
+spelling is_verbatim = flat_map (char_spelling is_verbatim)
 
 -- how a chunk is written without braces and dollar signs around it: escaped, except math outside verbatim fields
 abbrev pub written_chunk : Chunk → Bool → List ℕ

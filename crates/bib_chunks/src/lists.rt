@@ -2,7 +2,7 @@
 
 ghost use Rattle.std.specs.Prelude.{◌≡◌, ◌∷◌, ◌++◌, [], OnOk, IfOk};
 ghost use Rattle.bib_chunks.specs.Styled.{styled, is_same_kind};
-ghost use Rattle.bib_chunks.specs.Lists.{lengthened, at_start, chunks_of, comma_texts};
+ghost use Rattle.bib_chunks.specs.Lists.{lengthened_chunk, at_start, chunks_of, comma_texts};
 ghost use Rattle.bib_chunks.specs.Joining.{with_chunk};
 
 use crate::chunk::cuts::comma_list;
@@ -14,7 +14,7 @@ use std::alloc::{AllocError, Global};
 // Appends the text of `chunk` to `last` if both are normal or both are verbatim. Returns whether they are.
 fn lengthen(last: &mut Chunk, chunk: &Chunk) -> Result<bool, AllocError>
     ensures joined { IfOk result (λ joined. joined ≡ is_same_kind last.old chunk.now) }
-    ensures text { OnOk result (last.new ≡ lengthened last.old chunk.now) }
+    ensures text { OnOk result (last.new ≡ lengthened_chunk last.old chunk.now) }
 {
     match (last, chunk) {
         (Chunk::Normal(text), Chunk::Normal(more)) => {
@@ -54,7 +54,7 @@ fn add(chunks: &mut Chunks, chunk: &Chunk) -> Result<(), AllocError>
 }
 
 // Returns the chunks without those that are empty, with neighbours of one kind merged. Each has the span `0..0`.
-fn joined(alloc: Global, chunks: ChunksRef<'_>) -> Result<Chunks, AllocError>
+fn merge_neighbours(alloc: Global, chunks: ChunksRef<'_>) -> Result<Chunks, AllocError>
     ensures { IfOk result (λ all. all ≡ chunks_of (styled chunks.now)) }
 {
     let mut all = Items::new(alloc);
@@ -73,7 +73,7 @@ fn joined(alloc: Global, chunks: ChunksRef<'_>) -> Result<Chunks, AllocError>
 pub fn comma_texts(alloc: Global, chunks: ChunksRef<'_>) -> Result<Vec<Text>, AllocError>
     ensures { IfOk result (λ texts. texts.items ≡ comma_texts (styled chunks.now)) }
 {
-    let joined = joined(alloc, chunks)?;
+    let joined = merge_neighbours(alloc, chunks)?;
     let parts = comma_list(alloc, joined.as_slice())?;
     let mut texts = Vec::new(alloc);
     'parts: for part in parts.as_slice() {

@@ -13,6 +13,7 @@ pub record IsReadyTo (missing ready : List ℕ) (index : ℕ) : Type 0 where
   pub before : (p : ℕ) → p < index → times p ready ≡ cond (eqb (missing_at missing p) 0) 1 0
   pub after : (p : ℕ) → index ≤ p → times p ready ≡ 0
 
+-- `index` is appended if it has no missing references, and otherwise nothing changes
 pub ready_step : (missing ready ready' : List ℕ) (index : ℕ)
     → ((missing_at missing index ≡ 0) × (ready' ≡ ready ++ index ∷ []))
     ⊎ ((1 ≤ missing_at missing index) × (ready' ≡ ready)) → IsReadyTo missing ready index
@@ -44,6 +45,7 @@ ready_step missing ready ready' index (inr (z, e)) h = record {
   after = λ p above. omega (arith, ap (times p) e, h.after p (omega arith));
 }
 
+-- after the last index, each index without missing references is once in `ready`, and any other isn't in it
 pub ready_end : (missing ready : List ℕ) → IsReadyTo missing ready (length missing) → (p : ℕ)
     → times p ready ≡ cond (eqb (missing_at missing p) 0) 1 0
 ready_end missing ready h p = elim (cases_lt p (length missing)) [
@@ -51,6 +53,7 @@ ready_end missing ready h p = elim (cases_lt p (length missing)) [
   | inr t ↦ let past = get_or_past missing p 1 t in omega (arith, h.after p t, zero_no (missing_at missing p) (omega (arith, past)))
 ]
 
+-- each row of a graph of empty rows is empty, and so is each past its end
 pub empty_rows : (n p : ℕ) → refs_of (replicate n []) p ≡ []
 empty_rows n p = elim (cases_lt p n) [
   | inl t ↦ get_or-replicate n p [] [] t
@@ -65,6 +68,7 @@ pub record IsFilled (graph waiting : List (List ℕ)) (entry i : ℕ) : Type 0 w
   pub after : (index e : ℕ) → entry < e → times e (refs_of waiting index) ≡ 0
 
 module _ (graph : List (List ℕ)) where
+  -- if all rows are empty, no reference is in them yet
   pub filled_none : (waiting : List (List ℕ)) → length waiting ≡ length graph
       → ((index : ℕ) → refs_of waiting index ≡ []) → IsFilled graph waiting 0 0
   filled_none waiting len none = record {
@@ -74,6 +78,7 @@ module _ (graph : List (List ℕ)) where
     after = λ index e above. ap (times e) (none index);
   }
 
+  -- after all references of an entry, the next entry follows, with none of its references
   pub filled_next : (waiting : List (List ℕ)) (entry i : ℕ) → length (refs_of graph entry) ≤ i
       → IsFilled graph waiting entry i → IsFilled graph waiting (entry + 1) 0
   filled_next waiting entry i all h = record {
@@ -86,6 +91,7 @@ module _ (graph : List (List ℕ)) where
     after = λ index e above. h.after index e (omega arith);
   }
 
+  -- after the last entry, the rows have for each index the entries that wait for it
   pub filled_all : (waiting : List (List ℕ)) (entry : ℕ) → length graph ≤ entry → IsFilled graph waiting entry 0 → AreWaiting graph waiting
   filled_all waiting entry all h = (
     h.same_length,
@@ -100,6 +106,7 @@ module _ (graph : List (List ℕ)) where
     ],
   )
 
+  -- `entry` is appended to the row of its next reference `r`
   pub filled_more : (waiting : List (List ℕ)) (entry i r : ℕ) → i < length (refs_of graph entry)
       → r ≡ get_or (refs_of graph entry) i 0 → r < length waiting → IsFilled graph waiting entry i
       → IsFilled graph (set waiting r (refs_of waiting r ++ entry ∷ [])) entry (i + 1)

@@ -9,13 +9,13 @@ use Rattle.std.specs.FinMap as map
 use Rattle.std.specs.FinMap.{find, is_sorted, get-from_sorted, get-entries, entries_sorted}
 use Rattle.std.specs.FinMap.Entries.{below_all}
 use Rattle.bib_collections.specs.Sorted.{ByText, by_bytes, IsSorted, map_of}
-use Rattle.bib_collections.specs.Names.{claimed, claims_for, moved, moved_pair, without_index}
+use Rattle.bib_collections.specs.Names.{with_claims, claims_for, index_after_removal, moved_pair, without_index}
 use Rattle.bib_collections.proofs.SortedFacts.{first, second, both, less, tied, holds, is_true, entries_are}
 
 -- claiming names and one more name is claiming the names and then inserting the last one
 pub claimed_next : (names : ByText ℕ) (index : ℕ) (done : List (List ℕ)) (name : List ℕ)
-    → claimed names (claims_for (done ++ name ∷ []) index)
-    ≡ map.insert (claimed names (claims_for done index)) name index
+    → with_claims names (claims_for (done ++ name ∷ []) index)
+    ≡ map.insert (with_claims names (claims_for done index)) name index
 claimed_next names index [] name = refl
 claimed_next names index (d ∷ done) name = claimed_next (map.insert names d index) index done name
 
@@ -48,6 +48,7 @@ module _ {K X Y : Type 0} (R : K → K → Ordering) (f : X → Option Y) where
       elim (f e.1) as (λ o. T (below_all R x (cons_option (option_map (λ v. (e.0, v)) o) (filter_map (revalue f) es))))
       [ None ↦ rest | Some v ↦ both _ _ (first _ _ h) rest ]
 
+  -- pairs stay sorted if some get other values and the others are removed
   pub sorted-revalued : (es : List (K × X)) → T (is_sorted R es) → T (is_sorted R (filter_map (revalue f) es))
   sorted-revalued [] h = tt
   sorted-revalued (e ∷ es) h =
@@ -88,7 +89,7 @@ module _ {K X Y : Type 0} (R : K → K → Ordering) (f : X → Option Y) where
 
 -- sorted pairs after the removal of an index are sorted
 pub moved_sorted : (taken : ℕ) (es : List (List ℕ × ℕ)) → IsSorted es → IsSorted (filter_map (moved_pair taken) es)
-moved_sorted taken es sorted = is_true _ (sorted-revalued by_bytes (moved taken) es (holds _ sorted))
+moved_sorted taken es sorted = is_true _ (sorted-revalued by_bytes (index_after_removal taken) es (holds _ sorted))
 
 -- the map of sorted pairs after the removal of an index is their map without that index
 pub moved_names : (taken : ℕ) (m : ByText ℕ) (es : List (List ℕ × ℕ)) → map_of es ≡ m → IsSorted es
@@ -97,8 +98,8 @@ moved_names taken m es is sorted = ap (λ l. map_of (filter_map (moved_pair take
 
 -- the index of a name after an index is removed
 pub get-without_index : (taken : ℕ) (m : ByText ℕ) (q : List ℕ)
-    → map.get (without_index m taken) q ≡ option_and_then (moved taken) (map.get m q)
+    → map.get (without_index m taken) q ≡ option_and_then (index_after_removal taken) (map.get m q)
 get-without_index taken m q =
-    get-from_sorted by_bytes _ q (sorted-revalued by_bytes (moved taken) (map.entries m) (entries_sorted m))
-    ∙ find-revalued by_bytes (moved taken) nat_list_cmp_total q (map.entries m) (entries_sorted m)
-    ∙ ap (option_and_then (moved taken)) (sym (get-entries m q))
+    get-from_sorted by_bytes _ q (sorted-revalued by_bytes (index_after_removal taken) (map.entries m) (entries_sorted m))
+    ∙ find-revalued by_bytes (index_after_removal taken) nat_list_cmp_total q (map.entries m) (entries_sorted m)
+    ∙ ap (option_and_then (index_after_removal taken)) (sym (get-entries m q))

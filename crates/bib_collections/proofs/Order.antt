@@ -57,5 +57,6 @@ no_return graph order a h counted r =
     let there = contains_from_count a order (omega arith) in
     no_return_at graph order a h r (suc there.0) there.0 (omega arith) there.1 (get_or_default order there.0 0 a there.1 ∙ there.2)
 
+-- a graph with a topological order has no cycle
 pub no_cycle_from_order : (graph : List (List ℕ)) (order : List ℕ) → IsTopologicalOrder graph order → HasNoCycle graph
 no_cycle_from_order graph order h a within r = no_return graph order a h.in_order (rw (h.once a, lt-ltb a (length graph) within) refl) r

@@ -39,6 +39,7 @@ joined (more e s) r = more e (joined s r)
 module _ (graph : List (List ℕ)) where
   -- ---- roots
 
+  -- before any search no index has a root, so each root leads to its index
   pub no_roots : (n : ℕ) → AreRoots graph (replicate n None)
   no_roots n index root is = absurd (clash (sym (no_root n index) ∙ is)) where
     clash : None ≡ Some root → ⊥
@@ -128,6 +129,7 @@ module _ (graph : List (List ℕ)) where
 
   -- ---- marks
 
+  -- before any search no index has a mark, so each marked one leads to itself
   pub none_leads : (n : ℕ) → AllLeadToThemselves graph (replicate n false)
   none_leads n index marked = absurd (false≢true (sym (none_marked n index) ∙ marked))
 
@@ -137,6 +139,7 @@ module _ (graph : List (List ℕ)) where
     pub sound : AllLeadToThemselves graph marks
     pub whole : (earlier : ℕ) → earlier < index → Leads graph earlier earlier → is_marked marks earlier ≡ true
 
+  -- the marks stay as they are if `index` has one or doesn't lead to itself
   pub marked_on : (index : ℕ) (marks : List Bool) → (Leads graph index index → is_marked marks index ≡ true)
       → AreMarkedTo index marks → AreMarkedTo (index + 1) marks
   marked_on index marks here h = record {

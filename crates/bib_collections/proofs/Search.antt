@@ -31,10 +31,12 @@ set_decides {b} marks index p within =
       | inr t ↦ inr (t.1, get_or-set_other marks index p b false t.1)
     ]
 
+-- a marked index stays marked if an index is marked
 pub mark_kept : (marks : List Bool) (index r : ℕ) → index < length marks → is_marked marks r ≡ true
     → is_marked (set marks index true) r ≡ true
 mark_kept marks index r within h = elim (set_decides {b = true} marks index r within) [ inl t ↦ t.1 | inr t ↦ t.1 ∙ h ]
 
+-- at the start no index has a mark
 pub none_marked : (n p : ℕ) → is_marked (replicate n false) p ≡ false
 none_marked n p = elim (cases_lt p n) [
   | inl t ↦ get_or-replicate n p false false t
@@ -48,6 +50,7 @@ none_closed graph n p d = absurd (false≢true (sym (none_marked n p) ∙ d))
 abbrev pub IsFound : List Bool → ℕ → ℕ → Type 0
 IsFound marks start index = (index ≡ start) ⊎ (is_marked marks index ≡ true)
 
+-- a found index is less than the number of indices
 pub found_below : (marks : List Bool) (n start p : ℕ) → length marks ≡ n → start < n → IsFound marks start p → p < n
 found_below marks n start p len within (inl e) = omega arith
 found_below marks n start p len within (inr h) =
@@ -67,10 +70,12 @@ module _ (graph : List (List ℕ)) (start : ℕ) (old : List Bool) where
   abbrev pub IsAhead : List Bool → ℕ → Type 0
   IsAhead marks index = (index ≡ start) ⊎ ((is_marked marks index ≡ true) × Leads graph start index)
 
+  -- an index that the search has reached is found
   pub ahead_found : (marks : List Bool) (p : ℕ) → IsAhead marks p → IsFound marks start p
   ahead_found marks p (inl e) = inl e
   ahead_found marks p (inr d) = inr d.0
 
+  -- `start` leads to each reference of an index that the search has reached
   pub ahead_further : (marks : List Bool) (index r : ℕ) → IsAhead marks index → Contains (refs_of graph index) r → Leads graph start r
   ahead_further marks index r (inl e) edge = one (subst (λ x. Contains (refs_of graph x) r) e edge)
   ahead_further marks index r (inr d) edge = further d.1 edge
@@ -87,6 +92,7 @@ module _ (graph : List (List ℕ)) (start : ℕ) (old : List Bool) where
     pub looked : (k : ℕ) → k < i → is_marked marks (get_or refs k 0) ≡ true
     pub less : 2 * unmarked marks + length pending ≤ bound
 
+  -- at the start only `start` waits
   pub search_none : length old ≡ length graph → IsClosed graph old → IsSearch old (start ∷ [])
   search_none len closed = record {
     same_length = len;
@@ -240,5 +246,6 @@ module _ (graph : List (List ℕ)) where
         | inr t ↦ none p inside (sym t.1 ∙ clear) r
       ]
 
+  -- if each index is a suspect, no other index leads to itself
   pub all_suspects : (n : ℕ) → length graph ≡ n → AreSuspects graph (replicate n true)
   all_suspects n len p inside clear r = false≢true (sym clear ∙ get_or-replicate n p true false (omega arith))

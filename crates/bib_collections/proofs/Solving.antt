@@ -41,6 +41,7 @@ earlier_refs graph order i q h within there =
     (refs_of graph q) all
 
 module _ {V : Type 0} (none : V) (rule : ℕ → List V → V) (graph : List (List ℕ)) (order : List ℕ) (start : List V) where
+  -- before the first index all values are those of the start
   pub solved_none : IsSolvedTo none rule graph order start 0 start
   solved_none = record {
     same_length = refl;
@@ -48,6 +49,7 @@ module _ {V : Type 0} (none : V) (rule : ℕ → List V → V) (graph : List (Li
     kept = λ p h. refl;
   }
 
+  -- the index at `i` of the order gets the value of the rule, and the values before it stay solved
   pub solved_more : (i : ℕ) (values : List V) (value : V) → IsTopologicalOrder graph order → i < length order
       → get_or order i 0 < length values
       → value ≡ rule (get_or order i 0) (map (λ r. get_or values r none) (refs_of graph (get_or order i 0)))

@@ -186,6 +186,7 @@ module _ {K V : Type 0} {R : K → K → Ordering} (o : IsTotalOrder R) where
       ∙ find-where_key R (λ x. not (eq_by_cmp R k x)) q
       (λ x t. ap (λ r. not (is_eq r)) (sym (alike_right o q x k t))) es))
 
+  -- sorted pairs stay sorted without the pairs of one name
   pub is_sorted-others : (es : List (K × V)) (k : K) → T (is_sorted R es) → T (is_sorted R (others k es))
   unfolding others
   is_sorted-others es k h = is_sorted-where_key R _ es h
@@ -215,6 +216,7 @@ not_found none some = absurd (subst (λ o. IsSome o → ⊥) (sym none) (λ e. f
 
 -- the pairs of the map of sorted pairs, and their number
 module _ {V : Type 0} (m : ByText V) (es : List (List ℕ × V)) (is : from_sorted es ≡ m) (sorted : IsSorted es) where
+  -- the entries of the map of sorted pairs are these pairs
   pub entries_are : map.entries m ≡ es
   entries_are = subst (λ n. map.entries n ≡ es) is (entries-from_sorted by_bytes es (holds _ sorted))
 

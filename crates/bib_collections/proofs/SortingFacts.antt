@@ -83,6 +83,7 @@ module _ {K V : Type 0} {R : K → K → Ordering} (o : IsTotalOrder R) where
         | false ↦ λ other. ap (cond (eq_by_cmp R q k.0) (Some k.1)) (find-dedup_from q x xs)
       ] refl
 
+  -- removing all but the first of neighbours with the same name changes the value of no name
   pub find-dedup : (q : K) (xs : List (K × V)) → find R q (dedup (tie R) xs) ≡ find R q xs
   find-dedup q [] = refl
   find-dedup q (x ∷ xs) = find-dedup_from q x xs
@@ -96,14 +97,17 @@ module _ {K V : Type 0} {R : K → K → Ordering} (o : IsTotalOrder R) where
   strictly [] rising = tt
   strictly (e ∷ es) rising = both _ _ (all_below e.0 es rising.0) (strictly es rising.1)
 
+  -- pairs in order, without all but the first of neighbours with the same name, ascend strictly
   pub sorted-dedup : (xs : List (K × V)) → IsSortedBy (below R) xs → T (is_sorted R (dedup (tie R) xs))
   sorted-dedup xs sorted = strictly _ (IsStrictlySortedBy-dedup (on_total (λ e. e.0) o) (λ x y. refl) xs sorted)
 
 module _ {V : Type 0} (pairs sorted : List (List ℕ × V)) (rising : IsSortedBy (below by_bytes) sorted)
     (stable : IsStableBy (below by_bytes) (reverse pairs) sorted) where
+  -- the pairs that are left are sorted, with each name once
   pub sorted_pairs : IsSorted (dedup (tie by_bytes) sorted)
   sorted_pairs = is_true _ (sorted-dedup nat_list_cmp_total sorted rising)
 
+  -- they have for each name the value of its last pair
   pub last_pairs : map_of (dedup (tie by_bytes) sorted) ≡ map.from_entries (reverse pairs)
   last_pairs = same_map nat_list_cmp_total by_bytes-IsAntisymmetric _ _ (λ q.
       get-from_sorted by_bytes _ q (sorted-dedup nat_list_cmp_total sorted rising)

@@ -21,6 +21,7 @@ pub further : {graph : List (List ℕ)} {a b c : ℕ} → Leads graph a b → Co
 further (one e) h = more e (one h)
 further (more e r) h = more e (further r h)
 
+-- functions that agree on the elements of a list map it to the same list
 pub map_agree : {A B : Type 0} (f g : A → B) (xs : List A) → ((x : A) → Contains xs x → f x ≡ g x) → map f xs ≡ map g xs
 map_agree f g [] h = refl
 map_agree f g (x ∷ xs) h =

@@ -39,6 +39,7 @@ times_yes p xs h =
     elim (eqb_tells (times p xs) 0)
     [ inl t ↦ absurd (false≢true (sym (among_no p xs t.1) ∙ h)) | inr t ↦ omega (arith, t.1) ]
 
+-- after an index is appended, it is in the order, and for any other index nothing changes
 pub among_decides : (order : List ℕ) (index p : ℕ)
     → ((p ≡ index) × (is_among (order ++ index ∷ []) p ≡ true))
     ⊎ ((p ≢ index) × (is_among (order ++ index ∷ []) p ≡ is_among order p))
@@ -89,6 +90,7 @@ pub record IsReleased (missing waiting ready : List ℕ) (i : ℕ) (missing' rea
       ≡ times p ready + cond (eqb (missing_at missing' p) 0) 1 0
   pub less : sum missing' + length ready' ≤ sum missing + length ready
 
+-- the first `i + 1` elements have `p` as often as the first `i`, and once more if it is the element at `i`
 pub times_more : (p i : ℕ) (xs : List ℕ) → i < length xs
     → times p (take (i + 1) xs) ≡ times p (take i xs) + cond (eqb (get_or xs i 0) p) 1 0
 times_more p i xs within =
@@ -267,6 +269,7 @@ module _ (graph : List (List ℕ)) where
       let t = next_from_ready order missing new index h in
       omega (arith, h.counts p (omega (arith, h.missing_length)), undone_less order index (refs_of graph p) t.waits, w.1 index p)
 
+  -- the entries that wait for an index are entries of the graph
   pub waiting_below : (index : ℕ) (waiting : List (List ℕ)) → AreWaiting graph waiting → All (λ w. w < length graph) (refs_of waiting index)
   waiting_below index waiting w =
       All-from_get_or (λ x. x < length graph) (refs_of waiting index) 0

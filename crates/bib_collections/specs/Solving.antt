@@ -4,6 +4,7 @@ use Rattle.std.specs.Prelude.{◌≡◌, ℕ, List, length, map, take, slice_ind
 use Rattle.std.specs.List.{Contains}
 use Rattle.bib_collections.specs.Graph.{Graph, refs_of}
 
+-- the values of the first `i` indices of `order` solve the equation, and all others are those of `start`
 pub record IsSolvedTo {V : Type 0} (none : V) (rule : ℕ → List V → V) (graph : Graph) (order : List ℕ) (start : List V)
     (i : ℕ) (values : List V) : Type 0 where
   pub same_length : length values ≡ length start

@@ -15,6 +15,7 @@ same_pair same p q = pointwise nat_eq p.0 q.0 && same p.1 q.1
 abbrev pub same_pairs : {V : Type 0} → (V → V → Bool) → ByText V → ByText V → Bool
 same_pairs same m n = pointwise (same_pair same) (entries m) (entries n)
 
+-- a lemma: `same_pair` is a partial equivalence if `same` is one
 pub same_pair_per : {V : Type 0} {same : V → V → Bool} → IsPartialEquivalence same → IsPartialEquivalence (same_pair same)
 same_pair_per laws = and_per (on_per (λ p. p.0) (partial_equiv_from_equiv nat_list_eq_equiv)) (on_per (λ p. p.1) laws)
 

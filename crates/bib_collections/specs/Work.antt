@@ -7,6 +7,7 @@ use Rattle.bib_collections.specs.Graph.{Graph, refs_of, AreInOrder}
 abbrev pub times : ℕ → List ℕ → ℕ
 times index indices = count_by (λ p. p == index) indices
 
+-- whether `index` occurs in `indices`
 abbrev pub is_among : List ℕ → ℕ → Bool
 is_among indices index = not (times index indices == 0)
 

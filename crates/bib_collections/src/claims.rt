@@ -2,7 +2,7 @@
 
 ghost use Rattle.std.specs.Prelude.{◌≡◌, ℕ, take, OnOk, OnErr, IfOk, is_none};
 ghost use Rattle.std.specs.FinMap as map;
-ghost use Rattle.bib_collections.specs.Names.{claimed, claims_for};
+ghost use Rattle.bib_collections.specs.Names.{with_claims, claims_for};
 
 use crate::names::Names;
 use bib_text::text::Text;
@@ -70,9 +70,9 @@ impl Claims {
     /// Makes each of `names` point to `index`, one after another. If out of memory, returns an error, and the first ones of
     /// `names` (possibly none) already point to `index`.
     pub fn claim_all(&mut self, names: Vec<Text>, index: usize) -> Result<(), AllocError>
-        ensures claimed { OnOk result (self.new ≡ claimed self.old (claims_for names.items index)) }
+        ensures claimed { OnOk result (self.new ≡ with_claims self.old (claims_for names.items index)) }
         ensures refused { OnErr result ((n : ℕ) ×
-            (self.new ≡ claimed self.old (claims_for (take n names.items) index))) }
+            (self.new ≡ with_claims self.old (claims_for (take n names.items) index))) }
     {
         'names: for name in names {
             self.claim(name, index)?;

@@ -63,7 +63,7 @@ fn next_unmarked(refs: &[usize], marks: &[bool], from: usize) -> Option<usize>
 
 // Returns the indices in the order in which a depth-first search leaves them. Only the speed of `search` and
 // `marks_on_cycles` depends on this order.
-fn left_in_order(alloc: Global, refs: &[Vec<usize>]) -> Result<Vec<usize>, AllocError>
+fn post_order(alloc: Global, refs: &[Vec<usize>]) -> Result<Vec<usize>, AllocError>
     requires in_range { IsInRange (rows refs.now) }
     ensures { IfOk result (λ order. All (λ index. index < length refs.now) order.items) }
 {
@@ -94,7 +94,7 @@ fn left_in_order(alloc: Global, refs: &[Vec<usize>]) -> Result<Vec<usize>, Alloc
 }
 
 // The results of `search`. An index that leads to itself is a suspect. The root of an index leads to it. Because of the
-// order of `left_in_order`, only indices that lead to themselves are suspects, and each index leads to its root; these two
+// order of `post_order`, only indices that lead to themselves are suspects, and each index leads to its root; these two
 // facts aren't proved.
 struct Searches {
     suspects: Vec<bool>,
@@ -126,7 +126,7 @@ fn search(
     ensures as_many { IfOk result (λ found. length found.roots.items ≡ length refs.now) }
     ensures roots { IfOk result (λ found. AreRoots (rows refs.now) found.roots.items) }
 {
-    let mut order = left_in_order(alloc, waiting)?;
+    let mut order = post_order(alloc, waiting)?;
     let mut marks = vec![in alloc; false; refs.len()]?;
     let mut suspects = vec![in alloc; true; refs.len()]?;
     let mut roots = vec![in alloc; None; refs.len()]?;
@@ -143,7 +143,7 @@ fn search(
 }
 
 // Returns for each index the entries with the same root that refer to it.
-fn waiting_inside(
+fn waiting_lists_inside(
     alloc: Global,
     refs: &[Vec<usize>],
     roots: &[Option<usize>],
@@ -167,7 +167,7 @@ fn waiting_inside(
 }
 
 // Marks the indices that lead to their root. Since the root leads to them, they lead to themselves.
-fn returning(
+fn marks_leading_to_roots(
     alloc: Global,
     refs: &[Vec<usize>],
     roots: &[Option<usize>],
@@ -178,7 +178,7 @@ fn returning(
     ensures length { IfOk result (λ marks. length marks.items ≡ length refs.now) }
     ensures returning { IfOk result (λ marks. AllLeadToThemselves (rows refs.now) marks.items) }
 {
-    let inside = waiting_inside(alloc, refs, roots)?;
+    let inside = waiting_lists_inside(alloc, refs, roots)?;
     let mut marks = vec![in alloc; false; refs.len()]?;
     for index in 0..refs.len() {
         if roots[index] == Some(index) {
@@ -188,7 +188,8 @@ fn returning(
     Ok(marks)
 }
 
-// Marks each index that leads to itself. Searches separately from each index that `search` and `returning` leave undecided.
+// Marks each index that leads to itself. Searches separately from each index that `search` and `marks_leading_to_roots` leave
+// undecided.
 pub(crate) fn marks_on_cycles(
     alloc: Global,
     refs: &[Vec<usize>],
@@ -200,7 +201,7 @@ pub(crate) fn marks_on_cycles(
     ensures { IfOk result (λ marks. AreOnCycles (rows refs.now) marks.items) }
 {
     let Searches { suspects, roots } = search(alloc, refs, waiting)?;
-    let mut marks = returning(alloc, refs, &roots)?;
+    let mut marks = marks_leading_to_roots(alloc, refs, &roots)?;
     for index in 0..refs.len() {
         if suspects[index] && !marks[index] {
             marks[index] = leads_to_itself(alloc, refs, index)?;

@@ -5,7 +5,7 @@ ghost use Rattle.std.specs.FinMap as map;
 ghost use Rattle.std.specs.Cmp.{nat_eq_equiv, partial_equiv_from_equiv};
 ghost use Rattle.bib_collections.specs.Sorted.{IsSorted, map_of};
 ghost use Rattle.bib_collections.specs.TextMap.{same_pairs, same_pairs_per, same_pairs_equiv};
-ghost use Rattle.bib_collections.specs.Names.{claimed, claims_for, moved_pair, without_index, IsMoved};
+ghost use Rattle.bib_collections.specs.Names.{with_claims, claims_for, moved_pair, without_index, IsMoved};
 
 use crate::sorted::find_binary;
 use bib_text::text::Text;
@@ -91,7 +91,7 @@ impl Names {
 
     /// Makes each of `names` point to `index`. If out of memory, returns an error and leaves the names unchanged.
     pub fn claim_all(&mut self, names: Vec<Text>, index: usize) -> Result<(), AllocError>
-        ensures claimed { OnOk result (self.new ≡ claimed self.old (claims_for names.items index)) }
+        ensures claimed { OnOk result (self.new ≡ with_claims self.old (claims_for names.items index)) }
         ensures refused { OnErr result (self.new ≡ self.old) }
     {
         self.pairs.reserve(names.len())?;

@@ -30,7 +30,7 @@ pub(crate) fn find_linear<'a, V>(pairs: &'a [(Text, V)], name: &str) -> Option<&
 }
 
 // Sorts pairs by the bytes of the names. If a name occurs more than once, keeps only its last pair.
-pub(crate) fn sorted<V: Drop>(mut pairs: Vec<(Text, V)>) -> Result<Vec<(Text, V)>, AllocError>
+pub(crate) fn sort_by_name<V: Drop>(mut pairs: Vec<(Text, V)>) -> Result<Vec<(Text, V)>, AllocError>
     ensures sorted { IfOk result (λ pairs. IsSorted pairs.items) }
     ensures last { IfOk result (λ all. map_of all.items ≡ map.from_entries (reverse pairs.items)) }
 {

@@ -12,7 +12,7 @@ ghost use Rattle.bib_collections.specs.TextMapIterators.{names_left, values_left
 ghost use Rattle.bib_collections.specs.TextMapLending.{LendsValue};
 ghost use Rattle.bib_collections.specs.TextMap.{AreClones, same_pairs, same_pairs_per, same_pairs_equiv};
 
-use crate::sorted::{find_binary, find_linear, sorted};
+use crate::sorted::{find_binary, find_linear, sort_by_name};
 use bib_text::text::Text;
 use std::alloc::{AllocError, AllocFailed, Global};
 use std::marker::Model;
@@ -182,7 +182,7 @@ impl<V: Drop> TextMap<V> {
     pub fn from_pairs(pairs: Vec<(Text, V)>) -> Result<Self, AllocError>
         ensures { IfOk result (λ m. m ≡ map.from_entries (reverse pairs.items)) }
     {
-        let pairs = sorted(pairs)?;
+        let pairs = sort_by_name(pairs)?;
         Ok(TextMap { pairs })
     }
 

@@ -10,7 +10,7 @@ use Rattle.std.proofs.lemmas.Bool.Decides.{same_from_decides}
 use Rattle.std.proofs.lemmas.List.{append-nil}
 use Rattle.std.proofs.lemmas.Slice.Eq.{bytes_eq-Decides}
 use Rattle.std.proofs.lemmas.Str.{encodes_same, encodes-chars, chars_past_char, chars-nil, IsUtf8-past_char}
-use Rattle.bib_text.specs.Enums.{named}
+use Rattle.bib_text.specs.Enums.{value_named}
 use Rattle.bib_text.proofs.TextFacts.{chars_past, chars_whole}
 use lib.Utf8.{scalars}
 use Rattle.bib_contents.specs.declared.commands.TheConstants.{SYMBOLS}
@@ -45,12 +45,12 @@ same_name name bytes utf8 =
 
 -- a look-up in an encoded table is the encoded look-up
 pub named_encoded : (rows : List (List ℕ × List ℕ)) (bytes : List ℕ) → IsUtf8 bytes
-    → named (map (λ row. (encode_utf8_all row.0, encode_utf8_all row.1)) rows) bytes
-    ≡ option_map encode_utf8_all (named rows (chars bytes))
+    → value_named (map (λ row. (encode_utf8_all row.0, encode_utf8_all row.1)) rows) bytes
+    ≡ option_map encode_utf8_all (value_named rows (chars bytes))
 named_encoded [] bytes utf8 = refl
 named_encoded (row ∷ rows) bytes utf8 =
     here (bytes_eq (encode_utf8_all row.0) bytes) (bytes_eq row.0 (chars bytes))
-    (named (map (λ row. (encode_utf8_all row.0, encode_utf8_all row.1)) rows) bytes) (named rows (chars bytes))
+    (value_named (map (λ row. (encode_utf8_all row.0, encode_utf8_all row.1)) rows) bytes) (value_named rows (chars bytes))
     row.1 (same_name row.0 bytes utf8) (named_encoded rows bytes utf8)
   where
     here : (is_here is_named : Bool) (first : Option (List ℕ)) (all : Option (List ℕ)) (this : List ℕ)
@@ -63,12 +63,12 @@ named_encoded (row ∷ rows) bytes utf8 =
 
 -- a text of two or more characters isn't in a table of one-character names
 pub named_longer : {A : Type 0} (rows : List (List ℕ × A)) (c d : ℕ) (cs : List ℕ)
-    → list_all (λ row. eqb (length row.0) 1) rows ≡ true → named rows (c ∷ d ∷ cs) ≡ None
+    → list_all (λ row. eqb (length row.0) 1) rows ≡ true → value_named rows (c ∷ d ∷ cs) ≡ None
 named_longer [] c d cs short = refl
 named_longer (row ∷ rows) c d cs short =
     let parts = and_parts (eqb (length row.0) 1) (list_all (λ row. eqb (length row.0) 1) rows) short in
     let one : length row.0 ≡ 1 = eqb-true _ _ parts.0 in
-    passed (bytes_eq row.0 (c ∷ d ∷ cs)) (named rows (c ∷ d ∷ cs)) row.1
+    passed (bytes_eq row.0 (c ∷ d ∷ cs)) (value_named rows (c ∷ d ∷ cs)) row.1
     (λ same. let longer : length row.0 ≡ length (c ∷ d ∷ cs) = ap length ((bytes_eq-Decides row.0 (c ∷ d ∷ cs)).0 same) in omega arith)
     (named_longer rows c d cs parts.1)
   where
@@ -92,18 +92,18 @@ stroke_stays = refl
 
 -- a test that each value of a table passes, each found value passes
 pub named_passes : {A : Type 0} (test : A → Bool) (rows : List (List ℕ × A)) (name : List ℕ) (value : A)
-    → list_all (λ row. test row.1) rows ≡ true → named rows name ≡ Some value → test value ≡ true
+    → list_all (λ row. test row.1) rows ≡ true → value_named rows name ≡ Some value → test value ≡ true
 named_passes {A = A} test [] name value all found = cc
 named_passes {A = A} test (row ∷ rows) name value all found =
     let parts = and_parts (test row.1) (list_all (λ row. test row.1) rows) all in
-    here (bytes_eq row.0 name) (named rows name) row.1 value parts.0 (named_passes test rows name value parts.1) found
+    here (bytes_eq row.0 name) (value_named rows name) row.1 value parts.0 (named_passes test rows name value parts.1) found
   where
     here : (is_here : Bool) (rest : Option A) (this value : A) → test this ≡ true
         → (rest ≡ Some value → test value ≡ true) → cond is_here (Some this) rest ≡ Some value → test value ≡ true
     here true rest this value passes following found = cc
     here false rest this value passes following found = following found
 
-pub mark_stays : (name : List ℕ) (mark : ℕ) → named accents name ≡ Some mark → is_in_form Nfd (mark ∷ []) ≡ true
+pub mark_stays : (name : List ℕ) (mark : ℕ) → value_named accents name ≡ Some mark → is_in_form Nfd (mark ∷ []) ≡ true
 mark_stays name mark found = named_passes (λ m. is_in_form Nfd (m ∷ [])) accents name mark marks_stay found
 
 -- an ASCII letter and a mark that doesn't decompose are decomposed as they are
@@ -171,20 +171,20 @@ not_named bytes name utf8 differs =
     reported false wrong = refl
 
 -- no accent has an empty name
-pub accents_empty : (bytes : List ℕ) → length bytes ≡ 0 → None ≡ named accents (chars bytes)
+pub accents_empty : (bytes : List ℕ) → length bytes ≡ 0 → None ≡ value_named accents (chars bytes)
 unfolding accents chars
 accents_empty [] none = refl
 accents_empty (b ∷ bytes) none = absurd (omega arith)
 
 -- no accent has a name of two or more characters
 pub accents_longer : (bytes rest : List ℕ) (c : ℕ) → IsUtf8 bytes → bytes ≡ encode_utf8 c ++ rest
-    → eqb (length rest) 0 ≡ false → None ≡ named accents (chars bytes)
+    → eqb (length rest) 0 ≡ false → None ≡ value_named accents (chars bytes)
 accents_longer bytes rest c utf8 spells more =
     sym
-    (ap (named accents) (chars_past_char bytes rest c utf8 spells)
+    (ap (value_named accents) (chars_past_char bytes rest c utf8 spells)
     ∙ longer (chars rest) (encodes-chars rest (IsUtf8-past_char bytes rest c utf8 spells)))
   where
-    longer : (cs : List ℕ) → encode_utf8_all cs ≡ rest → named accents (c ∷ cs) ≡ None
+    longer : (cs : List ℕ) → encode_utf8_all cs ≡ rest → value_named accents (c ∷ cs) ≡ None
     longer [] spelt = absurd (false≢true (sym more ∙ ap (λ bs. eqb (length bs) 0) (sym spelt)))
     longer (d ∷ cs) spelt = named_longer accents c d cs accents_short
 
@@ -227,17 +227,17 @@ other_unknown_with name argument utf8 not_o not_copyright =
     rw (not_named name (111 ∷ []) utf8 not_o, not_named name copyright utf8 not_copyright)
 
 -- the text of a command that is an accent
-pub given_accent : (name : List ℕ) (argument : Option (List ℕ)) (mark : ℕ) → named accents name ≡ Some mark
+pub given_accent : (name : List ℕ) (argument : Option (List ℕ)) (mark : ℕ) → value_named accents name ≡ Some mark
     → command_text name argument ≡ accented mark argument
 unfolding command_text
 given_accent name argument mark is = rw is
 
-pub given_symbol : (name : List ℕ) (argument : Option (List ℕ)) (text : List ℕ) → named accents name ≡ None
-    → named symbols name ≡ Some text → command_text name argument ≡ text
+pub given_symbol : (name : List ℕ) (argument : Option (List ℕ)) (text : List ℕ) → value_named accents name ≡ None
+    → value_named symbols name ≡ Some text → command_text name argument ≡ text
 unfolding command_text
 given_symbol name argument text none is = rw (none, is)
 
-pub given_other : (name : List ℕ) (argument : Option (List ℕ)) → named accents name ≡ None → named symbols name ≡ None
+pub given_other : (name : List ℕ) (argument : Option (List ℕ)) → value_named accents name ≡ None → value_named symbols name ≡ None
     → command_text name argument ≡ other name argument
 unfolding command_text
 given_other name argument none absent = rw (none, absent)
@@ -257,10 +257,10 @@ symbols_scalars : list_all (λ row. scalars row.1) symbols ≡ true
 unfolding symbols
 symbols_scalars = refl
 
-pub symbol_utf8 : (name text bytes : List ℕ) → named symbols name ≡ Some text → bytes ≡ encode_utf8_all text → IsUtf8 bytes
+pub symbol_utf8 : (name text bytes : List ℕ) → value_named symbols name ≡ Some text → bytes ≡ encode_utf8_all text → IsUtf8 bytes
 symbol_utf8 name text bytes found is = rw is (text, (named_passes scalars symbols name text symbols_scalars found, refl))
 
-pub symbol_chars : (name text bytes : List ℕ) → named symbols name ≡ Some text → bytes ≡ encode_utf8_all text → chars bytes ≡ text
+pub symbol_chars : (name text bytes : List ℕ) → value_named symbols name ≡ Some text → bytes ≡ encode_utf8_all text → chars bytes ≡ text
 symbol_chars name text bytes found is = chars_whole text bytes (symbol_utf8 name text bytes found is) is
 
 -- the text of an unknown command with its argument, regrouped

@@ -4,11 +4,11 @@ use Rattle.std.specs.Prelude.{◌==◌, codes, bytes_eq}
 use Rattle.std.specs.Char.{is_whitespace}
 use Rattle.std.specs.List.{list_all}
 use Rattle.std.proofs.lemmas.Bool.{cases_Bool, and_parts, and_from, not-true}
-use Rattle.bib_chunks.specs.Formatted.{is_break, ends_in_space, unbroken, flowing, formatted_atoms}
+use Rattle.bib_chunks.specs.Formatted.{is_break, ends_in_space, char_on_line, flowing, formatted_atoms}
 use Rattle.bib_chunks.specs.Styled.{Atom}
 use Rattle.bib_contents.specs.Arguments.{laid, argument_written}
 use Rattle.bib_contents.specs.Commands.{accents, symbols, stroke, with_mark, letter, bare, other, command_text}
-use Rattle.bib_text.specs.Enums.{named}
+use Rattle.bib_text.specs.Enums.{value_named}
 use Rattle.bib_contents.specs.Contents.{begins, character}
 use Rattle.bib_contents.specs.Effects.{is_unbroken}
 use Rattle.bib_contents.proofs.BreakFacts.{plain_nfc, nfc_some}
@@ -35,8 +35,8 @@ pub flowing_append : (space : Bool) (xs ys : List ℕ) → begins is_break ys �
     → flowing space (xs ++ ys) ≡ flowing space xs ++ flowing false ys
 flowing_append space [] ys plain = flowing_any space ys plain
 flowing_append space (c ∷ xs) ys plain =
-    ap (λ cs. unbroken space c ++ cs) (flowing_append (ends_in_space space (unbroken space c)) xs ys plain)
-    ∙ sym (append_assoc (unbroken space c) _ _)
+    ap (λ cs. char_on_line space c ++ cs) (flowing_append (ends_in_space space (char_on_line space c)) xs ys plain)
+    ∙ sym (append_assoc (char_on_line space c) _ _)
 
 -- a text without line breaks is unchanged on one line
 pub flowing_plain : (space : Bool) (cs : List ℕ) → list_all is_unbroken cs ≡ true → flowing space cs ≡ cs
@@ -186,7 +186,7 @@ symbols_plain : list_all (λ row. list_all is_unbroken row.1) symbols ≡ true
 unfolding symbols
 symbols_plain = refl
 
-kind_other : (name : List ℕ) → named accents name ≡ None → named symbols name ≡ None → Kind name
+kind_other : (name : List ℕ) → value_named accents name ≡ None → value_named symbols name ≡ None → Kind name
 kind_other name accent symbol = elim (cases_Bool (bytes_eq name (codes "o"))) [
   | inl is_o ↦ Kind.marks stroke refl (λ cs. given_other name (Some cs) accent symbol ∙ rw is_o refl)
   | inr no_o ↦ elim (cases_Bool (bytes_eq name (codes "copyright"))) [
@@ -195,8 +195,8 @@ kind_other name accent symbol = elim (cases_Bool (bytes_eq name (codes "o"))) [
   ]
 ]
 
-kind_found : (name : List ℕ) (accent : Option ℕ) (symbol : Option (List ℕ)) → named accents name ≡ accent
-    → named symbols name ≡ symbol → Kind name
+kind_found : (name : List ℕ) (accent : Option ℕ) (symbol : Option (List ℕ)) → value_named accents name ≡ accent
+    → value_named symbols name ≡ symbol → Kind name
 kind_found name (Some m) symbol accent_is symbol_is =
     Kind.marks m (named_passes is_unbroken accents name m accents_plain accent_is)
     (λ cs. given_accent name (Some cs) m accent_is)
@@ -206,7 +206,7 @@ kind_found name None (Some xs) accent_is symbol_is =
 kind_found name None None accent_is symbol_is = kind_other name accent_is symbol_is
 
 kind_of : (name : List ℕ) → Kind name
-kind_of name = kind_found name (named accents name) (named symbols name) refl refl
+kind_of name = kind_found name (value_named accents name) (value_named symbols name) refl refl
 
 capped_kind : {name : List ℕ} → Kind name → (cs : List ℕ) → list_all is_unbroken name ≡ true → IsCapped cs
     → IsCapped (command_text name (Some cs))
@@ -255,8 +255,8 @@ alone_other name all = elim (cases_Bool (bytes_eq name (codes "o"))) [
   ]
 ]
 
-alone_found : (name : List ℕ) (accent : Option ℕ) (symbol : Option (List ℕ)) → named accents name ≡ accent
-    → named symbols name ≡ symbol → list_all is_unbroken name ≡ true
+alone_found : (name : List ℕ) (accent : Option ℕ) (symbol : Option (List ℕ)) → value_named accents name ≡ accent
+    → value_named symbols name ≡ symbol → list_all is_unbroken name ≡ true
     → list_all is_unbroken (command_text name None) ≡ true
 alone_found name (Some m) symbol accent_is symbol_is all =
     ap (list_all is_unbroken) (given_accent name None m accent_is)
@@ -268,12 +268,12 @@ alone_found name None None accent_is symbol_is all =
     ap (list_all is_unbroken) (given_other name None accent_is symbol_is) ∙ alone_other name all
 
 pub alone_plain : (name : List ℕ) → list_all is_unbroken name ≡ true → list_all is_unbroken (command_text name None) ≡ true
-alone_plain name all = alone_found name (named accents name) (named symbols name) refl refl all
+alone_plain name all = alone_found name (value_named accents name) (value_named symbols name) refl refl all
 
 -- whether the last character written is white space, after these atoms
 abbrev pub space_after : Bool → List Atom → Bool
 space_after space [] = space
-space_after space (Atom.normal c ∷ rest) = space_after (ends_in_space space (unbroken space c)) rest
+space_after space (Atom.normal c ∷ rest) = space_after (ends_in_space space (char_on_line space c)) rest
 space_after space (Atom.verbatim c ∷ rest) = space_after (is_whitespace c) rest
 space_after space (Atom.math text ∷ rest) = space_after space rest
 
@@ -281,8 +281,8 @@ pub formatted_append : (space : Bool) (xs ys : List Atom)
     → formatted_atoms space (xs ++ ys) ≡ formatted_atoms space xs ++ formatted_atoms (space_after space xs) ys
 formatted_append space [] ys = refl
 formatted_append space (Atom.normal c ∷ xs) ys =
-    ap (λ cs. unbroken space c ++ cs) (formatted_append (ends_in_space space (unbroken space c)) xs ys)
-    ∙ sym (append_assoc (unbroken space c) _ _)
+    ap (λ cs. char_on_line space c ++ cs) (formatted_append (ends_in_space space (char_on_line space c)) xs ys)
+    ∙ sym (append_assoc (char_on_line space c) _ _)
 formatted_append space (Atom.verbatim c ∷ xs) ys = ap (λ cs. c ∷ cs) (formatted_append (is_whitespace c) xs ys)
 formatted_append space (Atom.math text ∷ xs) ys =
     ap (λ cs. 36 ∷ (text ++ 36 ∷ cs)) (formatted_append space xs ys) ∙ ap (λ cs. 36 ∷ cs) (sym (append_assoc text _ _))
@@ -290,7 +290,7 @@ formatted_append space (Atom.math text ∷ xs) ys =
 -- characters outside braces are formatted on one line
 pub formatted_normal : (space : Bool) (cs : List ℕ) → formatted_atoms space (map (character zero) cs) ≡ flowing space cs
 formatted_normal space [] = refl
-formatted_normal space (c ∷ cs) = ap (λ xs. unbroken space c ++ xs) (formatted_normal (ends_in_space space (unbroken space c)) cs)
+formatted_normal space (c ∷ cs) = ap (λ xs. char_on_line space c ++ xs) (formatted_normal (ends_in_space space (char_on_line space c)) cs)
 
 pub formatted_verbatim : (space : Bool) (depth : ℕ) (cs : List ℕ) → formatted_atoms space (map (character (suc depth)) cs) ≡ cs
 formatted_verbatim space depth [] = refl

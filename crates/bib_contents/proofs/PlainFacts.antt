@@ -9,7 +9,7 @@ use Rattle.std.proofs.lemmas.List.{map-append}
 use Rattle.std.proofs.lemmas.Str.{IsUtf8-drop}
 use Rattle.bib_text.specs.Places.{Place, place, CharAt, between}
 use Rattle.bib_text.proofs.PlaceFacts.{place_after, same_place}
-use Rattle.bib_text.proofs.TextFacts.{ahead, Passed, passed_char, passed_none, passed_append, passed_between, chars_whole, two_parts}
+use Rattle.bib_text.proofs.TextFacts.{ahead, MovesPast, passed_char, passed_none, passed_append, passed_between, chars_whole, two_parts}
 use Rattle.bib_contents.specs.Contents.{ContentUnit, IsNext, begins, dashes, is_empty, is_escaped, is_space, is_ordinary, character}
 use Rattle.bib_contents.specs.Progress.{left, Passes, Goes, ReadsAs, is_alone}
 use Rattle.bib_contents.proofs.ProgressFacts.{passes, passes_then, passes_none, stands_left}
@@ -34,7 +34,7 @@ reads_then {is_verbatim} {u} {v} {w} {cs} {ds} first second = record {
 -- the characters from `u` to `v` are parsed as themselves
 pub record Itself (is_verbatim : Bool) (u v : Place) : Type 0 where
   pub shown : List ℕ
-  pub passed : Passed u shown v
+  pub passed : MovesPast u shown v
   pub goes : (depth : ℕ) → Goes is_verbatim depth (left u) (map (character depth) shown) depth (left v)
 
 pub itself_none : (is_verbatim : Bool) (u : Place) → IsUtf8 (ahead u) → Itself is_verbatim u u

@@ -7,11 +7,11 @@ use Rattle.std.proofs.lemmas.Bool.{eqb-true, false_from_ne_true}
 use Rattle.std.proofs.lemmas.Str.{encodes-append, encodes-chars}
 use Rattle.bib_text.specs.Places.{Place, CharAt, Longest, Stops, AtEnd, between}
 use Rattle.bib_text.proofs.PlaceFacts.{char_here}
-use Rattle.bib_text.proofs.TextFacts.{ahead, Passed, passed_char, passed_run, passed_between, chars_at_end, chars_whole}
+use Rattle.bib_text.proofs.TextFacts.{ahead, MovesPast, passed_char, passed_run, passed_between, chars_at_end, chars_whole}
 use Rattle.bib_contents.specs.Contents.{begins}
 use Rattle.bib_contents.specs.Progress.{left, Passes}
 
-pub passes : {u v : Place} {cs : List ℕ} → Passed u cs v → Passes u cs v
+pub passes : {u v : Place} {cs : List ℕ} → MovesPast u cs v → Passes u cs v
 passes passed = record { same = passed.same; here = passed.here; next = passed.next; left = passed.spelt }
 
 pub passes_then : {u v w : Place} {cs ds : List ℕ} → Passes u cs v → Passes v ds w → Passes u (cs ++ ds) w

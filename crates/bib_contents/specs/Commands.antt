@@ -2,7 +2,7 @@
 -- The text of a LaTeX command, as the Rust crate `biblatex` has it. A text is a list of its characters.
 use Rattle.std.specs.Prelude.{ℕ, List, [], ◌∷◌, ◌++◌, Option, Some, None, codes, bytes_eq, if◌then◌else◌, ◌==◌}
 use Prim.Native.String.{String}
-use Rattle.bib_text.specs.Enums.{named}
+use Rattle.bib_text.specs.Enums.{value_named}
 use Rattle.unicode_normalization.specs.Forms.{nfc}
 
 -- an accent: its name, and the combining character that it puts on a letter
@@ -91,4 +91,4 @@ found None None name argument = other name argument
 
 -- the text of a command with this name, given the text of its argument if it has one
 unfoldable pub command_text : List ℕ → Option (List ℕ) → List ℕ
-command_text name argument = found (named accents name) (named symbols name) name argument
+command_text name argument = found (value_named accents name) (value_named symbols name) name argument

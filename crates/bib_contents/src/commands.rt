@@ -3,7 +3,7 @@
 ghost use Rattle.std.specs.Prelude.{◌≡◌, ℕ, List, ◌∷◌, [], ◌++◌, length, OnOk, IsTrue, Some, None, map, string_bytes, encode_utf8_all};
 ghost use Rattle.std.specs.Option.{option_map};
 ghost use Rattle.std.specs.Str.{chars};
-ghost use Rattle.bib_text.specs.Enums.{named};
+ghost use Rattle.bib_text.specs.Enums.{value_named};
 ghost use Rattle.bib_chunks.specs.Writing.{Writes};
 ghost use Rattle.bib_contents.specs.Commands.{accents, symbols, letter, bare, with_mark, other, command_text};
 ghost use Rattle.bib_contents.specs.Effects.{made, made_before, IsFit};
@@ -16,7 +16,7 @@ use unicode_normalization::to_nfc;
 // Returns the combining mark of the accent that this character names.
 #[tactic(auto, unfolding(crate::specs::Commands::accents))]
 fn mark_of(c: char) -> Option<char>
-    ensures { result ≡ named accents (c ∷ []) }
+    ensures { result ≡ value_named accents (c ∷ []) }
 {
     match c {
         '`' => Some('\u{300}'),
@@ -41,7 +41,7 @@ fn mark_of(c: char) -> Option<char>
 
 // Returns the combining mark of the accent with this name.
 fn accent_mark(name: &str) -> Option<char>
-    ensures { result ≡ named accents (chars name.now) }
+    ensures { result ≡ value_named accents (chars name.now) }
 {
     let mut chars = name.chars();
     let Some(c) = chars.next() else {
@@ -56,7 +56,7 @@ fn accent_mark(name: &str) -> Option<char>
 // Returns the text of the first row with this name in a table.
 fn find_text(table: &[(&str, &'static str)], name: &str) -> Option<&'static str>
     ensures { option_map (λ text. text.now) result ≡
-        named (map (λ row. (row.0.now, row.1.now)) table.entry.now) name.now }
+        value_named (map (λ row. (row.0.now, row.1.now)) table.entry.now) name.now }
 {
     'rows: for (row_name, text) in table {
         if *row_name == name {
@@ -69,7 +69,7 @@ fn find_text(table: &[(&str, &'static str)], name: &str) -> Option<&'static str>
 // Returns the text of the symbol with this name.
 fn symbol(name: &str) -> Option<&'static str>
     ensures { option_map (λ text. text.now) result ≡
-        option_map encode_utf8_all (named symbols (chars name.now)) }
+        option_map encode_utf8_all (value_named symbols (chars name.now)) }
 {
     find_text(&SYMBOLS, name)
 }

@@ -9,7 +9,7 @@ use Rattle.std.proofs.lemmas.List.{drop-drop, drop_at, take_all, take_at}
 use Rattle.bib_text.specs.Braces.{Parts}
 use Rattle.bib_text.specs.Braces.{Parts as parts}
 use Rattle.bib_text.specs.Braces.{is_plain}
-use Rattle.bib_text.specs.Enums.{named}
+use Rattle.bib_text.specs.Enums.{value_named}
 use Rattle.bib_text.specs.Places.{place, between}
 use Rattle.bib_syntax.specs.Reading.{Part}
 use Rattle.bib_syntax.specs.Reading.Piece.{literal}
@@ -110,10 +110,10 @@ record IsKnown (side : Side) : Type 0 where
 
 -- the name beside a number of a month
 named_plain : (rows : List (List ℕ × List ℕ)) (text name : List ℕ)
-    → AllByRecursion (λ row. is_plain_name row.1 ≡ true) rows → named rows text ≡ Some name → is_plain_name name ≡ true
+    → AllByRecursion (λ row. is_plain_name row.1 ≡ true) rows → value_named rows text ≡ Some name → is_plain_name name ≡ true
 named_plain [] text name all is = absurd (cc)
 named_plain (row ∷ rows) text name all is =
-    row_case (bytes_eq row.0 text) row.1 name (named rows text) all.0 (named_plain rows text name all.1) is
+    row_case (bytes_eq row.0 text) row.1 name (value_named rows text) all.0 (named_plain rows text name all.1) is
   where
     row_case : (b : Bool) (first name : List ℕ) (rest : Option (List ℕ)) → is_plain_name first ≡ true
         → (rest ≡ Some name → is_plain_name name ≡ true) → cond b (Some first) rest ≡ Some name
@@ -121,7 +121,7 @@ named_plain (row ∷ rows) text name all is =
     row_case true first name rest plain later same = let is : first ≡ name = cc in subst (λ n. is_plain_name n ≡ true) is plain
     row_case false first name rest plain later same = later same
 
-month_plain : (text name : List ℕ) → named month_abbreviations text ≡ Some name → is_plain_name name ≡ true
+month_plain : (text name : List ℕ) → value_named month_abbreviations text ≡ Some name → is_plain_name name ≡ true
 month_plain text name is =
     named_plain month_abbreviations text name
     (refl, (refl, (refl, (refl, (refl, (refl, (refl, (refl, (refl, (refl, (refl, (refl, tt)))))))))))) is
@@ -158,14 +158,14 @@ side_known : (parts : List (List ℕ)) (side : Side) → side_of parts ≡ Some 
 side_known [] side is = absurd (cc)
 side_known (year ∷ []) side is = year_case (are_digits 4 year) year side (digits_of 4 year) is
 side_known (year ∷ month ∷ []) side is =
-    month_case (are_digits 4 year) (month_side year (named month_abbreviations month) None) side
+    month_case (are_digits 4 year) (month_side year (value_named month_abbreviations month) None) side
     (λ digits.
-    month_known year (named month_abbreviations month) None side (digits_of 4 year digits) (month_plain month)
+    month_known year (value_named month_abbreviations month) None side (digits_of 4 year digits) (month_plain month)
     (λ t given. absurd (cc))) is
 side_known (year ∷ month ∷ day ∷ []) side is =
-    month_case (are_digits 4 year && are_digits 2 day) (month_side year (named month_abbreviations month) (Some day)) side (λ digits.
+    month_case (are_digits 4 year && are_digits 2 day) (month_side year (value_named month_abbreviations month) (Some day)) side (λ digits.
     let both = and_parts (are_digits 4 year) (are_digits 2 day) digits in
-    month_known year (named month_abbreviations month) (Some day) side (digits_of 4 year both.0) (month_plain month)
+    month_known year (value_named month_abbreviations month) (Some day) side (digits_of 4 year both.0) (month_plain month)
     (day_digits day (digits_of 2 day both.1))) is
   where
     day_digits : (day : List ℕ) → list_all is_ascii_digit day ≡ true → (text : List ℕ) → Some day ≡ Some text

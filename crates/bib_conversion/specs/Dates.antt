@@ -4,7 +4,7 @@ use Rattle.std.specs.Prelude.{ℕ, Bool, ◌&&◌, ◌==◌, if◌then◌else◌
 use Rattle.std.specs.Char.{is_ascii_digit}
 use Rattle.std.specs.List.{flat_map, list_all, slice_split}
 use Rattle.bib_text.specs.Characters as char
-use Rattle.bib_text.specs.Enums.{named}
+use Rattle.bib_text.specs.Enums.{value_named}
 use Rattle.bib_syntax.specs.Reading.{FieldReading}
 use Rattle.bib_syntax.specs.Reading.Piece.{literal}
 use Rattle.bib_dates.specs.Dates.{date_of}
@@ -65,9 +65,9 @@ month_side year (Some month) day = Some (record { year = year; month = Some mont
 abbrev pub side_of : List (List ℕ) → Option Side
 side_of [] = None
 side_of (year ∷ []) = if are_digits 4 year then Some (record { year = year; month = None; day = None }) else None
-side_of (year ∷ month ∷ []) = if are_digits 4 year then month_side year (named month_abbreviations month) None else None
+side_of (year ∷ month ∷ []) = if are_digits 4 year then month_side year (value_named month_abbreviations month) None else None
 side_of (year ∷ month ∷ day ∷ []) =
-    if are_digits 4 year && are_digits 2 day then month_side year (named month_abbreviations month) (Some day) else None
+    if are_digits 4 year && are_digits 2 day then month_side year (value_named month_abbreviations month) (Some day) else None
 side_of (year ∷ month ∷ day ∷ other ∷ rest) = None
 
 -- the side that the parts of a text between its hyphens are

@@ -5,7 +5,7 @@ ghost use Rattle.std.specs.List.{list_all, slice_split};
 ghost use Rattle.std.specs.Char.{is_ascii_digit};
 ghost use Rattle.std.specs.Option.{option_map};
 ghost use Rattle.std.specs.String.{string_bytes};
-ghost use Rattle.bib_text.specs.Enums.{named};
+ghost use Rattle.bib_text.specs.Enums.{value_named};
 ghost use Rattle.bib_dates.specs.Dates.{date_of};
 ghost use Rattle.bib_dates.specs.Readings.{readable_value};
 ghost use Rattle.bib_conversion.specs.Conversions as conversions;
@@ -35,7 +35,7 @@ pub(crate) struct Sides<'t> {
 
 // The abbreviation that stands for the month with a number.
 fn month_name(number: &str) -> Option<&'static str>
-    ensures { lent_text result ≡ named month_abbreviations number.now }
+    ensures { lent_text result ≡ value_named month_abbreviations number.now }
 {
     match number {
         "01" => Some("jan"),
@@ -89,7 +89,8 @@ fn year_side(year: &str) -> Option<Side<'_>>
 
 // The side with a month, if the month has an abbreviation.
 fn month_side<'t>(year: &'t str, month: &str, day: Option<&'t str>) -> Option<Side<'t>>
-    ensures { option_map side_as_written result ≡ spec.month_side year.now (named month_abbreviations month.now) (lent_text day.entry) }
+    ensures { option_map side_as_written result ≡
+        spec.month_side year.now (value_named month_abbreviations month.now) (lent_text day.entry) }
 {
     Some(Side {
         year,

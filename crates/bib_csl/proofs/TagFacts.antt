@@ -7,7 +7,7 @@ use Rattle.std.specs.Str.{chars, IsUtf8}
 use Rattle.std.proofs.lemmas.List.{reverse-append}
 use Rattle.std.proofs.lemmas.Str.{encodes-chars}
 use Rattle.bib_text.specs.Places.{Place, CharAt, AtEnd}
-use Rattle.bib_text.proofs.TextFacts.{ahead, Passed, passed_char, chars_at_end}
+use Rattle.bib_text.proofs.TextFacts.{ahead, MovesPast, passed_char, chars_at_end}
 use Rattle.bib_csl.specs.Markup.{untie, untied, said, said_plainly, shown_in, is_address, open_plainly, begins_name, open_after, name_after, said_last, closing_tag, all_ended, marked_from, marked_text}
 use Rattle.bib_csl.specs.Unmarked.{is_unmarked}
 use Rattle.bib_csl.proofs.ByteFacts.{not_this, both}
@@ -16,7 +16,7 @@ use Rattle.bib_csl.proofs.ByteFacts.{not_this, both}
 pub untied_step : (out more total : List ℕ) {u x : Place} {c : ℕ} → CharAt u c x → IsUtf8 (ahead u) → more ≡ out ++ untie c
     → out ++ untied (chars (ahead u)) ≡ total → (x.text ≡ u.text) × IsUtf8 (ahead x) × (more ++ untied (chars (ahead x)) ≡ total)
 untied_step out more total {u} {x} {c} char utf8 wrote before =
-    let passed : Passed u (c ∷ []) x = passed_char char utf8 in (
+    let passed : MovesPast u (c ∷ []) x = passed_char char utf8 in (
       passed.same,
       passed.utf8,
       ap (λ o. o ++ untied (chars (ahead x))) wrote ∙ append_assoc out (untie c) (untied (chars (ahead x)))
@@ -34,7 +34,7 @@ pub marked_step : (out more total : List ℕ) (tags next : List (List ℕ)) (nam
     → out ++ marked_from tags name (chars (ahead u)) ≡ total
     → (x.text ≡ u.text) × IsUtf8 (ahead x) × (more ++ marked_from next after (chars (ahead x)) ≡ total)
 marked_step out more total tags next name after {u} {x} {c} char utf8 wrote opened given_names before =
-    let passed : Passed u (c ∷ []) x = passed_char char utf8 in
+    let passed : MovesPast u (c ∷ []) x = passed_char char utf8 in
     let rest = marked_from (open_after tags name c) (name_after name c) (chars (ahead x)) in (
       passed.same,
       passed.utf8,

@@ -1,7 +1,7 @@
 -- Meaning: words of public contracts.
 -- What identifies an item, and where it is kept.
 use Rattle.std.specs.Prelude.{ℕ, ◌==◌, if◌then◌else◌, List, [], ◌++◌, length, codes, bytes_eq, Option, Some, None}
-use Rattle.bib_chunks.specs.Values.{Value, lowered}
+use Rattle.bib_chunks.specs.Values.{Value, lowercase_text}
 use Rattle.bib_entry.specs.declared.entry.Entry.{Entry}
 use Rattle.bib_entry.specs.Fields.{field_or}
 use Rattle.bib_csl.specs.declared.item.Field.{Field}
@@ -12,7 +12,7 @@ use Rattle.bib_csl.specs.Texts.{field, shown_field, either}
 -- the archive of the electronic version, in lowercase letters
 unfoldable pub archive_name : Option Value → List ℕ
 archive_name None = []
-archive_name (Some chunks) = lowered chunks
+archive_name (Some chunks) = lowercase_text chunks
 
 -- the field that names the archive
 abbrev pub archive_field : Entry → Option Value

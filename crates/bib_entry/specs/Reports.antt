@@ -8,12 +8,12 @@ use Rattle.std.specs.declared.ops.Range.{Range}
 use Rattle.bib_tables.specs.declared.type_error.TypeError.{TypeError}
 use Rattle.bib_tables.specs.declared.type_error.TypeErrorKind.{TypeErrorKind}
 use Rattle.bib_tables.specs.declared.type_error.TypeErrorKind.TheVariants.{InvalidNumber, UnknownGender, UnknownPagination}
-use Rattle.bib_tables.specs.Requirements.{Names, rules_of, forbidden_of}
+use Rattle.bib_tables.specs.Requirements.{Names, rules_of, forbidden_fields_of}
 use Rattle.bib_tables.specs.declared.mechanics.requirements.AuthorMode.{AuthorMode}
 use Rattle.bib_tables.specs.declared.mechanics.requirements.AuthorMode.TheVariants as author
 use Rattle.bib_tables.specs.declared.mechanics.requirements.PagesChapterMode.{PagesChapterMode}
 use Rattle.bib_tables.specs.declared.mechanics.requirements.PagesChapterMode.TheVariants as pages
-use Rattle.bib_text.specs.Enums.{named}
+use Rattle.bib_text.specs.Enums.{value_named}
 use Rattle.bib_typed.specs.Typed.{number_error}
 use Rattle.bib_values.specs.Enumerations.{pagination_read, gender_read}
 use Rattle.bib_values.specs.Numbers.{number_read}
@@ -51,7 +51,7 @@ has_other entry (Some name) = has_chunks entry name
 
 -- whether an entry has no chunks in the field of this name, nor in the field of its other name, if it has one
 abbrev pub lacks : Entry → List ℕ → Bool
-lacks entry name = not (has_chunks entry name || has_other entry (named other_required_names name))
+lacks entry name = not (has_chunks entry name || has_other entry (value_named other_required_names name))
 
 -- whether an entry has editors in any role
 abbrev pub has_editor : Entry → Bool
@@ -110,7 +110,7 @@ superfluous_pages _ entry = []
 -- the superfluous fields: those that the type forbids and that have chunks, then the author, the pages and the chapter
 abbrev pub superfluous_of : Entry → Names
 superfluous_of entry =
-    (filter (has_chunks entry) (forbidden_of entry.entry_type)
+    (filter (has_chunks entry) (forbidden_fields_of entry.entry_type)
     ++ superfluous_people (rules_of entry.entry_type).author entry)
     ++ superfluous_pages (rules_of entry.entry_type).pages entry
 

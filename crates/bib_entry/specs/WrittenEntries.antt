@@ -4,7 +4,7 @@
 use Rattle.std.specs.Prelude.{ℕ, List, [], ◌∷◌, ◌++◌, codes, unwrap_or, encode_utf8_all, bytes_eq, if◌then◌else◌, Option, Some, None}
 use Rattle.std.specs.FinMap.{entries}
 use Rattle.std.specs.List.{flat_map}
-use Rattle.bib_text.specs.Enums.{named}
+use Rattle.bib_text.specs.Enums.{value_named}
 use Rattle.bib_text.specs.declared.spanned.Spanned.{Spanned}
 use Rattle.bib_chunks.specs.declared.chunk.Chunk.{Chunk}
 use Rattle.bib_chunks.specs.Written.{written_value}
@@ -36,7 +36,7 @@ biblatex_names = (codes "journal", codes "journaltitle") ∷ (codes "address", c
 
 -- BibLaTeX's name of a field
 abbrev pub biblatex_name : List ℕ → List ℕ
-biblatex_name name = unwrap_or (named biblatex_names name) name
+biblatex_name name = unwrap_or (value_named biblatex_names name) name
 
 -- the line of a field with BibLaTeX's name
 abbrev pub biblatex_field : List ℕ × List (Spanned Chunk) → List ℕ
@@ -63,7 +63,7 @@ names_in kind = bibtex_names
 
 -- BibTeX's name of a field of an entry of this type
 abbrev pub bibtex_name : EntryType → List ℕ → List ℕ
-bibtex_name kind name = unwrap_or (named (names_in kind) name) name
+bibtex_name kind name = unwrap_or (value_named (names_in kind) name) name
 
 -- the line of a part of a date; empty if there is no such part
 abbrev pub part_line : List ℕ → Option (List ℕ) → List ℕ

@@ -4,7 +4,7 @@ ghost use Rattle.std.specs.Prelude.{◌≡◌, ◌++◌, OnOk, IfOk, codes, stri
 ghost use Rattle.std.specs.FinMap.{entries};
 ghost use Rattle.std.specs.List.{flat_map};
 ghost use Rattle.bib_tables.specs.EntryType.{entry_type_name};
-ghost use Rattle.bib_text.specs.Enums.{named};
+ghost use Rattle.bib_text.specs.Enums.{value_named};
 ghost use Rattle.bib_entry.specs.Dialect.{entry_in, written_field, kind_in};
 ghost use Rattle.std.specs.Option.{option_map};
 ghost use Rattle.bib_dates.specs.Chunks.{date_read};
@@ -70,7 +70,7 @@ fn write_line(
 
 // Returns BibTeX's name of a field, for any type of its entry.
 fn plain_name(name: &str) -> &str
-    ensures { result.now ≡ unwrap_or (named bibtex_names name.now) name.now }
+    ensures { result.now ≡ unwrap_or (value_named bibtex_names name.now) name.now }
 {
     match name {
         "journaltitle" => "journal",
@@ -81,7 +81,7 @@ fn plain_name(name: &str) -> &str
 
 // Returns BibTeX's name of a field of a thesis.
 fn thesis_name(name: &str) -> &str
-    ensures { result.now ≡ unwrap_or (named thesis_names name.now) name.now }
+    ensures { result.now ≡ unwrap_or (value_named thesis_names name.now) name.now }
 {
     match name {
         "institution" => "school",

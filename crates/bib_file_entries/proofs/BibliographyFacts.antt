@@ -9,7 +9,7 @@ use Rattle.std.specs.FinMap as map
 use Rattle.std.specs.FinMap.{get-empty, get-insert}
 use Rattle.bib_entry.specs.declared.entry.Entry.{Entry}
 use Rattle.bib_collections.specs.Sorted.{ByText, by_bytes}
-use Rattle.bib_collections.specs.Names.{claimed, claims_for, moved, without_index, AreIndicesBelow}
+use Rattle.bib_collections.specs.Names.{with_claims, claims_for, index_after_removal, without_index, AreIndicesBelow}
 use Rattle.bib_file_entries.specs.Bibliography.{Bibliography, index_of, entry_of}
 use Rattle.bib_collections.proofs.NamesFacts.{get-without_index}
 
@@ -36,13 +36,13 @@ below_insert n m name index below lt q p is =
 
 -- all names point below `n` after names are claimed for an index below `n`
 pub below_claimed : (n : ℕ) (names : List (List ℕ)) (m : ByText ℕ) (index : ℕ) → AreIndicesBelow n m → index < n
-    → AreIndicesBelow n (claimed m (claims_for names index))
+    → AreIndicesBelow n (with_claims m (claims_for names index))
 below_claimed n [] m index below lt = below
 below_claimed n (name ∷ names) m index below lt =
     below_claimed n names (map.insert m name index) index (below_insert n m name index below lt) lt
 
 -- an index below `n`, after an index below `n` is removed, is below `n - 1`
-still_below : (n taken index p : ℕ) → index < n → taken < n → moved taken index ≡ Some p → p < n - 1
+still_below : (n taken index p : ℕ) → index < n → taken < n → index_after_removal taken index ≡ Some p → p < n - 1
 still_below n taken index p lt taken_lt is =
     elim (index == taken) as
     (λ b.
@@ -59,7 +59,7 @@ still_below n taken index p lt taken_lt is =
     ] refl is
 
 kept_below : (n taken p : ℕ) (o : Option ℕ) → ((index : ℕ) → o ≡ Some index → index < n) → taken < n
-    → option_and_then (moved taken) o ≡ Some p → p < n - 1
+    → option_and_then (index_after_removal taken) o ≡ Some p → p < n - 1
 kept_below n taken p None below lt is = no_value is
 kept_below n taken p (Some index) below lt is = still_below n taken index p (below index refl) lt is
 

@@ -19,7 +19,7 @@ use Rattle.bib_file_entries.proofs.BibliographyFacts.{below_empty}
 use Rattle.bib_file_entries.proofs.LoadedFacts.{same_next, bibliography_next, below_next}
 use Rattle.bib_file_entries.proofs.LoadingFacts.{AllZip-push, IsFound, are_readable, found_last}
 use Rattle.bib_file_entries.proofs.RawFacts.{found_same, readable_same}
-use Rattle.bib_collections.specs.Names.{AreIndicesBelow, claimed, claims_for}
+use Rattle.bib_collections.specs.Names.{AreIndicesBelow, with_claims, claims_for}
 use Rattle.bib_collections.specs.Sorted.{ByText, by_bytes}
 use Rattle.bib_syntax.specs.Reading.{EntryReading, FieldReading}
 use Rattle.bib_syntax.specs.Views.{entry_reading_of, field_of}
@@ -217,7 +217,7 @@ pub entries_next : {definitions : Definitions} {said rest : List EntryReading} {
     → EntriesKeptSoFar definitions said (one ∷ rest) found names places origins index errors
     → is_some (by_name.get names one.key.text) ≡ false → IsKeptEntry definitions one errors new entry
     → EntriesKeptSoFar definitions said rest (found ++ entry ∷ [])
-    (claimed names (claims_for (claims entry) (length found))) (places ++ place_of one ∷ []) (origins ++ index ∷ [])
+    (with_claims names (claims_for (claims entry) (length found))) (places ++ place_of one ∷ []) (origins ++ index ∷ [])
     (index + 1) new
 entries_next {definitions} {said} {rest} {one} {found} {names} {places} {origins} {index} {errors} {new} entry so_far absent read =
     let fresh : is_claimed so_far.earlier one.key.text ≡ false = sym (so_far.same one.key.text) ∙ absent in

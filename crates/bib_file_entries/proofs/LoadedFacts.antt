@@ -21,7 +21,7 @@ use Rattle.bib_entry.specs.declared.entry.Entry.{Entry}
 use Rattle.bib_file_entries.specs.Bibliography.{Bibliography, claims, aliases, appended, empty_bibliography}
 use Rattle.bib_chunks.specs.Lists.{comma_texts}
 use Rattle.bib_file_entries.specs.Loaded.{AllCanBeRead, IsEntry, AreEntries, IsFirstErrorOfFields, IsFirstErrorOfEntries, FieldSays, field_in, is_claimed, loaded_after}
-use Rattle.bib_collections.specs.Names.{AreIndicesBelow, claimed, claims_for}
+use Rattle.bib_collections.specs.Names.{AreIndicesBelow, with_claims, claims_for}
 use Rattle.bib_collections.specs.Sorted.{ByText, by_bytes}
 use Rattle.bib_file_entries.proofs.BibliographyFacts.{below_empty, below_claimed, below_more}
 use Rattle.std.proofs.Math.Bool.{or-false}
@@ -83,7 +83,7 @@ one_more false index had later = refl
 
 -- after claiming names for an index, the claimed names are the old ones and these
 pub names_claimed : (index : ℕ) (more : List (List ℕ)) (names : ByText ℕ) (name : List ℕ)
-    → is_some (by_name.get (claimed names (claims_for more index)) name) ≡ (is_some (by_name.get names name) || is_claimed more name)
+    → is_some (by_name.get (with_claims names (claims_for more index)) name) ≡ (is_some (by_name.get names name) || is_claimed more name)
 names_claimed index [] names name = sym (or-false (is_some (by_name.get names name)))
 names_claimed index (one ∷ more) names name =
     names_claimed index more (by_name.insert names one index) name
@@ -117,7 +117,7 @@ loaded_none definitions said = record {
 pub same_next : (earlier : List (List ℕ)) (entry : Entry) (names : ByText ℕ) (index : ℕ)
     → ((name : List ℕ) → is_some (by_name.get names name) ≡ is_claimed earlier name)
     → (name : List ℕ)
-    → is_some (by_name.get (claimed names (claims_for (claims entry) index)) name)
+    → is_some (by_name.get (with_claims names (claims_for (claims entry) index)) name)
     ≡ is_claimed (earlier ++ claims entry) name
 same_next earlier entry names index same name =
     names_claimed index (claims entry) names name
@@ -128,13 +128,13 @@ same_next earlier entry names index same name =
 pub bibliography_next : (found : List Entry) (entry : Entry) (names : ByText ℕ)
     → loaded_after empty_bibliography found ≡ record { entries = found; names = names }
     → loaded_after empty_bibliography (found ++ entry ∷ [])
-    ≡ record { entries = found ++ entry ∷ []; names = claimed names (claims_for (claims entry) (length found)) }
+    ≡ record { entries = found ++ entry ∷ []; names = with_claims names (claims_for (claims entry) (length found)) }
 bibliography_next found entry names loaded =
     loaded_more empty_bibliography found (entry ∷ []) ∙ ap (λ bibliography. appended bibliography entry) loaded
 
 -- each name still points to an entry when an entry is added with its claims
 pub below_next : (found : List Entry) (entry : Entry) (names : ByText ℕ) → AreIndicesBelow (length found) names
-    → AreIndicesBelow (length (found ++ entry ∷ [])) (claimed names (claims_for (claims entry) (length found)))
+    → AreIndicesBelow (length (found ++ entry ∷ [])) (with_claims names (claims_for (claims entry) (length found)))
 below_next found entry names below =
     let count : length (found ++ entry ∷ []) ≡ length found + 1 = length-append found (entry ∷ []) in
     below_claimed (length (found ++ entry ∷ [])) (claims entry) names (length found)
@@ -145,7 +145,7 @@ pub loaded_next : {definitions : Definitions} {said : List EntryReading} {one : 
     {found : List Entry} {names : ByText ℕ} (entry : Entry)
     → LoadedSoFar definitions said (one ∷ rest) found names → is_some (by_name.get names one.key.text) ≡ false
     → IsEntry definitions one entry
-    → LoadedSoFar definitions said rest (found ++ entry ∷ []) (claimed names (claims_for (claims entry) (length found)))
+    → LoadedSoFar definitions said rest (found ++ entry ∷ []) (with_claims names (claims_for (claims entry) (length found)))
 loaded_next {definitions} {said} {one} {rest} {found} {names} entry loaded absent read =
     let fresh : is_claimed loaded.earlier one.key.text ≡ false = sym (loaded.same one.key.text) ∙ absent in
     record {

@@ -9,7 +9,7 @@ use Rattle.bib_chunks.specs.Styled.{styled}
 use Rattle.bib_entry.specs.declared.entry.Entry.{Entry}
 use Rattle.bib_entry.specs.contracts.entry.Entry as entry
 use Rattle.bib_collections.specs.Sorted.{ByText}
-use Rattle.bib_collections.specs.Names.{claimed, claims_for, without_index}
+use Rattle.bib_collections.specs.Names.{with_claims, claims_for, without_index}
 use Rattle.bib_chunks.specs.Lists.{comma_texts}
 
 -- entries in order, and names, each pointing to the index of an entry
@@ -48,7 +48,7 @@ entry_of bibliography name = option_and_then (λ index. slice_get bibliography.e
 abbrev pub appended : Bibliography → Entry → Bibliography
 appended bibliography entry = record {
   entries = bibliography.entries ++ entry ∷ [];
-  names = claimed bibliography.names (claims_for (claims entry) (length bibliography.entries));
+  names = with_claims bibliography.names (claims_for (claims entry) (length bibliography.entries));
 }
 
 -- a bibliography with the entry at an index replaced, and the names unchanged

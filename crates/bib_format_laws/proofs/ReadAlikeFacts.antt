@@ -12,7 +12,7 @@ use Rattle.bib_chunks.specs.Styled.{styled}
 use Rattle.bib_chunks.specs.declared.chunk.Chunk.{Chunk}
 use Rattle.bib_documents.specs.Edits.{moved_field, moved_piece}
 use Rattle.bib_entry.specs.declared.entry.Entry.{Entry}
-use Rattle.bib_tables.specs.EntryType.{entry_type_of, named_or_alias}
+use Rattle.bib_tables.specs.EntryType.{entry_type_of, entry_type_by_name_or_alias}
 use Rattle.bib_tables.specs.VerbatimFields.{is_verbatim_field}
 use Rattle.bib_tables.specs.declared.mechanics.EntryType.TheVariants.{Unknown}
 use Rattle.bib_file_entries.specs.Bibliography.{Bibliography, aliases, appended, claims, empty_bibliography}
@@ -22,7 +22,7 @@ use Rattle.bib_format.specs.declared.style.Style.{Style}
 use Rattle.bib_collections.specs.Graph.{Graph, Leads, refs_of}
 use Rattle.bib_inheritance.specs.InheritableDate.{looks_for_date}
 use Rattle.bib_inheritance.specs.EntryTexts.{EntryTexts, fields_of}
-use Rattle.bib_collections.specs.Names.{claimed, claims_for}
+use Rattle.bib_collections.specs.Names.{with_claims, claims_for}
 use Rattle.bib_inheritance.specs.Resolving.{AreDatesRead, Inherits, at_index, is_bad_date, texts_of_entries, texts_of_entry}
 use Rattle.bib_chunks.specs.Lists.{comma_texts}
 use Rattle.bib_syntax.specs.Reading.{EntryReading, FieldReading, FileReading, Part, Piece}
@@ -108,8 +108,8 @@ abbreviations_alike (f ∷ fs) (g ∷ gs) is =
 -- the type of a name is that of the name in lowercase
 type_of_lowercase : (name other : List ℕ) → str_to_ascii_lowercase name ≡ str_to_ascii_lowercase other
     → entry_type_of name ≡ entry_type_of other
-unfolding entry_type_of named_or_alias
-type_of_lowercase name other same = ap (λ l. unwrap_or (named_or_alias l) (Unknown l)) same
+unfolding entry_type_of entry_type_by_name_or_alias
+type_of_lowercase name other same = ap (λ l. unwrap_or (entry_type_by_name_or_alias l) (Unknown l)) same
 
 entries_alike : (style : Style) (text : List ℕ) (es gs : List EntryReading)
     → map entry_content (map (entry_in_order style text) es) ≡ map entry_content gs → AllZip AreAlikeEntries es gs
@@ -256,9 +256,9 @@ names_zip l m (a ∷ as') [] count names all = absurd all
 names_zip l m (a ∷ as') (b ∷ bs) count names all =
     names_zip (appended l a) (appended m b) as' bs
     (length-append l.entries (a ∷ []) ∙ ap (λ k. k + 1) count ∙ sym (length-append m.entries (b ∷ [])))
-    (ap (λ n. claimed n (claims_for (claims a) (length l.entries))) names
-    ∙ ap (λ cs. claimed m.names (claims_for cs (length l.entries))) all.0.claims
-    ∙ ap (λ k. claimed m.names (claims_for (claims b) k)) count)
+    (ap (λ n. with_claims n (claims_for (claims a) (length l.entries))) names
+    ∙ ap (λ cs. with_claims m.names (claims_for cs (length l.entries))) all.0.claims
+    ∙ ap (λ k. with_claims m.names (claims_for (claims b) k)) count)
     all.1
 
 module _ {says tells : FileReading} (are : AreAlikeFiles says tells) where

@@ -18,8 +18,8 @@ use Rattle.std.proofs.lemmas.Str.Parse.{digit_from_value}
 use Rattle.bib_text.specs.declared.spanned.Spanned.{Spanned}
 use Rattle.bib_chunks.specs.declared.chunk.Chunk.{Chunk}
 use Rattle.bib_chunks.specs.declared.chunk.Chunk.TheVariants.{Normal}
-use Rattle.bib_chunks.specs.Cuts.{between_commas, chunk_part, comma_list, further, joined_parts, list_parts, piece, pieces, pieces_between, placed, trimmed_end, trimmed_start}
-use Rattle.bib_chunks.specs.Formatted.{flowing, formatted, is_break}
+use Rattle.bib_chunks.specs.Cuts.{between_commas, chunk_part, comma_list, further, joined_parts, list_parts, piece, pieces, pieces_between, with_span, trimmed_end, trimmed_start}
+use Rattle.bib_chunks.specs.Formatted.{flowing, formatted_chars, is_break}
 use Rattle.bib_chunks.specs.Values.{Value, alone, text}
 use Rattle.bib_chunks.proofs.CutFacts.{split_none}
 use Rattle.bib_chunks.proofs.FormattedFacts.{goes_on}
@@ -274,13 +274,13 @@ end_stays true cs all = end_cut cs all
 end_stays false cs all = refl
 
 part_says : (whole : List ℕ) (span : Range ℕ) (at : ℕ) (text : List ℕ)
-    → formatted (chunk_part whole span at text ∷ []) ≡ flowing false (chars text) ++ []
+    → formatted_chars (chunk_part whole span at text ∷ []) ≡ flowing false (chars text) ++ []
 part_says whole span at text = says (length text == length whole)
   where
     says : (b : Bool)
-        → formatted
-        (cond b (placed (Normal text) span.start span.end)
-        (placed (Normal text) (further span.start at) (further (further span.start at) (length text)))
+        → formatted_chars
+        (cond b (with_span (Normal text) span.start span.end)
+        (with_span (Normal text) (further span.start at) (further (further span.start at) (length text)))
         ∷ []) ≡ flowing false (chars text) ++ []
     says true = refl
     says false = refl
@@ -291,13 +291,13 @@ page_says cs all =
     ∙ flowing_whole false cs (weaker is_of_page goes_on of_page_goes cs all)
 
 first_says : (whole : List ℕ) (span : Range ℕ) (at : ℕ) (last : Bool) (cs : List ℕ) → list_all is_of_page cs ≡ true
-    → formatted (piece whole span at false last (encode_utf8_all cs) ∷ []) ≡ cs
+    → formatted_chars (piece whole span at false last (encode_utf8_all cs) ∷ []) ≡ cs
 first_says whole span at last cs all =
     part_says whole span _ (trimmed_end last (encode_utf8_all cs))
     ∙ ap (λ t. flowing false (chars t) ++ []) (end_stays last cs all) ∙ page_says cs all
 
 later_says : (whole : List ℕ) (span : Range ℕ) (at : ℕ) (last : Bool) (cs : List ℕ) → list_all is_of_page cs ≡ true
-    → formatted (piece whole span at true last (encode_utf8_all (32 ∷ cs)) ∷ []) ≡ cs
+    → formatted_chars (piece whole span at true last (encode_utf8_all (32 ∷ cs)) ∷ []) ≡ cs
 later_says whole span at last cs all =
     part_says whole span _ (trimmed_end last (trim_start (encode_utf8_all (32 ∷ cs))))
     ∙ ap (λ t. flowing false (chars (trimmed_end last t)) ++ []) (start_cut cs all)
@@ -311,7 +311,7 @@ joined_more p whole span at text [] parts = refl
 joined_more p whole span at text (next ∷ more) parts = refl
 
 abbrev said : List Value → List (List ℕ)
-said parts = map formatted parts
+said parts = map formatted_chars parts
 
 later_parts : (whole : List ℕ) (span : Range ℕ) (at : ℕ) (r : Range ℕ) (rs : List (Range ℕ)) → RangeKept r → AllByRecursion RangeKept rs
     → said (joined_parts (pieces_between 1 whole span at true ((32 ∷ page_chars r) ∷ spaced rs)) ([] ∷ []))
@@ -340,9 +340,9 @@ all_parts whole span r (q ∷ rs) first rest =
     (first_says whole span 0 true (page_chars r) (page_of r first))
     ∙ ap (λ ts. page_chars r ∷ ts) (later_parts whole span next q rs rest.0 rest.1)
 
-composed : (parts : List Value) → map (λ part. range_of (formatted part)) parts ≡ map range_of (said parts)
+composed : (parts : List Value) → map (λ part. range_of (formatted_chars part)) parts ≡ map range_of (said parts)
 composed [] = refl
-composed (p ∷ parts) = ap (λ xs. range_of (formatted p) ∷ xs) (composed parts)
+composed (p ∷ parts) = ap (λ xs. range_of (formatted_chars p) ∷ xs) (composed parts)
 
 each_read : (rs : List (Range ℕ)) → AllByRecursion RangeKept rs → all_of (map range_of (map page_chars rs)) ≡ Some rs
 each_read [] kept = refl
@@ -359,7 +359,7 @@ ranges_are r rs first rest =
     scalars_both (page_chars r) (more_chars rs) (all_scalar (page_chars r) (page_of r first)) (more_scalar rs rest) in
     let cut : between_commas (chars (encode_utf8_all cs)) ≡ page_chars r ∷ spaced rs =
     ap between_commas (chars-encodes cs valid) ∙ cut_after_space [] r rs first rest tt in
-    ap (λ t. all_of (map (λ part. range_of (formatted part)) (comma_list (alone (Normal t))))) (all_pages r rs first rest)
+    ap (λ t. all_of (map (λ part. range_of (formatted_chars part)) (comma_list (alone (Normal t))))) (all_pages r rs first rest)
     ∙ ap all_of (composed (comma_list (alone (Normal (encode_utf8_all cs)))))
     ∙ ap (λ ts. all_of (map range_of (said (joined_parts (pieces_between 1 (encode_utf8_all cs) no_place 0 false ts) ([] ∷ []))))) cut
     ∙ ap (λ ps. all_of (map range_of ps)) (all_parts (encode_utf8_all cs) no_place r rs first rest)

@@ -15,7 +15,7 @@ use Rattle.std.proofs.lemmas.Str.{chars-IsAscii, encodes-IsAscii, encodes-chars}
 use Rattle.bib_chunks.specs.declared.chunk.Chunk.{Chunk}
 use Rattle.bib_chunks.specs.declared.chunk.Chunk.TheVariants.{Normal, Verbatim}
 use Rattle.bib_chunks.specs.Cuts.{and_list}
-use Rattle.bib_chunks.specs.Formatted.{flowing, formatted_after, space_after}
+use Rattle.bib_chunks.specs.Formatted.{flowing, formatted_chars_after, space_after}
 use Rattle.bib_chunks.proofs.FormattedFacts.{flowing_run, goes_on}
 use Rattle.bib_chunks.specs.Values.{Value, nowhere, text}
 use Rattle.bib_people.specs.declared.person.Person.{Person}

@@ -3,7 +3,7 @@ use Rattle.std.proofs.Common.{◌≡◌, ◌++◌, ℕ, List, [], ◌∷◌, sym
 use Rattle.std.specs.List.{flat_map}
 use Rattle.std.specs.Str.{chars, IsUtf8}
 use Rattle.bib_text.specs.Places.{Place, CharAt, AtEnd}
-use Rattle.bib_text.proofs.TextFacts.{ahead, Passed, passed_char, chars_at_end}
+use Rattle.bib_text.proofs.TextFacts.{ahead, MovesPast, passed_char, chars_at_end}
 
 -- a character of a text, of each of which this is written
 pub scanned_step : (written : ℕ → List ℕ) (out more total : List ℕ) {u x : Place} {c : ℕ} → CharAt u c x
@@ -11,7 +11,7 @@ pub scanned_step : (written : ℕ → List ℕ) (out more total : List ℕ) {u x
     → out ++ flat_map written (chars (ahead u)) ≡ total
     → (x.text ≡ u.text) × IsUtf8 (ahead x) × (more ++ flat_map written (chars (ahead x)) ≡ total)
 scanned_step written out more total {u} {x} {c} char utf8 wrote before =
-    let passed : Passed u (c ∷ []) x = passed_char char utf8 in (
+    let passed : MovesPast u (c ∷ []) x = passed_char char utf8 in (
       passed.same,
       passed.utf8,
       ap (λ o. o ++ flat_map written (chars (ahead x))) wrote

@@ -2,7 +2,7 @@
 -- The fields that an entry inherits from the entries that it refers to: the inheritance of the BibLaTeX manual, by the rules
 -- of the Rust crate `biblatex`.
 use Rattle.std.specs.Prelude.{ℕ, Bool, not, ◌&&◌, ◌||◌, List, [], ◌∷◌, codes, bytes_eq, unwrap_or, Option, Some, None, if◌then◌else◌, true, false}
-use Rattle.bib_text.specs.Enums.{named}
+use Rattle.bib_text.specs.Enums.{value_named}
 use Rattle.bib_chunks.specs.Styled.{Atom}
 use Rattle.bib_tables.specs.EntryType.{is_collection, is_multi_volume}
 use Rattle.bib_tables.specs.Requirements.{Names, fields, inherits, is_container, is_one_of}
@@ -43,13 +43,13 @@ same_meaning =
 -- the title that an entry of a type offers for a name, if the name is one of those above
 abbrev pub title_for : EntryType → List ℕ → Option Names
 title_for entry_type name =
-    first_some (if is_periodical entry_type then named journal_titles name else None)
-    (first_some (if is_collection entry_type then named book_titles name else None)
-    (if is_multi_volume entry_type then named main_titles name else None))
+    first_some (if is_periodical entry_type then value_named journal_titles name else None)
+    (first_some (if is_collection entry_type then value_named book_titles name else None)
+    (if is_multi_volume entry_type then value_named main_titles name else None))
 
 -- the names of the fields that an entry of a type offers for a name, in order of preference
 abbrev pub offered_from : EntryType → List ℕ → Names
-offered_from entry_type name = unwrap_or (first_some (title_for entry_type name) (named same_meaning name)) (name ∷ [])
+offered_from entry_type name = unwrap_or (first_some (title_for entry_type name) (value_named same_meaning name)) (name ∷ [])
 
 -- the first of these fields that exists
 abbrev pub first_offer : FieldTexts → Names → Option (List Atom)

@@ -2,7 +2,7 @@
 
 ghost use Rattle.std.specs.Prelude.{◌≡◌, Some, option_map};
 ghost use Rattle.std.specs.Option.{option_copied};
-ghost use Rattle.bib_text.specs.Enums.{named};
+ghost use Rattle.bib_text.specs.Enums.{value_named};
 ghost use Rattle.bib_chunks.specs.Styled.{styled};
 ghost use Rattle.bib_tables.specs.Requirements.{texts};
 ghost use Rattle.bib_inheritance.specs.Inherited.{is_periodical, journal_titles, book_titles, main_titles, title_for, same_meaning, first_offer, offer};
@@ -28,7 +28,7 @@ fn is_periodical(entry_type: &EntryType) -> bool
 }
 
 fn journal_title(name: &str) -> Option<&'static [&'static str]>
-    ensures { option_map (λ names. texts names.now) result ≡ named journal_titles name.now }
+    ensures { option_map (λ names. texts names.now) result ≡ value_named journal_titles name.now }
 {
     match name {
         "journaltitle" => Some(&["title"]),
@@ -38,7 +38,7 @@ fn journal_title(name: &str) -> Option<&'static [&'static str]>
 }
 
 fn book_title(name: &str) -> Option<&'static [&'static str]>
-    ensures { option_map (λ names. texts names.now) result ≡ named book_titles name.now }
+    ensures { option_map (λ names. texts names.now) result ≡ value_named book_titles name.now }
 {
     match name {
         "booktitle" => Some(&["title"]),
@@ -49,7 +49,7 @@ fn book_title(name: &str) -> Option<&'static [&'static str]>
 }
 
 fn main_title(name: &str) -> Option<&'static [&'static str]>
-    ensures { option_map (λ names. texts names.now) result ≡ named main_titles name.now }
+    ensures { option_map (λ names. texts names.now) result ≡ value_named main_titles name.now }
 {
     match name {
         "maintitle" => Some(&["title"]),
@@ -81,7 +81,7 @@ fn title_for(entry_type: &EntryType, name: &str) -> Option<&'static [&'static st
 
 // Returns the names of the fields with the same meaning that an entry offers for `name`, in order of preference.
 fn same_meaning(name: &str) -> Option<&'static [&'static str]>
-    ensures { option_map (λ names. texts names.now) result ≡ named same_meaning name.now }
+    ensures { option_map (λ names. texts names.now) result ≡ value_named same_meaning name.now }
 {
     match name {
         "address" => Some(&["address", "location"]),

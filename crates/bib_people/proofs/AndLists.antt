@@ -7,8 +7,8 @@ use Rattle.std.specs.declared.ops.Range.{Range}
 use Rattle.bib_chunks.specs.declared.chunk.Chunk.{Chunk}
 use Rattle.bib_chunks.specs.declared.chunk.Chunk.TheVariants.{Normal}
 use Rattle.bib_text.specs.declared.spanned.Spanned.{Spanned}
-use Rattle.bib_chunks.specs.Cuts.{placed, piece, chunk_part, pieces, pieces_between, onto, joined_parts, list_parts, between_ands, trimmed, trimmed_from, trimmed_ends, and_list}
-use Rattle.bib_chunks.specs.Formatted.{formatted_after}
+use Rattle.bib_chunks.specs.Cuts.{with_span, piece, chunk_part, pieces, pieces_between, onto, joined_parts, list_parts, between_ands, trimmed_chunk, trimmed_chunks, trimmed_ends, and_list}
+use Rattle.bib_chunks.specs.Formatted.{formatted_chars_after}
 use Rattle.bib_chunks.specs.Values.{Value, nowhere, alone}
 use Rattle.bib_chunks.proofs.SeparatedFacts.{no_place}
 use Rattle.bib_chunks.proofs.AndListFacts.{and_separates}
@@ -19,7 +19,7 @@ normal text = nowhere (Normal text)
 -- a chunk that is one part of such a list
 pub record IsPart (chunk : Chunk) : Type 0 where
   pub one : pieces 3 (between_ands false) chunk no_place ≡ alone chunk
-  pub ends : (first last : Bool) → trimmed first last chunk no_place ≡ nowhere chunk
+  pub ends : (first last : Bool) → trimmed_chunk first last chunk no_place ≡ nowhere chunk
 
 abbrev pub AllParts : List Chunk → Type 0
 AllParts [] = Unit {0}
@@ -57,7 +57,7 @@ written_after (chunk ∷ chunks) = normal (codes " and ") ∷ nowhere chunk ∷ 
 -- an empty chunk with this span, or none
 abbrev pub empties : Range ℕ → Bool → Value
 empties span false = []
-empties span true = placed (Normal []) span.start span.end ∷ []
+empties span true = with_span (Normal []) span.start span.end ∷ []
 
 -- the span of the empty chunk before a separator
 abbrev pub before_and : Range ℕ
@@ -77,23 +77,23 @@ padded_parts before chunk (next ∷ more) = padded before true chunk ∷ padded_
 -- the ends of the list
 
 trimmed_after : (chunk : Chunk) (chunks : List Chunk) → IsPart chunk → AllParts chunks
-    → trimmed_from false (written_after (chunk ∷ chunks)) ≡ written_after (chunk ∷ chunks)
+    → trimmed_chunks false (written_after (chunk ∷ chunks)) ≡ written_after (chunk ∷ chunks)
 trimmed_after chunk [] part all =
-    ap (λ c. trimmed false false (Normal (codes " and ")) no_place ∷ c ∷ []) (part.ends false true)
+    ap (λ c. trimmed_chunk false false (Normal (codes " and ")) no_place ∷ c ∷ []) (part.ends false true)
     ∙ ap (λ c. c ∷ nowhere chunk ∷ []) (untouched (codes " and "))
 trimmed_after chunk (next ∷ more) part all =
     ap
     (λ c.
-    trimmed false false (Normal (codes " and ")) no_place ∷ c ∷ trimmed_from false (written_after (next ∷ more)))
+    trimmed_chunk false false (Normal (codes " and ")) no_place ∷ c ∷ trimmed_chunks false (written_after (next ∷ more)))
     (part.ends false false)
-    ∙ ap (λ l. trimmed false false (Normal (codes " and ")) no_place ∷ nowhere chunk ∷ l) (trimmed_after next more all.0 all.1)
+    ∙ ap (λ l. trimmed_chunk false false (Normal (codes " and ")) no_place ∷ nowhere chunk ∷ l) (trimmed_after next more all.0 all.1)
     ∙ ap (λ c. c ∷ nowhere chunk ∷ written_after (next ∷ more)) (untouched (codes " and "))
 
 trimmed_whole : (chunk : Chunk) (chunks : List Chunk) → IsPart chunk → AllParts chunks
     → trimmed_ends (nowhere chunk ∷ written_after chunks) ≡ nowhere chunk ∷ written_after chunks
 trimmed_whole chunk [] part all = ap (λ c. c ∷ []) (part.ends true true)
 trimmed_whole chunk (next ∷ more) part all =
-    ap (λ c. c ∷ trimmed_from false (written_after (next ∷ more))) (part.ends true false)
+    ap (λ c. c ∷ trimmed_chunks false (written_after (next ∷ more))) (part.ends true false)
     ∙ ap (λ l. nowhere chunk ∷ l) (trimmed_after next more all.0 all.1)
 
 -- its parts
@@ -134,7 +134,7 @@ and_list_written chunk chunks part all =
     ∙ onto_one false chunk chunks all
 
 -- empty chunks format to nothing
-pub formatted_empties : (span : Range ℕ) (space following : Bool) → formatted_after space (empties span following) ≡ []
+pub formatted_empties : (span : Range ℕ) (space following : Bool) → formatted_chars_after space (empties span following) ≡ []
 unfolding chars
 formatted_empties span space true = refl
 formatted_empties span space false = refl

@@ -10,7 +10,7 @@ use Rattle.std.proofs.lemmas.Str.{chars-nil}
 use Rattle.bib_chunks.specs.declared.chunk.Chunk.{Chunk}
 use Rattle.bib_chunks.specs.declared.chunk.Chunk.TheVariants.{Normal}
 use Rattle.bib_text.specs.declared.spanned.Spanned.{Spanned}
-use Rattle.bib_chunks.specs.Cuts.{placed, chunk_part, piece, halves, both_pieces, cut_characters, cut_first, cut_after, cut_at}
+use Rattle.bib_chunks.specs.Cuts.{with_span, chunk_part, piece, halves, both_pieces, cut_characters, cut_first, cut_after, cut_at}
 use Rattle.bib_people.proofs.AndLists.{empties}
 
 abbrev pub is_comma : ℕ → Bool
@@ -18,7 +18,7 @@ is_comma b = b == 44
 
 -- a normal chunk with this span
 abbrev pub stands : Range ℕ → List ℕ → Spanned Chunk
-stands span text = placed (Normal text) span.start span.end
+stands span text = with_span (Normal text) span.start span.end
 
 cut_prefix : (leading_run rest : List ℕ) → list_any is_comma leading_run ≡ false
     → cut_characters 44 (leading_run ++ (44 ∷ rest)) ≡ Some (leading_run, rest)
@@ -43,7 +43,7 @@ piece_is : (whole : List ℕ) (span : Range ℕ) (at : ℕ) (first last : Bool) 
     → (piece whole span at first last text).v ≡ Normal left
     → piece whole span at first last text ≡ stands (piece whole span at first last text).span left
 piece_is whole span at first last text left is =
-    ap (λ v. placed v (piece whole span at first last text).span.start (piece whole span at first last text).span.end)
+    ap (λ v. with_span v (piece whole span at first last text).span.start (piece whole span at first last text).span.end)
     is
 
 -- the halves of a chunk, with any spans

@@ -12,7 +12,7 @@ use Rattle.std.proofs.lemmas.Str.{chars-IsAscii, encodes-IsAscii, chars-nil}
 use Rattle.bib_chunks.specs.declared.chunk.Chunk.{Chunk}
 use Rattle.bib_chunks.specs.declared.chunk.Chunk.TheVariants.{Normal}
 use Rattle.bib_text.specs.declared.spanned.Spanned.{Spanned}
-use Rattle.bib_chunks.specs.Formatted.{flowing, formatted, space_after}
+use Rattle.bib_chunks.specs.Formatted.{flowing, formatted_chars, space_after}
 use Rattle.bib_chunks.proofs.FormattedFacts.{goes_on, flowing_run}
 use Rattle.bib_chunks.specs.Cuts.{cut_at}
 use Rattle.bib_people.specs.declared.person.Person.{Person}
@@ -105,7 +105,7 @@ after_space text is = start_one text (space_small text is.ascii) is.ascii is.ski
 -- parts of a name, with or without empty chunks around them
 
 formatted_text : (text : List ℕ) (span : Range ℕ) (following : Bool) → IsText text
-    → formatted (stands span text ∷ empties before_and following) ≡ text
+    → formatted_chars (stands span text ∷ empties before_and following) ≡ text
 formatted_text text span following is =
     ap (λ l. flowing false (chars text) ++ l) (formatted_empties before_and (space_after false (Normal text)) following)
     ∙ append-nil (flowing false (chars text)) ∙ ap (flowing false) is.same ∙ is.flows
@@ -272,7 +272,7 @@ with_comma_read before following prefix name given suffix a c small capital any 
     ap text_of_words (drop_at xs ys (length xs) refl) ∙ spelt_words apart.0 name capital_any in
     ap
     (λ blank.
-    cond blank (at_last_space (encode_utf8_all (formatted first)) suffix)
+    cond blank (at_last_space (encode_utf8_all (formatted_chars first)) suffix)
     (before_comma_person (words_of (letters first)) (shown second) suffix))
     (not_blank (spaced given) c following last has_given)
     ∙ ap (λ ws. before_comma_person ws (shown second) suffix) words

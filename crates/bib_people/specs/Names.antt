@@ -9,7 +9,7 @@ use Rattle.std.specs.Str.{trim}
 use Rattle.bib_chunks.specs.declared.chunk.Chunk.{Chunk}
 use Rattle.bib_text.specs.declared.spanned.Spanned.{Spanned}
 use Rattle.bib_chunks.specs.Styled.{text_of}
-use Rattle.bib_chunks.specs.Formatted.{formatted}
+use Rattle.bib_chunks.specs.Formatted.{formatted_chars}
 use Rattle.bib_chunks.specs.Cuts.{comma_list, cut_at}
 use Rattle.bib_people.specs.declared.person.Person.{Person}
 use Rattle.bib_people.specs.Letters.{Letter, letters, Word, words_of, text_of_words}
@@ -80,7 +80,7 @@ name_text cuts words = text_of_words (drop cuts.prefix (drop cuts.given words))
 
 -- the formatted text of chunks, in bytes, without the white space at its ends
 abbrev pub shown : List (Spanned Chunk) → List ℕ
-shown chunks = trim (encode_utf8_all (formatted chunks))
+shown chunks = trim (encode_utf8_all (formatted_chars chunks))
 
 -- a person with only the four parts of BibTeX
 abbrev pub person : List ℕ → List ℕ → List ℕ → List ℕ → Person
@@ -120,7 +120,7 @@ at_last_space text suffix =
 
 -- whether there is a single chunk and it formats to the empty text
 abbrev pub formats_to_nothing : List (Spanned Chunk) → Bool
-formats_to_nothing chunks = length chunks == 1 && length (formatted chunks) == 0
+formats_to_nothing chunks = length chunks == 1 && length (formatted_chars chunks) == 0
 
 -- the person of a name that has these cuts before its comma
 abbrev pub cut_person : Cuts → List Word → List ℕ → List ℕ → Person
@@ -134,7 +134,7 @@ before_comma_person words given suffix = cut_person (before_comma words) words g
 -- name: those after the first comma, or after the second one if there is a suffix.
 abbrev pub with_comma : List (Spanned Chunk) → List (Spanned Chunk) → List ℕ → Person
 with_comma first second suffix =
-    if formats_to_nothing second then at_last_space (encode_utf8_all (formatted first)) suffix
+    if formats_to_nothing second then at_last_space (encode_utf8_all (formatted_chars first)) suffix
     else before_comma_person (words_of (letters first)) (shown second) suffix
 
 -- the person of a name with a comma, given the chunks before and after the first one, and their cut at a second one

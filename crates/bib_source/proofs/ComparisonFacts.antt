@@ -18,6 +18,7 @@ new_append (Context l ∷ xs) ys = ap (λ ls. l.now ∷ ls) (new_append xs ys)
 new_append (Removed l ∷ xs) ys = new_append xs ys
 new_append (Added l ∷ xs) ys = ap (λ ls. l.now ∷ ls) (new_append xs ys)
 
+-- an empty line, the default for an index past the end
 abbrev pub no_line : Bor (List ℕ)
 no_line = record { ref_ptr = (0, 0); now = [] }
 
@@ -28,6 +29,7 @@ texts_more lines i within =
     ap (map (λ l. l.now)) (take_more lines i no_line within)
     ∙ map-append (λ l. l.now) (take i lines) (get_or lines i no_line ∷ [])
 
+-- the first `i + 1` lines have as many lines of the old text as the first `i` lines and the line at `i`
 pub old_more : (lines : List Line) (i : ℕ) → i < length lines
     → length (old_side (take (i + 1) lines))
     ≡ length (old_side (take i lines)) + length (old_side (get_or lines i (Context no_line) ∷ []))
@@ -37,6 +39,7 @@ old_more lines i within =
     ∙ ap length (old_append (take i lines) (get_or lines i d ∷ []))
     ∙ length-append (old_side (take i lines)) (old_side (get_or lines i d ∷ []))
 
+-- the first `i + 1` lines have as many lines of the new text as the first `i` lines and the line at `i`
 pub new_more : (lines : List Line) (i : ℕ) → i < length lines
     → length (new_side (take (i + 1) lines))
     ≡ length (new_side (take i lines)) + length (new_side (get_or lines i (Context no_line) ∷ []))
@@ -61,6 +64,7 @@ pub of_line : (option : Option (Bor (List ℕ))) (line : List ℕ) (P : List ℕ
 of_line (Some other) line P same holds = subst P same holds
 of_line None line P same holds = absurd same
 
+-- what is true if an option has a line is true, since the option has `line`
 pub at_line : (option : Option (Bor (List ℕ))) (line : List ℕ) (P : Type 0)
     → IsSomeAnd option (λ other. other.now ≡ line) → IfSome option (λ _. P) → P
 at_line (Some other) line P same holds = holds

@@ -23,6 +23,7 @@ record IsValidAfter (bytes : List ℕ) (m index : ℕ) : Type 0 where
   pub valid : IsUtf8 (slice_range bytes m index)
   pub longest : (end : ℕ) → index < end → IsUtf8 (slice_range bytes m end) → ⊥
 
+-- the length of the valid part after a mark of `m` bytes, as an index that counts the mark
 valid_after : (bytes : List ℕ) (m n : ℕ) → IsValidUpTo (drop m bytes) n → IsValidAfter bytes m (m + n)
 valid_after bytes m n valid = record {
   after_mark = omega arith;
@@ -40,6 +41,7 @@ from_rest bytes start n reported is same valid =
     let found = subst (λ m. IsValidAfter bytes m (start + reported)) is (valid_after bytes start reported after) in
     record { after_mark = found.after_mark; within = found.within; valid = found.valid; longest = found.longest }
 
+-- a file has at most one first invalid byte
 pub one_index : (bytes : List ℕ) (i j : ℕ) → IsFirstInvalid bytes i → IsFirstInvalid bytes j → i ≡ j
 one_index bytes i j first second =
     ⊎_elim (λ same. same)
@@ -49,6 +51,7 @@ one_index bytes i j first second =
     apart)
     (cases_order i j)
 
+-- a file with a first invalid byte isn't UTF-8 after its mark
 pub not_utf8 : (bytes : List ℕ) (i : ℕ) → IsFirstInvalid bytes i → IsUtf8 (without_byte_order_mark bytes) → ⊥
 not_utf8 bytes i first utf8 =
     first.longest (length bytes) first.within (subst IsUtf8 (sym (to_the_end bytes (mark_length bytes))) utf8)
@@ -65,6 +68,7 @@ longer bytes rest m n c scalar begins utf8 =
     subst IsUtf8 (sym (take-add n (len_utf8 c) (drop m bytes) ∙ ap (λ r. take n (drop m bytes) ++ r) next))
     (IsUtf8-append _ _ utf8 (IsUtf8-encode c scalar))
 
+-- no character begins at the first invalid byte
 pub no_character : (bytes : List ℕ) (i : ℕ) → IsFirstInvalid bytes i → StartsWithNoChar (drop i bytes)
 no_character bytes i first c rest scalar begins =
     let m = mark_length bytes in

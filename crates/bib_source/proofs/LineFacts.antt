@@ -27,6 +27,7 @@ after_all : (byte : ℕ) (bytes : List ℕ) → after (byte ∷ bytes) [] ≡ (b
 after_all byte [] = refl
 after_all byte (b ∷ bytes) = ap (before_first_line byte) (after_all b bytes)
 
+-- prepending bytes to no lines gives one line of these bytes, if there are any
 pub after_some : (bytes : List ℕ) → 0 < length bytes → after bytes [] ≡ bytes ∷ []
 after_some [] some = let no : ⊥ = omega (arith, some) in absurd no
 after_some (byte ∷ bytes) some = after_all byte bytes

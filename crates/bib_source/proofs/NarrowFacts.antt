@@ -12,6 +12,7 @@ use Rattle.bib_source.specs.declared.comparison.Line.{Line}
 use Rattle.bib_source.specs.declared.comparison.Line.TheVariants.{Context}
 use Rattle.bib_source.proofs.ComparisonFacts.{no_line}
 
+-- an unchanged empty line, the default for an index past the end
 abbrev d : Line
 d = Context no_line
 

@@ -21,6 +21,7 @@ byte_of c = unwrap_or (find (λ b. windows_1252 b == c) bytes) 0
 abbrev is_own : ℕ → Bool
 is_own b = byte_of (windows_1252 b) == b
 
+-- each byte is the first with its character, so no two have the same
 table : list_all is_own bytes ≡ true
 unfolding byte_of windows_1252
 table = refl
@@ -34,6 +35,7 @@ read_back b below =
     (λ fails. absurd (both_ways _ (list_all_at is_own bytes b 0 within (ap is_own here ∙ fails)) table))
     (cases_Bool (is_own b))
 
+-- bytes with the same character are the same
 pub own_character : (b d : ℕ) → b < 256 → d < 256 → windows_1252 b ≡ windows_1252 d → b ≡ d
 own_character b d b_below d_below same = sym (read_back b b_below) ∙ ap byte_of same ∙ read_back d d_below
 
@@ -49,6 +51,7 @@ own_characters (b ∷ bs) (d ∷ ds) bs_below ds_below same =
     let others = own_characters bs ds bs_below.1 ds_below.1 rest_same in
     cc
 
+-- files with the same text in Windows-1252 are the same
 pub own_text : (bs ds : List ℕ) → AllByRecursion (λ b. b < 256) bs → AllByRecursion (λ b. b < 256) ds
     → windows_1252_text bs ≡ windows_1252_text ds → bs ≡ ds
 own_text bs ds bs_below ds_below same = own_characters bs ds bs_below ds_below (encodes_same _ _ same)

@@ -78,7 +78,7 @@ fn push_old<'t>(
 // Merges the lines of two texts into one list. `partners` has for each old line the index of an equal new line, if it is
 // to be paired. The contract holds for any `partners`.
 #[tactic(auto, using(crate::proofs::ComparisonFacts::old_append, crate::proofs::ComparisonFacts::new_append))]
-pub(crate) fn compared<'t>(
+pub(crate) fn merge_lines<'t>(
     alloc: Global,
     old: &[&'t str],
     new: &[&'t str],

@@ -6,8 +6,8 @@
 //!
 //! `positions` finds the line and the column of a byte.
 //!
-//! `unified` prints the differences of two texts in the unified format. `lines` cuts a text into lines, and `partners` pairs
-//! equal lines of both texts. `comparison` merges the lines of both into one list by these pairs. `hunks` cuts out the
+//! `unified_diff` prints the differences of two texts in the unified format. `lines` cuts a text into lines, and `partners`
+//! pairs equal lines of both texts. `comparison` merges the lines of both into one list by these pairs. `hunks` cuts out the
 //! changed lines and their context. Which equal lines are paired is a choice. For each choice it is proved that the hunks
 //! turn the old text into the new one.
 #![tactic(auto)]

@@ -46,10 +46,7 @@ struct Pair {
 }
 
 // Counts the occurrences of each line in the new text.
-fn seen_in_new<'t>(
-    alloc: Global,
-    new: &[&'t str],
-) -> Result<BTreeMap<&'t str, InBoth>, AllocError> {
+fn see_new<'t>(alloc: Global, new: &[&'t str]) -> Result<BTreeMap<&'t str, InBoth>, AllocError> {
     let mut seen: BTreeMap<&'t str, InBoth> = BTreeMap::new(alloc);
     'lines: for (index, line) in new.iter().enumerate() {
         let before = match seen.get(line) {
@@ -82,7 +79,7 @@ fn unique_pairs<'t>(
     old: &[&'t str],
     new: &[&'t str],
 ) -> Result<Vec<Pair>, AllocError> {
-    let mut seen = seen_in_new(alloc, new)?;
+    let mut seen = see_new(alloc, new)?;
     see_old(&mut seen, old);
     let mut pairs = Vec::new(alloc);
     'lines: for line in old {
@@ -182,7 +179,7 @@ fn near(new: &[&str], line: &str, start: usize, limit: usize) -> Option<usize> {
 }
 
 // Returns for each line of the old text the index of its partner: that of `chain`, or an equal line near the last partner.
-fn filled(
+fn pair_lines(
     alloc: Global,
     old: &[&str],
     new: &[&str],
@@ -208,12 +205,12 @@ fn filled(
 }
 
 // Returns for each line of the old text the index of its partner in the new text, if it has one.
-pub(crate) fn found_partners<'t>(
+pub(crate) fn find_partners<'t>(
     alloc: Global,
     old: &[&'t str],
     new: &[&'t str],
 ) -> Result<Vec<Option<usize>>, AllocError> {
     let pairs = unique_pairs(alloc, old, new)?;
     let chain = longest_chain(alloc, &pairs)?;
-    filled(alloc, old, new, &chain)
+    pair_lines(alloc, old, new, &chain)
 }

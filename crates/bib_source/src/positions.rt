@@ -23,7 +23,7 @@ impl Position {
     }
 
     // Returns the position after `byte`, if `byte` is at this position.
-    fn passed(self, byte: u8) -> Self
+    fn advance(self, byte: u8) -> Self
         requires line { self.line + 1 < 2 ^ 64 }
         requires column { self.column + 1 < 2 ^ 64 }
         ensures after { (before : List ℕ) → self ≡ position_after before →
@@ -45,7 +45,7 @@ impl Position {
     }
 
     // Returns the position after `bytes`, if they begin at this position.
-    fn passed_all(self, bytes: &[u8]) -> Self
+    fn advance_all(self, bytes: &[u8]) -> Self
         requires line { self.line + length bytes.now < 2 ^ 64 }
         requires column { self.column + length bytes.now < 2 ^ 64 }
         ensures { (before : List ℕ) → self ≡ position_after before →
@@ -53,7 +53,7 @@ impl Position {
     {
         let mut position = self;
         'bytes: for byte in bytes {
-            position = position.passed(*byte);
+            position = position.advance(*byte);
         }
         position
     }
@@ -99,7 +99,7 @@ impl<'s> Positions<'s> {
     }
 
     // Returns an offset with a known position that isn't after `at`, and its position.
-    fn known_before(&self, at: usize) -> (usize, Position)
+    fn known_position(&self, at: usize) -> (usize, Position)
         ensures before { result.0 ≤ at }
         ensures position { result.1 ≡ position_at self.now result.0 }
     {
@@ -117,8 +117,8 @@ impl<'s> Positions<'s> {
         ensures same { self.new ≡ self.old }
     {
         let end = at.min(self.bytes.len());
-        let (start, position) = self.known_before(end);
-        let position = position.passed_all(&self.bytes[start..end]);
+        let (start, position) = self.known_position(end);
+        let position = position.advance_all(&self.bytes[start..end]);
         *self = Positions {
             bytes: self.bytes,
             at: end,

@@ -6,10 +6,10 @@ ghost use Rattle.std.specs.String.{string_bytes};
 ghost use Rattle.bib_source.specs.Visible.{hunk_of};
 ghost use Rattle.bib_source.specs.Unified.{IsDiff, extent, hunk_header, hunk_text, diff_line, line_after, unified_text};
 
-use crate::comparison::{Line, compared};
+use crate::comparison::{Line, merge_lines};
 use crate::hunks::{Hunk, hunks, new_count, old_count};
 use crate::lines::lines;
-use crate::partners::found_partners;
+use crate::partners::find_partners;
 use std::alloc::{AllocError, Global};
 
 // Appends `sign` and a line.
@@ -106,7 +106,7 @@ fn with_name(alloc: Global, name: &str, hunks: &[Hunk<'_, '_>]) -> Result<String
 /// leaves open which equal lines are paired if there is a choice.
 ///
 /// Returns an error only if out of memory.
-pub fn unified(alloc: Global, name: &str, old: &str, new: &str) -> Result<String, AllocError>
+pub fn unified_diff(alloc: Global, name: &str, old: &str, new: &str) -> Result<String, AllocError>
     ensures { IfOk result (λ diff. IsDiff name.now old.now new.now (string_bytes diff)) }
 {
     if old == new {
@@ -114,7 +114,7 @@ pub fn unified(alloc: Global, name: &str, old: &str, new: &str) -> Result<String
     }
     let old = lines(alloc, old)?;
     let new = lines(alloc, new)?;
-    let partners = found_partners(alloc, &old, &new)?;
-    let compared = compared(alloc, &old, &new, &partners)?;
+    let partners = find_partners(alloc, &old, &new)?;
+    let compared = merge_lines(alloc, &old, &new, &partners)?;
     with_name(alloc, name, &hunks(alloc, &compared)?)
 }

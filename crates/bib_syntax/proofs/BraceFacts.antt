@@ -11,6 +11,7 @@ use Rattle.bib_text.proofs.PlaceFacts.{same_char, char_clash, pass_clash, no_cha
 pub same_braced : (n : ℕ) (u : Place) → SameBraced n u n u
 same_braced n u = record { there = λ x y p c. p; back = λ x y p c. p }
 
+-- `SameBraced` from a place to a second one and from there to a third
 pub braced_then : {n m k : ℕ} {u v w : Place} → SameBraced n u m v → SameBraced m v k w → SameBraced n u k w
 braced_then first second = record {
   there = λ x y p c. first.there x y (second.there x y p c) c;
@@ -50,7 +51,7 @@ opened_there brace inner close (last parts) = last (nested brace inner close par
 opened_there brace inner close (level parts close' rest) = level (nested brace inner close parts) close' rest
 
 -- the parts in a pair of braces, and the parts after the closing brace
-pub record Opened (v x : Place) : Type 0 where
+pub record BracePair (v x : Place) : Type 0 where
   pub inner_end : Place
   pub following : Place
   pub inner : Parts v inner_end
@@ -58,7 +59,7 @@ pub record Opened (v x : Place) : Type 0 where
   pub rest : Parts following x
 
 -- parts from an opening brace up to a closing brace have a closing brace of their own
-pub opened_parts : {u v x y : Place} → CharAt u 123 v → Parts u x → CharAt x 125 y → Opened v x
+pub opened_parts : {u v x y : Place} → CharAt u 123 v → Parts u x → CharAt x 125 y → BracePair v x
 opened_parts brace none closing = absurd (char_clash brace closing refl)
 opened_parts brace (plain char passes parts) closing = absurd (pass_clash is_plain char passes brace refl)
 opened_parts brace (hidden slash any parts) closing = absurd (char_clash brace slash refl)
@@ -150,6 +151,7 @@ pub braced_stuck : {n : ℕ} {u x y : Place} → Stops is_plain u → ((v : Plac
 braced_stuck stops brace close slash (last parts) closing = parts_stuck stops brace close slash parts closing
 braced_stuck stops brace close slash (level parts end rest) closing = parts_stuck stops brace close slash parts end
 
+-- a text that closes no open brace is parts
 pub closes_zero : {u x : Place} → ClosesOpen zero u x → Parts u x
 closes_zero (last parts) = parts
 
@@ -158,6 +160,7 @@ pub found_parts : {u v w : Place} {n : ℕ} → SameBraced zero u n v → n ≡ 
 found_parts {u} {v} {w} {n} same none_open close =
     closes_zero (same.there v w (subst (λ k. ClosesOpen k v v) (sym none_open) (last none)) close)
 
+-- `SameBraced` with an equal second place
 pub braced_same : {n m : ℕ} {u v w : Place} → SameBraced n u m v → w ≡ v → SameBraced n u m w
 braced_same {n} {m} {u} {v} {w} all same = subst (λ p. SameBraced n u m p) (sym same) all
 

@@ -6,7 +6,7 @@ use Rattle.bib_text.specs.Places.{Place, place, AllBetween, CharAt, Run, AtEnd}
 use Rattle.bib_text.specs.Braces.{is_plain}
 use Rattle.bib_text.proofs.PlaceFacts.{same_place, ahead_run}
 use Rattle.bib_syntax.specs.Closings.{NeverCloses, ClosesAt, IsClosing, AreClosings}
-use Rattle.bib_syntax.specs.OpenBraces.{SameBraced, AreOpen, AreNoted, Closed}
+use Rattle.bib_syntax.specs.OpenBraces.{SameBraced, AreOpen, AreNoted, ClosesLast}
 use Rattle.bib_syntax.specs.OpenBraces.ClosesOpen.{last}
 use Rattle.bib_syntax.specs.declared.raw.closings.Closing.{Closing}
 use Rattle.bib_syntax.proofs.BraceFacts.{same_braced, braced_then, braced_run, braced_open, braced_close, braced_hidden, found_parts, closes_end}
@@ -31,6 +31,7 @@ open_less text n (start ∷ more) brace opened = (braced_then opened.0 (braced_c
 reverse_push : (opened : List ℕ) (start : ℕ) → reverse (opened ++ start ∷ []) ≡ start ∷ reverse opened
 reverse_push opened start = reverse-append opened (start ∷ [])
 
+-- characters that are neither braces nor backslashes change nothing
 pub noted_run : {u v : Place} (text opened : List ℕ) (found : List Closing) → Run is_plain u v
     → AreNoted text opened found u → AreNoted text opened found v
 noted_run text opened found run noted = record {
@@ -39,6 +40,7 @@ noted_run text opened found run noted = record {
   opens = open_over text zero (reverse opened) (λ m. braced_run m run) noted.opens;
 }
 
+-- after an opening brace one more brace is open
 pub noted_open : {u v : Place} (text opened opened' : List ℕ) (found : List Closing) (start : ℕ) → CharAt u 123 v
     → start ≡ v.at → opened' ≡ opened ++ start ∷ [] → AreNoted text opened found u → AreNoted text opened' found v
 noted_open {u} {v} text opened opened' found start brace here grown noted =
@@ -56,7 +58,7 @@ noted_open {u} {v} text opened opened' found start brace here grown noted =
 
 -- moving past a closing brace, which closes the last open brace
 pub noted_close : {u v : Place} (text opened opened' : List ℕ) (found found' : List Closing) (at : ℕ) → CharAt u 125 v
-    → at ≡ u.at → Closed opened found at opened' found' → AreNoted text opened found u → AreNoted text opened' found' v
+    → at ≡ u.at → ClosesLast opened found at opened' found' → AreNoted text opened found u → AreNoted text opened' found' v
 noted_close {u} {v} text opened opened' found found' at brace here (inl (none, none', same)) noted =
     let opens : AreOpen text zero (reverse []) v = _ in
     record {
@@ -105,6 +107,7 @@ noted_end u text opened opened' found found' n start end closings noted was grow
       opens.1,
     )
 
+-- `AreNoted` at an equal place
 pub noted_same : {u v : Place} (text opened : List ℕ) (found : List Closing) → v ≡ u → AreNoted text opened found u
     → AreNoted text opened found v
 noted_same {u} {v} text opened found same noted = subst (λ p. AreNoted text opened found p) (sym same) noted

@@ -35,6 +35,7 @@ pub record ElementsRead (start : Place) (ps : List Piece) (here : Place) : Type 
   pub there : (es : List Piece) (v : Place) → Elements longest here es v → Elements longest start (ps ++ es) v
   pub fails : (kind : ParseErrorKind) (v : Place) → ElementsFails here kind v → ElementsFails start kind v
 
+-- at the start no piece is parsed
 pub no_elements_read : (start : Place) → ElementsRead start [] start
 no_elements_read start = record { there = λ es v x. x; fails = λ kind v f. f }
 
@@ -58,6 +59,7 @@ pub record FieldsRead (start : Place) (fs : List FieldReading) (here : Place) : 
   pub there : (gs : List FieldReading) (v : Place) → Fields longest here gs v → Fields longest start (fs ++ gs) v
   pub fails : (kind : ParseErrorKind) (v : Place) → FieldsFails here kind v → FieldsFails start kind v
 
+-- at the start no field is parsed
 pub no_fields_read : (start : Place) → FieldsRead start [] start
 no_fields_read start = record { there = λ gs v x. x; fails = λ kind v f. f }
 

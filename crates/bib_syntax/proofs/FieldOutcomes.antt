@@ -17,7 +17,7 @@ use Rattle.bib_syntax.specs.SyntaxErrors.{IdentifierFails as identifier_fail}
 use Rattle.bib_syntax.specs.SyntaxErrors.{ElementsFails as elements_fail}
 use Rattle.bib_syntax.specs.SyntaxErrors.{FieldFails as field_fail}
 use Rattle.bib_syntax.specs.SyntaxErrors.{FieldsFails as fields_fail}
-use Rattle.bib_syntax.proofs.LeftFacts.{Left, end_or_char, Found, found_at, found_as, Outcome, run_found, first, Sign, sign}
+use Rattle.bib_syntax.proofs.LeftFacts.{Left, end_or_char, RuleEnd, found_at, found_as, Outcome, run_found, first, Sign, sign}
 use Rattle.bib_syntax.proofs.WordOutcomes.{NameAt, name_outcome, element_outcome}
 
 -- pieces from one place to the other
@@ -49,7 +49,7 @@ abbrev FieldAt : Place → Place → Type 0
 FieldAt u v = (f : FieldReading) × Field longest u f v
 
 -- a field whose name matches either matches or fails
-field_outcome : {n : ℕ} {u : Place} → Found n (NameAt u) → Outcome n (FieldAt u) (FieldFails u)
+field_outcome : {n : ℕ} {u : Place} → RuleEnd n (NameAt u) → Outcome n (FieldAt u) (FieldFails u)
 field_outcome {u = u} name =
     let white = run_found is_whitespace name.rest in
     elim (sign 61 white.rest) [
@@ -81,13 +81,13 @@ field_outcome {u = u} name =
     ]
 
 -- a percent sign begins a line comment
-pub line_comment_found : {n : ℕ} {u v : Place} → CharAt u 37 v → Left n v → Found n (LineComment u)
+pub line_comment_found : {n : ℕ} {u v : Place} → CharAt u 37 v → Left n v → RuleEnd n (LineComment u)
 line_comment_found percent rest =
     let line = run_found (λ c. not (c == 10)) rest in
     found_as (omega arith) line (record { inside = _; sign = percent; line = line.rule })
 
 -- a gap matches at each place
-pub gap_found : {n : ℕ} {u : Place} → Left n u → Found n (Gap longest u)
+pub gap_found : {n : ℕ} {u : Place} → Left n u → RuleEnd n (Gap longest u)
 gap_found left =
     let white = run_found is_whitespace left in
     elim (sign 37 white.rest) [
@@ -124,7 +124,7 @@ fields_end no_name left =
     ]
 
 -- fields end or fail after a field without a comma after it
-field_last : {n m : ℕ} {u : Place} (f : Found n (FieldAt u)) (g : Found m (Gap longest f.place)) → m ≤ n → Stops (λ c. c == 44) g.place
+field_last : {n m : ℕ} {u : Place} (f : RuleEnd n (FieldAt u)) (g : RuleEnd m (Gap longest f.place)) → m ≤ n → Stops (λ c. c == 44) g.place
     → Outcome n (FieldsClosed u) (FieldsFails u)
 field_last f g fits no_comma = elim (sign 125 g.rest) [
   | Sign.here close rest less ↦

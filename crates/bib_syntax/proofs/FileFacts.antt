@@ -152,6 +152,7 @@ pub record FileRead (start : Place) (says : FileReading) (here : Place) : Type 0
 abbrev pub is_skipped : ℕ → Bool
 is_skipped c = not (c == 64) && not (c == 37)
 
+-- at the start nothing is parsed
 pub no_file_read : (start : Place) → FileRead start empty_reading start
 no_file_read start = record { there = λ r x. x; fails = λ kind v f. f }
 
@@ -170,6 +171,7 @@ skip_fails : {u v w : Place} {kind : ParseErrorKind} → Run is_skipped u v → 
 skip_fails stop f = f
 skip_fails (step char passes rest) f = file_fail.skipped char passes (skip_fails rest f)
 
+-- the rest of a file after a line comment is a file with the same content
 pub line_comment_rest : {u v : Place} {r : FileReading} → LineComment u v → File longest u r → File longest v r
 line_comment_rest m (file.end end) = absurd (no_char_at_end end m.sign)
 line_comment_rest m (file.skipped char passes x) = absurd (pass_clash is_skipped char passes m.sign refl)
@@ -185,24 +187,28 @@ pub record FirstBlock (u : Place) (r : FileReading) : Type 0 where
   pub left : File longest following rest
   pub whole : r ≡ then first rest
 
+-- a file that begins with an at sign has a block there
 pub first_block : {u x : Place} {r : FileReading} → CharAt u 64 x → File longest u r → FirstBlock u r
 first_block sign (file.end end) = absurd (no_char_at_end end sign)
 first_block sign (file.skipped char passes x) = absurd (pass_clash is_skipped char passes sign refl)
 first_block sign (file.line_comment m x) = absurd (char_clash sign m.sign refl)
 first_block sign (file.block b x) = record { following = _; first = _; rest = _; block = b; left = x; whole = refl }
 
+-- characters outside of blocks and line comments are skipped
 pub skip_read : {start u v : Place} {says : FileReading} → FileRead start says u → Longest is_skipped u v → FileRead start says v
 skip_read read run = record {
   there = λ r x. read.there r (skip_there run.run x);
   fails = λ kind v f. read.fails kind v (skip_fails run.run f);
 }
 
+-- a line comment adds no content
 pub line_comment_read : {start u v : Place} {says : FileReading} → FileRead start says u → LineComment u v → FileRead start says v
 line_comment_read read m = record {
   there = λ r x. read.there r (file.line_comment m x);
   fails = λ kind v f. read.fails kind v (file_fail.line_comment m f);
 }
 
+-- a block adds its content
 pub block_read : {start u v : Place} {says first : FileReading} → FileRead start says u → Block longest u first v
     → FileRead start (then says first) v
 block_read {start} {u} {v} {says} {first} read b = record {
@@ -267,6 +273,7 @@ block_smaller {u} b =
 pub ahead_line_comment : {u v : Place} → LineComment u v → Ahead u v
 ahead_line_comment m = ahead_then (ahead_char m.sign) (ahead_run m.line.run)
 
+-- after a line comment less of the text is left
 pub line_comment_smaller : {u v : Place} → LineComment u v → length v.text - v.at < length u.text - u.at
 line_comment_smaller {u} m = left_smaller (ahead_here u) m.sign (ahead_run m.line.run)
 
@@ -274,6 +281,7 @@ line_comment_smaller {u} m = left_smaller (ahead_here u) m.sign (ahead_run m.lin
 pub is_skipped_from : (c : ℕ) → (c ≡ 64 → ⊥) → (c ≡ 37 → ⊥) → is_skipped c ≡ true
 is_skipped_from c no_at no_percent = rw (ne_eqb c 64 no_at, ne_eqb c 37 no_percent)
 
+-- after one or more skipped characters less of the text is left
 pub skip_smaller : {u x v : Place} {c : ℕ} → CharAt u c x → is_skipped c ≡ true → Longest is_skipped u v
     → length v.text - v.at < length u.text - u.at
 skip_smaller {u} char passes run = left_smaller (ahead_here u) char (ahead_run (longest_rest run char passes).run)

@@ -21,7 +21,7 @@ use Rattle.bib_syntax.specs.SyntaxErrors.{FileFails as file_fail}
 use Rattle.bib_syntax.specs.Recovery.{ends_blank, BeginsLine, GoesOnAt, Recovered}
 use Rattle.bib_syntax.specs.Recovery.{Passed as passed}
 use Rattle.bib_syntax.specs.Recovery.{Recovered as recovered}
-use Rattle.bib_syntax.proofs.LeftFacts.{Left, end_or_char, Found, found_at, found_as, Outcome, run_found, First, first, Sign, sign, is_sign}
+use Rattle.bib_syntax.proofs.LeftFacts.{Left, end_or_char, RuleEnd, found_at, found_as, Outcome, run_found, First, first, Sign, sign, is_sign}
 use Rattle.bib_syntax.proofs.WordOutcomes.{name_outcome, quoted_outcome}
 use Rattle.bib_syntax.proofs.FieldOutcomes.{line_comment_found, gap_found, fields_outcome}
 use Rattle.bib_syntax.proofs.FileFacts.{is_skipped, closes_preamble, opens_body}
@@ -220,7 +220,7 @@ line_case {u} {v} c char = elim (cases_Bool (c == 64)) [
 ]
 
 -- from each place there is a place where recovery continues
-goes_on_found : {n : ℕ} {u : Place} → Left n u → Found n (GoesOnAt u)
+goes_on_found : {n : ℕ} {u : Place} → Left n u → RuleEnd n (GoesOnAt u)
 goes_on_found (Left.none end) = found_at (omega arith) (Left.none {n = zero} end) (record { passed = passed.stop; stands = inl end })
 goes_on_found {u = u} (Left.more {c = c} char rest) =
     let following = goes_on_found rest in

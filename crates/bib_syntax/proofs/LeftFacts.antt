@@ -35,7 +35,7 @@ pub text_left : (text : List ℕ) → IsUtf8 text → (n : ℕ) × Left n (place
 text_left text utf8 = (_, spelled utf8.0 text 0 (omega arith) (sym utf8.1.1))
 
 -- a place at which this rule ends, with at most `n` characters after it
-pub record Found (n : ℕ) (Rule : Place → Type 0) : Type 0 where
+pub record RuleEnd (n : ℕ) (Rule : Place → Type 0) : Type 0 where
   pub left : ℕ
   pub place : Place
   pub rest : Left left place
@@ -43,16 +43,16 @@ pub record Found (n : ℕ) (Rule : Place → Type 0) : Type 0 where
   pub rule : Rule place
 
 -- a rule that ends at a place with at most `n` characters left
-pub found_at : {m n : ℕ} {u : Place} {Rule : Place → Type 0} → m ≤ n → Left m u → Rule u → Found n Rule
+pub found_at : {m n : ℕ} {u : Place} {Rule : Place → Type 0} → m ≤ n → Left m u → Rule u → RuleEnd n Rule
 found_at {m} {n} {u} fits rest rule = record { left = m; place = u; rest = rest; fits = fits; rule = rule }
 
 -- a rule that ends at the place of another one
-pub found_as : {m n : ℕ} {Rule Other : Place → Type 0} → m ≤ n → (f : Found m Rule) → Other f.place → Found n Other
+pub found_as : {m n : ℕ} {Rule Other : Place → Type 0} → m ≤ n → (f : RuleEnd m Rule) → Other f.place → RuleEnd n Other
 found_as fits f rule = found_at (omega (arith, fits, f.fits)) f.rest rule
 
 -- a rule matches or fails
 pub data Outcome (n : ℕ) (Rule : Place → Type 0) (Fails : ParseErrorKind → Place → Type 0) : Type 0 where
-  read : Found n Rule → Outcome n Rule Fails
+  read : RuleEnd n Rule → Outcome n Rule Fails
   fails : {kind : ParseErrorKind} {v : Place} → Fails kind v → Outcome n Rule Fails
 
 -- the same outcome with a greater bound on the characters left
@@ -62,7 +62,7 @@ outcome_within fits (Outcome.read f) = Outcome.read (found_as fits f f.rule)
 outcome_within fits (Outcome.fails f) = Outcome.fails f
 
 -- a longest run matches at each place
-pub run_found : (test : ℕ → Bool) {n : ℕ} {u : Place} → Left n u → Found n (Longest test u)
+pub run_found : (test : ℕ → Bool) {n : ℕ} {u : Place} → Left n u → RuleEnd n (Longest test u)
 run_found test (Left.none end) = found_at (omega arith) (Left.none {n = zero} end) (record { run = stop; stops = stops_at_end test end })
 run_found test {u = u} (Left.more {c = c} char rest) =
     let following = run_found test rest in

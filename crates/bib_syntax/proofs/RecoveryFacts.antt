@@ -53,11 +53,13 @@ passed_same (passed.step char other rest) stands passed.stop stands' = absurd (n
 passed_same {w = w} (passed.step char other rest) stands (passed.step char' other' rest') stands' =
     passed_same rest stands (subst (λ p. Passed p w) (sym (same_char char char').1) rest') stands'
 
+-- recovery continues at only one place
 pub goes_on_same : {u v w : Place} → GoesOnAt u v → GoesOnAt u w → v ≡ w
 goes_on_same first second = passed_same first.passed first.stands second.passed second.stands
 
 -- ---- the recovery up to a place
 
+-- at the start nothing is recovered
 pub nothing_recovered : (start : Place) → RecoveredTo start empty_reading [] start
 nothing_recovered start more others x = x
 
@@ -66,20 +68,24 @@ run_recovered : {u v : Place} {r : FileReading} {errors : List SkippedBlock} →
 run_recovered stop x = x
 run_recovered (step char passes rest) x = recovered.skipped char passes (run_recovered rest x)
 
+-- skipped characters add nothing
 pub skip_recovered : {start u v : Place} (says : FileReading) (errors : List SkippedBlock)
     → RecoveredTo start says errors u → Longest is_skipped u v → RecoveredTo start says errors v
 skip_recovered says errors read run more others x = read more others (run_recovered run.run x)
 
+-- a line comment adds nothing
 pub comment_recovered : {start u v : Place} (says : FileReading) (errors : List SkippedBlock)
     → RecoveredTo start says errors u → LineComment u v → RecoveredTo start says errors v
 comment_recovered says errors read m more others x = read more others (recovered.line_comment m x)
 
+-- a block adds its content
 pub block_recovered : {start u v : Place} (says : FileReading) {first : FileReading} (errors : List SkippedBlock)
     → RecoveredTo start says errors u → Block longest u first v → RecoveredTo start (then says first) errors v
 block_recovered {start} says {first} errors read b more others x =
     subst (λ r. Recovered start r (errors ++ others)) (sym (then-then says first more))
     (read (then first more) others (recovered.block b x))
 
+-- a skipped block adds its error
 pub unread_recovered : {start u v w : Place} {e : ParseError} (says : FileReading) (errors : List SkippedBlock)
     → RecoveredTo start says errors u → CharAt u 64 v → IsUnreadBlock u e → GoesOnAt v w
     → RecoveredTo start says (errors ++ skipped_block e u w ∷ []) w
@@ -87,6 +93,7 @@ unread_recovered {start} {u} {w = w} {e = e} says errors read sign none on more 
     subst (λ es. Recovered start (then says more) es) (sym (append_assoc errors (skipped_block e u w ∷ []) others))
     (read more (skipped_block e u w ∷ others) (recovered.unread sign none on x))
 
+-- at the end of the text the recovery is complete
 pub all_recovered : {start u : Place} (says : FileReading) (errors : List SkippedBlock)
     → RecoveredTo start says errors u → AtEnd u → Recovered start says errors
 all_recovered {start} says errors read end =
@@ -167,10 +174,12 @@ search_smaller w taken run (going, blank) is =
 pub follows : {u v w : Place} (at : ℕ) → Ahead u v → at ≡ v.at → w ≡ place u.text at → w ≡ v
 follows {u} {v} at ahead is jump = jump ∙ same_place {u = place u.text at} {v = v} (sym ahead.text) is
 
+-- what follows from a fact that is true if the result is `Ok`
 pub on_ok : {E P Q : Type 0} (r : Result (Unit {0}) E) → OnOk r P → (P → Q) → OnOk r Q
 on_ok (Ok done) h f = f h
 on_ok (Err e) h f = h
 
+-- what follows from three facts that are true if the result is `Ok`
 pub all_ok : {E P Q R S : Type 0} (r : Result (Unit {0}) E) → OnOk r P → OnOk r Q → OnOk r R → (P → Q → R → S) → OnOk r S
 all_ok (Ok done) p q r f = f p q r
 all_ok (Err e) p q r f = p
@@ -257,6 +266,7 @@ unread_left {u} {w = w} {says = says} sign none on (recovered.unread {w = w'} {e
       whole = ap (λ y. skipped_block e u y ∷ errors) same;
     }
 
+-- a text has only one recovery
 pub recovery_same : {u : Place} {r s : FileReading} {f g : List SkippedBlock} → Recovered u r f → Recovered u s g → (r ≡ s) × (f ≡ g)
 recovery_same (recovered.end end) (recovered.end end') = (refl, refl)
 recovery_same (recovered.end end) (recovered.skipped char passes x) = absurd (no_char_at_end end char)
@@ -284,6 +294,7 @@ entry_block (body.preamble quoted white close is_close) b = _
 entry_block (body.strings fields close) b = _
 entry_block (body.entry v key white comma gap fields close) b = ((_, b), _)
 
+-- each recovered entry is the only content of a block at its start
 pub entries_stand : {u : Place} {says : FileReading} {errors : List SkippedBlock} (text : List ℕ) → u.text ≡ text
     → Recovered u says errors → AllByRecursion (IsBlockOf text) says.entries
 entries_stand text same (recovered.end end) = _

@@ -157,6 +157,7 @@ then_stands text first rest one more = record {
   abbreviations = all_append (FieldStandsIn text) first.abbreviations rest.abbreviations one.abbreviations more.abbreviations;
 }
 
+-- each part of the raw reading of a file is the text in its span
 pub file_stands : {u : Place} {says : FileReading} (text : List ℕ) → u.text ≡ text → File longest u says → ReadingStandsIn text says
 file_stands text same (file.end end) = nothing_stands text []
 file_stands text same (file.skipped char passes rest) = file_stands text (char.same ∙ same) rest

@@ -99,5 +99,6 @@ pub named_piece : {u v : Place} (s : Spanned RawChunk) (t : Spanned (Bor (List �
     → s.span ≡ t.span → NoDigit u → Identifier longest u (part_of t) v → Element longest u (piece_of s) v
 named_piece {u} {v} s t same spans no_digit i = rw (same, spans) (named no_digit i)
 
+-- no digit is at a place if each character there isn't one
 pub no_digit_without : {u : Place} → ((c : ℕ) (v : Place) → CharAt u c v → is_ascii_digit c ≡ false) → NoDigit u
 no_digit_without none c v char digit = test_clash _ digit (none c v char)

@@ -22,7 +22,7 @@ use Rattle.bib_syntax.specs.SyntaxErrors.{ElementFails as element_fail}
 use Rattle.bib_syntax.proofs.BraceFacts as brace
 use Rattle.bib_syntax.proofs.QuoteFacts as quote
 use Rattle.bib_syntax.proofs.QuoteFacts.{is_quotable, SameQuoted}
-use Rattle.bib_syntax.proofs.LeftFacts.{Left, Found, found_at, found_as, Outcome, outcome_within, run_found, First, first, Sign, sign, is_sign}
+use Rattle.bib_syntax.proofs.LeftFacts.{Left, RuleEnd, found_at, found_as, Outcome, outcome_within, run_found, First, first, Sign, sign, is_sign}
 
 -- ---- names and numbers
 
@@ -31,7 +31,7 @@ abbrev pub NameAt : Place → Place → Type 0
 NameAt u v = Identifier longest u (part u v) v
 
 -- a name matches if its first character does
-name_found : {n : ℕ} {u v : Place} {c : ℕ} → CharAt u c v → is_id_start c ≡ true → Left n v → Found n (NameAt u)
+name_found : {n : ℕ} {u v : Place} {c : ℕ} → CharAt u c v → is_id_start c ≡ true → Left n v → RuleEnd n (NameAt u)
 name_found char starts rest =
     let run = run_found is_id_continue rest in
     found_as (omega arith) run (record { second = _; first = _; here = char; starts = starts; rest = run.rule; reading = refl })
@@ -77,7 +77,7 @@ NoQuote u = (w x : Place) → QuotedParts u w → CharAt w 34 x → ⊥
 
 -- a quote closes the text, or none does
 abbrev QuoteCase : ℕ → Place → Type 0
-QuoteCase n u = Found n (QuoteClosed u) ⊎ NoQuote u
+QuoteCase n u = RuleEnd n (QuoteClosed u) ⊎ NoQuote u
 
 -- whether a quote closes the text from one place, from the same at another place with the same closing quote
 quote_moved : {m n : ℕ} {u v : Place} → m ≤ n → SameQuoted u v → QuoteCase m v → QuoteCase n u
@@ -148,7 +148,7 @@ NoBrace depth u = (x y : Place) → ClosesOpen depth u x → CharAt x 125 y → 
 
 -- one of these two cases applies
 abbrev BraceCase : ℕ → ℕ → Place → Type 0
-BraceCase depth n u = Found n (BraceClosed depth u) ⊎ NoBrace depth u
+BraceCase depth n u = RuleEnd n (BraceClosed depth u) ⊎ NoBrace depth u
 
 -- whether a brace closes the whole from one place, from the same at another place with the same closing brace
 brace_moved : {depth inner m n : ℕ} {u v : Place} → m ≤ n → SameBraced depth u inner v → BraceCase inner m v → BraceCase depth n u
@@ -238,7 +238,7 @@ element_quoted opens (Outcome.read f) = Outcome.read (found_as (omega arith) f (
 element_quoted opens (Outcome.fails f) = Outcome.fails (element_fail.quoted opens f)
 
 -- a piece that begins with a name matches
-element_named : {n : ℕ} {u v : Place} {c : ℕ} → CharAt u c v → is_ascii_digit c ≡ false → Found n (NameAt u)
+element_named : {n : ℕ} {u v : Place} {c : ℕ} → CharAt u c v → is_ascii_digit c ≡ false → RuleEnd n (NameAt u)
     → Outcome n (ElementAt u) (ElementFails u)
 element_named {u = u} char no_digit f =
     let none : NoDigit u = λ d w other digit. pass_clash is_ascii_digit other digit char no_digit in

@@ -20,20 +20,20 @@ token_text token.Equals = codes "equals"
 token_text token.DecimalPoint = codes "decimal point"
 
 -- a name in quotes, as Rust's `{:?}` prints it; `None`, which leaves it open, for a name that isn't ASCII
-abbrev pub quoted : List ℕ → Option (List ℕ)
-quoted name = debug_str name
+abbrev pub quoted_name : List ℕ → Option (List ℕ)
+quoted_name name = debug_str name
 
 -- the printed text of a kind; `None` leaves it open
 abbrev pub kind_text : ParseErrorKind → Option (List ℕ)
 kind_text UnexpectedEof = Some (codes "unexpected end of file")
 kind_text (Unexpected t) = Some (codes "unexpected " ++ token_text t)
 kind_text (Expected t) = Some (codes "expected " ++ token_text t)
-kind_text (UnknownAbbreviation name) = Some (codes "unknown abbreviation ") ++? quoted name
+kind_text (UnknownAbbreviation name) = Some (codes "unknown abbreviation ") ++? quoted_name name
 kind_text MalformedCommand = Some (codes "malformed command")
-kind_text (DuplicateKey key) = Some (codes "duplicate key ") ++? quoted key
+kind_text (DuplicateKey key) = Some (codes "duplicate key ") ++? quoted_name key
 kind_text (ResolutionError kind) = Some (codes "type error occurred during crossref resolution: " ++ type_kind_text kind)
-kind_text (AbbreviationCycle name) = Some (codes "circular abbreviation ") ++? quoted name
-kind_text (ReferenceCycle key) = Some (codes "circular reference ") ++? quoted key
+kind_text (AbbreviationCycle name) = Some (codes "circular abbreviation ") ++? quoted_name name
+kind_text (ReferenceCycle key) = Some (codes "circular reference ") ++? quoted_name key
 kind_text OutOfMemory = Some (codes "out of memory")
 
 -- the printed text of an error: its kind, and its span in bytes; `None` leaves it open

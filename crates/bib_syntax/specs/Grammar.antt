@@ -30,6 +30,7 @@ abbrev pub Ends : Mode → (ℕ → Bool) → Place → Type 0
 Ends any test u = ⊤
 Ends longest test u = Stops test u
 
+-- a run of white space
 abbrev pub White : Mode → Place → Place → Type 0
 White mode u v = Chars mode is_whitespace u v
 

@@ -31,8 +31,8 @@ pub record AreNoted (text opened : List ℕ) (found : List Closing) (here : Plac
 
 -- A brace at the offset `at` closes the last open brace: this one is removed from `opened` and noted in `found`. If no
 -- brace is open, nothing changes.
-abbrev pub Closed : List ℕ → List Closing → ℕ → List ℕ → List Closing → Type 0
-Closed opened found at opened' found' =
+abbrev pub ClosesLast : List ℕ → List Closing → ℕ → List ℕ → List Closing → Type 0
+ClosesLast opened found at opened' found' =
     ((opened ≡ []) × (opened' ≡ []) × (found' ≡ found))
     ⊎
     ((start : ℕ) × (opened ≡ opened' ++ start ∷ [])

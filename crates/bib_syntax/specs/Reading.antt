@@ -25,6 +25,7 @@ pub record ValueReading : Type 0 where
   pub start : ℕ
   pub end : ℕ
 
+-- a field: its name and its value
 pub record FieldReading : Type 0 where
   pub name : Part
   pub value : ValueReading

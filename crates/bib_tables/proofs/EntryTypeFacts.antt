@@ -5,11 +5,11 @@ use Rattle.std.specs.Char.{to_ascii_lowercase}
 use Rattle.std.specs.List.{list_all}
 use Rattle.std.proofs.lemmas.Slice.Eq.{bytes_eq-Decides}
 use Rattle.std.proofs.lemmas.Bool.{and_parts, cases_Bool}
-use Rattle.bib_text.specs.Enums.{named}
+use Rattle.bib_text.specs.Enums.{value_named}
 use Rattle.bib_text.proofs.EnumFacts.{named-append-some}
 use Rattle.bib_tables.specs.declared.mechanics.EntryType.{EntryType}
 use Rattle.bib_tables.specs.declared.mechanics.EntryType.TheVariants.{Article, Book, Booklet, InBook, InCollection, InProceedings, Manual, MastersThesis, PhdThesis, Misc, Proceedings, TechReport, Unpublished, MvBook, BookInBook, SuppBook, Periodical, SuppPeriodical, Collection, MvCollection, SuppCollection, Reference, MvReference, InReference, MvProceedings, Report, Patent, Thesis, Online, Software, Dataset, Set, XData, Unknown}
-use Rattle.bib_tables.specs.EntryType.{entry_type_named, named_or_alias, entry_type_of, type_names, alias_names, entry_type_name, biblatex_type}
+use Rattle.bib_tables.specs.EntryType.{entry_type_named, entry_type_by_name_or_alias, entry_type_of, type_names, alias_names, entry_type_name, biblatex_type}
 
 -- whether all names of a table are in ASCII lowercase
 abbrev pub is_lowered : {A : Type 0} → List (List ℕ × A) → Bool
@@ -17,7 +17,7 @@ is_lowered = list_all (λ row. bytes_eq (map to_ascii_lowercase row.0) row.0)
 
 -- a text that is a name in such a table is in ASCII lowercase
 pub named_is_lowered : {A : Type 0} (rows : List (List ℕ × A)) (text : List ℕ) (value : A) → is_lowered rows ≡ true
-    → named rows text ≡ Some value → map to_ascii_lowercase text ≡ text
+    → value_named rows text ≡ Some value → map to_ascii_lowercase text ≡ text
 named_is_lowered [] text value lowered found = cc
 named_is_lowered (row ∷ rows) text value lowered found =
     let parts = and_parts (bytes_eq (map to_ascii_lowercase row.0) row.0) (is_lowered rows) lowered in
@@ -25,7 +25,7 @@ named_is_lowered (row ∷ rows) text value lowered found =
       | inl here ↦ let same : row.0 ≡ text =
           (bytes_eq-Decides row.0 text).0 here in subst (λ t. map to_ascii_lowercase t ≡ t) same
           ((bytes_eq-Decides (map to_ascii_lowercase row.0) row.0).0 parts.0)
-      | inr elsewhere ↦ named_is_lowered rows text value parts.1 (later (bytes_eq row.0 text) (named rows text) row.1 elsewhere found)
+      | inr elsewhere ↦ named_is_lowered rows text value parts.1 (later (bytes_eq row.0 text) (value_named rows text) row.1 elsewhere found)
     ]
   where
     later : {A : Type 0} (is_here : Bool) (rest : Option A) (this : A) {value : A} → is_here ≡ false
@@ -35,28 +35,29 @@ named_is_lowered (row ∷ rows) text value lowered found =
 
 -- a name that is a name or alias of a type in ASCII lowercase means this type
 pub type_as_lowered : (name lowered : List ℕ) (type : EntryType) → lowered ≡ map to_ascii_lowercase name
-    → named_or_alias lowered ≡ Some type → entry_type_of name ≡ type
+    → entry_type_by_name_or_alias lowered ≡ Some type → entry_type_of name ≡ type
 unfolding entry_type_of
 type_as_lowered name lowered type is found =
-    ap (λ found'. unwrap_or found' (Unknown (map to_ascii_lowercase name))) (ap named_or_alias (sym is) ∙ found)
+    ap (λ found'. unwrap_or found' (Unknown (map to_ascii_lowercase name))) (ap entry_type_by_name_or_alias (sym is) ∙ found)
 
 -- any other name means the unknown type with the name in ASCII lowercase
-pub type_unknown : (name lowered : List ℕ) → lowered ≡ map to_ascii_lowercase name → named_or_alias lowered ≡ None
+pub type_unknown : (name lowered : List ℕ) → lowered ≡ map to_ascii_lowercase name → entry_type_by_name_or_alias lowered ≡ None
     → entry_type_of name ≡ Unknown lowered
 unfolding entry_type_of
 type_unknown name lowered is none =
-    ap (λ found'. unwrap_or found' (Unknown (map to_ascii_lowercase name))) (ap named_or_alias (sym is) ∙ none) ∙ ap Unknown (sym is)
+    ap (λ found'. unwrap_or found' (Unknown (map to_ascii_lowercase name)))
+    (ap entry_type_by_name_or_alias (sym is) ∙ none) ∙ ap Unknown (sym is)
 
 -- a name that is exactly the name of a type means this type
 pub type_as_written : (name : List ℕ) (type : EntryType) → entry_type_named name ≡ Some type → entry_type_of name ≡ type
-unfolding entry_type_named named_or_alias
+unfolding entry_type_named entry_type_by_name_or_alias
 type_as_written name type found =
     type_as_lowered name name type (sym (named_is_lowered type_names name type refl found))
     (named-append-some type_names alias_names name type found)
 
 -- the name of a type of BibLaTeX means this type
 pub type_reread : (type : EntryType) → entry_type_of (entry_type_name (biblatex_type type)) ≡ biblatex_type type
-unfolding named_or_alias entry_type_of
+unfolding entry_type_by_name_or_alias entry_type_of
 type_reread Article = refl
 type_reread Book = refl
 type_reread Booklet = refl

@@ -3,7 +3,7 @@
 use Rattle.std.specs.Prelude.{ℕ, List, [], ◌∷◌, Option, codes, unwrap_or}
 use Rattle.bib_tables.specs.declared.types.EditorType.{EditorType}
 use Rattle.bib_tables.specs.declared.types.EditorType.TheVariants.{Editor, Compiler, Founder, Continuator, Redactor, Reviser, Collaborator, Organizer, Director, Unknown}
-use Rattle.bib_text.specs.Enums.{named, by_name}
+use Rattle.bib_text.specs.Enums.{value_named, by_name}
 
 -- the name of a role; an unknown role has its text as name
 abbrev pub editor_type_name : EditorType → List ℕ
@@ -25,9 +25,9 @@ editor_types =
     (Editor ∷ Compiler ∷ Founder ∷ Continuator ∷ Redactor ∷ Reviser ∷ Collaborator ∷ Organizer ∷ Director ∷ [])
 
 -- the known role with exactly this name, or `None`
-abbrev pub named_editor_type : List ℕ → Option EditorType
-named_editor_type = named editor_types
+abbrev pub editor_type_named : List ℕ → Option EditorType
+editor_type_named = value_named editor_types
 
 -- the role that `text` means: the known role with exactly this name, and otherwise the unknown role with this text
 abbrev pub editor_type_of : List ℕ → EditorType
-editor_type_of text = unwrap_or (named_editor_type text) (Unknown text)
+editor_type_of text = unwrap_or (editor_type_named text) (Unknown text)

@@ -2,7 +2,7 @@
 -- Entry types, from the lists of BibTeX and of the BibLaTeX manual.
 use Rattle.std.specs.Prelude.{ℕ, Bool, true, false, List, [], ◌∷◌, ◌++◌, Option, codes, map, unwrap_or}
 use Rattle.std.specs.Char.{to_ascii_lowercase}
-use Rattle.bib_text.specs.Enums.{named, by_name}
+use Rattle.bib_text.specs.Enums.{value_named, by_name}
 use Rattle.bib_tables.specs.declared.mechanics.EntryType.{EntryType}
 use Rattle.bib_tables.specs.declared.mechanics.EntryType.TheVariants.{Article, Book, Booklet, InBook, InCollection, InProceedings, Manual, MastersThesis, PhdThesis, Misc, Proceedings, TechReport, Unpublished, MvBook, BookInBook, SuppBook, Periodical, SuppPeriodical, Collection, MvCollection, SuppCollection, Reference, MvReference, InReference, MvProceedings, Report, Patent, Thesis, Online, Software, Dataset, Set, XData, Unknown}
 
@@ -57,16 +57,16 @@ alias_names = (codes "conference", InProceedings) ∷ (codes "electronic", Onlin
 
 -- the named type with exactly this name, or `None`
 unfoldable pub entry_type_named : List ℕ → Option EntryType
-entry_type_named = named type_names
+entry_type_named = value_named type_names
 
 -- the named type with exactly this name or alias, or `None`
-unfoldable pub named_or_alias : List ℕ → Option EntryType
-named_or_alias = named (type_names ++ alias_names)
+unfoldable pub entry_type_by_name_or_alias : List ℕ → Option EntryType
+entry_type_by_name_or_alias = value_named (type_names ++ alias_names)
 
 -- The type that `name` means in a file. It is the named type with this name or alias in any ASCII case. Otherwise it is the
 -- unknown type with the name in ASCII lowercase.
 unfoldable pub entry_type_of : List ℕ → EntryType
-entry_type_of name = unwrap_or (named_or_alias (map to_ascii_lowercase name)) (Unknown (map to_ascii_lowercase name))
+entry_type_of name = unwrap_or (entry_type_by_name_or_alias (map to_ascii_lowercase name)) (Unknown (map to_ascii_lowercase name))
 
 -- the type itself if it is named, and `Misc` if it is unknown
 abbrev pub known_type : EntryType → EntryType

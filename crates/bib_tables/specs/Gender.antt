@@ -47,7 +47,7 @@ abbrev pub group_gender : List Gender → Gender
 group_gender genders = if list_all is_female genders then PluralFemale else if list_all is_male genders then PluralMale else PluralNeuter
 
 -- the gender of a list: `None` if it is empty, its element if it has one, and otherwise the plural of the group
-abbrev pub coalesced : List Gender → Option Gender
-coalesced [] = None
-coalesced (gender ∷ []) = Some gender
-coalesced genders = Some (group_gender genders)
+abbrev pub coalesced_gender : List Gender → Option Gender
+coalesced_gender [] = None
+coalesced_gender (gender ∷ []) = Some gender
+coalesced_gender genders = Some (group_gender genders)

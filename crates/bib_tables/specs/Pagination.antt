@@ -3,7 +3,7 @@
 use Rattle.std.specs.Prelude.{ℕ, List, [], ◌∷◌, Option, codes}
 use Rattle.bib_tables.specs.declared.types.Pagination.{Pagination}
 use Rattle.bib_tables.specs.declared.types.Pagination.TheVariants.{Page, Column, Line, Verse, Section, Paragraph}
-use Rattle.bib_text.specs.Enums.{named, by_name}
+use Rattle.bib_text.specs.Enums.{value_named, by_name}
 
 -- the name of a scheme
 abbrev pub pagination_name : Pagination → List ℕ
@@ -20,4 +20,4 @@ paginations = by_name pagination_name (Page ∷ Column ∷ Line ∷ Verse ∷ Se
 
 -- the scheme with exactly this name, or `None`
 abbrev pub pagination_named : List ℕ → Option Pagination
-pagination_named = named paginations
+pagination_named = value_named paginations

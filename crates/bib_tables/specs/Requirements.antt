@@ -13,6 +13,7 @@ use Rattle.bib_tables.specs.declared.mechanics.requirements.AuthorMode.TheVarian
 use Rattle.bib_tables.specs.declared.mechanics.requirements.PagesChapterMode.{PagesChapterMode}
 use Rattle.bib_tables.specs.declared.mechanics.requirements.PagesChapterMode.TheVariants as pages
 
+-- field names
 abbrev pub Names : Type 0
 Names = List (List ℕ)
 
@@ -28,11 +29,13 @@ fields names = words (codes names)
 abbrev pub core : Names
 core = fields "titleaddon subtitle url urldate doi eprint eprintclass eprinttype pubstate language addendum"
 
+-- the same with `note` and `location`
 abbrev pub base : Names
 base = codes "note" ∷ codes "location" ∷ core
 
-abbrev pub unplaced : Names
-unplaced = codes "note" ∷ core
+-- the same only with `note`
+abbrev pub base_without_location : Names
+base_without_location = codes "note" ∷ core
 
 -- people who annotated or translated a work, and texts added to it
 abbrev pub annotators : Names
@@ -62,7 +65,7 @@ rules required optional author pages needs_date =
 abbrev pub article_rules : Rules
 article_rules =
     rules (fields "title journaltitle")
-    (unplaced
+    (base_without_location
     ++ fields
     "number series version volume annotator commentator translator origlanguage journalsubtitle issue issuetitle issuesubtitle eid issn")
     author.AuthorRequiredEditorOptional pages.PagesOptional true
@@ -88,7 +91,7 @@ masters_thesis_rules =
 abbrev pub misc_rules : Rules
 misc_rules =
     rules (fields "title")
-    (unplaced ++ fields "howpublished organization type")
+    (base_without_location ++ fields "howpublished organization type")
     author.OneRequired pages.None false
 
 abbrev pub collection_rules : Rules
@@ -188,20 +191,20 @@ rules_of XData = rules [] [] author.NoneRequired pages.None false
 rules_of (Unknown name) = mv_collection_rules
 
 -- the forbidden fields of a type, except for those that its rules for authors and pages forbid
-abbrev pub forbidden_of : EntryType → Names
-forbidden_of InBook = fields "pagetotal"
-forbidden_of InCollection = fields "pagetotal"
-forbidden_of InProceedings = fields "pagetotal"
-forbidden_of BookInBook = fields "pagetotal"
-forbidden_of SuppBook = fields "pagetotal"
-forbidden_of SuppCollection = fields "pagetotal"
-forbidden_of InReference = fields "pagetotal"
-forbidden_of MvBook = fields "maintitle mainsubtitle maintitleaddon part volume"
-forbidden_of MvCollection = fields "maintitle mainsubtitle maintitleaddon part volume"
-forbidden_of MvReference = fields "maintitle mainsubtitle maintitleaddon part volume"
-forbidden_of MvProceedings = fields "maintitle mainsubtitle maintitleaddon part volume"
-forbidden_of (Unknown name) = fields "maintitle mainsubtitle maintitleaddon part volume"
-forbidden_of _ = []
+abbrev pub forbidden_fields_of : EntryType → Names
+forbidden_fields_of InBook = fields "pagetotal"
+forbidden_fields_of InCollection = fields "pagetotal"
+forbidden_fields_of InProceedings = fields "pagetotal"
+forbidden_fields_of BookInBook = fields "pagetotal"
+forbidden_fields_of SuppBook = fields "pagetotal"
+forbidden_fields_of SuppCollection = fields "pagetotal"
+forbidden_fields_of InReference = fields "pagetotal"
+forbidden_fields_of MvBook = fields "maintitle mainsubtitle maintitleaddon part volume"
+forbidden_fields_of MvCollection = fields "maintitle mainsubtitle maintitleaddon part volume"
+forbidden_fields_of MvReference = fields "maintitle mainsubtitle maintitleaddon part volume"
+forbidden_fields_of MvProceedings = fields "maintitle mainsubtitle maintitleaddon part volume"
+forbidden_fields_of (Unknown name) = fields "maintitle mainsubtitle maintitleaddon part volume"
+forbidden_fields_of _ = []
 
 -- those of the fields `author` and `editor` that a rule requires or allows; none for `NoneRequired`
 abbrev pub author_names : AuthorMode → Names
@@ -222,12 +225,12 @@ page_names pages.PagesOptional = fields "pages"
 page_names pages.PagesRequired = fields "pages"
 
 -- all fields that the rules of a type require or allow, including those for pages and chapters and for authors and editors
-abbrev pub named_in : Rules → Names
-named_in asked = asked.required ++ asked.optional ++ page_names asked.pages ++ author_names asked.author
+abbrev pub fields_of_rules : Rules → Names
+fields_of_rules asked = asked.required ++ asked.optional ++ page_names asked.pages ++ author_names asked.author
 
 -- the fields that an entry of a type can inherit from the entries that it refers to, except for those never inherited
 abbrev pub inheritable : EntryType → Names
-inheritable type = named_in (rules_of type)
+inheritable type = fields_of_rules (rules_of type)
 
 -- the fields that no entry inherits
 abbrev pub never_inherited : Names

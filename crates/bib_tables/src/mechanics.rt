@@ -2,8 +2,8 @@
 
 ghost use Rattle.std.specs.Prelude.{◌≡◌, Some, IsOk, IsSome, IfOk};
 ghost use Rattle.std.specs.Option.{ok_or};
-ghost use Rattle.bib_text.specs.Enums.{named};
-ghost use Rattle.bib_tables.specs.EntryType.{entry_type_name, entry_type_named, alias_names, named_or_alias, entry_type_of, known_type, biblatex_type, bibtex_type, is_multi_volume, is_collection};
+ghost use Rattle.bib_text.specs.Enums.{value_named};
+ghost use Rattle.bib_tables.specs.EntryType.{entry_type_name, entry_type_named, alias_names, entry_type_by_name_or_alias, entry_type_of, known_type, biblatex_type, bibtex_type, is_multi_volume, is_collection};
 
 mod requirements;
 
@@ -166,11 +166,11 @@ impl EntryType {
         ensures ok { IfOk result (λ type. type ≡ entry_type_of name.now) }
         ensures no_memory_needed { IsSome (entry_type_named name.now) → IsOk result }
     {
-        if let Some(known) = Self::named(name) {
+        if let Some(known) = Self::from_name(name) {
             return Ok(known);
         }
         let lowered = name.to_ascii_lowercase(alloc)?;
-        match Self::named_or_alias(lowered.as_str()) {
+        match Self::from_name_or_alias(lowered.as_str()) {
             Some(known) => Ok(known),
             None => Ok(Self::Unknown(Text::from_string(lowered))),
         }
@@ -204,7 +204,7 @@ impl EntryType {
         match self {
             Self::MastersThesis | Self::PhdThesis => Self::Thesis,
             Self::TechReport => Self::Report,
-            _ => self.known(),
+            _ => self.known_type(),
         }
     }
 
@@ -248,29 +248,29 @@ impl EntryType {
     }
 
     /// Returns the type itself if it is named, and `Misc` if it is unknown.
-    fn known(&self) -> Self
+    fn known_type(&self) -> Self
         ensures { result ≡ known_type self.now }
     {
         with_named_types!(known_or_misc, self)
     }
 
-    fn named_or_alias(name: &str) -> Option<Self>
-        ensures { result ≡ named_or_alias name.now }
+    fn from_name_or_alias(name: &str) -> Option<Self>
+        ensures { result ≡ entry_type_by_name_or_alias name.now }
     {
-        if let Some(known) = Self::named(name) {
+        if let Some(known) = Self::from_name(name) {
             return Some(known);
         }
         Self::alias(name)
     }
 
-    fn named(name: &str) -> Option<Self>
+    fn from_name(name: &str) -> Option<Self>
         ensures { result ≡ entry_type_named name.now }
     {
         with_named_types!(type_named, name)
     }
 
     fn alias(name: &str) -> Option<Self>
-        ensures { result ≡ named alias_names name.now }
+        ensures { result ≡ value_named alias_names name.now }
     {
         match name {
             "conference" => Some(Self::InProceedings),
@@ -299,6 +299,6 @@ impl FromStr for EntryType {
     ghost from_str_gives = { λ name result. result ≡ ok_or (entry_type_named name) NameError.Unknown };
 
     fn from_str(name: &str) -> Result<Self, NameError> {
-        Self::named(name).ok_or(NameError::Unknown)
+        Self::from_name(name).ok_or(NameError::Unknown)
     }
 }

@@ -4,8 +4,8 @@ ghost use Rattle.std.specs.Prelude.{◌≡◌, ◌↔◌, Some, IsOk, IsSome, Is
 ghost use Rattle.std.specs.List.{list_all};
 ghost use Rattle.std.specs.Option.{ok_or};
 ghost use Rattle.bib_tables.specs.Pagination.{pagination_name, pagination_named};
-ghost use Rattle.bib_tables.specs.EditorType.{editor_type_name, named_editor_type, editor_type_of};
-ghost use Rattle.bib_tables.specs.Gender.{gender_name, plural_of, singular_of, coalesced, group_gender, is_female, is_male};
+ghost use Rattle.bib_tables.specs.EditorType.{editor_type_name, editor_type_named, editor_type_of};
+ghost use Rattle.bib_tables.specs.Gender.{gender_name, plural_of, singular_of, coalesced_gender, group_gender, is_female, is_male};
 
 pub mod lang;
 
@@ -68,7 +68,7 @@ impl Pagination {
         }
     }
 
-    fn named(text: &str) -> Option<Self>
+    fn from_name(text: &str) -> Option<Self>
         ensures { result ≡ pagination_named text.now }
     {
         match text {
@@ -101,7 +101,7 @@ impl FromStr for Pagination {
     ghost from_str_gives = { λ text result. result ≡ ok_or (pagination_named text) NameError.Unknown };
 
     fn from_str(text: &str) -> Result<Self, NameError> {
-        Self::named(text).ok_or(NameError::Unknown)
+        Self::from_name(text).ok_or(NameError::Unknown)
     }
 }
 
@@ -136,9 +136,9 @@ impl EditorType {
     pub fn from_str(alloc: Global, text: &str) -> Result<Self, NameError>
         ensures ok { IfOk result (λ role. role ≡ editor_type_of text.now) }
         ensures refused { IsOkUnless result NameError.OutOfMemory }
-        ensures no_memory_needed { IsSome (named_editor_type text.now) → IsOk result }
+        ensures no_memory_needed { IsSome (editor_type_named text.now) → IsOk result }
     {
-        match Self::named(text) {
+        match Self::from_name(text) {
             Some(role) => Ok(role),
             None => {
                 let text = Text::from_str(alloc, text)?;
@@ -151,7 +151,7 @@ impl EditorType {
     pub fn from_text(text: Text) -> Self
         ensures { result ≡ editor_type_of text }
     {
-        match Self::named(text.as_str()) {
+        match Self::from_name(text.as_str()) {
             Some(role) => role,
             None => Self::Unknown(text),
         }
@@ -175,8 +175,8 @@ impl EditorType {
         }
     }
 
-    fn named(text: &str) -> Option<Self>
-        ensures { result ≡ named_editor_type text.now }
+    fn from_name(text: &str) -> Option<Self>
+        ensures { result ≡ editor_type_named text.now }
     {
         match text {
             "editor" => Some(Self::Editor),
@@ -245,7 +245,7 @@ impl Gender {
     /// Returns the gender of a group: `None` if `list` is empty, and its only gender if it has one element. Otherwise returns
     /// a plural, which is neuter unless all are female or all are male.
     pub fn coalesce(list: &[Self]) -> Option<Self>
-        ensures { result ≡ coalesced list.now }
+        ensures { result ≡ coalesced_gender list.now }
     {
         match list {
             [] => None,

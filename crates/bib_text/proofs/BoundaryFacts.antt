@@ -25,6 +25,7 @@ lead_value false true z c i j k small high = omega arith
 lead_value false false true c i j k small high = omega arith
 lead_value false false false c i j k small high = omega arith
 
+-- the first byte of an encoded character, by its code point
 lead_is : (c : ℕ) (rest : List ℕ)
     → get_or (encode c ++ rest) 0 0
     ≡ cond (ltb c 128) c (cond (ltb c 2048) (192 + c / 64) (cond (ltb c 65536) (224 + c / 4096) (240 + c / 262144)))
@@ -55,6 +56,7 @@ run_boundary (step char passes rest) boundary = char_boundary char
 
 -- ---- its other bytes go on in it
 
+-- each of these bytes is from 80 to BF, as the bytes of a character after its first one are
 abbrev GoOn : List ℕ → Type 0
 GoOn [] = Unit {0}
 GoOn (b ∷ bs) = (128 ≤ b) × (b < 192) × GoOn bs
@@ -69,6 +71,7 @@ tails false true z c i j k n m l = (omega arith, omega arith, tt)
 tails false false true c i j k n m l = (omega arith, omega arith, (omega arith, omega arith, tt))
 tails false false false c i j k n m l = (omega arith, omega arith, (omega arith, omega arith, (omega arith, omega arith, tt)))
 
+-- the bytes of a character after its first one are from 80 to BF
 tail_of : (c : ℕ) → GoOn (drop 1 (encode c))
 unfolding encode
 tail_of c = tails (ltb c 128) (ltb c 2048) (ltb c 65536) c (192 + c / 64) (224 + c / 4096) (240 + c / 262144) c (c / 64) (c / 4096)
@@ -78,6 +81,7 @@ each_goes_on [] k all within = absurd (omega arith)
 each_goes_on (b ∷ bs) zero all within = (all.0, all.1)
 each_goes_on (b ∷ bs) (suc k) all within = each_goes_on bs k all.2 (omega arith)
 
+-- each byte of a character except the first one is from 80 to BF
 inner_byte : (c k : ℕ) → 1 ≤ k → k < len_utf8 c → (128 ≤ get_or (encode_utf8 c) k 0) × (get_or (encode_utf8 c) k 0 < 192)
 inner_byte c k some within =
     let size : length (drop 1 (encode_utf8 c)) ≡ len_utf8 c - 1 = length-drop 1 (encode_utf8 c) ∙ ap (λ n. n - 1) (length-encode c) in
@@ -87,6 +91,7 @@ inner_byte c k some within =
     let each = each_goes_on (drop 1 (encode_utf8 c)) (k - 1) (tail_of c) (omega arith) in
     (subst (λ b. 128 ≤ b) same each.0, subst (λ b. b < 192) same each.1)
 
+-- the byte `k` bytes after a place is byte `k` of the character there
 byte_of : {u v : Place} {c : ℕ} (k : ℕ) → CharAt u c v → k < len_utf8 c → get_or u.text (u.at + k) 0 ≡ get_or (encode_utf8 c) k 0
 byte_of {u} {v} {c} k char within =
     sym (get_or-drop u.at u.text k 0) ∙ ap (λ t. get_or t k 0) char.here

@@ -78,9 +78,11 @@ run_append (step char passes rest) more = step char passes (run_append rest more
 pub run_one : {test : ℕ → Bool} {u v : Place} {c : ℕ} → CharAt u c v → test c ≡ true → Run test u v
 run_one char passes = step char passes stop
 
+-- no character is at the end of a text, so any test stops there
 pub stops_at_end : (test : ℕ → Bool) {u : Place} → AtEnd u → Stops test u
 stops_at_end test end c v char = absurd (no_char_at_end end char)
 
+-- a test stops at a character that fails it
 pub stops_at : (test : ℕ → Bool) {u v : Place} {c : ℕ} → CharAt u c v → test c ≡ false → Stops test u
 stops_at test {u} {v} {c} char fails d w other = subst (λ x. test x ≡ false) (same_char char other).0 fails
 
@@ -117,6 +119,7 @@ pub all_map : {Holds Follows : ℕ → Type 0} {u v : Place} → ((c : ℕ) → 
 all_map follows each.stop = each.stop
 all_map follows (each.step all char holds) = each.step (all_map follows all) char (follows _ holds)
 
+-- if `Holds` implies `Follows`, `EndsOr Holds` implies `EndsOr Follows`
 pub end_map : {Holds Follows : ℕ → Type 0} {u : Place} → ((c : ℕ) → Holds c → Follows c) → EndsOr Holds u → EndsOr Follows u
 end_map follows (inl end) = inl end
 end_map follows (inr here) = inr (here.0, here.1, here.2, follows _ here.3)

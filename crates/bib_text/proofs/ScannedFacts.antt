@@ -9,7 +9,7 @@ use Rattle.std.proofs.lemmas.Bool.{and_parts, cond-true, cond-false}
 use Rattle.std.proofs.lemmas.Str.{encodes-chars, chars_from_encodes, encodes-IsAscii}
 use Rattle.bib_text.specs.Places.{Place, place, CharAt, Longest, Stops, AtEnd, between}
 use Rattle.bib_text.proofs.PlaceFacts.{char_here}
-use Rattle.bib_text.proofs.TextFacts.{ahead, Passed, passed_run, passed_between, passed_char, chars_at_end}
+use Rattle.bib_text.proofs.TextFacts.{ahead, MovesPast, passed_run, passed_between, passed_char, chars_at_end}
 use Rattle.bib_text.specs.Runs.{leading_run, rest_after}
 
 -- if all of `run` passes the test and `rest` doesn't begin with a passing character, the leading run of both is `run`
@@ -20,6 +20,7 @@ split_prefix test (c ∷ run) rest all stops =
     let parts = and_parts (test c) (list_all test run) all in
     cond-true (test c) (c ∷ leading_run test (run ++ rest)) [] parts.0 ∙ ap (λ xs. c ∷ xs) (split_prefix test run rest parts.1 stops)
 
+-- if all of `run` passes and `rest` doesn't begin with a passing character, `rest` comes after the leading run
 pub split_after : (test : ℕ → Bool) (run rest : List ℕ) → list_all test run ≡ true → (rest_after test rest ≡ rest)
     → rest_after test (run ++ rest) ≡ rest
 split_after test [] rest all stops = stops
@@ -37,14 +38,14 @@ stopped test v (c ∷ cs) utf8 is stops =
     (cond-false (test c) (c ∷ leading_run test cs) [] no, cond-false (test c) (rest_after test cs) (c ∷ cs) no)
 
 -- a scanner moved from `u` to `v`, past the leading run of the characters ahead
-pub record Eaten (test : ℕ → Bool) (u v : Place) : Type 0 where
+pub record EatsRun (test : ℕ → Bool) (u v : Place) : Type 0 where
   pub same : v.text ≡ u.text
   pub run : between u v ≡ encode_utf8_all (leading_run test (chars (ahead u)))
   pub utf8 : IsUtf8 (ahead v)
   pub rest : chars (ahead v) ≡ rest_after test (chars (ahead u))
 
 -- a longest run is the leading run of the characters ahead
-pub eaten : (test : ℕ → Bool) {u v : Place} → Longest test u v → IsUtf8 (ahead u) → Eaten test u v
+pub eaten : (test : ℕ → Bool) {u v : Place} → Longest test u v → IsUtf8 (ahead u) → EatsRun test u v
 eaten test {u} {v} longest utf8 =
     let passed = passed_run longest.run utf8 in
     let stops = stopped test v (chars (ahead v)) passed.1.utf8 refl longest.stops in
@@ -80,7 +81,7 @@ pub eaten_new : (test : ℕ → Bool) (text : List ℕ) {u v : Place} → u ≡ 
     × (chars (ahead v) ≡ rest_after test (chars text))
 eaten_new test text {u} {v} is utf8 longest =
     let here : ahead u ≡ text = ap ahead is in
-    let ate : Eaten test u v = eaten test longest (rw here utf8) in (
+    let ate : EatsRun test u v = eaten test longest (rw here utf8) in (
       ate.same ∙ ap (λ p. p.text) is,
       ate.run ∙ ap (λ bs. encode_utf8_all (leading_run test (chars bs))) here,
       ate.rest ∙ ap (λ bs. rest_after test (chars bs)) here,
@@ -108,9 +109,11 @@ prefix_ascii (c ∷ cs) = here (is_ascii_digit c) c (leading_run is_ascii_digit 
     here true c cs is more (suc k) = more k
     here false c cs is more k = omega arith
 
+-- each digit is encoded in one byte, which is its code point
 digits_encode : (cs : List ℕ) → encode_utf8_all (leading_run is_ascii_digit cs) ≡ leading_run is_ascii_digit cs
 digits_encode cs = encodes-IsAscii (leading_run is_ascii_digit cs) (prefix_ascii cs)
 
+-- the longest run of digits from the start of a text, in bytes, is the leading run of its characters
 pub eaten_digits : (text : List ℕ) {u v : Place} → u ≡ place text 0 → IsUtf8 text → Longest is_ascii_digit u v
     → between u v ≡ leading_run is_ascii_digit (chars text)
 eaten_digits text is utf8 longest = (eaten_new is_ascii_digit text is utf8 longest).1 ∙ digits_encode (chars text)
@@ -120,10 +123,11 @@ pub eaten_char : (text : List ℕ) (at : ℕ) {u v : Place} {c : ℕ} → u ≡ 
     → at ≡ v.at → chars text ≡ c ∷ chars (drop at text)
 eaten_char text at {u} {v} {c} is utf8 char there =
     let here : ahead u ≡ text = ap ahead is in
-    let passed : Passed u (c ∷ []) v = passed_char char (rw here utf8) in
+    let passed : MovesPast u (c ∷ []) v = passed_char char (rw here utf8) in
     let same : v.text ≡ text = char.same ∙ ap (λ p. p.text) is in
     ap chars (sym here) ∙ passed.spelt ∙ ap (λ bs. c ∷ chars (drop v.at bs)) same ∙ ap (λ n. c ∷ chars (drop n text)) (sym there)
 
+-- the place after the first character of a text has the same text, and so the same character boundaries
 pub boundary_char : (at : ℕ) (text : List ℕ) {u v : Place} {c : ℕ} → u ≡ place text 0 → CharAt u c v
     → IsCharBoundary v.text at → IsCharBoundary text at
 boundary_char at text is char boundary = rw (sym (char.same ∙ ap (λ p. p.text) is)) boundary

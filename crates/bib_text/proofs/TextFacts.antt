@@ -17,18 +17,19 @@ abbrev pub ahead : Place → List ℕ
 ahead u = drop u.at u.text
 
 -- a cursor moved from `u` to `v` past the characters `cs`, and the rest of the text is UTF-8
-pub record Passed (u : Place) (cs : List ℕ) (v : Place) : Type 0 where
+pub record MovesPast (u : Place) (cs : List ℕ) (v : Place) : Type 0 where
   pub same : v.text ≡ u.text
   pub here : ahead u ≡ encode_utf8_all cs ++ ahead v
   pub next : v.at ≡ u.at + length (encode_utf8_all cs)
   pub spelt : chars (ahead u) ≡ cs ++ chars (ahead v)
   pub utf8 : IsUtf8 (ahead v)
 
-pub passed_none : (u : Place) → IsUtf8 (ahead u) → Passed u [] u
+-- `MovesPast` for no characters
+pub passed_none : (u : Place) → IsUtf8 (ahead u) → MovesPast u [] u
 passed_none u utf8 = record { same = refl; here = refl; next = omega arith; spelt = refl; utf8 = utf8 }
 
--- `Passed` for one character
-pub passed_char : {u v : Place} {c : ℕ} → CharAt u c v → IsUtf8 (ahead u) → Passed u (c ∷ []) v
+-- `MovesPast` for one character
+pub passed_char : {u v : Place} {c : ℕ} → CharAt u c v → IsUtf8 (ahead u) → MovesPast u (c ∷ []) v
 passed_char {u} {v} {c} char utf8 =
     let here : ahead u ≡ encode_utf8 c ++ ahead v = char.here ∙ ap (λ t. encode_utf8 c ++ drop v.at t) (sym char.same) in
     record {
@@ -39,8 +40,8 @@ passed_char {u} {v} {c} char utf8 =
       utf8 = IsUtf8-past_char (ahead u) (ahead v) c utf8 here;
     }
 
--- `Passed` for characters and those after them
-pub passed_append : {u v w : Place} {cs ds : List ℕ} → Passed u cs v → Passed v ds w → Passed u (cs ++ ds) w
+-- `MovesPast` for characters and those after them
+pub passed_append : {u v w : Place} {cs ds : List ℕ} → MovesPast u cs v → MovesPast v ds w → MovesPast u (cs ++ ds) w
 passed_append {u} {v} {w} {cs} {ds} first second =
     let joined : encode_utf8_all (cs ++ ds) ≡ encode_utf8_all cs ++ encode_utf8_all ds = encodes-append cs ds in
     let sizes : length (encode_utf8_all (cs ++ ds)) ≡ length (encode_utf8_all cs) + length (encode_utf8_all ds) =
@@ -58,7 +59,7 @@ passed_append {u} {v} {w} {cs} {ds} first second =
     }
 
 -- the text between the two places is the passed characters in UTF-8
-pub passed_between : {u v : Place} {cs : List ℕ} → Passed u cs v → between u v ≡ encode_utf8_all cs
+pub passed_between : {u v : Place} {cs : List ℕ} → MovesPast u cs v → between u v ≡ encode_utf8_all cs
 passed_between {u} {v} {cs} passed =
     let next : v.at ≡ u.at + length (encode_utf8_all cs) = passed.next in
     let size : length (encode_utf8_all cs) ≡ v.at - u.at = omega arith in
@@ -66,7 +67,7 @@ passed_between {u} {v} {cs} passed =
 
 -- a run moves a cursor past characters that all pass the test
 pub passed_run : {test : ℕ → Bool} {u v : Place} → Run test u v → IsUtf8 (ahead u)
-    → (cs : List ℕ) × Passed u cs v × (list_all test cs ≡ true)
+    → (cs : List ℕ) × MovesPast u cs v × (list_all test cs ≡ true)
 passed_run {test} {u} stop utf8 = ([], passed_none u utf8, refl)
 passed_run (step char passes rest) utf8 =
     let first = passed_char char utf8 in
@@ -143,6 +144,7 @@ two_parts out one two xs ys first second =
     second ∙ ap (λ bs. bs ++ encode_utf8_all ys) first ∙ append_assoc out (encode_utf8_all xs) (encode_utf8_all ys)
     ∙ ap (λ bs. out ++ bs) (sym (encodes-append xs ys))
 
+-- three texts appended one after another are the encoding of all their characters
 pub three_parts : (out one two three xs ys zs : List ℕ) → one ≡ out ++ encode_utf8_all xs
     → two ≡ one ++ encode_utf8_all ys → three ≡ two ++ encode_utf8_all zs
     → three ≡ out ++ encode_utf8_all (xs ++ ys ++ zs)

@@ -135,12 +135,14 @@ none_of true q r = refl
 none_of false true r = refl
 none_of false false r = refl
 
+-- from `at`, the longest run without `a` ends before the first `a`, or at the end of the text
 pub until_byte : (a : ℕ) → a < 128 → (text : List ℕ) (at : ℕ) → IsUtf8 text → IsCharBoundary text at
     → (found : Option ℕ) (n : ℕ) → IsFirstByte (is_byte a) (drop at text) found
     → n ≡ unwrap_or found (length (drop at text))
     → Until (λ c. not (c == a)) (place text at) (place text (at + n))
 until_byte a low = until_found (is_byte a) (λ c. not (c == a)) (λ c. refl) (one_ascii a low)
 
+-- from `at`, the longest run without `a` and `b` ends before the first of them, or at the end of the text
 pub until_either : (a b : ℕ) → (a < 128) × (b < 128) → (text : List ℕ) (at : ℕ) → IsUtf8 text → IsCharBoundary text at
     → (found : Option ℕ) (n : ℕ) → IsFirstByte (is_byte2 a b) (drop at text) found
     → n ≡ unwrap_or found (length (drop at text))
@@ -149,6 +151,7 @@ until_either a b low =
     until_found (is_byte2 a b) (λ c. not (c == a) && not (c == b)) (λ c. neither (c == a) (c == b))
     (two_ascii a b low.0 low.1)
 
+-- from `at`, the longest run without `a`, `b` and `d` ends before the first of them, or at the end of the text
 pub until_any : (a b d : ℕ) → (a < 128) × (b < 128) × (d < 128) → (text : List ℕ) (at : ℕ) → IsUtf8 text
     → IsCharBoundary text at → (found : Option ℕ) (n : ℕ) → IsFirstByte (is_byte3 a b d) (drop at text) found
     → n ≡ unwrap_or found (length (drop at text))
@@ -180,6 +183,7 @@ or_same true q = refl
 or_same false true = refl
 or_same false false = refl
 
+-- the first byte that is `a`, `b` or `b` is the first that is `a` or `b`
 pub first_of_two : (a b : ℕ) (hay : List ℕ) (n : ℕ) → IsFirstByte (is_byte3 a b b) hay (Some n) → IsFirstByte (is_byte2 a b) hay (Some n)
 first_of_two a b = first_same (is_byte3 a b b) (is_byte2 a b) (λ x. or_same (x == a) (x == b))
 

@@ -4,9 +4,9 @@ use Rattle.std.specs.Prelude.{ℕ, List, [], ◌∷◌, Option, Some, None, if�
 use Rattle.bib_text.specs.Characters as char
 
 -- the value in the first row whose name is `text`, or `None` if there is no such row
-abbrev pub named : {A : Type 0} → List (List ℕ × A) → List ℕ → Option A
-named [] text = None
-named (row ∷ rows) text = if bytes_eq row.0 text then Some row.1 else named rows text
+abbrev pub value_named : {A : Type 0} → List (List ℕ × A) → List ℕ → Option A
+value_named [] text = None
+value_named (row ∷ rows) text = if bytes_eq row.0 text then Some row.1 else value_named rows text
 
 -- the table with one row for each of `values`: its name and the value
 abbrev pub by_name : {A : Type 0} → (A → List ℕ) → List A → List (List ℕ × A)

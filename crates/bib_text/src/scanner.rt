@@ -90,7 +90,7 @@ impl<'s> Scanner<'s> {
     }
 
     /// Returns another scanner at the same offset of the same text. Unlike `clone`, it can't fail.
-    pub fn copied(&self) -> Self
+    pub fn copy(&self) -> Self
         ensures { result ≡ self.now }
     {
         Scanner {

@@ -3,7 +3,7 @@
 ghost use Rattle.std.specs.Prelude.{◌≡◌, List, IfOk, string_bytes, encode_utf8_all};
 ghost use Rattle.bib_chunks.specs.declared.chunk.Chunk.{Chunk as AChunk};
 ghost use Rattle.bib_text.specs.declared.spanned.Spanned.{Spanned as APlaced};
-ghost use Rattle.bib_chunks.specs.Formatted.{formatted, sentence};
+ghost use Rattle.bib_chunks.specs.Formatted.{formatted_chars, sentence};
 ghost use Rattle.bib_chunks.specs.Styled.{whole_span};
 ghost use Rattle.bib_chunks.specs.Written.{written_value};
 ghost use Rattle.bib_tables.specs.ReadAs.{IsReadAs, LiesAt};
@@ -30,7 +30,7 @@ pub trait ChunksExt {
     /// nothing after white space.
     fn format_verbatim(&self, alloc: Global) -> Result<String, AllocError>
         ensures { IfOk result (λ text. string_bytes text ≡
-            encode_utf8_all (formatted (contents self.now))) };
+            encode_utf8_all (formatted_chars (contents self.now))) };
 
     /// Returns the text of the chunks in sentence case: like `format_verbatim`, with the characters of normal chunks in
     /// lowercase. If the first chunk is normal, its first character is in uppercase.

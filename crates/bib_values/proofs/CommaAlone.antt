@@ -9,7 +9,7 @@ use Rattle.std.proofs.lemmas.Str.{scalars-chars, chars-encodes}
 use Rattle.bib_chunks.specs.declared.chunk.Chunk.{Chunk}
 use Rattle.bib_chunks.specs.declared.chunk.Chunk.TheVariants.{Normal, Verbatim, Math}
 use Rattle.bib_chunks.specs.Styled.{Atom, atoms_of, styled}
-use Rattle.bib_chunks.specs.Formatted.{is_break, unbroken, flowing, ends_in_space, formatted_chunk, formatted_after, formatted, space_after}
+use Rattle.bib_chunks.specs.Formatted.{is_break, char_on_line, flowing, ends_in_space, formatted_chunk, formatted_chars_after, formatted_chars, space_after}
 use Rattle.bib_chunks.specs.Cuts.{comma_list}
 use Rattle.bib_chunks.specs.Parted.{AreTexts, IsList, HoldsNoComma, is_normal_comma}
 use Rattle.bib_chunks.specs.Parted.IsList.{last, next}
@@ -78,10 +78,10 @@ broken_stays : (space : Bool) → list_all stays (if space then [] else 32 ∷ [
 broken_stays true = refl
 broken_stays false = refl
 
-unbroken_stays : (space : Bool) (c : ℕ) → (scalar c && not (c == 44)) ≡ true → list_all stays (unbroken space c) ≡ true
+unbroken_stays : (space : Bool) (c : ℕ) → (scalar c && not (c == 44)) ≡ true → list_all stays (char_on_line space c) ≡ true
 unbroken_stays space c is = ⊎_elim (λ yes. rw yes (broken_stays space)) goes (cases_Bool (is_break c))
   where
-    goes : is_break c ≡ false → list_all stays (unbroken space c) ≡ true
+    goes : is_break c ≡ false → list_all stays (char_on_line space c) ≡ true
     goes flows =
         let parts = and_parts (scalar c) (not (c == 44)) is in
         rw flows (and_from _ _ (and_from (scalar c) _ parts.0 (and_from _ _ parts.1 (ap not flows))) refl)
@@ -90,8 +90,8 @@ flowing_stays : (space : Bool) (cs : List ℕ) → list_all is_letter (map Atom.
 flowing_stays space [] all = refl
 flowing_stays space (c ∷ cs) all =
     let parts = and_parts (scalar c && not (c == 44)) (list_all is_letter (map Atom.normal cs)) all in
-    all-append stays (unbroken space c) _ (unbroken_stays space c parts.0)
-    (flowing_stays (ends_in_space space (unbroken space c)) cs parts.1)
+    all-append stays (char_on_line space c) _ (unbroken_stays space c parts.0)
+    (flowing_stays (ends_in_space space (char_on_line space c)) cs parts.1)
 
 no_verbatim : (cs : List ℕ) → list_all is_letter (map Atom.verbatim cs) ≡ true → list_all stays cs ≡ true
 no_verbatim [] all = refl
@@ -103,7 +103,8 @@ chunk_stays space (Normal t) all = flowing_stays space (chars t) all
 chunk_stays space (Verbatim t) all = no_verbatim (chars t) all
 chunk_stays space (Math t) all = absurd (false≢true all)
 
-part_stays : (space : Bool) (part : Value) → list_all is_letter (styled part) ≡ true → list_all stays (formatted_after space part) ≡ true
+part_stays : (space : Bool) (part : Value) → list_all is_letter (styled part) ≡ true
+    → list_all stays (formatted_chars_after space part) ≡ true
 part_stays space [] all = refl
 part_stays space (c ∷ part) all =
     let both = all-parts is_letter (atoms_of c.v) (styled part) all in
@@ -122,12 +123,12 @@ staying (c ∷ cs) all =
 part_plain : (part : Value) (t : List ℕ) → IsUtf8 t → text part ≡ t → list_all is_normal_scalar (styled part) ≡ true
     → HoldsNoComma part → IsPlain t
 part_plain part t utf8 is all none =
-    let both = staying (formatted part) (part_stays false part (letters (styled part) all none)) in
+    let both = staying (formatted_chars part) (part_stays false part (letters (styled part) all none)) in
     record {
       utf8 = utf8;
       plain =
           ap (λ u. list_all is_plain_in_list (chars u)) (sym is)
-          ∙ ap (list_all is_plain_in_list) (chars-encodes (formatted part) both.0) ∙ both.1;
+          ∙ ap (list_all is_plain_in_list) (chars-encodes (formatted_chars part) both.0) ∙ both.1;
     }
 
 -- the comma is UTF-8

@@ -5,7 +5,7 @@ use Rattle.std.specs.Prelude.{ℕ, encode_utf8_all}
 use Rattle.std.specs.Str.{chars}
 use Rattle.std.proofs.lemmas.Str.{encodes-chars}
 use Rattle.bib_chunks.specs.declared.chunk.Chunk.TheVariants.{Verbatim}
-use Rattle.bib_chunks.specs.Formatted.{formatted}
+use Rattle.bib_chunks.specs.Formatted.{formatted_chars}
 use Rattle.bib_tables.specs.declared.types.lang.Language.{Language}
 use Rattle.bib_tables.specs.Language.{language_row, language_named}
 use Rattle.bib_tables.proofs.LanguageFacts.{language_named-name}
@@ -36,7 +36,7 @@ other_texts [] = []
 other_texts (t ∷ rest) = rest
 
 -- chunks that format to the name of a language parse as it
-read_one : (part : Value) (language : Language) → formatted part ≡ chars (name language)
+read_one : (part : Value) (language : Language) → formatted_chars part ≡ chars (name language)
     → permissive (language_read part) part ≡ typed language
 unfolding language_read
 read_one part language formats =
@@ -45,7 +45,7 @@ read_one part language formats =
     ∙ language_named-name language in
     ap (λ found. permissive found part) named
 
-read_all : (parts : List Value) (languages : List Language) → map formatted parts ≡ map chars (map name languages)
+read_all : (parts : List Value) (languages : List Language) → map formatted_chars parts ≡ map chars (map name languages)
     → map (λ part. permissive (language_read part) part) parts ≡ map (λ language. typed language) languages
 unfolding first_text other_texts
 read_all [] [] formats = refl

@@ -7,7 +7,7 @@ use Rattle.std.specs.Str.Parse.{digits_value, ParsesUnsigned}
 use Rattle.std.proofs.lemmas.Bool.{cond-true, cond-false, and_from, false_from_ne_true}
 use Rattle.std.proofs.lemmas.Bool.Decides.{nat_tests}
 use Rattle.std.specs.Option.{option_map}
-use Rattle.bib_chunks.specs.Formatted.{formatted}
+use Rattle.bib_chunks.specs.Formatted.{formatted_chars}
 use Rattle.bib_chunks.specs.Values.{Value}
 use Rattle.std.proofs.lemmas.List.{map_more, drop_more, take-append-drop, take_all, map-append}
 use Rattle.std.proofs.lemmas.Str.{chars-nil, chars_from_encodes}
@@ -146,5 +146,5 @@ pub all_done : {X A : Type 0} (f : X → Option A) (xs : List X) (i : ℕ) (rs :
 all_done f xs i rs end before = sym before ∙ ap (λ ys. all_of (map f ys)) (take_all i xs end)
 
 -- the characters of a part's formatted text
-pub part_chars : (part : Value) (bs : List ℕ) → IsUtf8 bs → bs ≡ encode_utf8_all (formatted part) → chars bs ≡ formatted part
-part_chars part bs utf8 is = sym (chars_from_encodes (formatted part) bs utf8 (sym is))
+pub part_chars : (part : Value) (bs : List ℕ) → IsUtf8 bs → bs ≡ encode_utf8_all (formatted_chars part) → chars bs ≡ formatted_chars part
+part_chars part bs utf8 is = sym (chars_from_encodes (formatted_chars part) bs utf8 (sym is))

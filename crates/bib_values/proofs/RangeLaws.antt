@@ -13,7 +13,7 @@ use Rattle.std.proofs.lemmas.Bool.Decides.{nat_tests}
 use Rattle.std.proofs.lemmas.Fmt.{decimal_is_IsNumeral}
 use Rattle.std.proofs.lemmas.Str.{chars-IsAscii, IsUtf8-from_ascii}
 use Rattle.std.proofs.lemmas.Str.Parse.{digit_from_value}
-use Rattle.bib_chunks.specs.Formatted.{formatted}
+use Rattle.bib_chunks.specs.Formatted.{formatted_chars}
 use Rattle.bib_chunks.specs.Cuts.{comma_list}
 use Rattle.bib_chunks.specs.Values.{Value}
 use Rattle.bib_values.specs.Lists.{is_plain_in_list, IsPlain, StringsKept}
@@ -151,9 +151,9 @@ all_read (r ∷ rest) kept =
     ap (λ x. with_first x (all_of (map range_of (map chars (map range_text rest))))) (one_read r kept.0)
     ∙ ap (with_first (Some r)) (all_read rest kept.1)
 
-composed : (parts : List Value) → map (λ part. range_of (formatted part)) parts ≡ map range_of (map formatted parts)
+composed : (parts : List Value) → map (λ part. range_of (formatted_chars part)) parts ≡ map range_of (map formatted_chars parts)
 composed [] = refl
-composed (p ∷ parts) = ap (λ xs. range_of (formatted p) ∷ xs) (composed parts)
+composed (p ∷ parts) = ap (λ xs. range_of (formatted_chars p) ∷ xs) (composed parts)
 
 pub ranges_survive : (ranges : List (Range ℕ)) → RangesKept ranges → ranges_read (ranges_written ranges) ≡ Some ranges
 unfolding ranges_read

@@ -3,7 +3,7 @@
 -- its codes for `gender`. Only a language is parsed in the exact case of its name.
 use Rattle.std.specs.Prelude.{ℕ, ⊤, List, [], ◌∷◌, Option, codes}
 use Rattle.bib_chunks.specs.declared.chunk.Chunk.TheVariants.{Normal, Verbatim}
-use Rattle.bib_text.specs.Enums.{named, by_name}
+use Rattle.bib_text.specs.Enums.{value_named, by_name}
 use Rattle.bib_tables.specs.declared.types.Pagination.{Pagination}
 use Rattle.bib_tables.specs.declared.types.Gender.{Gender}
 use Rattle.bib_tables.specs.declared.types.Gender.TheVariants.{SingularFemale, SingularMale, SingularNeuter, PluralFemale, PluralMale, PluralNeuter}
@@ -13,11 +13,11 @@ use Rattle.bib_tables.specs.declared.types.lang.Language.{Language}
 use Rattle.bib_tables.specs.Pagination.{pagination_name, pagination_named}
 use Rattle.bib_tables.specs.EditorType.{editor_type_name, editor_type_of}
 use Rattle.bib_tables.specs.Language.{language_row, language_named}
-use Rattle.bib_chunks.specs.Values.{Value, text, lowered, alone}
+use Rattle.bib_chunks.specs.Values.{Value, text, lowercase_text, alone}
 
 -- the scheme whose name is the text of the chunks, in any ASCII case
 unfoldable pub pagination_read : Value → Option Pagination
-pagination_read chunks = pagination_named (lowered chunks)
+pagination_read chunks = pagination_named (lowercase_text chunks)
 
 -- how a scheme is written: its name, as one normal chunk
 abbrev pub pagination_written : Pagination → Value
@@ -38,11 +38,11 @@ genders = by_name gender_code (SingularFemale ∷ SingularMale ∷ SingularNeute
 
 -- the gender with this code
 abbrev pub gender_coded : List ℕ → Option Gender
-gender_coded = named genders
+gender_coded = value_named genders
 
 -- the gender whose code is the text of the chunks, in any ASCII case
 unfoldable pub gender_read : Value → Option Gender
-gender_read chunks = gender_coded (lowered chunks)
+gender_read chunks = gender_coded (lowercase_text chunks)
 
 -- how a gender is written: its code, as one normal chunk
 abbrev pub gender_written : Gender → Value
@@ -51,7 +51,7 @@ gender_written gender = alone (Normal (gender_code gender))
 -- the editor type whose name is the text of the chunks, in any ASCII case; any other text, with `A` to `Z` in lower
 -- case, is an unknown type
 unfoldable pub editor_type_read : Value → EditorType
-editor_type_read chunks = editor_type_of (lowered chunks)
+editor_type_read chunks = editor_type_of (lowercase_text chunks)
 
 -- how an editor type is written: its name, or the text of an unknown one, as one normal chunk
 abbrev pub editor_type_written : EditorType → Value

@@ -8,7 +8,7 @@ use Rattle.std.specs.Str.Parse.{digits_value}
 use Rattle.std.specs.Fmt.{decimal}
 use Rattle.std.specs.declared.ops.Range.{Range}
 use Rattle.bib_chunks.specs.declared.chunk.Chunk.TheVariants.{Normal}
-use Rattle.bib_chunks.specs.Formatted.{formatted}
+use Rattle.bib_chunks.specs.Formatted.{formatted_chars}
 use Rattle.bib_chunks.specs.Cuts.{comma_list}
 use Rattle.bib_text.specs.Runs.{leading_run, rest_after}
 use Rattle.bib_chunks.specs.Values.{Value, alone}
@@ -106,7 +106,7 @@ first_of (Some (a ∷ rest)) = Some a
 
 -- the ranges that are parsed from chunks: those of the parts of a comma list, if each part spells one
 unfoldable pub ranges_read : Value → Option (List (Range ℕ))
-ranges_read chunks = all_of (map (λ part. range_of (formatted part)) (comma_list chunks))
+ranges_read chunks = all_of (map (λ part. range_of (formatted_chars part)) (comma_list chunks))
 
 -- the one range that is parsed from chunks: the first of these
 abbrev pub range_read : Value → Option (Range ℕ)

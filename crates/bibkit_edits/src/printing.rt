@@ -10,7 +10,7 @@ ghost use Rattle.bibkit_edits.specs.Printing.{HasPrintedDifference, HasPrintedEd
 
 use crate::edit::{Edit, Refusal};
 use crate::editing::edited_file;
-use bib_source::unified::unified;
+use bib_source::unified::unified_diff;
 use biblatex::Sink;
 use std::alloc::{AllocError, Global};
 use std::str::from_utf8;
@@ -94,7 +94,7 @@ fn difference(alloc: Global, name: &str, bytes: &[u8], new: &str) -> Result<Stri
     ensures { IfOk result (λ diff. IsDiff name.now bytes.now new.now (string_bytes diff)) }
 {
     match from_utf8(bytes) {
-        Ok(old) => unified(alloc, name, old, new),
+        Ok(old) => unified_diff(alloc, name, old, new),
         Err(_) => unreachable!(),
     }
 }

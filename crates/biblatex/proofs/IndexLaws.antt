@@ -12,7 +12,7 @@ use Rattle.bib_abbreviations.specs.Abbreviations.{Definitions, AreOneError}
 use Rattle.bib_abbreviations.proofs.LawFacts.{error_is_one}
 use Rattle.bib_syntax.specs.Reading.{FieldReading, EntryReading}
 use Rattle.bib_syntax.specs.declared.raw.ParseError.{ParseError}
-use Rattle.bib_collections.specs.Names.{claimed, claims_for}
+use Rattle.bib_collections.specs.Names.{with_claims, claims_for}
 use Rattle.bib_collections.specs.Sorted.{ByText, by_bytes}
 use Rattle.bib_entry.specs.declared.entry.Entry.{Entry}
 use Rattle.bib_file_entries.specs.Bibliography.{Bibliography, claims, appended, empty_bibliography, index_of}
@@ -57,7 +57,7 @@ one_claim false index had later = refl
 
 -- the index that a name points to after names were claimed for an index
 get_claimed : (index : ℕ) (more : List (List ℕ)) (names : ByText ℕ) (name : List ℕ)
-    → by_name.get (claimed names (claims_for more index)) name ≡ cond (is_claimed more name) (Some index) (by_name.get names name)
+    → by_name.get (with_claims names (claims_for more index)) name ≡ cond (is_claimed more name) (Some index) (by_name.get names name)
 get_claimed index [] names name = refl
 get_claimed index (one ∷ more) names name =
     get_claimed index more (by_name.insert names one index) name

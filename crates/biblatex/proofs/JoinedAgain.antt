@@ -8,7 +8,7 @@ use Rattle.std.proofs.lemmas.Bool.{eqb-true, and_from, and_parts}
 use Rattle.std.proofs.lemmas.Str.{chars-encodes}
 use Rattle.bib_text.specs.declared.spanned.Spanned.{Spanned}
 use Rattle.bib_chunks.specs.Styled.{Atom, atoms_of, styled}
-use Rattle.bib_chunks.specs.Written.{is_grouping, is_reserved, spelled, spelling, lead, trail, is_open_after, written_chunk, written_chunks}
+use Rattle.bib_chunks.specs.Written.{is_grouping, is_reserved, char_spelling, spelling, lead, trail, is_open_after, written_chunk, written_chunks}
 use Rattle.bib_chunks.specs.declared.chunk.Chunk.{Chunk}
 use Rattle.bib_chunks.specs.declared.chunk.Chunk.TheVariants.{Normal, Verbatim, Math}
 use Rattle.bib_chunks.proofs.TrimFacts.{scalars_parts}
@@ -173,14 +173,14 @@ valid_by false false false true circumflex c is is' all = subst (λ d. scalars (
 valid_by false false false false true c is is' all = subst (λ d. scalars (d ∷ []) ≡ true) (sym (eqb-true c 94 is')) refl
 valid_by false false false false false c is is' all = all
 
-valid_spelled : (v : Bool) (c : ℕ) → scalars (spelled v c) ≡ true → scalars (c ∷ []) ≡ true
-unfolding spelled
+valid_spelled : (v : Bool) (c : ℕ) → scalars (char_spelling v c) ≡ true → scalars (c ∷ []) ≡ true
+unfolding char_spelling
 valid_spelled v c all = valid_by v (is_grouping c) (is_reserved c) (c == 126) (c == 94) c refl refl all
 
 valid_spelling : (v : Bool) (cs : List ℕ) → scalars (spelling v cs) ≡ true → scalars cs ≡ true
 valid_spelling v [] all = refl
 valid_spelling v (c ∷ cs) all =
-    let parts = scalars_parts (spelled v c) (spelling v cs) all in
+    let parts = scalars_parts (char_spelling v c) (spelling v cs) all in
     one_more c cs (valid_spelled v c parts.0) (valid_spelling v cs parts.1)
 
 text_atoms : (f : ℕ → Atom) → ((c : ℕ) → scalars (c ∷ []) ≡ true → IsText (f c)) → (cs : List ℕ) (atoms : List Atom)

@@ -15,7 +15,7 @@ use Rattle.bib_collections.proofs.Walks as walks
 use Rattle.bib_inheritance.specs.InheritableDate.{looks_for_date}
 use Rattle.bib_inheritance.specs.References.{references}
 use Rattle.bib_inheritance.specs.EntryTexts.{EntryTexts, FieldTexts, fields_of, no_entry}
-use Rattle.bib_collections.specs.Names.{AreIndicesBelow, claimed, claims_for}
+use Rattle.bib_collections.specs.Names.{AreIndicesBelow, with_claims, claims_for}
 use Rattle.bib_collections.specs.Sorted.{ByText}
 use Rattle.bib_syntax.specs.Reading.{EntryReading, FieldReading, FileReading}
 use Rattle.bib_syntax.specs.declared.raw.ParseError.{ParseError}
@@ -104,9 +104,9 @@ names_go l m (x ∷ a) (y ∷ b) n e c =
     let head : claims x ≡ claims y = ap (λ cs. get_or cs 0 []) c in
     names_go (appended l x) (appended m y) a b
     (length-append l.entries (x ∷ []) ∙ ap (λ k. k + 1) n ∙ sym (length-append m.entries (y ∷ [])))
-    (ap (λ names. claimed names (claims_for (claims x) (length l.entries))) e
-    ∙ ap (λ cs. claimed m.names (claims_for cs (length l.entries))) head
-    ∙ ap (λ k. claimed m.names (claims_for (claims y) k)) n)
+    (ap (λ names. with_claims names (claims_for (claims x) (length l.entries))) e
+    ∙ ap (λ cs. with_claims m.names (claims_for cs (length l.entries))) head
+    ∙ ap (λ k. with_claims m.names (claims_for (claims y) k)) n)
     (ap (drop 1) c)
 
 -- the graph of entries depends only on their names and texts

@@ -9,7 +9,7 @@ use Rattle.std.proofs.lemmas.List.{append-nil}
 use lib.Utf8.{encode}
 use Rattle.bib_chunks.specs.Styled.{Atom, styled, atoms_of}
 use Rattle.bib_chunks.specs.Settled.{IsSettledAtom, AreApart, IsSettled, is_pair}
-use Rattle.bib_chunks.specs.Written.{is_grouping, is_reserved, spelled, spelling, lead, trail, is_open_after, written_chunk, written_chunks}
+use Rattle.bib_chunks.specs.Written.{is_grouping, is_reserved, char_spelling, spelling, lead, trail, is_open_after, written_chunk, written_chunks}
 use Rattle.bib_chunks.proofs.WrittenFacts.{spelled_grouping, spelled_verbatim, spelled_reserved, spelled_tilde, spelled_circumflex, spelled_other}
 use Rattle.bib_chunks.specs.declared.chunk.Chunk.{Chunk}
 use Rattle.bib_chunks.specs.declared.chunk.Chunk.TheVariants.{Normal, Verbatim, Math}
@@ -27,7 +27,7 @@ depth_of false = 0
 pub record IsSpelt (v : Bool) (c : ℕ) (rest : List ℕ) : Type 0 where
   pub unit : ContentUnit
   pub right : fits v unit rest ≡ true
-  pub spelt : unit_spelling unit ≡ spelled v c
+  pub spelt : unit_spelling unit ≡ char_spelling v c
   pub means : (depth : ℕ) → meaning depth unit [] ≡ character depth c ∷ []
   pub stays : (depth : ℕ) → depth_after depth unit ≡ depth
   pub closable : (depth : ℕ) → is_closable depth unit ≡ true
@@ -45,7 +45,7 @@ unfolding is_grouping is_escaped is_escapable is_reserved
 escaped_reserved c reserved = grind arith
 
 -- a character that is written after a backslash
-spelt_escaped : (v : Bool) (c : ℕ) (rest : List ℕ) → is_escaped v c ≡ true → spelled v c ≡ 92 ∷ c ∷ [] → IsSpelt v c rest
+spelt_escaped : (v : Bool) (c : ℕ) (rest : List ℕ) → is_escaped v c ≡ true → char_spelling v c ≡ 92 ∷ c ∷ [] → IsSpelt v c rest
 spelt_escaped v c rest escaped spells = record {
   unit = ContentUnit.escaped c;
   right = escaped;
@@ -57,7 +57,7 @@ spelt_escaped v c rest escaped spells = record {
 }
 
 -- a character that is written unchanged
-spelt_bare : (v : Bool) (c : ℕ) (rest : List ℕ) → spelled v c ≡ c ∷ [] → is_grouping c ≡ false
+spelt_bare : (v : Bool) (c : ℕ) (rest : List ℕ) → char_spelling v c ≡ c ∷ [] → is_grouping c ≡ false
     → (not v && c == 36) ≡ false → (is_space c ≡ true → c ≡ 32)
     → (c ≡ 45 → begins (λ d. d == 45) rest ≡ false) → (is_space c ≡ true → begins is_space rest ≡ false) → IsSpelt v c rest
 unfolding is_ordinary
@@ -110,7 +110,7 @@ circumflex_given : command_text (codes "textasciicircum") (Some []) ≡ 94 ∷ [
 unfolding command_text accents symbols encode
 circumflex_given = refl
 
-spelt_tilde : (c : ℕ) (rest : List ℕ) → c ≡ 126 → spelled false c ≡ codes "\\textasciitilde{}" → IsSpelt false c rest
+spelt_tilde : (c : ℕ) (rest : List ℕ) → c ≡ 126 → char_spelling false c ≡ codes "\\textasciitilde{}" → IsSpelt false c rest
 unfolding is_escaped is_escapable is_grouping is_reserved is_blank is_sign is_mark is_accent_letter is_name_character is_space
 spelt_tilde c rest is spells = record {
   unit = signed (codes "textasciitilde");
@@ -122,7 +122,7 @@ spelt_tilde c rest is spells = record {
   holds = λ text holds. some_text holds;
 }
 
-spelt_circumflex : (c : ℕ) (rest : List ℕ) → c ≡ 94 → spelled false c ≡ codes "\\textasciicircum{}" → IsSpelt false c rest
+spelt_circumflex : (c : ℕ) (rest : List ℕ) → c ≡ 94 → char_spelling false c ≡ codes "\\textasciicircum{}" → IsSpelt false c rest
 unfolding is_escaped is_escapable is_grouping is_reserved is_blank is_sign is_mark is_accent_letter is_name_character is_space
 spelt_circumflex c rest is spells = record {
   unit = signed (codes "textasciicircum");
@@ -170,14 +170,15 @@ spelt false c rest settled hyphen space =
 
 -- a character before parsed text
 put : {v : Bool} {c : ℕ} {rest : List ℕ} {atoms : List Atom} (depth : ℕ) → IsSpelt v c rest → Reads v depth rest atoms
-    → Reads v depth (spelled v c ++ rest) (character depth c ∷ atoms)
+    → Reads v depth (char_spelling v c ++ rest) (character depth c ∷ atoms)
 put {v} {c} {rest} {atoms} depth one read =
-    let first : IsNext v one.unit (spelled v c ++ rest) rest =
+    let first : IsNext v one.unit (char_spelling v c ++ rest) rest =
     record { fits = one.right; spells = ap (λ cs. cs ++ rest) (sym one.spelt) } in
     let inside : (text : List ℕ) → held one.unit ≡ Some text → Reads false 0 text [] =
     λ text holds. subst (λ t. Reads false 0 t []) (one.holds text holds) end in
     let following : Reads v (depth_after depth one.unit) rest atoms = subst (λ d. Reads v d rest atoms) (sym (one.stays depth)) read in
-    subst (λ xs. Reads v depth (spelled v c ++ rest) (xs ++ atoms)) (one.means depth) (next first (one.closable depth) inside following)
+    subst (λ xs. Reads v depth (char_spelling v c ++ rest) (xs ++ atoms)) (one.means depth)
+        (next first (one.closable depth) inside following)
 
 -- the next atom is no character of this kind, or fails the test
 abbrev pub NextFails : (ℕ → Bool) → Bool → List Atom → Type 0
@@ -211,8 +212,8 @@ begins_by test false false false false false c rest slash fails = fails
 
 -- the output for a character that fails the test doesn't begin with one that passes it
 begins_spelled : (test : ℕ → Bool) (v : Bool) (c : ℕ) (rest : List ℕ) → test 92 ≡ false → test c ≡ false
-    → begins test (spelled v c ++ rest) ≡ false
-unfolding spelled
+    → begins test (char_spelling v c ++ rest) ≡ false
+unfolding char_spelling
 begins_spelled test v c rest slash fails = begins_by test v (is_grouping c) (is_reserved c) (c == 126) (c == 94) c rest slash fails
 
 begins_text : (test : ℕ → Bool) → IsOfCharacters test → (v o : Bool) (cs : List ℕ) (atoms : List Atom) (rest : List ℕ)
@@ -220,10 +221,10 @@ begins_text : (test : ℕ → Bool) → IsOfCharacters test → (v o : Bool) (cs
     → NextFails test o (map (character (depth_of o)) cs ++ atoms) → begins test (spelling v cs ++ rest) ≡ false
 begins_text test of v o [] atoms rest following fails = following fails
 begins_text test of v true (c ∷ cs) atoms rest following fails =
-    rw (append_assoc (spelled v c) (spelling v cs) rest)
+    rw (append_assoc (char_spelling v c) (spelling v cs) rest)
     (begins_spelled test v c (spelling v cs ++ rest) of.slash fails)
 begins_text test of v false (c ∷ cs) atoms rest following fails =
-    rw (append_assoc (spelled v c) (spelling v cs) rest)
+    rw (append_assoc (char_spelling v c) (spelling v cs) rest)
     (begins_spelled test v c (spelling v cs ++ rest) of.slash fails)
 
 begins_chunk : (test : ℕ → Bool) → IsOfCharacters test → (v o : Bool) (chunk : Chunk) (rest : List (Spanned Chunk))
@@ -327,7 +328,7 @@ read_text v o (c ∷ cs) chunks each apart read =
     begins_text is_space spaces_of v o cs (styled chunks) (written_chunks v o chunks)
     (begins_written is_space spaces_of v o chunks) (spaces_next v o c atoms apart each.1 (settled white)))
     in
-    rw (append_assoc (spelled v c) (spelling v cs) (written_chunks v o chunks)) (put (depth_of o) one following)
+    rw (append_assoc (char_spelling v c) (spelling v cs) (written_chunks v o chunks)) (put (depth_of o) one following)
 
 -- a brace before parsed text
 read_closing : {v : Bool} {rest : List ℕ} {atoms : List Atom} → Reads v 0 rest atoms → Reads v 1 (125 ∷ rest) atoms

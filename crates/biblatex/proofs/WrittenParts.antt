@@ -14,7 +14,7 @@ use Rattle.bib_chunks.specs.declared.chunk.Chunk.{Chunk}
 use Rattle.bib_chunks.specs.declared.chunk.Chunk.TheVariants.{Normal, Verbatim, Math}
 use Rattle.bib_chunks.specs.Styled.{Atom, styled, atoms_of}
 use Rattle.bib_chunks.specs.Settled.{IsSettledAtom}
-use Rattle.bib_chunks.specs.Written.{is_grouping, is_reserved, spelled, spelling, lead, trail, is_open_after, written_chunk, written_chunks}
+use Rattle.bib_chunks.specs.Written.{is_grouping, is_reserved, char_spelling, spelling, lead, trail, is_open_after, written_chunk, written_chunks}
 use Rattle.biblatex.proofs.StandsFacts.{Stands, stands_none, stands_split, stands_chars, parts_stand, parts_append, parts_plain}
 
 -- these are the characters from one place to the other
@@ -63,15 +63,15 @@ parts_by false false false false true c is spells = parts_command 116 (codes "ex
 parts_by false false false false false c is spells = parts_plain (c ∷ []) (rw (plain_grouping c is) refl) spells
 
 -- the output for a character is balanced
-parts_spelled : (v : Bool) (c : ℕ) {u w : Place} → Spells u (spelled v c) w → Parts u w
-unfolding spelled
+parts_spelled : (v : Bool) (c : ℕ) {u w : Place} → Spells u (char_spelling v c) w → Parts u w
+unfolding char_spelling
 parts_spelled v c spells = parts_by v (is_grouping c) (is_reserved c) (c == 126) (c == 94) c refl spells
 
 -- the output for characters is balanced
 parts_spelling : (v : Bool) (cs : List ℕ) {u w : Place} → Spells u (spelling v cs) w → Parts u w
 parts_spelling v [] {u} {w} spells = subst (λ p. Parts u p) (sym (stands_none spells)) none
 parts_spelling v (c ∷ cs) spells =
-    let cut = spells_split (spelled v c) (spelling v cs) spells in
+    let cut = spells_split (char_spelling v c) (spelling v cs) spells in
     parts_append (parts_spelled v c cut.1) (parts_spelling v cs cut.2)
 
 -- the text of a chunk before the rest, without the empty text between them

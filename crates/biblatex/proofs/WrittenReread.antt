@@ -15,7 +15,7 @@ use Rattle.bib_syntax.specs.Characters.{is_id_start, is_id_continue}
 use Rattle.bib_syntax.specs.Grammar.{block_kind}
 use Rattle.bib_syntax.specs.Reading.{part}
 use Rattle.bib_tables.specs.VerbatimFields.{is_verbatim_field}
-use Rattle.bib_tables.specs.EntryType.{entry_type_name, named_or_alias, entry_type_of, biblatex_type}
+use Rattle.bib_tables.specs.EntryType.{entry_type_name, entry_type_by_name_or_alias, entry_type_of, biblatex_type}
 use Rattle.bib_tables.specs.declared.mechanics.EntryType.{EntryType}
 use Rattle.bib_tables.specs.declared.mechanics.EntryType.TheVariants.{Article, Book, Booklet, InBook, InCollection, InProceedings, Manual, MastersThesis, PhdThesis, Misc, Proceedings, TechReport, Unpublished, MvBook, BookInBook, SuppBook, Periodical, SuppPeriodical, Collection, MvCollection, SuppCollection, Reference, MvReference, InReference, MvProceedings, Report, Patent, Thesis, Online, Software, Dataset, Set, XData, Unknown}
 use Rattle.bib_entry.specs.WrittenEntries.{biblatex_name, biblatex_field, biblatex_entry, entries_text}
@@ -39,7 +39,7 @@ pub record IsKind (t : EntryType) : Type 0 where
   pub goes : list_all is_id_continue rest ≡ true
 
 pub kind : (t : EntryType) → IsKind t
-unfolding entry_type_of named_or_alias encode
+unfolding entry_type_of entry_type_by_name_or_alias encode
 kind Article = record { again = refl; entry = refl; first = 97; rest = codes "rticle"; spelt = refl; starts = refl; goes = refl }
 kind Book = record { again = refl; entry = refl; first = 98; rest = codes "ook"; spelt = refl; starts = refl; goes = refl }
 kind Booklet = record { again = refl; entry = refl; first = 98; rest = codes "ooklet"; spelt = refl; starts = refl; goes = refl }

@@ -15,7 +15,7 @@ ghost use Rattle.biblatex.specs.Headline.{IsAcceptedText, IsBibliographyOf, IsEr
 ghost use Rattle.biblatex.specs.Keys.{keys_left};
 ghost use Rattle.biblatex.specs.Resolved.{AreOwn, IsAccepted, IsFirstErrorOf, IsLoaded, IsOfDate, graph_of};
 ghost use Rattle.biblatex.specs.Lending.{LendsEntry, LendsEntries};
-ghost use Rattle.bib_collections.specs.Names.{AreIndicesBelow, claimed, claims_for};
+ghost use Rattle.bib_collections.specs.Names.{AreIndicesBelow, with_claims, claims_for};
 ghost use Rattle.bib_file_entries.specs.Bibliography.{aliased, aliases, claims, entry_of, inserted, empty_bibliography, index_of, removed};
 ghost use Rattle.biblatex.specs.SameBibliography.{same_bibliography, same_bibliography_per, same_bibliography_equiv};
 
@@ -84,7 +84,7 @@ impl InsertError {
 fn claim_next(entries: &mut Vec<Entry>, names: &mut Names, entry: &Entry) -> Result<(), AllocError>
     ensures same_entries { entries.new.items ≡ entries.old.items }
     ensures room { OnOk result (vec_len entries.new < vec_capacity entries.new) }
-    ensures claimed { OnOk result (names.new ≡ claimed names.old
+    ensures claimed { OnOk result (names.new ≡ with_claims names.old
         (claims_for (claims entry.now) (length entries.old.items))) }
     ensures refused { OnErr result (names.new ≡ names.old) }
 {

@@ -2,7 +2,7 @@
 
 ghost use Rattle.std.specs.Prelude.{◌≡◌, ◌∷◌, [], ◌++◌, ◌≤◌, length, false, OnOk, IfOk, MatchOption};
 ghost use Rattle.std.specs.Str.{chars};
-ghost use Rattle.bib_chunks.specs.Cuts.{placed, trimmed_start, trimmed_end, chunk_part, piece, pieces, pieces_between, list_parts, comma_list, halves, cut_at, begins_with_space, between_ands, trimmed, trimmed_ends, and_list};
+ghost use Rattle.bib_chunks.specs.Cuts.{with_span, trimmed_start, trimmed_end, chunk_part, piece, pieces, pieces_between, list_parts, comma_list, halves, cut_at, begins_with_space, between_ands, trimmed_chunk, trimmed_ends, and_list};
 ghost use Rattle.bib_chunks.specs.Cutting.{between_cuts, width, ReadsPieces, IsFirstCut, NoAnd, IsAnd, IsFirstAnd};
 
 use super::{Chunk, Chunks, ChunksRef, Span, Spanned};
@@ -70,7 +70,7 @@ fn copy(chunk: &Spanned<Chunk>) -> Result<Spanned<Chunk>, AllocError>
 
 // Returns a normal chunk with this text and span.
 fn normal(alloc: Global, text: &str, start: usize, end: usize) -> Result<Spanned<Chunk>, AllocError>
-    ensures { IfOk result (λ c. c ≡ placed (Chunk.Normal text.now) start end) }
+    ensures { IfOk result (λ c. c ≡ with_span (Chunk.Normal text.now) start end) }
 {
     let text = Text::from_str(alloc, text)?;
     Ok(Spanned {
@@ -261,13 +261,13 @@ pub fn comma_list(alloc: Global, chunks: ChunksRef<'_>) -> Result<Items<Chunks>,
 
 // Returns a copy of a chunk. If it is normal, the white space at its start is removed if `first`, and at its end if
 // `last`.
-fn trimmed(
+fn trimmed_chunk(
     alloc: Global,
     chunk: &Spanned<Chunk>,
     first: bool,
     last: bool,
 ) -> Result<Spanned<Chunk>, AllocError>
-    ensures { IfOk result (λ c. c ≡ trimmed first last chunk.now.v chunk.now.span) }
+    ensures { IfOk result (λ c. c ≡ trimmed_chunk first last chunk.now.v chunk.now.span) }
 {
     if let Chunk::Normal(text) = &chunk.v {
         let text = text.as_str();
@@ -285,7 +285,7 @@ fn trimmed_ends(alloc: Global, chunks: ChunksRef<'_>) -> Result<Chunks, AllocErr
     let mut first = true;
     'chunks: for (i, chunk) in chunks.iter().enumerate() {
         let last = chunks.len() - i == 1;
-        all.push(trimmed(alloc, chunk, first, last)?)?;
+        all.push(trimmed_chunk(alloc, chunk, first, last)?)?;
         first = false;
     }
     Ok(all)

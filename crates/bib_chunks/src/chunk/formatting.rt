@@ -3,7 +3,7 @@
 ghost use Rattle.std.specs.Prelude.{◌≡◌, false, ◌∷◌, [], ◌++◌, OnOk, IfOk, option_to_list, if◌then◌else◌, string_bytes, encode_utf8_all};
 ghost use Rattle.std.specs.Char.Iter.{case_mapping_chars};
 ghost use Rattle.std.specs.Str.{IsUtf8, chars};
-ghost use Rattle.bib_chunks.specs.Formatted.{is_break, ends_in_space, unbroken, flowing, formatted, formatted_atoms, formatted_chunk, space_after, cased, sentence_case, sentence};
+ghost use Rattle.bib_chunks.specs.Formatted.{is_break, ends_in_space, char_on_line, flowing, formatted_chars, formatted_atoms, formatted_chunk, space_after, upper_or_lower, sentence_case, sentence};
 ghost use Rattle.bib_chunks.specs.Styled.{styled, text_of, is_shown};
 ghost use Rattle.bib_chunks.specs.Writing.{Writes};
 ghost use Rattle.bib_text.specs.Characters as char;
@@ -97,7 +97,7 @@ fn write_math(out: &mut String, text: &str) -> Result<(), AllocError>
 /// Returns the text of the chunks. Math is written between dollar signs. In normal text a line break becomes a space,
 /// or nothing after white space. The only error is out of memory.
 pub fn format_verbatim(alloc: Global, chunks: ChunksRef<'_>) -> Result<String, AllocError>
-    ensures { IfOk result (λ text. string_bytes text ≡ encode_utf8_all (formatted chunks.now)) }
+    ensures { IfOk result (λ text. string_bytes text ≡ encode_utf8_all (formatted_chars chunks.now)) }
 {
     let mut out = String::new(alloc);
     let mut space = false;
@@ -136,8 +136,8 @@ pub fn format_styled(alloc: Global, chunks: ChunksRef<'_>) -> Result<String, All
 }
 
 // Returns the character that replaces `c` on one line, if any. `space` says whether white space comes before it.
-fn unbroken(c: char, space: bool) -> Option<char>
-    ensures { option_to_list result ≡ unbroken space c }
+fn char_on_line(c: char, space: bool) -> Option<char>
+    ensures { option_to_list result ≡ char_on_line space c }
 {
     if !is_break(c) {
         return Some(c);
@@ -171,7 +171,7 @@ fn write_changed(out: &mut String, changed: ToLowercase) -> Result<(), AllocErro
 
 // Writes a character in upper case if it begins a sentence, otherwise in lower case.
 fn write_cased(out: &mut String, c: char, begins: bool) -> Result<(), AllocError>
-    ensures { OnOk result (Writes out.old out.new (cased begins c)) }
+    ensures { OnOk result (Writes out.old out.new (upper_or_lower begins c)) }
 {
     if begins {
         return write_changed(out, c.to_uppercase());
@@ -196,7 +196,7 @@ fn write_sentence_text(
     let mut first = begins;
     let mut after = space;
     'text: while let Some(c) = scanner.eat() {
-        let Some(shown) = unbroken(c, after) else {
+        let Some(shown) = char_on_line(c, after) else {
             continue 'text;
         };
         write_cased(out, shown, first)?;

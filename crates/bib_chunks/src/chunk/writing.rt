@@ -2,7 +2,7 @@
 
 ghost use Rattle.std.specs.Prelude.{◌≡◌, ◌∷◌, [], ◌++◌, false, OnOk, IfOk, string_bytes, encode_utf8_all};
 ghost use Rattle.std.specs.Str.{chars};
-ghost use Rattle.bib_chunks.specs.Written.{is_grouping, is_reserved, spelled, spelling, lead, trail, is_open_after, written_chunk, written_chunks, written_value};
+ghost use Rattle.bib_chunks.specs.Written.{is_grouping, is_reserved, char_spelling, spelling, lead, trail, is_open_after, written_chunk, written_chunks, written_value};
 ghost use Rattle.bib_chunks.specs.Writing.{Writes, is_bare};
 ghost use Rattle.bib_text.specs.Characters as char;
 
@@ -54,7 +54,7 @@ fn write_hidden(out: &mut String, c: char) -> Result<(), AllocError>
 
 // Writes one character, escaped if needed.
 fn write_char(out: &mut String, is_verbatim: bool, c: char) -> Result<(), AllocError>
-    ensures { OnOk result (Writes out.old out.new (spelled is_verbatim c)) }
+    ensures { OnOk result (Writes out.old out.new (char_spelling is_verbatim c)) }
 {
     if is_grouping(c) {
         return write_hidden(out, c);

@@ -4,7 +4,7 @@ ghost use Rattle.std.specs.Prelude.{◌≡◌, ◌++◌, IfOk, OnOk, codes};
 ghost use Rattle.std.specs.List.{filter};
 ghost use Rattle.std.specs.Option.{option_copied};
 ghost use Rattle.bib_tables.specs.Requirements.{texts};
-ghost use Rattle.bib_text.specs.Enums.{named};
+ghost use Rattle.bib_text.specs.Enums.{value_named};
 ghost use Rattle.bib_entry.specs.Reports.{lacks, has_chunks, has_field, has_editor, has_other, other_required_names, only_if, missing_people, missing_pages, missing_date, superfluous_people, superfluous_pages};
 
 use crate::entry::Entry;
@@ -220,7 +220,7 @@ impl Entry {
 
 // Returns the other name of a required field, if it has one.
 fn other_name(name: &str) -> Option<&'static str>
-    ensures { option_copied result ≡ named other_required_names name.now }
+    ensures { option_copied result ≡ value_named other_required_names name.now }
 {
     match name {
         "journaltitle" => Some("journal"),

@@ -3,7 +3,7 @@
 ghost use Rattle.std.specs.Prelude.{◌≡◌, ◌<◌, ◌-◌, ◌++◌, ◌∷◌, [], ℕ, List, length, MatchBool, IfOk, OnOk};
 ghost use Rattle.bib_text.specs.Places.{Place, AtEnd, CharAt};
 ghost use Rattle.bib_syntax.specs.Closings.{AreClosings};
-ghost use Rattle.bib_syntax.specs.OpenBraces.{AreNoted, Closed};
+ghost use Rattle.bib_syntax.specs.OpenBraces.{AreNoted, ClosesLast};
 
 use bib_text::scanner::Scanner;
 use std::alloc::{AllocError, Global};
@@ -25,7 +25,7 @@ struct Braces {
 impl Braces {
     // Notes that the last open brace, if there is one, is closed at the offset `at`.
     fn close(&mut self, at: usize) -> Result<(), AllocError>
-        ensures { OnOk result (Closed self.old.opened.items self.old.found.items at
+        ensures { OnOk result (ClosesLast self.old.opened.items self.old.found.items at
             self.new.opened.items self.new.found.items) }
     {
         if let Some(start) = self.opened.pop() {

@@ -52,7 +52,7 @@ impl<'s, 'n> Reader<'s, 'n> {
         ensures { result ≡ self.now }
     {
         Reader {
-            scanner: self.scanner.copied(),
+            scanner: self.scanner.copy(),
             notes,
         }
     }

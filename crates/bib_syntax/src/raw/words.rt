@@ -216,7 +216,7 @@ fn braced_parts<'s>(s: &mut Reader<'s, '_>) -> Result<Spanned<&'s str>, ParseErr
 }
 
 // Parses a braced text with its braces, and returns the text between them.
-fn braced<'s>(s: &mut Reader<'s, '_>) -> Result<Spanned<&'s str>, ParseError>
+fn braced_text<'s>(s: &mut Reader<'s, '_>) -> Result<Spanned<&'s str>, ParseError>
     requires { (v : Place) × CharAt s.old char.open_brace v }
     ensures found { IfOk result (λ text. Braced s.old (part_of text) s.new) }
     ensures fails { IfErr result (Reports (BracedFails s.old)) }
@@ -247,7 +247,7 @@ pub(crate) fn element<'s>(s: &mut Reader<'s, '_>) -> Result<Spanned<RawChunk<'s>
     ensures error { IfErr result (IsSyntaxError s.old.text) }
 {
     if s.at('{') {
-        return Ok(braced(s)?.map(RawChunk::Normal));
+        return Ok(braced_text(s)?.map(RawChunk::Normal));
     }
     if s.at('"') {
         return Ok(quoted(s)?.map(RawChunk::Normal));

@@ -1,7 +1,7 @@
 //! The fields that each entry type requires, allows and forbids.
 
 ghost use Rattle.std.specs.Prelude.{◌≡◌, [], IfOk, false};
-ghost use Rattle.bib_tables.specs.Requirements.{texts, rules_of, forbidden_of, author_names, page_names};
+ghost use Rattle.bib_tables.specs.Requirements.{texts, rules_of, forbidden_fields_of, author_names, page_names};
 ghost use Rattle.bib_tables.specs.Row.{optional_of_row, rules_of_row};
 
 mod rows;
@@ -120,7 +120,7 @@ impl EntryType {
         ensures optional { IfOk result (λ asked. texts asked.optional.items ≡
             (rules_of self.now).optional) }
         ensures forbidden { IfOk result (λ asked. texts asked.forbidden.items ≡
-            forbidden_of self.now) }
+            forbidden_fields_of self.now) }
         ensures author { IfOk result (λ asked. asked.author_eds_field ≡
             (rules_of self.now).author) }
         ensures pages { IfOk result (λ asked. asked.page_chapter_field ≡
@@ -131,7 +131,7 @@ impl EntryType {
         Ok(Requirements {
             required: Vec::from_slice(alloc, row.required)?,
             optional: row.optional(alloc)?,
-            forbidden: Vec::from_slice(alloc, self.forbidden())?,
+            forbidden: Vec::from_slice(alloc, self.forbidden_fields())?,
             author_eds_field: row.author,
             page_chapter_field: row.pages,
             needs_date: row.needs_date,
@@ -170,8 +170,8 @@ impl EntryType {
         }
     }
 
-    fn forbidden(&self) -> &'static [&'static str]
-        ensures { texts result.now ≡ forbidden_of self.now }
+    fn forbidden_fields(&self) -> &'static [&'static str]
+        ensures { texts result.now ≡ forbidden_fields_of self.now }
     {
         match self {
             Self::InBook

@@ -257,7 +257,7 @@ impl Language {
         &LANGUAGES[self as usize]
     }
 
-    fn named(text: &str) -> Option<Self>
+    fn from_name(text: &str) -> Option<Self>
         ensures { result ≡ language_named text.now }
     {
         find_named(&LANGUAGES, text)
@@ -302,6 +302,6 @@ impl FromStr for Language {
     ghost from_str_gives = { λ text result. result ≡ ok_or (language_named text) NameError.Unknown };
 
     fn from_str(text: &str) -> Result<Self, NameError> {
-        Self::named(text).ok_or(NameError::Unknown)
+        Self::from_name(text).ok_or(NameError::Unknown)
     }
 }

@@ -1,6 +1,6 @@
 use Rattle.std.proofs.Common.{◌∙◌, ◌++◌, sym, ap}
 use Rattle.std.specs.Char.{encode_utf8}
-use Rattle.bib_text.specs.Enums.{named}
+use Rattle.bib_text.specs.Enums.{value_named}
 use Rattle.bib_contents.specs.Commands.{accents}
 use Rattle.bib_contents.proofs.CommandFacts.{accents_empty, accents_longer, accents_one}
 use Rattle.bib_contents.proofs.commands.accent_mark.Goals as goal
@@ -16,6 +16,6 @@ returns-then-not-is_empty c =
 
 pub returns : goal.returns
 returns c =
-    c.mark_of.ensures ∙ ap (named accents) (sym (accents_one c.args.name.now c.as_str.result.now c.in-Some.c c.utf8.name
+    c.mark_of.ensures ∙ ap (value_named accents) (sym (accents_one c.args.name.now c.as_str.result.now c.in-Some.c c.utf8.name
     (sym c.chars-chars.ensures.rest ∙ c.in-Some.ensures.steps.0 ∙ ap (λ bs. encode_utf8 c.in-Some.c ++ bs) (sym c.as_str.ensures))
     (sym c.is_empty.ensures ∙ c.if-not-is_empty.false)))

@@ -1,9 +1,9 @@
 use Rattle.std.proofs.Common.{◌≡◌, map, drop}
-use Rattle.bib_text.specs.Enums.{named}
+use Rattle.bib_text.specs.Enums.{value_named}
 use Rattle.bib_contents.proofs.commands.find_text.Given as goal
 
 -- no row before this one has the name
 abbrev pub invariant-rows : goal.invariant-rows
 invariant-rows l =
-    named (map (λ row. (row.0.now, row.1.now)) (drop l.row_name-index l.table)) l.name
-    ≡ named (map (λ row. (row.0.now, row.1.now)) l.table) l.name
+    value_named (map (λ row. (row.0.now, row.1.now)) (drop l.row_name-index l.table)) l.name
+    ≡ value_named (map (λ row. (row.0.now, row.1.now)) l.table) l.name

@@ -4,7 +4,7 @@ use Rattle.std.proofs.lemmas.List.{drop_all}
 use Rattle.bib_abbreviations.specs.Abbreviations.{given_by, sorted_in}
 use Rattle.bib_abbreviations.proofs.AbbreviationFacts.{sorted_given}
 use Rattle.bib_file_entries.specs.Bibliography.{claims}
-use Rattle.bib_collections.specs.Names.{claimed, claims_for}
+use Rattle.bib_collections.specs.Names.{with_claims, claims_for}
 use Rattle.bib_syntax.specs.Views.{entry_reading_of}
 use Rattle.bib_file_entries.proofs.KeepingFacts.{entries_none, entries_duplicate, entries_next, entries_all, rest_at}
 use Rattle.bib_file_entries.proofs.keeping.keep_entries.Goals as goal
@@ -47,10 +47,11 @@ entries-preserved c =
     let absent : is_some (get c.entries.names c.said-item.result.v.key.v.now) ≡ false =
     ap is_some (sym c.get.ensures) ∙ sym c.is_some.ensures ∙ c.if-is_some.false in
     let count : c.len.result ≡ length c.entries.entries.items = search rules in
-    let more : c.claim_all.new.self ≡ claimed c.entries.names (claims_for (claims c.in_ok-entry.entry) (length c.entries.entries.items)) =
+    let more : c.claim_all.new.self
+        ≡ with_claims c.entries.names (claims_for (claims c.in_ok-entry.entry) (length c.entries.entries.items)) =
     c.in_ok-claim_all.ensures.claimed
-    ∙ ap (λ n. claimed c.entries.names (claims_for c.in_ok-claims.field-0.items n)) count
-    ∙ ap (λ l. claimed c.entries.names (claims_for l (length c.entries.entries.items))) c.in_ok-claims.ensures in
+    ∙ ap (λ n. with_claims c.entries.names (claims_for c.in_ok-claims.field-0.items n)) count
+    ∙ ap (λ l. with_claims c.entries.names (claims_for l (length c.entries.entries.items))) c.in_ok-claims.ensures in
     record {
       reader = c.in_ok-entry.ensures.same ∙ c.entries.invariant.reader;
       kept =

@@ -6,7 +6,7 @@ use Rattle.std.proofs.lemmas.Result.{err_from_is_err_and}
 use Rattle.bib_abbreviations.specs.Abbreviations.{given_by, sorted_in}
 use Rattle.bib_abbreviations.proofs.AbbreviationFacts.{sorted_given}
 use Rattle.bib_file_entries.specs.Bibliography.{aliases, claims}
-use Rattle.bib_collections.specs.Names.{claimed, claims_for}
+use Rattle.bib_collections.specs.Names.{with_claims, claims_for}
 use Rattle.bib_file_entries.proofs.LoadedFacts.{absent_by, had_by, loaded_none, loaded_next, loaded_all, error_duplicate, error_unreadable}
 use Rattle.bib_file_entries.proofs.RawFacts.{entry_same, error_same}
 use Rattle.bib_file_entries.proofs.reading.load_entries.Goals as goal
@@ -59,10 +59,10 @@ entries-preserved c =
     c.in_ok-claim_new.ensures.claimed ∙ ap (λ n. insert names c.in_ok-key.key n) before
     ∙ ap (λ k. insert names k index) (c.in_ok-key.ensures ∙ sym c.in_ok-entry.ensures.read.key)
     in
-    let more : c.claim_all.new.self ≡ claimed names (claims_for (claims entry) index) =
-    c.in_ok-claim_all.ensures.claimed ∙ ap (λ n. claimed c.claim_new.new.self (claims_for c.in_ok-aliases.field-0.items n)) after
-    ∙ ap (λ l. claimed c.claim_new.new.self (claims_for l index)) c.in_ok-aliases.ensures
-    ∙ ap (λ m. claimed m (claims_for (aliases entry) index)) key
+    let more : c.claim_all.new.self ≡ with_claims names (claims_for (claims entry) index) =
+    c.in_ok-claim_all.ensures.claimed ∙ ap (λ n. with_claims c.claim_new.new.self (claims_for c.in_ok-aliases.field-0.items n)) after
+    ∙ ap (λ l. with_claims c.claim_new.new.self (claims_for l index)) c.in_ok-aliases.ensures
+    ∙ ap (λ m. with_claims m (claims_for (aliases entry) index)) key
     in
     record {
       can_next = tt;

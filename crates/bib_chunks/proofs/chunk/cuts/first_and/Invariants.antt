@@ -1,10 +1,10 @@
 use Rattle.std.proofs.Common.{◌-◌, length}
-use Rattle.bib_chunks.proofs.AndFacts.{Searched}
+use Rattle.bib_chunks.proofs.AndFacts.{IsSearchedTo}
 use Rattle.bib_chunks.proofs.chunk.cuts.first_and.Given as goal
 
 -- no such word was found so far
 abbrev pub invariant-text : goal.invariant-text
-invariant-text l = Searched l.text l.at l.space
+invariant-text l = IsSearchedTo l.text l.at l.space
 
 abbrev pub decreases-text : goal.decreases-text
 decreases-text l = length l.text - l.at

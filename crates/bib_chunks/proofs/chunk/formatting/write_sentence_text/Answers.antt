@@ -14,11 +14,11 @@ returns c =
     c.text.invariant.2 c.text.invariant.3 in
     record { written = both.0; following = both.1 }
 
-pub text-preserved-in_default-unbroken : goal.text-preserved-in_default-unbroken
-text-preserved-in_default-unbroken c =
+pub text-preserved-in_default-char_on_line : goal.text-preserved-in_default-char_on_line
+text-preserved-in_default-char_on_line c =
     let step =
-    sentence_skip (string_bytes c.text.out) _ c.text.first c.text.after _ c.unbroken.result c.in-Some.ensures
-    c.text.invariant.1 c.in_default-unbroken.is c.unbroken.ensures c.text.invariant.2 c.text.invariant.3 in
+    sentence_skip (string_bytes c.text.out) _ c.text.first c.text.after _ c.char_on_line.result c.in-Some.ensures
+    c.text.invariant.1 c.in_default-char_on_line.is c.char_on_line.ensures c.text.invariant.2 c.text.invariant.3 in
     (step.0 ∙ c.text.invariant.0, step.1, step.2, step.3)
 
 pub text-smaller : goal.text-smaller
@@ -26,8 +26,8 @@ text-smaller c = less_after c.in-Some.ensures
 
 pub text-preserved : goal.text-preserved
 text-preserved c =
-    let step = sentence_step (string_bytes c.text.out) (string_bytes c.write_cased.new.out) _ c.in-Some-unbroken.shown
-    c.text.first c.text.after c.is_whitespace-after.result _ c.unbroken.result c.in-Some.ensures c.text.invariant.1
-    c.in-Some-unbroken.is c.unbroken.ensures
+    let step = sentence_step (string_bytes c.text.out) (string_bytes c.write_cased.new.out) _ c.in-Some-char_on_line.shown
+    c.text.first c.text.after c.is_whitespace-after.result _ c.char_on_line.result c.in-Some.ensures c.text.invariant.1
+    c.in-Some-char_on_line.is c.char_on_line.ensures
     c.in_ok-write_cased.ensures c.is_whitespace-after.ensures c.text.invariant.2 c.text.invariant.3 in
     (step.0 ∙ c.text.invariant.0, step.1, step.2, step.3)

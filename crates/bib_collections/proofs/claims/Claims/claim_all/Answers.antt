@@ -3,7 +3,7 @@ use Rattle.std.proofs.Math.Seq.{take-append_seam}
 use Rattle.std.proofs.lemmas.Result.{err_from_is_err_and}
 use Rattle.std.specs.FinMap.{insert}
 use Rattle.std.specs.Vec.Iter.{into_iter_items}
-use Rattle.bib_collections.specs.Names.{claimed, claims_for}
+use Rattle.bib_collections.specs.Names.{with_claims, claims_for}
 use Rattle.bib_collections.proofs.NamesFacts.{claimed_next}
 use Rattle.bib_collections.proofs.claims.Claims.claim_all.Goals as goal
 
@@ -29,7 +29,7 @@ returns-in_err-claim-clause-refused c =
     rw (p.1) (
       length so_far.0,
       c.in_err-claim.ensures.refused ∙ so_far.2
-          ∙ ap (λ l. claimed c.args.self.now (claims_for l c.args.index))
+          ∙ ap (λ l. with_claims c.args.self.now (claims_for l c.args.index))
           (sym (take-append_seam so_far.0 (into_iter_items c.names.name-iterator))
           ∙ ap (λ l. take (length so_far.0) l) (sym so_far.1)),
     )

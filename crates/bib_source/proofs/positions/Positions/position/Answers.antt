@@ -13,17 +13,17 @@ joined xs start end before =
 pub invariant_of-self : goal.invariant_of-self
 invariant_of-self c =
     let end = c.min-end.result in
-    let known = c.known_before-start in (
+    let known = c.known_position-start in (
       omega (arith, c.min-end.ensures),
-      c.passed_all-position.ensures (take known.result.0 c.args.self.now) known.ensures.position
+      c.advance_all-position.ensures (take known.result.0 c.args.self.now) known.ensures.position
           ∙ rw (← c.self.view_is) (ap position_after (joined c.self.inside.bytes.now known.result.0 end known.ensures.before)),
     )
 
 pub returns-clause-found : goal.returns-clause-found
 returns-clause-found c =
     let end = c.min-end.result in
-    let known = c.known_before-start in
-    c.passed_all-position.ensures (take known.result.0 c.args.self.now) known.ensures.position
+    let known = c.known_position-start in
+    c.advance_all-position.ensures (take known.result.0 c.args.self.now) known.ensures.position
     ∙ rw (← c.self.view_is)
     (ap position_after
     (joined c.self.inside.bytes.now known.result.0 end known.ensures.before

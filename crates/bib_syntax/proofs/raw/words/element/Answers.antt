@@ -4,10 +4,10 @@ use Rattle.bib_syntax.proofs.ErrorFacts.{reports_at, reports_as, identifier_begi
 use Rattle.bib_syntax.proofs.WordFacts.{braced_element, quoted_element, number_piece, named_piece, no_digit_without}
 use Rattle.bib_syntax.proofs.raw.words.element.Goals as goal
 
-pub returns-in_err-braced-clause-fails : goal.returns-in_err-braced-clause-fails
-returns-in_err-braced-clause-fails c =
+pub returns-in_err-braced_text-clause-fails : goal.returns-in_err-braced_text-clause-fails
+returns-in_err-braced_text-clause-fails c =
     let p = err_from_is_err_and c.from_residual.result c.from_residual.ensures.1 in
-    rw (p.1, p.2) (reports_as (λ kind v f. fails.braced f) c.in_err-braced.ensures.fails)
+    rw (p.1, p.2) (reports_as (λ kind v f. fails.braced f) c.in_err-braced_text.ensures.fails)
 
 pub returns-in_err-quoted-clause-fails : goal.returns-in_err-quoted-clause-fails
 returns-in_err-quoted-clause-fails c =
@@ -32,7 +32,7 @@ returns-clause-fails c =
     (no_beginning c.if-at.ensures c.if-at-2.ensures c.if-begins_number.ensures c.if-begins_identifier.ensures))
 
 pub returns-then-at-clause-found : goal.returns-then-at-clause-found
-returns-then-at-clause-found c = braced_element _ _ c.map.ensures.value c.map.ensures.span c.in_ok-braced.ensures.found
+returns-then-at-clause-found c = braced_element _ _ c.map.ensures.value c.map.ensures.span c.in_ok-braced_text.ensures.found
 
 pub returns-then-at-2-clause-found : goal.returns-then-at-2-clause-found
 returns-then-at-2-clause-found c =
