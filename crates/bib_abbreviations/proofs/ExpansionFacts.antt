@@ -36,7 +36,7 @@ use Rattle.bib_syntax.specs.Reading.{Part, Piece}
 use Rattle.bib_syntax.specs.Reading.Piece.{literal, abbreviation}
 use Rattle.bib_abbreviations.specs.Abbreviations.{Definitions, month, Evaluates, IsOnPath, IsFirstError, LiesInPart, definition_among}
 use Rattle.bib_abbreviations.specs.Abbreviations.{Evaluates as evaluates, IsFirstError as first_error}
-use Rattle.bib_abbreviations.specs.Expanding.{found_in, progress, noted, chunks_between, AreWithin, IsValue, IsSound, Expands, Opens}
+use Rattle.bib_abbreviations.specs.Expanding.{found_in, progress, with_progress, chunks_between, AreWithin, IsValue, IsSound, Expands, Opens}
 use Rattle.bib_syntax.specs.Views.{piece_of, piece_at}
 use Rattle.bib_chunks.proofs.JoinedFacts.{styled-append, placed_up}
 
@@ -217,11 +217,12 @@ abbrev IsNoted : List ℕ → List ℕ → Progress → (List ℕ → Option Pro
 IsNoted name other now new old = ((name ≡ other) × (new other ≡ Some now)) ⊎ ((new other ≡ old other) × (name ≡ other → ⊥))
 
 noted_by : (name other : List ℕ) (now : Progress) (new old : List ℕ → Option Progress) (same : Bool) → bytes_eq name other ≡ same
-    → new other ≡ noted name now old other → IsNoted name other now new old
+    → new other ≡ with_progress name now old other → IsNoted name other now new old
 noted_by name other now new old true same is = inl ((bytes_eq-Decides name other).0 same, rw same at is)
 noted_by name other now new old false apart is = inr (rw apart at is, λ same. false≢true (sym apart ∙ (bytes_eq-Decides name other).1 same))
 
-noted_cases : (name other : List ℕ) (now : Progress) (new old : List ℕ → Option Progress) → ((q : List ℕ) → new q ≡ noted name now old q)
+noted_cases : (name other : List ℕ) (now : Progress) (new old : List ℕ → Option Progress)
+    → ((q : List ℕ) → new q ≡ with_progress name now old q)
     → IsNoted name other now new old
 noted_cases name other now new old is = noted_by name other now new old (bytes_eq name other) refl (is other)
 
@@ -317,7 +318,7 @@ module _ {definitions : Definitions} {is_verbatim : Bool} where
   path_close new name other start end fresh sound on (inr x) = x.0 ∙ sound.on_path other (inr on)
 
   sound_open : {path : List (List ℕ)} {old : Memo} (new : Memo) (name : List ℕ) → progress old name ≡ None → new.values ≡ old.values
-      → ((other : List ℕ) → progress new other ≡ noted name Begun (progress old) other)
+      → ((other : List ℕ) → progress new other ≡ with_progress name Begun (progress old) other)
       → IsSound definitions is_verbatim old path → IsSound definitions is_verbatim new (name ∷ path)
   sound_open {path} {old = old} new name absent values names sound = record {
     done = λ other start end is.
@@ -329,7 +330,7 @@ module _ {definitions : Definitions} {is_verbatim : Bool} where
 
   sound_close : {path : List (List ℕ)} {old : Memo} (new : Memo) (name : List ℕ) (start end : ℕ) → (IsOnPath path name → ⊥)
       → IsValue definitions is_verbatim old.values.items name start end → new.values ≡ old.values
-      → ((other : List ℕ) → progress new other ≡ noted name (Done start end) (progress old) other)
+      → ((other : List ℕ) → progress new other ≡ with_progress name (Done start end) (progress old) other)
       → IsSound definitions is_verbatim old (name ∷ path) → IsSound definitions is_verbatim new path
   sound_close {old = old} new name start end fresh value values names sound = record {
     done = λ other from to is.
@@ -445,7 +446,8 @@ module _ {definitions : Definitions} {is_verbatim : Bool} where
 
   closed_with : {base : List (Spanned Chunk)} {first : List ℕ} {memo : Memo} {frame below : Frame} {frames : List Frame} (new : Memo)
       → IsExpanding definitions is_verbatim base first memo frame (below ∷ frames) → frame.rest.now ≡ [] → new.values ≡ memo.values
-      → ((other : List ℕ) → progress new other ≡ noted frame.name.now (Done frame.start (length memo.values.items)) (progress memo) other)
+      → ((other : List ℕ) → progress new other
+      ≡ with_progress frame.name.now (Done frame.start (length memo.values.items)) (progress memo) other)
       → AreWaiting definitions is_verbatim memo.values.items first (length base) frame.name.now frame.start (below ∷ frames)
       → IsExpanding definitions is_verbatim base first new below frames
   closed_with {base} {first} {memo} {frame} {below} {frames} new x ends values names
@@ -477,7 +479,8 @@ module _ {definitions : Definitions} {is_verbatim : Bool} where
   pub expanding_closed : {base : List (Spanned Chunk)} {first : List ℕ} {memo : Memo} {frame below : Frame}
       {frames : List Frame} (new : Memo)
       → IsExpanding definitions is_verbatim base first memo frame (below ∷ frames) → frame.rest.now ≡ [] → new.values ≡ memo.values
-      → ((other : List ℕ) → progress new other ≡ noted frame.name.now (Done frame.start (length memo.values.items)) (progress memo) other)
+      → ((other : List ℕ) → progress new other
+      ≡ with_progress frame.name.now (Done frame.start (length memo.values.items)) (progress memo) other)
       → IsExpanding definitions is_verbatim base first new below frames
   expanding_closed new x ends values names = closed_with new x ends values names x.waiting
 
@@ -507,7 +510,8 @@ module _ {definitions : Definitions} {is_verbatim : Bool} where
 
   pub sound_done : {base : List (Spanned Chunk)} {first : List ℕ} {memo : Memo} {frame : Frame} (new : Memo)
       → IsExpanding definitions is_verbatim base first memo frame [] → frame.rest.now ≡ [] → new.values ≡ memo.values
-      → ((other : List ℕ) → progress new other ≡ noted frame.name.now (Done frame.start (length memo.values.items)) (progress memo) other)
+      → ((other : List ℕ) → progress new other
+      ≡ with_progress frame.name.now (Done frame.start (length memo.values.items)) (progress memo) other)
       → IsSound definitions is_verbatim new []
   sound_done {memo = memo} {frame = frame} new x ends values names =
       sound_close new frame.name.now frame.start (length memo.values.items) x.fresh (value_of x ends) values names x.sound
@@ -669,7 +673,7 @@ less_opened l new old left piece frame opened frames waiting name opens split wa
 -- less is left after the expansion of a name ends
 pub less_closed : (l : Lookup) (new old : Memo) (left : List (Spanned RawChunk))
     (below : Frame) (frames waiting : List Frame) (name : List ℕ) (now : Progress) → waiting ≡ below ∷ frames
-    → ((other : List ℕ) → progress new other ≡ noted name now (progress old) other)
+    → ((other : List ℕ) → progress new other ≡ with_progress name now (progress old) other)
     → suc (length below.rest.now) + weight frames + unmet (met_in new) (entries_of l)
     < suc (length left) + weight waiting + unmet (met_in old) (entries_of l)
 less_closed l new old left below frames waiting name now waits names =

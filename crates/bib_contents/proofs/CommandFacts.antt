@@ -14,7 +14,7 @@ use Rattle.bib_text.specs.Enums.{named}
 use Rattle.bib_text.proofs.TextFacts.{chars_past, chars_whole}
 use lib.Utf8.{scalars}
 use Rattle.bib_contents.specs.declared.commands.TheConstants.{SYMBOLS}
-use Rattle.bib_contents.specs.Commands.{accents, symbols, stroke, letter, with_mark, accented, other, command_text}
+use Rattle.bib_contents.specs.Commands.{accents, symbols, stroke, letter, with_mark, accent_text, other, command_text}
 use Rattle.unicode_normalization.specs.Compose.{primary_composite, compose, compose_after}
 use Rattle.unicode_normalization.specs.Forms.{Nfd, nfd, nfc, is_in_form}
 use Rattle.unicode_normalization.specs.Order.{is_starter}
@@ -228,7 +228,7 @@ other_unknown_with name argument utf8 not_o not_copyright =
 
 -- the text of a command that is an accent
 pub given_accent : (name : List ℕ) (argument : Option (List ℕ)) (mark : ℕ) → named accents name ≡ Some mark
-    → command_text name argument ≡ accented mark argument
+    → command_text name argument ≡ accent_text mark argument
 unfolding command_text
 given_accent name argument mark is = rw is
 

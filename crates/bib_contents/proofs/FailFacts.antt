@@ -9,7 +9,7 @@ use Rattle.bib_syntax.specs.declared.raw.ParseErrorKind.TheVariants.{UnexpectedE
 use Rattle.bib_contents.specs.ContentErrors.{UnitFails, ContentFails}
 use Rattle.bib_contents.specs.ContentErrors.UnitFails.{dollar, backslash, brace}
 use Rattle.bib_contents.specs.ContentErrors.ContentFails.{unopened, ended, inside, following}
-use Rattle.bib_contents.specs.Contents.{Argument, ContentUnit, IsNext, IsUnread, Reads, argument_spelling, balances, held, is_argument, is_closable, is_space, takes_next}
+use Rattle.bib_contents.specs.Contents.{Argument, ContentUnit, IsNext, IsUnread, Reads, argument_spelling, balances, inner_text, is_argument, is_closable, is_space, takes_next}
 use Rattle.bib_contents.specs.Progress.{IsUntaken}
 use Rattle.bib_contents.proofs.ArgumentFacts.{no_formula}
 use Rattle.bib_contents.proofs.CommandUnitFacts.{command_none, no_escape}
@@ -96,11 +96,11 @@ pub fails_taken : {is_verbatim : Bool} {whole text rest : List ℕ} {u : Content
 fails_taken read one untaken = read.goes.fails _ (fails_here one untaken)
 
 -- a closing brace has no argument
-closed_none : (depth : ℕ) (u : ContentUnit) → is_closable depth u ≡ false → held u ≡ None
+closed_none : (depth : ℕ) (u : ContentUnit) → is_closable depth u ≡ false → inner_text u ≡ None
 closed_none depth ContentUnit.closing closed = refl
 closed_none depth _ closed = absurd (both_ways true closed refl)
 
-closed_holds : (depth : ℕ) (u : ContentUnit) (argument : List ℕ) → is_closable depth u ≡ false → held u ≡ Some argument → ⊥
+closed_holds : (depth : ℕ) (u : ContentUnit) (argument : List ℕ) → is_closable depth u ≡ false → inner_text u ≡ Some argument → ⊥
 closed_holds depth u argument closed holds = no_argument (sym (closed_none depth u closed) ∙ holds)
 
 -- contents that fail have one kind of error

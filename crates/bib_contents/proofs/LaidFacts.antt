@@ -6,7 +6,7 @@ use Rattle.std.specs.List.{list_all}
 use Rattle.std.proofs.lemmas.Bool.{cases_Bool, and_parts, and_from, not-true}
 use Rattle.bib_chunks.specs.Formatted.{is_break, ends_in_space, unbroken, flowing, formatted_atoms}
 use Rattle.bib_chunks.specs.Styled.{Atom}
-use Rattle.bib_contents.specs.Arguments.{laid, argument_written}
+use Rattle.bib_contents.specs.Arguments.{flat_if, argument_written}
 use Rattle.bib_contents.specs.Commands.{accents, symbols, stroke, with_mark, letter, bare, other, command_text}
 use Rattle.bib_text.specs.Enums.{named}
 use Rattle.bib_contents.specs.Contents.{begins, character}
@@ -241,7 +241,7 @@ flowing_kind {name} (Kind.stays is) cs named capped =
 
 -- applying a command and putting its argument on one line can be exchanged
 pub laid_given : (is_flat : Bool) (name cs : List ℕ) → list_all is_unbroken name ≡ true → IsCapped cs
-    → laid is_flat (command_text name (Some cs)) ≡ command_text name (Some (laid is_flat cs))
+    → flat_if is_flat (command_text name (Some cs)) ≡ command_text name (Some (flat_if is_flat cs))
 laid_given true name cs named capped = flowing_kind (kind_of name) cs named capped
 laid_given false name cs named capped = refl
 
@@ -334,13 +334,14 @@ in_braces : (depth : ℕ) → (suc depth == 0) ≡ false
 in_braces depth = ne_eqb (suc depth) 0 (λ same. omega (arith, same))
 
 pub written_characters : (is_flat : Bool) (depth : ℕ) (cs : List ℕ)
-    → argument_written is_flat (map (character depth) cs) ≡ laid (is_flat_at is_flat depth) cs
+    → argument_written is_flat (map (character depth) cs) ≡ flat_if (is_flat_at is_flat depth) cs
 written_characters false zero cs = formatted_normal false cs
 written_characters false (suc depth) cs = rw (in_braces depth) (formatted_verbatim false depth cs)
 written_characters true zero cs =
     ap (flowing false) (formatted_normal false cs) ∙ flowing_plain false (flowing false cs) (flowing_lined false cs)
 written_characters true (suc depth) cs = ap (flowing false) (formatted_verbatim false depth cs)
 
-pub written_math : (is_flat : Bool) (text : List ℕ) → argument_written is_flat (Atom.math text ∷ []) ≡ 36 ∷ (laid is_flat text ++ 36 ∷ [])
+pub written_math : (is_flat : Bool) (text : List ℕ)
+    → argument_written is_flat (Atom.math text ∷ []) ≡ 36 ∷ (flat_if is_flat text ++ 36 ∷ [])
 written_math false text = refl
 written_math true text = ap (λ cs. 36 ∷ cs) (flowing_append false text (36 ∷ []) refl)

@@ -8,7 +8,7 @@ use Rattle.std.proofs.lemmas.List.{append-nil}
 use Rattle.bib_chunks.specs.Styled.{Atom, styled}
 use Rattle.bib_chunks.specs.declared.chunk.Chunk.{Chunk}
 use Rattle.bib_text.specs.declared.spanned.Spanned.{Spanned}
-use Rattle.bib_contents.specs.Contents.{ContentUnit, Argument, Reads, IsNext, fits, unit_spelling, is_ordinary, character, meaning, is_closable, depth_after, held}
+use Rattle.bib_contents.specs.Contents.{ContentUnit, Argument, Reads, IsNext, fits, unit_spelling, is_ordinary, character, meaning, is_closable, depth_after, inner_text}
 use Rattle.bib_contents.specs.ContentErrors.ContentFails.{following}
 use Rattle.bib_contents.specs.Contents.Reads.{end, next}
 use Rattle.bib_chunks.specs.Joined.{ArePlaced}
@@ -37,7 +37,7 @@ goes_then {is_verbatim} {depth} {after} {last} {text} {rest} {tail} {first} {sec
 pub unit_back : {is_verbatim : Bool} {depth : ℕ} {text rest : List ℕ} {u : ContentUnit} {whole : List Atom}
     → IsNext is_verbatim u text rest → Reads is_verbatim depth text whole
     → (is_closable depth u ≡ true)
-    × ((argument : List ℕ) → held u ≡ Some argument → (inner : List Atom) × Reads false 0 argument inner)
+    × ((argument : List ℕ) → inner_text u ≡ Some argument → (inner : List Atom) × Reads false 0 argument inner)
     × ((more : List Atom) × Reads is_verbatim (depth_after depth u) rest more)
 unit_back one end = absurd (no_unit_at_end one)
 unit_back {is_verbatim} {depth} {text} {rest} {u} one
@@ -52,7 +52,7 @@ unit_back {is_verbatim} {depth} {text} {rest} {u} one
 -- a unit was parsed
 pub goes_unit : {is_verbatim : Bool} {depth after : ℕ} {text rest : List ℕ} {u : ContentUnit} {inner : List Atom}
     → IsNext is_verbatim u text rest → is_closable depth u ≡ true
-    → ((argument : List ℕ) → held u ≡ Some argument → Reads false 0 argument inner) → after ≡ depth_after depth u
+    → ((argument : List ℕ) → inner_text u ≡ Some argument → Reads false 0 argument inner) → after ≡ depth_after depth u
     → Goes is_verbatim depth text (meaning depth u inner) after rest
 goes_unit {inner = inner} one closable argument deep = record {
   onward = λ more read. next one closable argument (rw (← deep) read);
@@ -121,28 +121,28 @@ placed_wider low high higher [] placed wider = omega (arith, placed, wider)
 placed_wider low high higher (c ∷ rest) placed wider = (placed.0, placed.1, placed_wider _ high higher rest placed.2 wider)
 
 -- the length of a unit's argument in braces, in characters; 0 if it has none
-abbrev pub held_length : ContentUnit → ℕ
-held_length (ContentUnit.command name space (Argument.braced text)) = length text
-held_length u = 0
+abbrev pub inner_length : ContentUnit → ℕ
+inner_length (ContentUnit.command name space (Argument.braced text)) = length text
+inner_length u = 0
 
-pub held_length_is : (u : ContentUnit) (text : List ℕ) → held u ≡ Some text → length text ≡ held_length u
-held_length_is (ContentUnit.command name space (Argument.braced inside)) text is = cc
-held_length_is (ContentUnit.command name space Argument.without) text is = absurd (no_argument is)
-held_length_is (ContentUnit.command name space Argument.empty) text is = absurd (no_argument is)
-held_length_is (ContentUnit.command name space (Argument.single c)) text is = absurd (no_argument is)
-held_length_is (ContentUnit.hyphens n) text is = absurd (no_argument is)
-held_length_is (ContentUnit.spaces cs) text is = absurd (no_argument is)
-held_length_is ContentUnit.opening text is = absurd (no_argument is)
-held_length_is ContentUnit.closing text is = absurd (no_argument is)
-held_length_is (ContentUnit.escaped c) text is = absurd (no_argument is)
-held_length_is ContentUnit.backslash text is = absurd (no_argument is)
-held_length_is (ContentUnit.copied c) text is = absurd (no_argument is)
-held_length_is (ContentUnit.formula math) text is = absurd (no_argument is)
-held_length_is (ContentUnit.other c) text is = absurd (no_argument is)
+pub inner_length_is : (u : ContentUnit) (text : List ℕ) → inner_text u ≡ Some text → length text ≡ inner_length u
+inner_length_is (ContentUnit.command name space (Argument.braced inside)) text is = cc
+inner_length_is (ContentUnit.command name space Argument.without) text is = absurd (no_argument is)
+inner_length_is (ContentUnit.command name space Argument.empty) text is = absurd (no_argument is)
+inner_length_is (ContentUnit.command name space (Argument.single c)) text is = absurd (no_argument is)
+inner_length_is (ContentUnit.hyphens n) text is = absurd (no_argument is)
+inner_length_is (ContentUnit.spaces cs) text is = absurd (no_argument is)
+inner_length_is ContentUnit.opening text is = absurd (no_argument is)
+inner_length_is ContentUnit.closing text is = absurd (no_argument is)
+inner_length_is (ContentUnit.escaped c) text is = absurd (no_argument is)
+inner_length_is ContentUnit.backslash text is = absurd (no_argument is)
+inner_length_is (ContentUnit.copied c) text is = absurd (no_argument is)
+inner_length_is (ContentUnit.formula math) text is = absurd (no_argument is)
+inner_length_is (ContentUnit.other c) text is = absurd (no_argument is)
 
 -- a unit is longer than its argument in braces
 unit_longer : (is_verbatim : Bool) (u : ContentUnit) (rest : List ℕ) → fits is_verbatim u rest ≡ true
-    → held_length u < length (unit_spelling u)
+    → inner_length u < length (unit_spelling u)
 unit_longer is_verbatim (ContentUnit.command name space (Argument.braced text)) rest right =
     let inside : length (text ++ 125 ∷ []) ≡ length text + 1 = length-append text (125 ∷ []) in
     let spaced : length (space ++ 123 ∷ (text ++ 125 ∷ [])) ≡ length space + (length (text ++ 125 ∷ []) + 1) =
@@ -168,9 +168,9 @@ unit_longer is_verbatim (ContentUnit.other c) rest right = omega arith
 
 -- the text after a unit and the argument of the unit are shorter than the text before it
 pub unit_shorter : {is_verbatim : Bool} {u : ContentUnit} {text rest : List ℕ} → IsNext is_verbatim u text rest
-    → (length rest < length text) × (held_length u < length text)
+    → (length rest < length text) × (inner_length u < length text)
 unit_shorter {is_verbatim} {u} {text} {rest} one =
-    let longer : held_length u < length (unit_spelling u) = unit_longer is_verbatim u rest one.fits in
+    let longer : inner_length u < length (unit_spelling u) = unit_longer is_verbatim u rest one.fits in
     let size : length text ≡ length (unit_spelling u) + length rest = ap length one.spells ∙ length-append (unit_spelling u) rest in
     (omega arith, omega arith)
 

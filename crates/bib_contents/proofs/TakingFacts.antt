@@ -10,7 +10,7 @@ use Rattle.bib_chunks.specs.Writing.{Writes}
 use Rattle.bib_chunks.specs.declared.chunk.Chunk.{Chunk}
 use Rattle.bib_text.specs.declared.spanned.Spanned.{Spanned}
 use Rattle.bib_text.proofs.TextFacts.{chars_whole}
-use Rattle.bib_contents.specs.Contents.{Argument, ContentUnit, IsNext, unit_spelling, Reads, character, meaning, is_closable, depth_after, held, unit_text}
+use Rattle.bib_contents.specs.Contents.{Argument, ContentUnit, IsNext, unit_spelling, Reads, character, meaning, is_closable, depth_after, inner_text, unit_text}
 use Rattle.bib_chunks.specs.Joined.{ArePlaced}
 use Rattle.bib_contents.specs.Progress.{Took, left, so_far}
 use Rattle.bib_contents.proofs.UnitFacts.{command_parts}
@@ -54,7 +54,7 @@ held_is same = cc
 
 -- characters were appended to the open chunk
 took_characters : (u : ContentUnit) (growing grown : OpenChunk) (out : List (Spanned Chunk)) (inner : List Atom)
-    → IsTextUnit growing.depth u → ((argument : List ℕ) → held u ≡ Some argument → Reads false 0 argument inner)
+    → IsTextUnit growing.depth u → ((argument : List ℕ) → inner_text u ≡ Some argument → Reads false 0 argument inner)
     → Writes growing.text grown.text (unit_text u inner) → grown.depth ≡ growing.depth
     → Took u growing.depth (so_far out growing) grown.depth (so_far out grown)
 took_characters u growing grown out inner is argument written depth =
@@ -76,7 +76,7 @@ took_characters u growing grown out inner is argument written depth =
     }
 
 pub took_text : (unit : TextUnit) (growing grown : OpenChunk) (out : List (Spanned Chunk)) (inner : List Atom)
-    → ((argument : List ℕ) → held (text_unit_of unit) ≡ Some argument → Reads false 0 argument inner)
+    → ((argument : List ℕ) → inner_text (text_unit_of unit) ≡ Some argument → Reads false 0 argument inner)
     → Writes growing.text grown.text (unit_text (text_unit_of unit) inner) → grown.depth ≡ growing.depth
     → Took (text_unit_of unit) growing.depth (so_far out growing) grown.depth (so_far out grown)
 took_text unit growing grown out inner argument written depth =

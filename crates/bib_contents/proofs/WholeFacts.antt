@@ -5,7 +5,7 @@ use Rattle.std.proofs.lemmas.Bool.{cases_Bool, and_parts, and_from, both_ways, e
 use Rattle.bib_chunks.specs.Formatted.{is_break, flowing, formatted_atoms}
 use Rattle.bib_chunks.specs.Styled.{Atom}
 use Rattle.bib_contents.specs.Commands.{command_text}
-use Rattle.bib_contents.specs.Contents.{Argument, ContentUnit, Reads, begins, character, dashes, fits, held, is_blank, is_space, meaning, unit_text}
+use Rattle.bib_contents.specs.Contents.{Argument, ContentUnit, Reads, begins, character, dashes, fits, inner_text, is_blank, is_space, meaning, unit_text}
 use Rattle.bib_contents.specs.Contents.Reads.{end, next}
 use Rattle.bib_contents.proofs.ArgumentReading.{name_plain, dashes_plain, escaped_plain, ordinary_plain, single_plain}
 use Rattle.bib_contents.proofs.LaidFacts.{IsCapped, IsLed, ends_in_break, ends_append, flowing_lined, begins_append, capped_plain, capped_given, alone_plain, formatted_append, formatted_normal, formatted_verbatim, led_characters, led_math, space_after}
@@ -44,7 +44,7 @@ capped_ends : (u : ContentUnit) (inner : List Atom) → IsCapped (unit_text u in
 capped_ends u inner capped = record { first = capped.first; last = λ plain. capped.last }
 
 unit_ends : (u : ContentUnit) (rest : List ℕ) (inner : List Atom) → fits false u rest ≡ true
-    → ((text : List ℕ) → held u ≡ Some text → IsWhole inner) → HasEnds u inner
+    → ((text : List ℕ) → inner_text u ≡ Some text → IsWhole inner) → HasEnds u inner
 unit_ends (ContentUnit.hyphens n) rest inner right whole =
     capped_ends (ContentUnit.hyphens n) inner (capped_plain (dashes n) (dashes_plain n))
 unit_ends (ContentUnit.spaces cs) rest inner right whole = capped_ends (ContentUnit.spaces cs) inner (capped_plain (32 ∷ []) refl)

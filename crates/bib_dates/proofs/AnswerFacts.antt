@@ -8,7 +8,7 @@ use Rattle.bib_dates.specs.declared.errors.ReadError.{ReadError}
 use Rattle.bib_dates.specs.declared.errors.ReadError.TheVariants.{Specified, Unspecified}
 use Rattle.bib_dates.specs.Readings.{Reading, ◌>>=◌, readable_value, MayRefuse}
 use Rattle.bib_dates.specs.Readings.Reading.{says, error, unread}
-use Rattle.bib_dates.specs.Code.{reading, parsed}
+use Rattle.bib_dates.specs.Code.{reading, part_reading}
 use Rattle.bib_dates.specs.ThreeFields.{month_field, day_of, month_with_day, year_field, month_and_day, on_day, three_fields_of}
 
 -- parsing returned this error
@@ -28,7 +28,7 @@ passed (error kind) next e (inr (other, none, is)) = inr (other, refl, is)
 passed unread next e (inl h) = inl h
 passed unread next e (inr (other, none, is)) = inr (other, refl, is)
 
-part_refused : {A : Type 0} (r : Result (A × Bor (List ℕ)) ReadError) (e : TypeError) → Refused (reading r) e → Refused (parsed r) e
+part_refused : {A : Type 0} (r : Result (A × Bor (List ℕ)) ReadError) (e : TypeError) → Refused (reading r) e → Refused (part_reading r) e
 part_refused (Ok p) e (inl h) = inl h
 part_refused (Ok p) e (inr (other, none, never)) = absurd never
 part_refused (Err (Specified reason)) e (inl h) = inl h
@@ -37,7 +37,7 @@ part_refused (Err (Unspecified reason)) e (inl h) = inl h
 part_refused (Err (Unspecified reason)) e (inr (other, none, is)) = inr (other, refl, is)
 
 part_said : {A : Type 0} (r : Result (A × Bor (List ℕ)) ReadError) (p : A × Bor (List ℕ))
-    → readable_value (reading r) ≡ Some p → parsed r ≡ says (p.0, p.1.now)
+    → readable_value (reading r) ≡ Some p → part_reading r ≡ says (p.0, p.1.now)
 part_said (Ok q) p e = let x : q ≡ p = cc in ap (λ y. says (y.0, y.1.now)) x
 part_said (Err (Specified reason)) p e = cc
 part_said (Err (Unspecified reason)) p e = cc
@@ -45,12 +45,12 @@ part_said (Err (Unspecified reason)) p e = cc
 -- ---- a month, and the day after it or in its own field
 
 pub month_refused : (text : List ℕ) (day : Option (List ℕ)) (r : Result (Option ℕ × Bor (List ℕ)) ReadError) (e : TypeError)
-    → parsed r ≡ month_field text → Refused (reading r) e → Refused (month_with_day text day) e
+    → part_reading r ≡ month_field text → Refused (reading r) e → Refused (month_with_day text day) e
 unfolding month_with_day
 month_refused text day r e is h = passed (month_field text) _ e (subst (λ x. Refused x e) is (part_refused r e h))
 
 month_said : (text : List ℕ) (day : Option (List ℕ)) (r : Result (Option ℕ × Bor (List ℕ)) ReadError) (p : Option ℕ × Bor (List ℕ))
-    → parsed r ≡ month_field text → readable_value (reading r) ≡ Some p
+    → part_reading r ≡ month_field text → readable_value (reading r) ≡ Some p
     → month_with_day text day ≡ (day_of day p.1.now >>= (λ at. says (p.0, at)))
 unfolding month_with_day
 month_said text day r p is found = rw (sym is ∙ part_said r p found) refl
@@ -58,7 +58,7 @@ month_said text day r p is found = rw (sym is ∙ part_said r p found) refl
 -- an error of the day is an error of the month and the day
 pub day_refused : (text : List ℕ) (day : Option (List ℕ)) (r : Result (Option ℕ × Bor (List ℕ)) ReadError)
     (p : Option ℕ × Bor (List ℕ)) (read : Reading (Option ℕ)) (e : TypeError)
-    → parsed r ≡ month_field text → readable_value (reading r) ≡ Some p → read ≡ day_of day p.1.now → Refused read e
+    → part_reading r ≡ month_field text → readable_value (reading r) ≡ Some p → read ≡ day_of day p.1.now → Refused read e
     → Refused (month_with_day text day) e
 day_refused text day r p read e is found same h =
     subst (λ x. Refused x e) (sym (month_said text day r p is found))
@@ -67,7 +67,7 @@ day_refused text day r p read e is found same h =
 -- a parsed month and a parsed day are the month and the day
 pub month_and_day_read : (text : List ℕ) (day : Option (List ℕ)) (r : Result (Option ℕ × Bor (List ℕ)) ReadError)
     (p : Option ℕ × Bor (List ℕ)) (read : Reading (Option ℕ)) (d : Option ℕ)
-    → parsed r ≡ month_field text → readable_value (reading r) ≡ Some p → read ≡ day_of day p.1.now
+    → part_reading r ≡ month_field text → readable_value (reading r) ≡ Some p → read ≡ day_of day p.1.now
     → readable_value read ≡ Some d → readable_value (month_with_day text day) ≡ Some (p.0, d)
 month_and_day_read text day r p read d is found same h =
     let one : day_of day p.1.now ≡ says d = sym same ∙ said read d h in

@@ -16,7 +16,7 @@ use Rattle.bib_dates.specs.declared.date.Datetime.{Datetime}
 use Rattle.bib_dates.specs.Kept.{IsKeptDay, IsKeptDatetime, IsKeptValue, IsKeptDate}
 use Rattle.bib_dates.specs.Parts.{lies}
 use Rattle.bib_dates.specs.Dates.{datetime, side, is_open, range, holds, date_value, last, is_uncertain, is_approximate, marked_date, date_of}
-use Rattle.bib_dates.specs.Written.{padded, year_text, month_day_text, datetime_text, value_text, mark_text, date_text}
+use Rattle.bib_dates.specs.Written.{with_zeros, year_text, month_day_text, datetime_text, value_text, mark_text, date_text}
 use Rattle.bib_chunks.specs.Values.{text}
 use Rattle.bib_chunks.proofs.ValueFacts.{is_simple, simple_text}
 use Rattle.bib_dates.specs.Chunks.{date_read, date_written}
@@ -52,22 +52,22 @@ both p xs ys h k = list_all-append p xs ys ∙ and_from _ _ h k
 number_bytes : (y : ℤ) (m d : Option ℕ) → IsKeptDay y m d → list_all is_date_byte (month_day_text m d) ≡ true
 number_bytes y None d k = refl
 number_bytes y (Some m) None k =
-    let is : IsNumber 2 (m + 1) (padded 2 (m + 1)) = two_digits (m + 1) (omega arith) in
-    digit_bytes (padded 2 (m + 1)) is.digits
+    let is : IsNumber 2 (m + 1) (with_zeros 2 (m + 1)) = two_digits (m + 1) (omega arith) in
+    digit_bytes (with_zeros 2 (m + 1)) is.digits
 number_bytes y (Some m) (Some d) k =
     let few = month_short y (m + 1) in
-    let is : IsNumber 2 (m + 1) (padded 2 (m + 1)) = two_digits (m + 1) (omega (arith, k.0)) in
-    let day : IsNumber 2 (d + 1) (padded 2 (d + 1)) = two_digits (d + 1) (omega (arith, k.1)) in
-    both is_date_byte (padded 2 (m + 1)) (45 ∷ padded 2 (d + 1)) (digit_bytes (padded 2 (m + 1)) is.digits)
-    (digit_bytes (padded 2 (d + 1)) day.digits)
+    let is : IsNumber 2 (m + 1) (with_zeros 2 (m + 1)) = two_digits (m + 1) (omega (arith, k.0)) in
+    let day : IsNumber 2 (d + 1) (with_zeros 2 (d + 1)) = two_digits (d + 1) (omega (arith, k.1)) in
+    both is_date_byte (with_zeros 2 (m + 1)) (45 ∷ with_zeros 2 (d + 1)) (digit_bytes (with_zeros 2 (m + 1)) is.digits)
+    (digit_bytes (with_zeros 2 (d + 1)) day.digits)
 
 year_bytes : (y : ℤ) → IsYear y → (list_all is_date_byte (year_text y) ≡ true) × (4 ≤ length (year_text y))
 year_bytes (pos n) h =
-    let is : IsNumber 4 n (padded 4 n) = four_digits n (omega (arith, ints)) in
-    rw (not_negative n) (digit_bytes (padded 4 n) is.digits, omega (arith, is.size))
+    let is : IsNumber 4 n (with_zeros 4 n) = four_digits n (omega (arith, ints)) in
+    rw (not_negative n) (digit_bytes (with_zeros 4 n) is.digits, omega (arith, is.size))
 year_bytes (negsuc n) h =
-    let is : IsNumber 4 (suc n) (padded 4 (suc n)) = four_digits (suc n) (omega (arith, ints)) in
-    (digit_bytes (padded 4 (suc n)) is.digits, omega (arith, is.size))
+    let is : IsNumber 4 (suc n) (with_zeros 4 (suc n)) = four_digits (suc n) (omega (arith, ints)) in
+    (digit_bytes (with_zeros 4 (suc n)) is.digits, omega (arith, is.size))
 
 whole : (d : Datetime) → d.time ≡ None → datetime d.year d.month d.day None ≡ d
 whole d e = ap (λ t. record { year = d.year; month = d.month; day = d.day; time = t }) (sym e)

@@ -17,7 +17,7 @@ use Rattle.bib_chunks.proofs.FormattedFacts.{goes_on, flowing_run}
 use Rattle.bib_chunks.specs.Cuts.{cut_at}
 use Rattle.bib_people.specs.declared.person.Person.{Person}
 use Rattle.bib_people.specs.Letters.{Letter, letters, Word, a_word, words_of, text_of_words}
-use Rattle.bib_people.specs.Names.{Cuts, is_low, leading, through_last, before_comma, person, shown, formats_to_nothing, at_last_space, with_comma, with_commas, cut_by_commas, by_commas, before_comma_person, cut_person, in_parts, is_in_parts, person_of}
+use Rattle.bib_people.specs.Names.{Cuts, is_low, leading, through_last, before_comma, person, trimmed_text, formats_to_nothing, at_last_space, with_comma, with_commas, cut_by_commas, by_commas, before_comma_person, cut_person, in_parts, is_in_parts, person_of}
 use Rattle.bib_people.specs.People.{people_of, people_chunks, people_from, person_chunks, suffix_text}
 use Rattle.bib_people.specs.Kept.{is_capital_letter, is_small_letter, is_name_byte, is_kept_word, name_begins, after_words, spaced, IsKeptPerson, AllKept, ArePeople}
 use Rattle.bib_people.proofs.WordFacts.{letter, spelt}
@@ -111,7 +111,7 @@ formatted_text text span following is =
     ∙ append-nil (flowing false (chars text)) ∙ ap (flowing false) is.same ∙ is.flows
 
 shown_text : (text : List ℕ) (span : Range ℕ) (following : Bool) → IsText text
-    → shown (stands span text ∷ empties before_and following) ≡ text
+    → trimmed_text (stands span text ∷ empties before_and following) ≡ text
 shown_text text span following is =
     ap (λ cs. trim (encode_utf8_all cs)) (formatted_text text span following is) ∙ ap trim is.spelt ∙ trim_same text is
 
@@ -273,12 +273,12 @@ with_comma_read before following prefix name given suffix a c small capital any 
     ap
     (λ blank.
     cond blank (at_last_space (encode_utf8_all (formatted first)) suffix)
-    (before_comma_person (words_of (letters first)) (shown second) suffix))
+    (before_comma_person (words_of (letters first)) (trimmed_text second) suffix))
     (not_blank (spaced given) c following last has_given)
-    ∙ ap (λ ws. before_comma_person ws (shown second) suffix) words
-    ∙ ap (λ cut. cut_person cut (xs ++ ys) (shown second) suffix) cuts
-    ∙ ap (λ n. person n (shown second) (text_of_words (take (length xs) (xs ++ ys))) suffix) name_is
-    ∙ ap (λ q. person (spaced name) (shown second) q suffix) prefix_is
+    ∙ ap (λ ws. before_comma_person ws (trimmed_text second) suffix) words
+    ∙ ap (λ cut. cut_person cut (xs ++ ys) (trimmed_text second) suffix) cuts
+    ∙ ap (λ n. person n (trimmed_text second) (text_of_words (take (length xs) (xs ++ ys))) suffix) name_is
+    ∙ ap (λ q. person (spaced name) (trimmed_text second) q suffix) prefix_is
     ∙ ap (λ g. person (spaced name) g (spaced prefix) suffix) (shown_text (spaced given) c following last)
 
 pub some_words : (words : List (List ℕ)) → 0 < length (spaced words) → 0 < length words
@@ -329,11 +329,11 @@ after_read before following prefix name ((s ∷ t) ∷ ss) given a c small capit
     ∙ ap
     (λ l.
     with_comma first (stands cut.right l ∷ empties before_and following)
-    (shown (stands cut.left (trim_end (spaced suffix)) ∷ []))) (after_space (spaced given) last)
+    (trimmed_text (stands cut.left (trim_end (spaced suffix)) ∷ []))) (after_space (spaced given) last)
     ∙ ap
     (λ l.
     with_comma first (stands cut.right (spaced given) ∷ empties before_and following)
-    (shown (stands cut.left l ∷ []))) middle.end
+    (trimmed_text (stands cut.left l ∷ []))) middle.end
     ∙ ap (with_comma first (stands cut.right (spaced given) ∷ empties before_and following))
     (shown_text (spaced suffix) cut.left false middle)
     ∙ with_comma_read before following prefix name given (spaced suffix) a cut.right small capital any has_name has_given
