@@ -34,12 +34,14 @@ break_space c breaks = elim (cases_Bool (c == 10)) [
   | inr other ↦ rw (eqb-true c 13 (rw other at breaks)) refl
 ]
 
+-- a character that isn't white space, by the test of std, is no line break
 plain_unless : (c : ℕ) → is_whitespace c ≡ false → is_unbroken c ≡ true
 plain_unless c other = elim (cases_Bool (is_break c)) [
   | inl breaks ↦ absurd (both_ways (is_whitespace c) other (break_space c breaks))
   | inr plain ↦ rw plain refl
 ]
 
+-- a line break is no ordinary character
 break_special : (c : ℕ) → is_break c ≡ true → is_ordinary false c ≡ false
 unfolding is_ordinary is_space is_grouping
 break_special c breaks = elim (cases_Bool (c == 10)) [
@@ -47,6 +49,7 @@ break_special c breaks = elim (cases_Bool (c == 10)) [
   | inr other ↦ rw (eqb-true c 13 (rw other at breaks)) refl
 ]
 
+-- an ordinary character is no line break
 pub ordinary_plain : (c : ℕ) → is_ordinary false c ≡ true → is_unbroken c ≡ true
 ordinary_plain c right = elim (cases_Bool (is_break c)) [
   | inl breaks ↦ absurd (both_ways (is_ordinary false c) (break_special c breaks) right)
@@ -85,6 +88,7 @@ tail_plain true [] right = refl
 tail_plain true (c ∷ cs) right = absurd (both_ways false refl right)
 tail_plain false cs right = characters_plain cs right
 
+-- the name of a command contains no line break
 pub name_plain : (name : List ℕ) → is_name name ≡ true → list_all is_unbroken name ≡ true
 name_plain [] right = absurd (both_ways false refl right)
 name_plain (c ∷ cs) right =
@@ -93,6 +97,7 @@ name_plain (c ∷ cs) right =
     (if is_sign c then is_empty cs else list_all is_name_character cs) right in
     and_from _ _ (first_plain c (and_parts (not (is_escaped false c)) (not (is_blank c)) parts.0).1) (tail_plain (is_sign c) cs parts.1)
 
+-- a line break isn't escaped by a backslash
 escaped_break : (c : ℕ) → is_break c ≡ true → is_escaped false c ≡ false
 unfolding is_escaped is_escapable is_grouping is_reserved
 escaped_break c breaks = elim (cases_Bool (c == 10)) [
@@ -100,12 +105,14 @@ escaped_break c breaks = elim (cases_Bool (c == 10)) [
   | inr other ↦ rw (eqb-true c 13 (rw other at breaks)) refl
 ]
 
+-- an escaped character is no line break
 pub escaped_plain : (c : ℕ) → is_escaped false c ≡ true → is_unbroken c ≡ true
 escaped_plain c right = elim (cases_Bool (is_break c)) [
   | inl breaks ↦ absurd (both_ways (is_escaped false c) (escaped_break c breaks) right)
   | inr plain ↦ rw plain refl
 ]
 
+-- a character that isn't white space, by the test of contents, is no line break
 pub single_plain : (c : ℕ) → is_space c ≡ false → is_unbroken c ≡ true
 unfolding is_space
 single_plain c other = plain_unless c other
@@ -114,6 +121,7 @@ replicate_plain : (n c : ℕ) → is_unbroken c ≡ true → list_all is_unbroke
 replicate_plain zero c plain = refl
 replicate_plain (suc n) c plain = and_from _ _ plain (replicate_plain n c plain)
 
+-- dashes contain no line break
 pub dashes_plain : (n : ℕ) → list_all is_unbroken (dashes n) ≡ true
 dashes_plain n =
     plain_append (replicate (n / 3) 8212) (if n % 3 == 2 then 8211 ∷ [] else if n % 3 == 1 then 45 ∷ [] else [])
@@ -124,10 +132,12 @@ dashes_plain n =
     last false true = refl
     last false false = refl
 
+-- a text without line breaks is the same on one line
 pub laid_plain : (is_flat : Bool) (cs : List ℕ) → list_all is_unbroken cs ≡ true → flat_if is_flat cs ≡ cs
 laid_plain true cs all = flowing_plain false cs all
 laid_plain false cs all = refl
 
+-- on one line, a line break after a backslash becomes a space
 laid_copied : (is_flat : Bool) (c : ℕ) → flat_if is_flat (92 ∷ c ∷ []) ≡ 92 ∷ (if is_flat then (if is_break c then 32 else c) else c) ∷ []
 laid_copied false c = refl
 laid_copied true c = elim (cases_Bool (is_break c)) [
@@ -135,11 +145,12 @@ laid_copied true c = elim (cases_Bool (is_break c)) [
   | inr plain ↦ rw plain refl
 ]
 
--- the text of a unit as it is written doesn't begin with a line break
+-- a unit is written as its text, put on one line if the flag says so, and the text doesn't begin with a line break
 pub record IsUnitWritten (is_flat : Bool) (u : ContentUnit) : Type 0 where
   pub laid_is : flat_if is_flat (unit_text u []) ≡ unit_written is_flat u
   pub first : begins is_break (unit_text u []) ≡ false
 
+-- a unit that is written as its text meets this if the text has no line break
 written_plain : (is_flat : Bool) (u : ContentUnit) → unit_written is_flat u ≡ unit_text u []
     → list_all is_unbroken (unit_text u []) ≡ true → IsUnitWritten is_flat u
 written_plain is_flat u same all = record {
@@ -213,6 +224,7 @@ read_run {is_flat} {whole} {base} {text} {rest} {depth} run read leading_run all
     (goes_run false depth run rest all)) (led_characters depth run (capped_plain run plain).first)
     (written_characters is_flat depth run ∙ laid_plain (is_flat_at is_flat depth) run plain) grew
 
+-- a unit that is written as characters has no argument in braces
 pub no_inner_text : (unit : TextUnit) → inner_text (text_unit_of unit) ≡ None
 no_inner_text (shown.Hyphens n) = refl
 no_inner_text (shown.Spaces text) = refl
@@ -224,6 +236,7 @@ no_inner_text (shown.Command name space given_as.Empty) = refl
 no_inner_text (shown.Command name space (given_as.Single c)) = refl
 no_inner_text (shown.Other c) = refl
 
+-- a unit without an argument in braces doesn't have one, so anything follows
 pub holds_none : (u : ContentUnit) {A : Type 0} (argument : List ℕ) → inner_text u ≡ None → inner_text u ≡ Some argument → A
 holds_none u argument none holds = absurd (no_argument (sym none ∙ holds))
 
@@ -251,9 +264,11 @@ read_math {is_flat} math read one grew =
     (goes_unit {inner = []} one refl (λ argument holds. absurd (no_argument holds)) refl) (led_math math)
     (written_math is_flat math) grew
 
+-- an empty list of atoms doesn't begin with a line break
 led_none : IsLed []
 led_none = record { any = λ space. refl; first = refl }
 
+-- an argument without atoms is written as the empty text
 pub written_none : (is_flat : Bool) → argument_written is_flat [] ≡ []
 written_none true = refl
 written_none false = refl

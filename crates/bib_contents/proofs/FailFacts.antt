@@ -89,6 +89,7 @@ pub fails_here : {is_verbatim : Bool} {depth : ℕ} {u : ContentUnit} {text rest
 fails_here one (inl closed) = rw (closed.1) (unopened one closed.0)
 fails_here one (inr within) = inside one within.1 within.2
 
+-- if a unit fails after a part of a text was parsed, the text fails with the same kind
 pub fails_taken : {is_verbatim : Bool} {whole text rest : List ℕ} {u : ContentUnit} {start now : List Atom} {depth : ℕ}
     {kind : ParseErrorKind}
     → ReadSoFar is_verbatim whole start text depth now → IsNext is_verbatim u text rest → IsUntaken u depth kind
@@ -100,6 +101,7 @@ closed_none : (depth : ℕ) (u : ContentUnit) → is_closable depth u ≡ false 
 closed_none depth ContentUnit.closing closed = refl
 closed_none depth _ closed = absurd (both_ways true closed refl)
 
+-- a closing brace that has no opening one has no argument
 closed_holds : (depth : ℕ) (u : ContentUnit) (argument : List ℕ) → is_closable depth u ≡ false → inner_text u ≡ Some argument → ⊥
 closed_holds depth u argument closed holds = no_argument (sym (closed_none depth u closed) ∙ holds)
 

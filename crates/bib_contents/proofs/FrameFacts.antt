@@ -89,6 +89,7 @@ begun_on {frame} {on} {name} {under} {low} {high} begun kept right = record {
   right = right;
 }
 
+-- what was parsed of an argument is the same for an equal effect
 based_on : (old new : Effect) {flat : Bool} {whole rest now : List ℕ} {depth : ℕ} (under name : List ℕ) → new ≡ old
     → IsReadTo flat whole (under ++ before_argument old name) rest depth now
     → IsReadTo flat whole (under ++ before_argument new name) rest depth now
@@ -270,6 +271,7 @@ drop_of_take : (k n : ℕ) (bs : List ℕ) → k ≤ n → drop k (take n bs) �
 drop_of_take k n bs within =
     let whole : n ≡ k + (n - k) = omega (arith, within) in ap (λ m. drop k (take m bs)) whole ∙ drop-take k (n - k) bs
 
+-- a brace that closes an argument does so in the first `n` bytes of the text, if they reach beyond it
 closes_in : {text : List ℕ} {begin end : ℕ} (n : ℕ) → Closes text begin end → end < n → Closes (take n text) begin end
 closes_in {text} {begin} {end} n closes within =
     let wide : end ≡ begin + length (encode_utf8_all closes.inside) = closes.width in

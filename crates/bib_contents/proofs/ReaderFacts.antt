@@ -60,6 +60,7 @@ goes_unit {inner = inner} one closable argument deep = record {
   fails = λ kind fails. following one closable (λ text holds. (inner, argument text holds)) (rw (← deep) fails);
 }
 
+-- `None` is not `Some`
 pub no_argument : {t : List ℕ} → None ≡ Some t → ⊥
 no_argument same = cc
 
@@ -80,9 +81,11 @@ pub record ReadSoFar (is_verbatim : Bool) (whole : List ℕ) (start : List Atom)
   pub goes : Goes is_verbatim 0 whole atoms depth rest
   pub is : now ≡ start ++ atoms
 
+-- at the start of a text no atoms were added
 pub read_none : (is_verbatim : Bool) (whole : List ℕ) (start now : List Atom) → now ≡ start → ReadSoFar is_verbatim whole start whole 0 now
 read_none is_verbatim whole start now same = record { atoms = []; goes = goes_here is_verbatim 0 whole; is = same ∙ sym (append-nil start) }
 
+-- after more of a text was parsed as atoms, these are added
 pub read_plain : {is_verbatim : Bool} {whole text rest : List ℕ} {start now more : List Atom} {depth : ℕ}
     (atoms : List Atom) → ReadSoFar is_verbatim whole start text depth now
     → Goes is_verbatim depth text atoms depth rest
@@ -93,6 +96,7 @@ read_plain {start = start} atoms read goes written = record {
   is = written ∙ ap (λ xs. xs ++ atoms) read.is ∙ append_assoc start read.atoms atoms;
 }
 
+-- after a unit was parsed, its atoms are added
 pub read_unit : {is_verbatim : Bool} {whole text rest : List ℕ} {u : ContentUnit} {start now more : List Atom}
     {depth after : ℕ} → ReadSoFar is_verbatim whole start text depth now → IsNext is_verbatim u text rest
     → Took u depth now after more → ReadSoFar is_verbatim whole start rest after more
@@ -125,6 +129,7 @@ abbrev pub inner_length : ContentUnit → ℕ
 inner_length (ContentUnit.command name space (Argument.braced text)) = length text
 inner_length u = 0
 
+-- the length of a unit's argument in braces is that of its text
 pub inner_length_is : (u : ContentUnit) (text : List ℕ) → inner_text u ≡ Some text → length text ≡ inner_length u
 inner_length_is (ContentUnit.command name space (Argument.braced inside)) text is = cc
 inner_length_is (ContentUnit.command name space Argument.without) text is = absurd (no_argument is)
@@ -181,6 +186,7 @@ nothing_grows out growing empty =
     (ap (λ cs. styled out ++ map (character growing.depth) cs) (ap chars empty ∙ chars-nil)
     ∙ append-nil (styled out))
 
+-- a text of length 0 is empty
 pub no_bytes : (bs : List ℕ) → length bs ≡ 0 → bs ≡ []
 no_bytes [] none = refl
 no_bytes (b ∷ bs) none = absurd (omega (arith, none))
