@@ -45,6 +45,7 @@ no_memory : (e : ParseError) → IsUnread e.kind → e ≡ out_of_memory → ⊥
 no_memory e (inl eof) memory = let kind : e.kind ≡ OutOfMemory = ap (λ x. x.kind) memory in cc (eof, kind)
 no_memory e (inr brace) memory = let kind : e.kind ≡ OutOfMemory = ap (λ x. x.kind) memory in cc (brace, kind)
 
+-- an error of contents, which isn't out of memory, lies in the span of its literal
 lies_in : (p : Part) (low high : ℕ) (e : ParseError) → IsUnread e.kind → p.start ≡ low → p.end ≡ high
     → StaysBetween low high e → LiesBetween p.start p.end e
 lies_in p low high e unread starts ends (inl memory) = absurd (no_memory e unread memory)
@@ -172,9 +173,11 @@ between_grows start end chunks more ordered within =
     let enough : end - start ≤ length (drop start chunks) = omega (arith, length-drop start chunks) in
     ap (take (end - start)) (drop-append-le start chunks more start_within) ∙ take-append-le (end - start) (drop start chunks) more enough
 
+-- the chunks from an index to the end
 between_all : (start : ℕ) (chunks : List (Spanned Chunk)) → chunks_between start (length chunks) chunks ≡ drop start chunks
 between_all start chunks = take_all (length chunks - start) (drop start chunks) (omega (arith, length-drop start chunks))
 
+-- the chunks from an index are those up to a later one and those from there
 between_then : (start middle : ℕ) (chunks : List (Spanned Chunk)) → start ≤ middle
     → drop start chunks ≡ chunks_between start middle chunks ++ drop middle chunks
 between_then start middle chunks ordered =
@@ -193,6 +196,7 @@ all_after (c ∷ chunks) more = all_after chunks more
 none_begun : None ≡ Some Begun → ⊥
 none_begun is = cc is
 
+-- a memo with the same names has the same progress
 progress_same : (new old : Memo) → new.names ≡ old.names → (name : List ℕ) → progress new name ≡ progress old name
 progress_same new old names name = ap (λ m. tree.get_by (λ key. slice_cmp nat_cmp name key.now) m) names
 
@@ -205,9 +209,11 @@ no_pieces p is = cc is
 begun_done : (start end : ℕ) → Some Begun ≡ Some (Done start end) → ⊥
 begun_done start end is = cc is
 
+-- equal states have the same ends
 same_ends : (start end from to : ℕ) → Some (Done start end) ≡ Some (Done from to) → (start ≡ from) × (end ≡ to)
 same_ends start end from to is = (cc is, cc is)
 
+-- a name on a path that isn't the first is on the rest of the path
 after_first : {name other : List ℕ} (path : List (List ℕ)) → (name ≡ other → ⊥) → IsOnPath (name ∷ path) other → IsOnPath path other
 after_first path apart (inl same) = absurd (apart same)
 after_first path apart (inr on) = on
@@ -221,6 +227,7 @@ noted_by : (name other : List ℕ) (now : Progress) (new old : List ℕ → Opti
 noted_by name other now new old true same is = inl ((bytes_eq-Decides name other).0 same, rw same at is)
 noted_by name other now new old false apart is = inr (rw apart at is, λ same. false≢true (sym apart ∙ (bytes_eq-Decides name other).1 same))
 
+-- after the state of one name changed, that name has the new state, and any other its old one
 noted_cases : (name other : List ℕ) (now : Progress) (new old : List ℕ → Option Progress)
     → ((q : List ℕ) → new q ≡ with_progress name now old q)
     → IsNoted name other now new old
@@ -559,6 +566,7 @@ weight (frame ∷ frames) = suc (length frame.rest.now) + weight frames
 abbrev pub Entries : Type 0
 Entries = List (Bor (List ℕ) × Bor (Vec (Spanned RawChunk)))
 
+-- the entries of the map in a look-up
 abbrev pub entries_of : Lookup → Entries
 entries_of (Hashed m) = m.now.entries
 entries_of (Sorted m) = m.now.entries
@@ -621,6 +629,7 @@ less_met_at before after name field e es false apart keeps fresh met found rest 
     let less = rest (rw apart at found) in
     omega (arith, one_less (before e.0.now) (after e.0.now) (suc (length e.1.now.items)) (keeps e.0.now), less)
 
+-- after a new name occurs, the pieces of its definition and one more no longer count
 less_met : (before after : List ℕ → Bool) (name : List ℕ) (field : Bor (Vec (Spanned RawChunk)))
     → ((q : List ℕ) → before q ≡ true → after q ≡ true)
     → before name ≡ false → after name ≡ true → (es : Entries) → lookup (λ key. bytes_eq name key.now) es ≡ Some field
@@ -630,14 +639,17 @@ less_met before after name field keeps fresh met (e ∷ es) found =
     less_met_at before after name field e es (bytes_eq name e.0.now) refl keeps fresh met found
     (less_met before after name field keeps fresh met es)
 
+-- a memo with the same names has all names of the old one
 met_same : (new old : Memo) → new.names ≡ old.names → (q : List ℕ) → met_in old q ≡ true → met_in new q ≡ true
 met_same new old names q met = ap is_some (progress_same new old names q) ∙ met
 
+-- a memo in which the state of one name changed has all names of the old one
 met_noted : {name q : List ℕ} {now : Progress} (new old : Memo) → met_in old q ≡ true
     → IsNoted name q now (progress new) (progress old) → met_in new q ≡ true
 met_noted new old met (inl x) = ap is_some x.1
 met_noted new old met (inr x) = ap is_some x.0 ∙ met
 
+-- a name whose state was set is in the memo
 now_met : {name : List ℕ} {now : Progress} (new old : Memo) → IsNoted name name now (progress new) (progress old) → met_in new name ≡ true
 now_met new old (inl x) = ap is_some x.1
 now_met new old (inr x) = absurd (x.1 refl)
@@ -836,10 +848,12 @@ text_placed old new piece text p low is named long places placed =
     let below : min (piece.span.start + length text.now) (2 ^ 64 - 1) ≤ p.end = omega (arith, start, ap length bytes, long) in
     placed_up new low _ p.end below (places (subst (λ n. ArePlaced low n old) (sym start) placed))
 
+-- the pieces up to the next index are those before it and the piece at it
 pieces_more : (items : List (Spanned RawChunk)) (i : ℕ) (d : Spanned RawChunk) → i < length items
     → map piece_of (take (i + 1) items) ≡ map piece_of (take i items) ++ piece_of (get_or items i d) ∷ []
 pieces_more items i d within = ap (map piece_of) (take_more items i d within) ∙ map-append piece_of (take i items) (get_or items i d ∷ [])
 
+-- all pieces are those before an index, the piece at it and those after it
 pieces_at : (items : List (Spanned RawChunk)) (i : ℕ) (d : Spanned RawChunk) → i < length items
     → map piece_of items ≡ map piece_of (take i items) ++ piece_of (get_or items i d) ∷ map piece_of (drop (i + 1) items)
 pieces_at items i d within =
