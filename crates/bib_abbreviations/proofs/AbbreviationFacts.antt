@@ -166,6 +166,7 @@ leads_inside name met path d reached before held (inr on) = let l = before name 
   leads = λ next h. reaches.through (l.leads _ held) d h;
 }
 
+-- a known name is defined or is a month
 unknown_clash : (definitions : Definitions) (name : List ℕ) → IsKnown definitions name → definitions name ≡ None → month name ≡ None → ⊥
 unknown_clash definitions name (inl x) d m = cc (d, x.1)
 unknown_clash definitions name (inr x) d m = cc (m, x.1)

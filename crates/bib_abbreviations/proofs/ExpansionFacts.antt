@@ -36,7 +36,7 @@ use Rattle.bib_syntax.specs.Reading.{Part, Piece}
 use Rattle.bib_syntax.specs.Reading.Piece.{literal, abbreviation}
 use Rattle.bib_abbreviations.specs.Abbreviations.{Definitions, month, Evaluates, IsOnPath, IsFirstError, LiesInPart, definition_among}
 use Rattle.bib_abbreviations.specs.Abbreviations.{Evaluates as evaluates, IsFirstError as first_error}
-use Rattle.bib_abbreviations.specs.Expanding.{found_in, progress, noted, chunks_between, AreWithin, IsValue, IsSound, Expands, Opens}
+use Rattle.bib_abbreviations.specs.Expanding.{found_in, progress, with_progress, chunks_between, AreWithin, IsValue, IsSound, Expands, Opens}
 use Rattle.bib_syntax.specs.Views.{piece_of, piece_at}
 use Rattle.bib_chunks.proofs.JoinedFacts.{styled-append, placed_up}
 
@@ -45,6 +45,7 @@ no_memory : (e : ParseError) → IsUnread e.kind → e ≡ out_of_memory → ⊥
 no_memory e (inl eof) memory = let kind : e.kind ≡ OutOfMemory = ap (λ x. x.kind) memory in cc (eof, kind)
 no_memory e (inr brace) memory = let kind : e.kind ≡ OutOfMemory = ap (λ x. x.kind) memory in cc (brace, kind)
 
+-- an error of contents, which isn't out of memory, lies in the span of its literal
 lies_in : (p : Part) (low high : ℕ) (e : ParseError) → IsUnread e.kind → p.start ≡ low → p.end ≡ high
     → StaysBetween low high e → LiesBetween p.start p.end e
 lies_in p low high e unread starts ends (inl memory) = absurd (no_memory e unread memory)
@@ -172,9 +173,11 @@ between_grows start end chunks more ordered within =
     let enough : end - start ≤ length (drop start chunks) = omega (arith, length-drop start chunks) in
     ap (take (end - start)) (drop-append-le start chunks more start_within) ∙ take-append-le (end - start) (drop start chunks) more enough
 
+-- the chunks from an index to the end
 between_all : (start : ℕ) (chunks : List (Spanned Chunk)) → chunks_between start (length chunks) chunks ≡ drop start chunks
 between_all start chunks = take_all (length chunks - start) (drop start chunks) (omega (arith, length-drop start chunks))
 
+-- the chunks from an index are those up to a later one and those from there
 between_then : (start middle : ℕ) (chunks : List (Spanned Chunk)) → start ≤ middle
     → drop start chunks ≡ chunks_between start middle chunks ++ drop middle chunks
 between_then start middle chunks ordered =
@@ -193,6 +196,7 @@ all_after (c ∷ chunks) more = all_after chunks more
 none_begun : None ≡ Some Begun → ⊥
 none_begun is = cc is
 
+-- a memo with the same names has the same progress
 progress_same : (new old : Memo) → new.names ≡ old.names → (name : List ℕ) → progress new name ≡ progress old name
 progress_same new old names name = ap (λ m. tree.get_by (λ key. slice_cmp nat_cmp name key.now) m) names
 
@@ -205,9 +209,11 @@ no_pieces p is = cc is
 begun_done : (start end : ℕ) → Some Begun ≡ Some (Done start end) → ⊥
 begun_done start end is = cc is
 
+-- equal states have the same ends
 same_ends : (start end from to : ℕ) → Some (Done start end) ≡ Some (Done from to) → (start ≡ from) × (end ≡ to)
 same_ends start end from to is = (cc is, cc is)
 
+-- a name on a path that isn't the first is on the rest of the path
 after_first : {name other : List ℕ} (path : List (List ℕ)) → (name ≡ other → ⊥) → IsOnPath (name ∷ path) other → IsOnPath path other
 after_first path apart (inl same) = absurd (apart same)
 after_first path apart (inr on) = on
@@ -217,11 +223,13 @@ abbrev IsNoted : List ℕ → List ℕ → Progress → (List ℕ → Option Pro
 IsNoted name other now new old = ((name ≡ other) × (new other ≡ Some now)) ⊎ ((new other ≡ old other) × (name ≡ other → ⊥))
 
 noted_by : (name other : List ℕ) (now : Progress) (new old : List ℕ → Option Progress) (same : Bool) → bytes_eq name other ≡ same
-    → new other ≡ noted name now old other → IsNoted name other now new old
+    → new other ≡ with_progress name now old other → IsNoted name other now new old
 noted_by name other now new old true same is = inl ((bytes_eq-Decides name other).0 same, rw same at is)
 noted_by name other now new old false apart is = inr (rw apart at is, λ same. false≢true (sym apart ∙ (bytes_eq-Decides name other).1 same))
 
-noted_cases : (name other : List ℕ) (now : Progress) (new old : List ℕ → Option Progress) → ((q : List ℕ) → new q ≡ noted name now old q)
+-- after the state of one name changed, that name has the new state, and any other its old one
+noted_cases : (name other : List ℕ) (now : Progress) (new old : List ℕ → Option Progress)
+    → ((q : List ℕ) → new q ≡ with_progress name now old q)
     → IsNoted name other now new old
 noted_cases name other now new old is = noted_by name other now new old (bytes_eq name other) refl (is other)
 
@@ -317,7 +325,7 @@ module _ {definitions : Definitions} {is_verbatim : Bool} where
   path_close new name other start end fresh sound on (inr x) = x.0 ∙ sound.on_path other (inr on)
 
   sound_open : {path : List (List ℕ)} {old : Memo} (new : Memo) (name : List ℕ) → progress old name ≡ None → new.values ≡ old.values
-      → ((other : List ℕ) → progress new other ≡ noted name Begun (progress old) other)
+      → ((other : List ℕ) → progress new other ≡ with_progress name Begun (progress old) other)
       → IsSound definitions is_verbatim old path → IsSound definitions is_verbatim new (name ∷ path)
   sound_open {path} {old = old} new name absent values names sound = record {
     done = λ other start end is.
@@ -329,7 +337,7 @@ module _ {definitions : Definitions} {is_verbatim : Bool} where
 
   sound_close : {path : List (List ℕ)} {old : Memo} (new : Memo) (name : List ℕ) (start end : ℕ) → (IsOnPath path name → ⊥)
       → IsValue definitions is_verbatim old.values.items name start end → new.values ≡ old.values
-      → ((other : List ℕ) → progress new other ≡ noted name (Done start end) (progress old) other)
+      → ((other : List ℕ) → progress new other ≡ with_progress name (Done start end) (progress old) other)
       → IsSound definitions is_verbatim old (name ∷ path) → IsSound definitions is_verbatim new path
   sound_close {old = old} new name start end fresh value values names sound = record {
     done = λ other from to is.
@@ -445,7 +453,8 @@ module _ {definitions : Definitions} {is_verbatim : Bool} where
 
   closed_with : {base : List (Spanned Chunk)} {first : List ℕ} {memo : Memo} {frame below : Frame} {frames : List Frame} (new : Memo)
       → IsExpanding definitions is_verbatim base first memo frame (below ∷ frames) → frame.rest.now ≡ [] → new.values ≡ memo.values
-      → ((other : List ℕ) → progress new other ≡ noted frame.name.now (Done frame.start (length memo.values.items)) (progress memo) other)
+      → ((other : List ℕ) → progress new other
+      ≡ with_progress frame.name.now (Done frame.start (length memo.values.items)) (progress memo) other)
       → AreWaiting definitions is_verbatim memo.values.items first (length base) frame.name.now frame.start (below ∷ frames)
       → IsExpanding definitions is_verbatim base first new below frames
   closed_with {base} {first} {memo} {frame} {below} {frames} new x ends values names
@@ -477,7 +486,8 @@ module _ {definitions : Definitions} {is_verbatim : Bool} where
   pub expanding_closed : {base : List (Spanned Chunk)} {first : List ℕ} {memo : Memo} {frame below : Frame}
       {frames : List Frame} (new : Memo)
       → IsExpanding definitions is_verbatim base first memo frame (below ∷ frames) → frame.rest.now ≡ [] → new.values ≡ memo.values
-      → ((other : List ℕ) → progress new other ≡ noted frame.name.now (Done frame.start (length memo.values.items)) (progress memo) other)
+      → ((other : List ℕ) → progress new other
+      ≡ with_progress frame.name.now (Done frame.start (length memo.values.items)) (progress memo) other)
       → IsExpanding definitions is_verbatim base first new below frames
   expanding_closed new x ends values names = closed_with new x ends values names x.waiting
 
@@ -507,7 +517,8 @@ module _ {definitions : Definitions} {is_verbatim : Bool} where
 
   pub sound_done : {base : List (Spanned Chunk)} {first : List ℕ} {memo : Memo} {frame : Frame} (new : Memo)
       → IsExpanding definitions is_verbatim base first memo frame [] → frame.rest.now ≡ [] → new.values ≡ memo.values
-      → ((other : List ℕ) → progress new other ≡ noted frame.name.now (Done frame.start (length memo.values.items)) (progress memo) other)
+      → ((other : List ℕ) → progress new other
+      ≡ with_progress frame.name.now (Done frame.start (length memo.values.items)) (progress memo) other)
       → IsSound definitions is_verbatim new []
   sound_done {memo = memo} {frame = frame} new x ends values names =
       sound_close new frame.name.now frame.start (length memo.values.items) x.fresh (value_of x ends) values names x.sound
@@ -555,6 +566,7 @@ weight (frame ∷ frames) = suc (length frame.rest.now) + weight frames
 abbrev pub Entries : Type 0
 Entries = List (Bor (List ℕ) × Bor (Vec (Spanned RawChunk)))
 
+-- the entries of the map in a look-up
 abbrev pub entries_of : Lookup → Entries
 entries_of (Hashed m) = m.now.entries
 entries_of (Sorted m) = m.now.entries
@@ -617,6 +629,7 @@ less_met_at before after name field e es false apart keeps fresh met found rest 
     let less = rest (rw apart at found) in
     omega (arith, one_less (before e.0.now) (after e.0.now) (suc (length e.1.now.items)) (keeps e.0.now), less)
 
+-- after a new name occurs, the pieces of its definition and one more no longer count
 less_met : (before after : List ℕ → Bool) (name : List ℕ) (field : Bor (Vec (Spanned RawChunk)))
     → ((q : List ℕ) → before q ≡ true → after q ≡ true)
     → before name ≡ false → after name ≡ true → (es : Entries) → lookup (λ key. bytes_eq name key.now) es ≡ Some field
@@ -626,14 +639,17 @@ less_met before after name field keeps fresh met (e ∷ es) found =
     less_met_at before after name field e es (bytes_eq name e.0.now) refl keeps fresh met found
     (less_met before after name field keeps fresh met es)
 
+-- a memo with the same names has all names of the old one
 met_same : (new old : Memo) → new.names ≡ old.names → (q : List ℕ) → met_in old q ≡ true → met_in new q ≡ true
 met_same new old names q met = ap is_some (progress_same new old names q) ∙ met
 
+-- a memo in which the state of one name changed has all names of the old one
 met_noted : {name q : List ℕ} {now : Progress} (new old : Memo) → met_in old q ≡ true
     → IsNoted name q now (progress new) (progress old) → met_in new q ≡ true
 met_noted new old met (inl x) = ap is_some x.1
 met_noted new old met (inr x) = ap is_some x.0 ∙ met
 
+-- a name whose state was set is in the memo
 now_met : {name : List ℕ} {now : Progress} (new old : Memo) → IsNoted name name now (progress new) (progress old) → met_in new name ≡ true
 now_met new old (inl x) = ap is_some x.1
 now_met new old (inr x) = absurd (x.1 refl)
@@ -669,7 +685,7 @@ less_opened l new old left piece frame opened frames waiting name opens split wa
 -- less is left after the expansion of a name ends
 pub less_closed : (l : Lookup) (new old : Memo) (left : List (Spanned RawChunk))
     (below : Frame) (frames waiting : List Frame) (name : List ℕ) (now : Progress) → waiting ≡ below ∷ frames
-    → ((other : List ℕ) → progress new other ≡ noted name now (progress old) other)
+    → ((other : List ℕ) → progress new other ≡ with_progress name now (progress old) other)
     → suc (length below.rest.now) + weight frames + unmet (met_in new) (entries_of l)
     < suc (length left) + weight waiting + unmet (met_in old) (entries_of l)
 less_closed l new old left below frames waiting name now waits names =
@@ -832,10 +848,12 @@ text_placed old new piece text p low is named long places placed =
     let below : min (piece.span.start + length text.now) (2 ^ 64 - 1) ≤ p.end = omega (arith, start, ap length bytes, long) in
     placed_up new low _ p.end below (places (subst (λ n. ArePlaced low n old) (sym start) placed))
 
+-- the pieces up to the next index are those before it and the piece at it
 pieces_more : (items : List (Spanned RawChunk)) (i : ℕ) (d : Spanned RawChunk) → i < length items
     → map piece_of (take (i + 1) items) ≡ map piece_of (take i items) ++ piece_of (get_or items i d) ∷ []
 pieces_more items i d within = ap (map piece_of) (take_more items i d within) ∙ map-append piece_of (take i items) (get_or items i d ∷ [])
 
+-- all pieces are those before an index, the piece at it and those after it
 pieces_at : (items : List (Spanned RawChunk)) (i : ℕ) (d : Spanned RawChunk) → i < length items
     → map piece_of items ≡ map piece_of (take i items) ++ piece_of (get_or items i d) ∷ map piece_of (drop (i + 1) items)
 pieces_at items i d within =

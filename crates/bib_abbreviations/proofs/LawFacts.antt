@@ -41,6 +41,7 @@ pub record LeadsOn (definitions : Definitions) (name : List ℕ) (pieces : List 
 pub record AllLeadOn (definitions : Definitions) (path : List (List ℕ)) (pieces : List Piece) : Type 0 where
   pub on : (name : List ℕ) → IsOnPath path name → LeadsOn definitions name pieces
 
+-- this holds for the empty path
 pub none_lead_on : {definitions : Definitions} {pieces : List Piece} → AllLeadOn definitions [] pieces
 none_lead_on = record { on = λ name on. absurd on }
 

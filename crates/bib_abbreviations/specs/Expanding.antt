@@ -40,8 +40,8 @@ abbrev pub part_at : List ℕ → Range ℕ → Part
 part_at text span = record { text = text; start = span.start; end = span.end }
 
 -- the states `before`, except that of `name`, which is `now`
-abbrev pub noted : List ℕ → Progress → (List ℕ → Option Progress) → List ℕ → Option Progress
-noted name now before other = if bytes_eq name other then Some now else before other
+abbrev pub with_progress : List ℕ → Progress → (List ℕ → Option Progress) → List ℕ → Option Progress
+with_progress name now before other = if bytes_eq name other then Some now else before other
 
 -- the chunks from the index `start` up to the index `end`
 abbrev pub chunks_between : ℕ → ℕ → List (Spanned Chunk) → List (Spanned Chunk)
@@ -83,7 +83,7 @@ pub record Opens (definitions : Definitions) (old new : Memo) (name : List ℕ) 
   pub start : frame.start ≡ length old.values.items
   pub fresh : progress old name ≡ None
   pub values : new.values ≡ old.values
-  pub names : (other : List ℕ) → progress new other ≡ noted name Begun (progress old) other
+  pub names : (other : List ℕ) → progress new other ≡ with_progress name Begun (progress old) other
 
 -- a piece was taken: its chunks were appended, or it is a name whose expansion begins
 abbrev pub Takes : Definitions → Bool → Memo → Memo → Piece → Option Frame → Type 0

@@ -5,7 +5,7 @@ ghost use Rattle.std.specs.Option.{option_map};
 ghost use Rattle.bib_chunks.specs.Styled.{Atom, styled};
 ghost use Rattle.bib_abbreviations.specs.Abbreviations as abbreviations;
 ghost use Rattle.bib_abbreviations.specs.Abbreviations.{Definitions, Evaluates, IsFirstError, defined_in};
-ghost use Rattle.bib_abbreviations.specs.Expanding.{known_to, progress, noted, part_at, chunks_between, AddsPieces, AreWithin, IsSoundFor, IsTaken, Opens, PiecesSay, FailsWith, StopsAt};
+ghost use Rattle.bib_abbreviations.specs.Expanding.{known_to, progress, with_progress, part_at, chunks_between, AddsPieces, AreWithin, IsSoundFor, IsTaken, Opens, PiecesSay, FailsWith, StopsAt};
 ghost use Rattle.bib_syntax.specs.Errors.{out_of_memory};
 ghost use Rattle.bib_chunks.specs.Joined.{AreJoined, ArePlaced};
 ghost use Rattle.bib_syntax.specs.Reading.{Part, Piece};
@@ -116,7 +116,7 @@ impl<'s> Memo<'s> {
     fn close(&mut self, frame: &Frame<'_, 's>) -> Result<(), ParseError>
         ensures values { self.new.values ≡ self.old.values }
         ensures names { OnOk result ((other : List ℕ) →
-            progress self.new other ≡ noted frame.now.name.now
+            progress self.new other ≡ with_progress frame.now.name.now
             (Done frame.now.start (length self.old.values.items)) (progress self.old) other) }
         ensures err { IfErr result (λ e. e ≡ out_of_memory) }
     {

@@ -31,11 +31,13 @@ passes_ahead {u} {v} {cs} passed =
     let next : v.at ≡ u.at + length (encode_utf8_all cs) = passed.next in
     omega arith
 
+-- after passing characters, no more characters are left than before
 pub passes_shorter : {u v : Place} {cs : List ℕ} → Passes u cs v → length (left v) ≤ length (left u)
 passes_shorter {u} {v} {cs} passed =
     let size : length (left u) ≡ length cs + length (left v) = ap length passed.left ∙ length-append cs (left v) in
     omega arith
 
+-- passing a character moves the place by at least one byte
 pub passes_one : {u v : Place} {c : ℕ} → Passes u (c ∷ []) v → u.at + 1 ≤ v.at
 passes_one {u} {v} {c} passed =
     let next : v.at ≡ u.at + length (encode_utf8_all (c ∷ [])) = passed.next in
@@ -63,6 +65,7 @@ all_hyphens (c ∷ cs) all =
     let rest = all_hyphens cs parts.1 in
     rw (eqb-true c 45 parts.0) (ap (λ xs. 45 ∷ xs) rest.0, ap (λ xs. 45 ∷ xs) rest.1)
 
+-- a text of hyphens has as many characters as bytes
 pub hyphens_bytes : (bs : List ℕ) → IsUtf8 bs → list_all (λ c. c == 45) (chars bs) ≡ true → chars bs ≡ replicate (length bs) 45
 hyphens_bytes bs utf8 all =
     let both = all_hyphens (chars bs) all in
@@ -78,6 +81,7 @@ without_dollar : (text rest : List ℕ) → list_all (λ c. not (c == 36)) ((tex
 without_dollar [] rest all = both_ways false refl all
 without_dollar (c ∷ cs) rest all = without_dollar cs rest (and_parts (not (c == 36)) _ all).1
 
+-- equal lists have equal rests after their first elements
 pub after_first : {c d : ℕ} {xs ys : List ℕ} → c ∷ xs ≡ d ∷ ys → xs ≡ ys
 after_first same = ap (drop 1) same
 
@@ -91,6 +95,7 @@ no_formula text all u rest one =
     let spelt : text ≡ (inside ++ 36 ∷ []) ++ rest = after_first (one.spells ∙ ap (λ x. unit_spelling x ++ rest) (sym is)) in
     without_dollar inside rest (rw spelt at all)
 
+-- a text of characters other than `$` contains no `$`
 pub all_none : (text : List ℕ) → list_all (λ d. not (d == 36)) text ≡ true → list_any (λ c. c == 36) text ≡ false
 all_none [] all = refl
 all_none (c ∷ cs) all =
@@ -117,6 +122,7 @@ closes depth (c ∷ cs) =
 abbrev pub is_no_brace : ℕ → Bool
 is_no_brace c = not (c == 123) && not (c == 125)
 
+-- characters without braces don't change whether a text balances
 pub balances_run : (depth : ℕ) (cs tail : List ℕ) → list_all is_no_brace cs ≡ true → balances depth (cs ++ tail) ≡ balances depth tail
 balances_run depth [] tail all = refl
 balances_run depth (c ∷ cs) tail all =
@@ -124,6 +130,7 @@ balances_run depth (c ∷ cs) tail all =
     let plain = and_parts (not (c == 123)) (not (c == 125)) parts.0 in
     rw (not-true (c == 123) plain.0, not-true (c == 125) plain.1) (balances_run depth cs tail parts.1)
 
+-- characters without braces don't change whether a text closes the open braces
 pub closes_run : (depth : ℕ) (cs tail : List ℕ) → list_all is_no_brace cs ≡ true → closes depth (cs ++ tail) ≡ closes depth tail
 closes_run depth [] tail all = refl
 closes_run depth (c ∷ cs) tail all =
@@ -194,6 +201,7 @@ braced_close {u} {s} {t} {depth} read within passed = record {
 pub next_brace : (c : ℕ) (xs rest : List ℕ) → begins is_no_brace xs ≡ false → xs ≡ c ∷ rest → is_no_brace c ≡ false
 next_brace c xs rest ends is = rw is at ends
 
+-- an opening brace after a run without braces adds one to the open ones
 pub braced_opens : {u s t w : Place} {depth : ℕ} {run : List ℕ} → BracedRead u depth s → Passes s run t
     → list_all is_no_brace run ≡ true → Passes t (123 ∷ []) w → BracedRead u (depth + 1) w
 braced_opens read passed plain brace = braced_open (braced_run read passed plain) brace
@@ -202,6 +210,7 @@ braced_opens read passed plain brace = braced_open (braced_run read passed plain
 pub is_closing : (c : ℕ) → is_no_brace c ≡ false → (c ≡ 123 → ⊥) → c ≡ 125
 is_closing c brace differs = grind arith
 
+-- the closing brace of an inner pair, after a run without braces, leaves one open brace less
 pub braced_closes : {u s t w : Place} {depth : ℕ} {run : List ℕ} {c : ℕ} → BracedRead u depth s → Passes s run t
     → list_all is_no_brace run ≡ true → begins is_no_brace (left t) ≡ false → Passes t (c ∷ []) w → (c ≡ 123 → ⊥)
     → nat_lt 0 depth ≡ true
@@ -280,6 +289,7 @@ encloses {u} {t} {w} {inside} {cs} start passed balanced brace is here utf8 with
       balanced = ap (balances 0) same ∙ balanced;
     }
 
+-- a closing brace without an opening one ends the argument
 pub braced_encloses : {u s t w inside : Place} {depth : ℕ} {run : List ℕ} {c : ℕ} (start : ℕ) → BracedRead u depth s
     → depth ≡ 0 → Passes s run t → list_all is_no_brace run ≡ true → begins is_no_brace (left t) ≡ false
     → Passes t (c ∷ []) w → (c ≡ 123 → ⊥)
@@ -295,6 +305,7 @@ chars_brace : (bs rest : List ℕ) → IsUtf8 bs → bs ≡ 125 ∷ rest → cha
 unfolding lib.Utf8.encode
 chars_brace bs rest utf8 is = (chars_past (125 ∷ []) bs rest utf8 is).0
 
+-- if a closing brace comes next, eating a character passes it
 brace_eaten : {t w : Place} {rest : List ℕ} (found : Option ℕ)
     → MatchOption found ((left t ≡ []) × (w ≡ t)) (λ c. Passes t (c ∷ []) w) → left t ≡ 125 ∷ rest
     → Passes t (125 ∷ []) w

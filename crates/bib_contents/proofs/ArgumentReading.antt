@@ -7,11 +7,11 @@ use Rattle.std.proofs.lemmas.Bool.{cases_Bool, and_parts, and_from, both_ways, n
 use Rattle.bib_chunks.specs.Formatted.{is_break}
 use Rattle.bib_chunks.specs.Styled.{Atom}
 use Rattle.bib_chunks.specs.Written.{is_grouping, is_reserved}
-use Rattle.bib_contents.specs.Arguments.{IsReadTo, laid, argument_written, unit_written}
+use Rattle.bib_contents.specs.Arguments.{IsReadTo, flat_if, argument_written, unit_written}
 use Rattle.bib_contents.specs.Commands.{command_text}
 use Rattle.bib_contents.specs.ContentErrors.{ContentFails, UnitFails}
 use Rattle.bib_contents.specs.ContentErrors.ContentFails.{ended, inside, unopened}
-use Rattle.bib_contents.specs.Contents.{Argument, ContentUnit, IsNext, begins, character, dashes, fits, held, is_blank, is_closable, is_empty, is_escapable, is_escaped, is_name, is_name_character, is_ordinary, is_sign, is_space, unit_text}
+use Rattle.bib_contents.specs.Contents.{Argument, ContentUnit, IsNext, begins, character, dashes, fits, inner_text, is_blank, is_closable, is_empty, is_escapable, is_escaped, is_name, is_name_character, is_ordinary, is_sign, is_space, unit_text}
 use Rattle.bib_contents.specs.Effects.{is_unbroken}
 use Rattle.bib_syntax.specs.declared.raw.Token.TheVariants.{ClosingBrace}
 use Rattle.bib_syntax.specs.declared.raw.ParseErrorKind.{ParseErrorKind}
@@ -34,12 +34,14 @@ break_space c breaks = elim (cases_Bool (c == 10)) [
   | inr other ↦ rw (eqb-true c 13 (rw other at breaks)) refl
 ]
 
+-- a character that isn't white space, by the test of std, is no line break
 plain_unless : (c : ℕ) → is_whitespace c ≡ false → is_unbroken c ≡ true
 plain_unless c other = elim (cases_Bool (is_break c)) [
   | inl breaks ↦ absurd (both_ways (is_whitespace c) other (break_space c breaks))
   | inr plain ↦ rw plain refl
 ]
 
+-- a line break is no ordinary character
 break_special : (c : ℕ) → is_break c ≡ true → is_ordinary false c ≡ false
 unfolding is_ordinary is_space is_grouping
 break_special c breaks = elim (cases_Bool (c == 10)) [
@@ -47,6 +49,7 @@ break_special c breaks = elim (cases_Bool (c == 10)) [
   | inr other ↦ rw (eqb-true c 13 (rw other at breaks)) refl
 ]
 
+-- an ordinary character is no line break
 pub ordinary_plain : (c : ℕ) → is_ordinary false c ≡ true → is_unbroken c ≡ true
 ordinary_plain c right = elim (cases_Bool (is_break c)) [
   | inl breaks ↦ absurd (both_ways (is_ordinary false c) (break_special c breaks) right)
@@ -85,6 +88,7 @@ tail_plain true [] right = refl
 tail_plain true (c ∷ cs) right = absurd (both_ways false refl right)
 tail_plain false cs right = characters_plain cs right
 
+-- the name of a command contains no line break
 pub name_plain : (name : List ℕ) → is_name name ≡ true → list_all is_unbroken name ≡ true
 name_plain [] right = absurd (both_ways false refl right)
 name_plain (c ∷ cs) right =
@@ -93,6 +97,7 @@ name_plain (c ∷ cs) right =
     (if is_sign c then is_empty cs else list_all is_name_character cs) right in
     and_from _ _ (first_plain c (and_parts (not (is_escaped false c)) (not (is_blank c)) parts.0).1) (tail_plain (is_sign c) cs parts.1)
 
+-- a line break isn't escaped by a backslash
 escaped_break : (c : ℕ) → is_break c ≡ true → is_escaped false c ≡ false
 unfolding is_escaped is_escapable is_grouping is_reserved
 escaped_break c breaks = elim (cases_Bool (c == 10)) [
@@ -100,12 +105,14 @@ escaped_break c breaks = elim (cases_Bool (c == 10)) [
   | inr other ↦ rw (eqb-true c 13 (rw other at breaks)) refl
 ]
 
+-- an escaped character is no line break
 pub escaped_plain : (c : ℕ) → is_escaped false c ≡ true → is_unbroken c ≡ true
 escaped_plain c right = elim (cases_Bool (is_break c)) [
   | inl breaks ↦ absurd (both_ways (is_escaped false c) (escaped_break c breaks) right)
   | inr plain ↦ rw plain refl
 ]
 
+-- a character that isn't white space, by the test of contents, is no line break
 pub single_plain : (c : ℕ) → is_space c ≡ false → is_unbroken c ≡ true
 unfolding is_space
 single_plain c other = plain_unless c other
@@ -114,6 +121,7 @@ replicate_plain : (n c : ℕ) → is_unbroken c ≡ true → list_all is_unbroke
 replicate_plain zero c plain = refl
 replicate_plain (suc n) c plain = and_from _ _ plain (replicate_plain n c plain)
 
+-- dashes contain no line break
 pub dashes_plain : (n : ℕ) → list_all is_unbroken (dashes n) ≡ true
 dashes_plain n =
     plain_append (replicate (n / 3) 8212) (if n % 3 == 2 then 8211 ∷ [] else if n % 3 == 1 then 45 ∷ [] else [])
@@ -124,22 +132,25 @@ dashes_plain n =
     last false true = refl
     last false false = refl
 
-pub laid_plain : (is_flat : Bool) (cs : List ℕ) → list_all is_unbroken cs ≡ true → laid is_flat cs ≡ cs
+-- a text without line breaks is the same on one line
+pub laid_plain : (is_flat : Bool) (cs : List ℕ) → list_all is_unbroken cs ≡ true → flat_if is_flat cs ≡ cs
 laid_plain true cs all = flowing_plain false cs all
 laid_plain false cs all = refl
 
-laid_copied : (is_flat : Bool) (c : ℕ) → laid is_flat (92 ∷ c ∷ []) ≡ 92 ∷ (if is_flat then (if is_break c then 32 else c) else c) ∷ []
+-- on one line, a line break after a backslash becomes a space
+laid_copied : (is_flat : Bool) (c : ℕ) → flat_if is_flat (92 ∷ c ∷ []) ≡ 92 ∷ (if is_flat then (if is_break c then 32 else c) else c) ∷ []
 laid_copied false c = refl
 laid_copied true c = elim (cases_Bool (is_break c)) [
   | inl breaks ↦ rw breaks refl
   | inr plain ↦ rw plain refl
 ]
 
--- the text of a unit as it is written doesn't begin with a line break
+-- a unit is written as its text, put on one line if the flag says so, and the text doesn't begin with a line break
 pub record IsUnitWritten (is_flat : Bool) (u : ContentUnit) : Type 0 where
-  pub laid_is : laid is_flat (unit_text u []) ≡ unit_written is_flat u
+  pub laid_is : flat_if is_flat (unit_text u []) ≡ unit_written is_flat u
   pub first : begins is_break (unit_text u []) ≡ false
 
+-- a unit that is written as its text meets this if the text has no line break
 written_plain : (is_flat : Bool) (u : ContentUnit) → unit_written is_flat u ≡ unit_text u []
     → list_all is_unbroken (unit_text u []) ≡ true → IsUnitWritten is_flat u
 written_plain is_flat u same all = record {
@@ -148,7 +159,8 @@ written_plain is_flat u same all = record {
 }
 
 -- a unit without an argument in braces is written as its text, put on one line
-pub unit_laid : (is_flat : Bool) (u : ContentUnit) (rest : List ℕ) → fits false u rest ≡ true → held u ≡ None → IsUnitWritten is_flat u
+pub unit_laid : (is_flat : Bool) (u : ContentUnit) (rest : List ℕ) → fits false u rest ≡ true → inner_text u ≡ None
+    → IsUnitWritten is_flat u
 unit_laid is_flat (ContentUnit.hyphens n) rest right none = written_plain is_flat (ContentUnit.hyphens n) refl (dashes_plain n)
 unit_laid is_flat (ContentUnit.spaces cs) rest right none = written_plain is_flat (ContentUnit.spaces cs) refl refl
 unit_laid is_flat ContentUnit.opening rest right none = written_plain is_flat ContentUnit.opening refl refl
@@ -212,18 +224,20 @@ read_run {is_flat} {whole} {base} {text} {rest} {depth} run read leading_run all
     (goes_run false depth run rest all)) (led_characters depth run (capped_plain run plain).first)
     (written_characters is_flat depth run ∙ laid_plain (is_flat_at is_flat depth) run plain) grew
 
-pub held_none : (unit : TextUnit) → held (text_unit_of unit) ≡ None
-held_none (shown.Hyphens n) = refl
-held_none (shown.Spaces text) = refl
-held_none (shown.Escaped c) = refl
-held_none shown.Backslash = refl
-held_none (shown.Copied c) = refl
-held_none (shown.Command name space given_as.Without) = refl
-held_none (shown.Command name space given_as.Empty) = refl
-held_none (shown.Command name space (given_as.Single c)) = refl
-held_none (shown.Other c) = refl
+-- a unit that is written as characters has no argument in braces
+pub no_inner_text : (unit : TextUnit) → inner_text (text_unit_of unit) ≡ None
+no_inner_text (shown.Hyphens n) = refl
+no_inner_text (shown.Spaces text) = refl
+no_inner_text (shown.Escaped c) = refl
+no_inner_text shown.Backslash = refl
+no_inner_text (shown.Copied c) = refl
+no_inner_text (shown.Command name space given_as.Without) = refl
+no_inner_text (shown.Command name space given_as.Empty) = refl
+no_inner_text (shown.Command name space (given_as.Single c)) = refl
+no_inner_text (shown.Other c) = refl
 
-pub holds_none : (u : ContentUnit) {A : Type 0} (argument : List ℕ) → held u ≡ None → held u ≡ Some argument → A
+-- a unit without an argument in braces doesn't have one, so anything follows
+pub holds_none : (u : ContentUnit) {A : Type 0} (argument : List ℕ) → inner_text u ≡ None → inner_text u ≡ Some argument → A
 holds_none u argument none holds = absurd (no_argument (sym none ∙ holds))
 
 -- a unit of text was parsed
@@ -234,25 +248,27 @@ pub read_text : {is_flat : Bool} {whole base text rest : List ℕ} {depth : ℕ}
 read_text {is_flat} {whole} {base} {text} {rest} {depth} unit read one grew =
     let u = text_unit_of unit in
     let is = text_unit depth unit in
-    let wrote = unit_laid (is_flat_at is_flat depth) u rest one.fits (held_none unit) in
+    let wrote = unit_laid (is_flat_at is_flat depth) u rest one.fits (no_inner_text unit) in
     read_more (map (character depth) (unit_text u [])) (unit_written (is_flat_at is_flat depth) u) read
     (subst (λ atoms. Goes false depth text atoms depth rest) (is.means [])
     (goes_unit {inner = []} one is.closable
-    (λ argument holds. holds_none (text_unit_of unit) argument (held_none unit) holds) is.deep))
+    (λ argument holds. holds_none (text_unit_of unit) argument (no_inner_text unit) holds) is.deep))
     (led_characters depth (unit_text u []) wrote.first) (written_characters is_flat depth (unit_text u []) ∙ wrote.laid_is) grew
 
 -- math was parsed
 pub read_math : {is_flat : Bool} {whole base text rest : List ℕ} {depth : ℕ} {now more : List ℕ} (math : List ℕ)
     → IsReadTo is_flat whole base text depth now → IsNext false (ContentUnit.formula math) text rest
-    → more ≡ now ++ encode_utf8_all (36 ∷ (laid is_flat math ++ 36 ∷ [])) → IsReadTo is_flat whole base rest depth more
+    → more ≡ now ++ encode_utf8_all (36 ∷ (flat_if is_flat math ++ 36 ∷ [])) → IsReadTo is_flat whole base rest depth more
 read_math {is_flat} math read one grew =
-    read_more (Atom.math math ∷ []) (36 ∷ (laid is_flat math ++ 36 ∷ [])) read
+    read_more (Atom.math math ∷ []) (36 ∷ (flat_if is_flat math ++ 36 ∷ [])) read
     (goes_unit {inner = []} one refl (λ argument holds. absurd (no_argument holds)) refl) (led_math math)
     (written_math is_flat math) grew
 
+-- an empty list of atoms doesn't begin with a line break
 led_none : IsLed []
 led_none = record { any = λ space. refl; first = refl }
 
+-- an argument without atoms is written as the empty text
 pub written_none : (is_flat : Bool) → argument_written is_flat [] ≡ []
 written_none true = refl
 written_none false = refl

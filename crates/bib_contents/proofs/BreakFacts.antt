@@ -22,9 +22,11 @@ use Rattle.unicode_normalization.proofs.OrderLemmas.{length-canonical_order}
 use Rattle.bib_chunks.specs.Formatted.{is_break}
 use Rattle.bib_contents.specs.Effects.{is_unbroken}
 
+-- a character other than a line feed and a carriage return is no line break
 plain_other : (c : ℕ) → (c ≡ 10 → ⊥) → (c ≡ 13 → ⊥) → is_unbroken c ≡ true
 plain_other c feed return = rw (ne_eqb c 10 feed, ne_eqb c 13 return) refl
 
+-- a character that can't be a line break isn't one
 plain_from : (c : ℕ) → (is_break c ≡ true → ⊥) → is_unbroken c ≡ true
 plain_from c differs = elim (cases_Bool (is_break c)) [
   | inl breaks ↦ absurd (differs breaks)
@@ -36,6 +38,7 @@ mapping_plain : (c : ℕ) → list_all is_unbroken (canonical_mapping c) ≡ tru
 unfolding tables values_ok decomposition_stepped
 mapping_plain = Stepped-at_values decomposition decomposition_stepped (λ entry. list_all is_unbroken (if_canonical entry)) refl
 
+-- a map of characters to texts without line breaks makes no line break
 plain_flat_map : (f : ℕ → List ℕ) → ((c : ℕ) → is_unbroken c ≡ true → list_all is_unbroken (f c) ≡ true) → (cs : List ℕ)
     → list_all is_unbroken cs ≡ true → list_all is_unbroken (flat_map f cs) ≡ true
 plain_flat_map f each [] all = refl
@@ -43,10 +46,12 @@ plain_flat_map f each (c ∷ cs) all =
     let parts = and_parts (is_unbroken c) (list_all is_unbroken cs) all in
     list_all-append is_unbroken (f c) (flat_map f cs) (each c parts.0) (plain_flat_map f each cs parts.1)
 
+-- the text of a character or, if it has none, the character itself has no line break
 plain_itself : (c : ℕ) (cs : List ℕ) → is_unbroken c ≡ true → list_all is_unbroken cs ≡ true → list_all is_unbroken (or_itself c cs) ≡ true
 plain_itself c [] plain all = and_from _ _ plain refl
 plain_itself c (d ∷ cs) plain all = all
 
+-- the canonical decompositions of a character have no line break, at each depth
 plain_expand : (depth c : ℕ) → list_all is_unbroken (expand canonical_mapping depth c) ≡ true
 unfolding expand
 plain_expand zero c = mapping_plain c
@@ -55,10 +60,12 @@ plain_expand (suc depth) c =
     (λ x plain. plain_itself x (expand canonical_mapping depth x) plain (plain_expand depth x))
     (canonical_mapping c) (mapping_plain c)
 
+-- the canonical decomposition of a character has no line break
 plain_table : (c : ℕ) → list_all is_unbroken (canonical_decomposition c) ≡ true
 unfolding canonical_decomposition
 plain_table c = plain_expand 3 c
 
+-- decomposing a character that isn't a line break makes no line break
 plain_decompose : (c : ℕ) → is_unbroken c ≡ true → list_all is_unbroken (decompose Nfc c) ≡ true
 unfolding decompose
 plain_decompose c plain =
@@ -85,12 +92,14 @@ composite_wide a b c made ascii =
           cc
     ]
 
+-- a line break is ASCII
 break_ascii : (c : ℕ) → is_break c ≡ true → c < 128
 break_ascii c breaks = elim (cases_Bool (c == 10)) [
   | inl feed ↦ let is : c ≡ 10 = eqb-true c 10 feed in omega arith
   | inr other ↦ let is : c ≡ 13 = eqb-true c 13 (rw other at breaks) in omega arith
 ]
 
+-- the composition of two characters that aren't line breaks isn't one
 plain_composite : (a b c : ℕ) → is_unbroken a ≡ true → is_unbroken b ≡ true → primary_composite a b ≡ Some c → is_unbroken c ≡ true
 plain_composite a b c first second made = plain_from c (λ breaks. composite_wide a b c made (break_ascii c breaks))
 

@@ -14,7 +14,7 @@ use Rattle.bib_text.specs.Enums.{value_named}
 use Rattle.bib_text.proofs.TextFacts.{chars_past, chars_whole}
 use lib.Utf8.{scalars}
 use Rattle.bib_contents.specs.declared.commands.TheConstants.{SYMBOLS}
-use Rattle.bib_contents.specs.Commands.{accents, symbols, stroke, letter, with_mark, accented, other, command_text}
+use Rattle.bib_contents.specs.Commands.{accents, symbols, stroke, letter, with_mark, accent_text, other, command_text}
 use Rattle.unicode_normalization.specs.Compose.{primary_composite, compose, compose_after}
 use Rattle.unicode_normalization.specs.Forms.{Nfd, nfd, nfc, is_in_form}
 use Rattle.unicode_normalization.specs.Order.{is_starter}
@@ -86,6 +86,7 @@ marks_stay : list_all (λ row. is_in_form Nfd (row.1 ∷ [])) accents ≡ true
 unfolding accents unicode_normalization
 marks_stay = refl
 
+-- the stroke doesn't decompose (NFD)
 pub stroke_stays : is_in_form Nfd (stroke ∷ []) ≡ true
 unfolding unicode_normalization
 stroke_stays = refl
@@ -103,6 +104,7 @@ named_passes {A = A} test (row ∷ rows) name value all found =
     here true rest this value passes following found = cc
     here false rest this value passes following found = following found
 
+-- the mark of an accent doesn't decompose (NFD)
 pub mark_stays : (name : List ℕ) (mark : ℕ) → value_named accents name ≡ Some mark → is_in_form Nfd (mark ∷ []) ≡ true
 mark_stays name mark found = named_passes (λ m. is_in_form Nfd (m ∷ [])) accents name mark marks_stay found
 
@@ -114,6 +116,7 @@ decomposed_pair c mark ascii stays =
     ∙ decomposed-passing Nfd c (mark ∷ []) (is_final-Nfd c (quick_check-ascii Nfd c ascii)) (omega arith)
     ∙ ap (λ cs. c ∷ cs) (sym (normalize-Nfd (mark ∷ [])) ∙ is_in_form-true Nfd (mark ∷ []) stays)
 
+-- the NFC form of an ASCII character and a mark is their composition
 composed_pair : (c mark : ℕ) → c < 128 → is_in_form Nfd (mark ∷ []) ≡ true → nfc (c ∷ mark ∷ []) ≡ compose (c ∷ mark ∷ [])
 composed_pair c mark ascii stays = nfc-by_nfd (c ∷ mark ∷ []) ∙ ap compose (decomposed_pair c mark ascii stays)
 
@@ -188,11 +191,13 @@ accents_longer bytes rest c utf8 spells more =
     longer [] spelt = absurd (false≢true (sym more ∙ ap (λ bs. eqb (length bs) 0) (sym spelt)))
     longer (d ∷ cs) spelt = named_longer accents c d cs accents_short
 
+-- the encoding of one character with nothing after it is a text of this character
 pub accents_one : (bytes rest : List ℕ) (c : ℕ) → IsUtf8 bytes → bytes ≡ encode_utf8 c ++ rest
     → eqb (length rest) 0 ≡ true → chars bytes ≡ c ∷ []
 accents_one bytes [] c utf8 spells none = chars_past_char bytes [] c utf8 spells ∙ ap (λ cs. c ∷ cs) chars-nil
 accents_one bytes (r ∷ rest) c utf8 spells none = let empty : length (r ∷ rest) ≡ 0 = eqb-true _ _ none in absurd (omega arith)
 
+-- an empty text has no characters
 pub chars_none : (bytes : List ℕ) → length bytes ≡ 0 → chars bytes ≡ []
 chars_none [] none = chars-nil
 chars_none (b ∷ bytes) none = absurd (omega arith)
@@ -202,14 +207,17 @@ pub other_o : (name : List ℕ) → name ≡ 111 ∷ [] → other (chars name) N
 unfolding chars
 other_o name is = ap (λ bs. other (chars bs) None) is
 
+-- `o` puts a stroke on its argument
 pub other_o_with : (name argument : List ℕ) → name ≡ 111 ∷ [] → other (chars name) (Some argument) ≡ with_mark stroke argument
 unfolding chars
 other_o_with name argument is = ap (λ bs. other (chars bs) (Some argument)) is
 
+-- `copyright` without an argument is the copyright sign
 pub other_copyright : (name : List ℕ) → name ≡ copyright → other (chars name) None ≡ 169 ∷ []
 unfolding chars
 other_copyright name is = ap (λ bs. other (chars bs) None) is
 
+-- `copyright` puts the copyright sign before its argument
 pub other_copyright_with : (name argument : List ℕ) → name ≡ copyright → other (chars name) (Some argument) ≡ 169 ∷ argument
 unfolding chars
 other_copyright_with name argument is = ap (λ bs. other (chars bs) (Some argument)) is
@@ -220,6 +228,7 @@ pub other_unknown : (name : List ℕ) → IsUtf8 name → (name ≡ 111 ∷ [] �
 unfolding encode_utf8
 other_unknown name utf8 not_o not_copyright = rw (not_named name (111 ∷ []) utf8 not_o, not_named name copyright utf8 not_copyright)
 
+-- an unknown command with an argument is kept
 pub other_unknown_with : (name argument : List ℕ) → IsUtf8 name → (name ≡ 111 ∷ [] → ⊥) → (name ≡ copyright → ⊥)
     → other (chars name) (Some argument) ≡ codes "\\" ++ chars name ++ codes "{" ++ argument ++ codes "}"
 unfolding encode_utf8
@@ -228,15 +237,17 @@ other_unknown_with name argument utf8 not_o not_copyright =
 
 -- the text of a command that is an accent
 pub given_accent : (name : List ℕ) (argument : Option (List ℕ)) (mark : ℕ) → value_named accents name ≡ Some mark
-    → command_text name argument ≡ accented mark argument
+    → command_text name argument ≡ accent_text mark argument
 unfolding command_text
 given_accent name argument mark is = rw is
 
+-- the command of a symbol has its text, whatever the argument
 pub given_symbol : (name : List ℕ) (argument : Option (List ℕ)) (text : List ℕ) → value_named accents name ≡ None
     → value_named symbols name ≡ Some text → command_text name argument ≡ text
 unfolding command_text
 given_symbol name argument text none is = rw (none, is)
 
+-- the text of a command that is neither an accent nor a symbol
 pub given_other : (name : List ℕ) (argument : Option (List ℕ)) → value_named accents name ≡ None → value_named symbols name ≡ None
     → command_text name argument ≡ other name argument
 unfolding command_text
@@ -248,6 +259,7 @@ pub symbol_text : (found : Option (List ℕ)) (bytes : List ℕ) → Some bytes 
 symbol_text None bytes is = absurd (cc)
 symbol_text (Some text) bytes is = (text, refl, cc)
 
+-- if there is no encoding of a text, there is no text
 pub symbol_none : (found : Option (List ℕ)) → None ≡ option_map encode_utf8_all found → found ≡ None
 symbol_none None is = refl
 symbol_none (Some text) is = absurd (cc)
@@ -257,9 +269,11 @@ symbols_scalars : list_all (λ row. scalars row.1) symbols ≡ true
 unfolding symbols
 symbols_scalars = refl
 
+-- the encoding of a symbol's text is UTF-8
 pub symbol_utf8 : (name text bytes : List ℕ) → value_named symbols name ≡ Some text → bytes ≡ encode_utf8_all text → IsUtf8 bytes
 symbol_utf8 name text bytes found is = rw is (text, (named_passes scalars symbols name text symbols_scalars found, refl))
 
+-- the characters of the encoding of a symbol's text are the text
 pub symbol_chars : (name text bytes : List ℕ) → value_named symbols name ≡ Some text → bytes ≡ encode_utf8_all text → chars bytes ≡ text
 symbol_chars name text bytes found is = chars_whole text bytes (symbol_utf8 name text bytes found is) is
 

@@ -32,9 +32,11 @@ pub other_name : (c : ℕ) (cs : List ℕ) → is_escaped false c ≡ false → 
     → list_all is_name_character cs ≡ true → is_name (c ∷ cs) ≡ true
 other_name c cs escaped blank sign named = rw (escaped, blank, sign, named) refl
 
+-- a sign is a whole name, whatever comes after it
 pub sign_whole : (c : ℕ) (tail : List ℕ) → is_sign c ≡ true → is_whole_name (c ∷ []) tail ≡ true
 sign_whole c tail sign = rw sign refl
 
+-- another name is whole if no identifier character comes after it
 pub other_whole : (c : ℕ) (cs tail : List ℕ) → is_sign c ≡ false → begins is_name_character tail ≡ false
     → is_whole_name (c ∷ cs) tail ≡ true
 other_whole c cs tail sign stops = rw (sign, stops) refl
@@ -96,6 +98,7 @@ no_command c cs space after rest u name whole white stops none one =
     ∙ ap (λ xs. (c ∷ cs) ++ xs) (append_assoc space (argument_spelling argument) rest) in
     none argument rest (append_cancel_left space _ _ (append_cancel_left (c ∷ cs) _ _ spelt)) parts.5
 
+-- if the text after a command's name and white space begins with no argument, no unit begins at its backslash
 pub command_none : (before name middle space after : List ℕ) (takes spaced : Bool) → before ≡ name ++ middle
     → is_name name ≡ true → is_whole_name name middle ≡ true
     → middle ≡ space ++ after → list_all is_space space ≡ true → begins is_space after ≡ false
@@ -139,6 +142,7 @@ pub takes_none : (cs rest space : List ℕ) (c : ℕ) → cs ≡ c ∷ rest → 
 takes_none cs [] space c is more = absurd (more refl)
 takes_none cs (d ∷ ds) space c is more = rw is refl
 
+-- the empty name takes no character
 pub takes_nothing : (cs space : List ℕ) → cs ≡ [] → false ≡ takes_next cs space
 takes_nothing cs space is = rw is refl
 

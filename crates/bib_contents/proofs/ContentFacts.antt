@@ -3,7 +3,7 @@ use Rattle.std.proofs.Common.{◌≡◌, ℕ, zero, suc, Bool, true, false, List
 use Rattle.std.proofs.lemmas.Bool.{both_ways}
 use Rattle.std.proofs.lemmas.List.{append_cancel_left}
 use Rattle.bib_chunks.specs.Styled.{Atom}
-use Rattle.bib_contents.specs.Contents.{ContentUnit, Argument, unit_spelling, fits, IsNext, meaning, depth_after, held, Reads}
+use Rattle.bib_contents.specs.Contents.{ContentUnit, Argument, unit_spelling, fits, IsNext, meaning, depth_after, inner_text, Reads}
 use Rattle.bib_contents.specs.Contents.Reads.{end, next}
 use Rattle.bib_contents.proofs.UnitFacts.{first_unit, unit_first}
 
@@ -43,7 +43,7 @@ no_unit_at_end {is_verbatim} {u} {rest} one = no_unit_of_nothing is_verbatim u r
 
 -- the atoms of a unit depend only on its argument in braces
 meaning_same : (depth : ℕ) (u : ContentUnit) (inner more : List Atom)
-    → ((text : List ℕ) → held u ≡ Some text → inner ≡ more) → meaning depth u inner ≡ meaning depth u more
+    → ((text : List ℕ) → inner_text u ≡ Some text → inner ≡ more) → meaning depth u inner ≡ meaning depth u more
 meaning_same depth (ContentUnit.hyphens n) inner more same = refl
 meaning_same depth (ContentUnit.spaces cs) inner more same = refl
 meaning_same depth ContentUnit.opening inner more same = refl
@@ -69,7 +69,7 @@ read_same {is_verbatim} {depth} (next {u = u} {rest = left} {inner = inner} {ato
     (next {u = w} {rest = left'} {inner = inner'} {atoms = atoms'} two closable' argument' rest') =
     let same : u ≡ w = unit_same one two in
     let tail : left ≡ left' = rest_same one two in
-    let inside : (text : List ℕ) → held u ≡ Some text → inner ≡ inner' =
+    let inside : (text : List ℕ) → inner_text u ≡ Some text → inner ≡ inner' =
     λ t holds. read_same (argument t holds) (argument' t (rw same at holds)) in
     let following : Reads is_verbatim (depth_after depth u) left atoms' = rw (same, tail) rest' in
     ap (λ xs. xs ++ atoms) (meaning_same depth u inner inner' inside)

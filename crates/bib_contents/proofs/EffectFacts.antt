@@ -69,6 +69,7 @@ marked_some base c cs mark last old leading_run new utf8 prefix_utf8 is popped g
     (append_assoc base split.0 _ ∙ ap (λ d. base ++ (split.0 ++ nfc (letter d ∷ mark ∷ []))) parts.1
     ∙ ap (λ xs. base ++ xs) (sym (ap (with_mark mark) split.2 ∙ with_mark-push mark split.0 split.1)))
 
+-- composing the last character with a mark gives the text with the mark on its last character
 pub marked_after : (base inside : List ℕ) (mark last : ℕ) (old leading_run new : List ℕ) {start : ℕ}
     → length (encode_utf8_all base) ≡ start → start < length old → IsUtf8 old → IsUtf8 leading_run
     → old ≡ encode_utf8_all (base ++ inside) → old ≡ leading_run ++ encode_utf8 last

@@ -151,6 +151,7 @@ read_closed {text} {start} {c} {begin} {s} {t} {w} {run} {places} {waits} {rest}
           },
         )
 
+-- an element of a list of zeros, or beyond its end, is 0
 zeros : (n index : ℕ) → slice_index (replicate n 0) index ≡ 0
 zeros zero index = refl
 zeros (suc n) zero = refl

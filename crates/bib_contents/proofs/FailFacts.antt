@@ -9,7 +9,7 @@ use Rattle.bib_syntax.specs.declared.raw.ParseErrorKind.TheVariants.{UnexpectedE
 use Rattle.bib_contents.specs.ContentErrors.{UnitFails, ContentFails}
 use Rattle.bib_contents.specs.ContentErrors.UnitFails.{dollar, backslash, brace}
 use Rattle.bib_contents.specs.ContentErrors.ContentFails.{unopened, ended, inside, following}
-use Rattle.bib_contents.specs.Contents.{Argument, ContentUnit, IsNext, IsUnread, Reads, argument_spelling, balances, held, is_argument, is_closable, is_space, takes_next}
+use Rattle.bib_contents.specs.Contents.{Argument, ContentUnit, IsNext, IsUnread, Reads, argument_spelling, balances, inner_text, is_argument, is_closable, is_space, takes_next}
 use Rattle.bib_contents.specs.Progress.{IsUntaken}
 use Rattle.bib_contents.proofs.ArgumentFacts.{no_formula}
 use Rattle.bib_contents.proofs.CommandUnitFacts.{command_none, no_escape}
@@ -89,6 +89,7 @@ pub fails_here : {is_verbatim : Bool} {depth : ℕ} {u : ContentUnit} {text rest
 fails_here one (inl closed) = rw (closed.1) (unopened one closed.0)
 fails_here one (inr within) = inside one within.1 within.2
 
+-- if a unit fails after a part of a text was parsed, the text fails with the same kind
 pub fails_taken : {is_verbatim : Bool} {whole text rest : List ℕ} {u : ContentUnit} {start now : List Atom} {depth : ℕ}
     {kind : ParseErrorKind}
     → ReadSoFar is_verbatim whole start text depth now → IsNext is_verbatim u text rest → IsUntaken u depth kind
@@ -96,11 +97,12 @@ pub fails_taken : {is_verbatim : Bool} {whole text rest : List ℕ} {u : Content
 fails_taken read one untaken = read.goes.fails _ (fails_here one untaken)
 
 -- a closing brace has no argument
-closed_none : (depth : ℕ) (u : ContentUnit) → is_closable depth u ≡ false → held u ≡ None
+closed_none : (depth : ℕ) (u : ContentUnit) → is_closable depth u ≡ false → inner_text u ≡ None
 closed_none depth ContentUnit.closing closed = refl
 closed_none depth _ closed = absurd (both_ways true closed refl)
 
-closed_holds : (depth : ℕ) (u : ContentUnit) (argument : List ℕ) → is_closable depth u ≡ false → held u ≡ Some argument → ⊥
+-- a closing brace that has no opening one has no argument
+closed_holds : (depth : ℕ) (u : ContentUnit) (argument : List ℕ) → is_closable depth u ≡ false → inner_text u ≡ Some argument → ⊥
 closed_holds depth u argument closed holds = no_argument (sym (closed_none depth u closed) ∙ holds)
 
 -- contents that fail have one kind of error

@@ -9,12 +9,12 @@ use Rattle.std.proofs.lemmas.Str.{encodes-append, encodes-chars, length-le-encod
 use Rattle.bib_text.specs.Places.{Place}
 use Rattle.bib_chunks.specs.Formatted.{formatted_atoms}
 use Rattle.bib_chunks.specs.Styled.{Atom}
-use Rattle.bib_contents.specs.Arguments.{AreKnown, Closes, IsInside, KeepsFrame, IsReadTo, IsShorterThan, StandsRight, laid, argument_written}
+use Rattle.bib_contents.specs.Arguments.{AreKnown, Closes, IsInside, KeepsFrame, IsReadTo, IsShorterThan, StandsRight, flat_if, argument_written}
 use Rattle.bib_contents.specs.Commands.{command_text}
 use Rattle.bib_contents.specs.Contents.{Argument, ContentUnit, IsNext, Reads, character, unit_spelling, StaysBetween}
 use Rattle.bib_contents.specs.ContentErrors.{ContentFails}
 use Rattle.bib_contents.specs.Contents.Reads.{end}
-use Rattle.bib_contents.specs.Effects.{IsFit, is_unbroken, made, made_before}
+use Rattle.bib_contents.specs.Effects.{IsFit, is_unbroken, before_argument, effect_text}
 use Rattle.bib_syntax.specs.declared.raw.ParseError.{ParseError}
 use Rattle.bib_syntax.specs.declared.raw.ParseErrorKind.{ParseErrorKind}
 use Rattle.bib_contents.specs.Progress.{left}
@@ -34,10 +34,10 @@ use Rattle.bib_contents.proofs.WholeFacts.{whole_reads, whole_capped}
 -- `frame` is that of the command `name`, and its text begins after `under` and the text before the argument; it lies
 -- between `low` and `high`
 pub record IsBegun (frame : Frame) (name under : List ℕ) (low high : ℕ) : Type 0 where
-  pub gives : (argument : List ℕ) → command_text name (Some argument) ≡ made frame.effect name argument
+  pub gives : (argument : List ℕ) → command_text name (Some argument) ≡ effect_text frame.effect name argument
   pub fit : IsFit frame.effect
   pub plain : list_all is_unbroken name ≡ true
-  pub start : length (encode_utf8_all (under ++ made_before frame.effect name)) ≡ frame.start
+  pub start : length (encode_utf8_all (under ++ before_argument frame.effect name)) ≡ frame.start
   pub following : low ≤ frame.s.at
   pub within : length frame.s.text ≤ high
   pub right : StandsRight frame
@@ -51,7 +51,8 @@ pub data AreWaiting (first_name first_whole first_under : List ℕ) (ends : Ends
   above : {name whole under : List ℕ} {is_flat : Bool} {frame : Frame} {frames : List Frame}
       (below_name below_whole below_under before space : List ℕ) → IsBegun frame below_name below_under low high
       → AreKnown ends frame.s.text
-      → IsReadTo frame.is_flat below_whole (below_under ++ made_before frame.effect below_name) before frame.depth (encode_utf8_all under)
+      → IsReadTo frame.is_flat below_whole (below_under ++ before_argument frame.effect below_name) before frame.depth
+      (encode_utf8_all under)
       → IsNext false (ContentUnit.command name space (Argument.braced whole)) before (left frame.s)
       → is_flat ≡ is_flat_at frame.is_flat frame.depth
       → AreWaiting first_name first_whole first_under ends low high below_name below_whole frame.is_flat below_under frames
@@ -65,7 +66,7 @@ pub record IsReading (first_name first_whole first_under : List ℕ) (ends : End
   pub under : List ℕ
   pub begun : IsBegun frame name under low high
   pub known : AreKnown ends frame.s.text
-  pub read : IsReadTo frame.is_flat whole (under ++ made_before frame.effect name) (left frame.s) frame.depth now
+  pub read : IsReadTo frame.is_flat whole (under ++ before_argument frame.effect name) (left frame.s) frame.depth now
   pub waiting : AreWaiting first_name first_whole first_under ends low high name whole frame.is_flat under frames
 
 -- the number of characters left in frames, and one for each frame
@@ -77,10 +78,10 @@ weight (frame ∷ frames) = length (left frame.s) + 1 + weight frames
 pub begun_on : {frame on : Frame} {name under : List ℕ} {low high : ℕ} → IsBegun frame name under low high
     → KeepsFrame frame on → StandsRight on → IsBegun on name under low high
 begun_on {frame} {on} {name} {under} {low} {high} begun kept right = record {
-  gives = λ argument. begun.gives argument ∙ ap (λ e. made e name argument) (sym kept.effect);
+  gives = λ argument. begun.gives argument ∙ ap (λ e. effect_text e name argument) (sym kept.effect);
   fit = subst IsFit (sym kept.effect) begun.fit;
   plain = begun.plain;
-  start = ap (λ e. length (encode_utf8_all (under ++ made_before e name))) kept.effect ∙ begun.start ∙ sym kept.start;
+  start = ap (λ e. length (encode_utf8_all (under ++ before_argument e name))) kept.effect ∙ begun.start ∙ sym kept.start;
   following = (let a : low ≤ frame.s.at = begun.following in let b : frame.s.at ≤ on.s.at = kept.ahead in omega arith);
   within =
       (let a : length frame.s.text ≤ high = begun.within in
@@ -88,11 +89,12 @@ begun_on {frame} {on} {name} {under} {low} {high} begun kept right = record {
   right = right;
 }
 
+-- what was parsed of an argument is the same for an equal effect
 based_on : (old new : Effect) {flat : Bool} {whole rest now : List ℕ} {depth : ℕ} (under name : List ℕ) → new ≡ old
-    → IsReadTo flat whole (under ++ made_before old name) rest depth now
-    → IsReadTo flat whole (under ++ made_before new name) rest depth now
+    → IsReadTo flat whole (under ++ before_argument old name) rest depth now
+    → IsReadTo flat whole (under ++ before_argument new name) rest depth now
 based_on old new {flat} {whole} {rest} {now} {depth} under name same read =
-    subst (λ e. IsReadTo flat whole (under ++ made_before e name) rest depth now) (sym same) read
+    subst (λ e. IsReadTo flat whole (under ++ before_argument e name) rest depth now) (sym same) read
 
 -- the parse of an argument at its end
 ended_as : {flat : Bool} {whole base now : List ℕ} {depth : ℕ} (read : IsReadTo flat whole base [] depth now)
@@ -111,7 +113,7 @@ module _ {first_name first_whole first_under : List ℕ} {ends : Ends} {low high
   pub reading_on : {frame on : Frame} {frames : List Frame} {now more : List ℕ}
       (reading : IsReading first_name first_whole first_under ends low high frame frames now) → KeepsFrame frame on
       → StandsRight on
-      → IsReadTo on.is_flat reading.whole (reading.under ++ made_before frame.effect reading.name) (left on.s) on.depth
+      → IsReadTo on.is_flat reading.whole (reading.under ++ before_argument frame.effect reading.name) (left on.s) on.depth
       more → IsReading first_name first_whole first_under ends low high on frames more
   reading_on {frame} {on} reading kept right read = record {
     name = reading.name;
@@ -128,11 +130,11 @@ module _ {first_name first_whole first_under : List ℕ} {ends : Ends} {low high
       (before space inside : List ℕ)
       (reading : IsReading first_name first_whole first_under ends low high frame frames now) → KeepsFrame frame on
       → StandsRight on
-      → IsReadTo on.is_flat reading.whole (reading.under ++ made_before frame.effect reading.name) before on.depth
+      → IsReadTo on.is_flat reading.whole (reading.under ++ before_argument frame.effect reading.name) before on.depth
       (encode_utf8_all more)
       → IsNext false (ContentUnit.command name space (Argument.braced inside)) before (left on.s)
       → IsBegun above name more low high → AreKnown ends above.s.text → above.is_flat ≡ is_flat_at on.is_flat on.depth
-      → IsReadTo above.is_flat inside (more ++ made_before above.effect name) (left above.s) above.depth most
+      → IsReadTo above.is_flat inside (more ++ before_argument above.effect name) (left above.s) above.depth most
       → IsReading first_name first_whole first_under ends low high above (on ∷ frames) most
   reading_above {frame} {on} {above} {frames} {now} {more} {most} {name} before space inside reading kept right read one
       begun known flat begins = record {
@@ -175,7 +177,7 @@ module _ {first_name first_whole first_under : List ℕ} {ends : Ends} {low high
             (led_characters below.depth said (capped_given name formatted plain capped).first)
             (written_characters below.is_flat below.depth said
             ∙ laid_given (is_flat_at below.is_flat below.depth) name formatted plain capped
-            ∙ ap (λ b. command_text name (Some (laid b formatted))) (sym flat))
+            ∙ ap (λ b. command_text name (Some (flat_if b formatted))) (sym flat))
             (wrote ∙ encodes-append under (command_text name (Some (argument_written is_flat atoms))));
         waiting = waiting;
       }
@@ -184,14 +186,14 @@ module _ {first_name first_whole first_under : List ℕ} {ends : Ends} {low high
       (reading : IsReading first_name first_whole first_under ends low high frame (below ∷ frames) now)
       → KeepsFrame frame on
       →
-      (read : IsReadTo on.is_flat reading.whole (reading.under ++ made_before frame.effect reading.name) [] on.depth
+      (read : IsReadTo on.is_flat reading.whole (reading.under ++ before_argument frame.effect reading.name) [] on.depth
       more)
-      → most ≡ encode_utf8_all (reading.under ++ made on.effect reading.name (argument_written on.is_flat read.atoms))
+      → most ≡ encode_utf8_all (reading.under ++ effect_text on.effect reading.name (argument_written on.is_flat read.atoms))
       → IsReading first_name first_whole first_under ends low high below frames most
   reading_below {frame} {on} {below} {frames} {now} {more} {most} reading kept read wrote =
-      let gives : made on.effect reading.name (argument_written on.is_flat read.atoms)
+      let gives : effect_text on.effect reading.name (argument_written on.is_flat read.atoms)
       ≡ command_text reading.name (Some (argument_written frame.is_flat read.atoms)) =
-      ap (λ e. made e reading.name (argument_written on.is_flat read.atoms)) kept.effect
+      ap (λ e. effect_text e reading.name (argument_written on.is_flat read.atoms)) kept.effect
       ∙ sym (reading.begun.gives (argument_written on.is_flat read.atoms))
       ∙ ap (λ b. command_text reading.name (Some (argument_written b read.atoms))) kept.is_flat in
       below_of reading.waiting read.atoms (ended_as read) reading.begun.plain
@@ -215,15 +217,15 @@ module _ {first_name first_whole first_under : List ℕ} {ends : Ends} {low high
   pub reading_done : {frame on : Frame} {now more most : List ℕ}
       (reading : IsReading first_name first_whole first_under ends low high frame [] now) → KeepsFrame frame on
       →
-      (read : IsReadTo on.is_flat reading.whole (reading.under ++ made_before frame.effect reading.name) [] on.depth
+      (read : IsReadTo on.is_flat reading.whole (reading.under ++ before_argument frame.effect reading.name) [] on.depth
       more)
-      → most ≡ encode_utf8_all (reading.under ++ made on.effect reading.name (argument_written on.is_flat read.atoms))
+      → most ≡ encode_utf8_all (reading.under ++ effect_text on.effect reading.name (argument_written on.is_flat read.atoms))
       → (inner : List Atom) × Reads false 0 first_whole inner
       × (most ≡ encode_utf8_all (first_under ++ command_text first_name (Some (formatted_atoms false inner))))
   reading_done {frame} {on} {now} {more} {most} reading kept read wrote =
-      let gives : made on.effect reading.name (argument_written on.is_flat read.atoms)
+      let gives : effect_text on.effect reading.name (argument_written on.is_flat read.atoms)
       ≡ command_text reading.name (Some (argument_written frame.is_flat read.atoms)) =
-      ap (λ e. made e reading.name (argument_written on.is_flat read.atoms)) kept.effect
+      ap (λ e. effect_text e reading.name (argument_written on.is_flat read.atoms)) kept.effect
       ∙ sym (reading.begun.gives (argument_written on.is_flat read.atoms))
       ∙ ap (λ b. command_text reading.name (Some (argument_written b read.atoms))) kept.is_flat in
       done_of reading.waiting read.atoms (ended_as read) (wrote ∙ ap (λ cs. encode_utf8_all (reading.under ++ cs)) gives)
@@ -239,7 +241,7 @@ module _ {first_name first_whole first_under : List ℕ} {ends : Ends} {low high
   -- the first argument was begun
   pub reading_first : {frame : Frame} {now : List ℕ} → IsBegun frame first_name first_under low high
       → AreKnown ends frame.s.text → frame.is_flat ≡ false
-      → IsReadTo frame.is_flat first_whole (first_under ++ made_before frame.effect first_name) (left frame.s)
+      → IsReadTo frame.is_flat first_whole (first_under ++ before_argument frame.effect first_name) (left frame.s)
       frame.depth now
       → IsReading first_name first_whole first_under ends low high frame [] now
   reading_first {frame} begun known flat read = record {
@@ -269,6 +271,7 @@ drop_of_take : (k n : ℕ) (bs : List ℕ) → k ≤ n → drop k (take n bs) �
 drop_of_take k n bs within =
     let whole : n ≡ k + (n - k) = omega (arith, within) in ap (λ m. drop k (take m bs)) whole ∙ drop-take k (n - k) bs
 
+-- a brace that closes an argument does so in the first `n` bytes of the text, if they reach beyond it
 closes_in : {text : List ℕ} {begin end : ℕ} (n : ℕ) → Closes text begin end → end < n → Closes (take n text) begin end
 closes_in {text} {begin} {end} n closes within =
     let wide : end ≡ begin + length (encode_utf8_all closes.inside) = closes.width in
@@ -343,16 +346,16 @@ applied_shorter name space argument before rest one =
 
 -- an argument was begun
 pub begun_here : {frame : Frame} {name old now : List ℕ} {inside : Place} {low high : ℕ} → frame.s ≡ inside
-    → frame.depth ≡ 0 → ((argument : List ℕ) → command_text name (Some argument) ≡ made frame.effect name argument)
+    → frame.depth ≡ 0 → ((argument : List ℕ) → command_text name (Some argument) ≡ effect_text frame.effect name argument)
     → IsFit frame.effect → list_all is_unbroken name ≡ true
-    → now ≡ old ++ encode_utf8_all (made_before frame.effect name) → frame.start ≡ length now → IsUtf8 old
+    → now ≡ old ++ encode_utf8_all (before_argument frame.effect name) → frame.start ≡ length now → IsUtf8 old
     → low ≤ inside.at → length inside.text ≤ high → inside.at ≤ length inside.text
     → IsBegun frame name (chars old) low high
 begun_here {frame} {name} {old} {now} {inside} {low} {high} same shallow gives fit plain wrote start utf8 following within stands = record {
   gives = gives;
   fit = fit;
   plain = plain;
-  start = sym (ap length (wrote_after old now (made_before frame.effect name) utf8 wrote)) ∙ sym start;
+  start = sym (ap length (wrote_after old now (before_argument frame.effect name) utf8 wrote)) ∙ sym start;
   following = rw same following;
   within = rw same within;
   right = record { within = rw same stands; deep = rw shallow (omega arith) };
@@ -360,10 +363,10 @@ begun_here {frame} {name} {old} {now} {inside} {low} {high} same shallow gives f
 
 -- at the start of an argument nothing was parsed
 pub read_begun : (frame : Frame) {flat : Bool} (name old now : List ℕ) {inside : Place} → frame.s ≡ inside
-    → frame.depth ≡ 0 → now ≡ old ++ encode_utf8_all (made_before frame.effect name) → IsUtf8 old
-    → IsReadTo flat (left inside) (chars old ++ made_before frame.effect name) (left frame.s) frame.depth now
+    → frame.depth ≡ 0 → now ≡ old ++ encode_utf8_all (before_argument frame.effect name) → IsUtf8 old
+    → IsReadTo flat (left inside) (chars old ++ before_argument frame.effect name) (left frame.s) frame.depth now
 read_begun frame name old now same shallow wrote utf8 =
-    read_start (ap left same) shallow (wrote_after old now (made_before frame.effect name) utf8 wrote)
+    read_start (ap left same) shallow (wrote_after old now (before_argument frame.effect name) utf8 wrote)
 
 module _ {first_name first_whole first_under : List ℕ} {ends : Ends} {low high : ℕ} where
   -- a command with an argument in braces comes next, and the argument was begun
@@ -371,12 +374,12 @@ module _ {first_name first_whole first_under : List ℕ} {ends : Ends} {low high
       (reading : IsReading first_name first_whole first_under ends low high frame frames now) → KeepsFrame frame on
       → StandsRight on → IsUtf8 more
       → (before space : List ℕ)
-      → IsReadTo on.is_flat reading.whole (reading.under ++ made_before frame.effect reading.name) before on.depth more
+      → IsReadTo on.is_flat reading.whole (reading.under ++ before_argument frame.effect reading.name) before on.depth more
       → IsNext false (ContentUnit.command name space (Argument.braced (left inside))) before (left on.s)
       → IsInside frame.s.text frame.s.at inside on.s.at → above.s ≡ inside → above.depth ≡ 0
       → above.is_flat ≡ is_flat_at on.is_flat on.depth
-      → ((argument : List ℕ) → command_text name (Some argument) ≡ made above.effect name argument) → IsFit above.effect
-      → most ≡ more ++ encode_utf8_all (made_before above.effect name) → above.start ≡ length most
+      → ((argument : List ℕ) → command_text name (Some argument) ≡ effect_text above.effect name argument) → IsFit above.effect
+      → most ≡ more ++ encode_utf8_all (before_argument above.effect name) → above.start ≡ length most
       → IsReading first_name first_whole first_under ends low high above (on ∷ frames) most
   reading_follows {frame} {on} {above} {frames} {now} {more} {most} {name} {inside} reading kept right utf8 before space
       read one stands same shallow flat gives fit wrote start =
@@ -389,7 +392,7 @@ module _ {first_name first_whole first_under : List ℕ} {ends : Ends} {low high
       reading_above before space (left inside) reading kept right
       (subst
       (λ bs.
-      IsReadTo on.is_flat reading.whole (reading.under ++ made_before frame.effect reading.name) before
+      IsReadTo on.is_flat reading.whole (reading.under ++ before_argument frame.effect reading.name) before
       on.depth bs) (sym (encodes-chars more utf8)) read) one
       (begun_here same shallow gives fit named wrote start utf8 following within stands.within)
       (subst (λ u. AreKnown ends u.text) (sym same) (known_inside ends reading.known stands)) flat

@@ -6,7 +6,7 @@ use Rattle.std.specs.List.{list_all}
 use Rattle.std.proofs.lemmas.Bool.{cases_Bool, and_parts, and_from, not-true}
 use Rattle.bib_chunks.specs.Formatted.{is_break, ends_in_space, char_on_line, flowing, formatted_atoms}
 use Rattle.bib_chunks.specs.Styled.{Atom}
-use Rattle.bib_contents.specs.Arguments.{laid, argument_written}
+use Rattle.bib_contents.specs.Arguments.{flat_if, argument_written}
 use Rattle.bib_contents.specs.Commands.{accents, symbols, stroke, with_mark, letter, bare, other, command_text}
 use Rattle.bib_text.specs.Enums.{value_named}
 use Rattle.bib_contents.specs.Contents.{begins, character}
@@ -31,6 +31,7 @@ pub flowing_any : (space : Bool) (cs : List ℕ) → begins is_break cs ≡ fals
 flowing_any space [] plain = refl
 flowing_any space (c ∷ cs) plain = rw plain refl
 
+-- two texts are put on one line each by itself if the second one doesn't begin with a line break
 pub flowing_append : (space : Bool) (xs ys : List ℕ) → begins is_break ys ≡ false
     → flowing space (xs ++ ys) ≡ flowing space xs ++ flowing false ys
 flowing_append space [] ys plain = flowing_any space ys plain
@@ -59,6 +60,7 @@ flowing_lined space (c ∷ cs) = elim (cases_Bool (is_break c)) [
   | inr plain ↦ rw (plain, plain) (flowing_lined (is_whitespace c) cs)
 ]
 
+-- two texts without line breaks have none together
 pub plain_append : (xs ys : List ℕ) → list_all is_unbroken xs ≡ true → list_all is_unbroken ys ≡ true
     → list_all is_unbroken (xs ++ ys) ≡ true
 plain_append [] ys first second = second
@@ -84,15 +86,18 @@ pub begins_append : (xs ys : List ℕ) → begins is_break xs ≡ false → begi
 begins_append [] ys first second = second
 begins_append (x ∷ xs) ys first second = first
 
+-- a text doesn't end with a line break if its last part, a character and more, doesn't
 pub ends_append : (xs : List ℕ) (y : ℕ) (ys : List ℕ) → ends_in_break (y ∷ ys) ≡ false → ends_in_break (xs ++ y ∷ ys) ≡ false
 ends_append [] y ys last = last
 ends_append (x ∷ []) y ys last = last
 ends_append (x ∷ d ∷ xs) y ys last = ends_append (d ∷ xs) y ys last
 
+-- a text doesn't end with a line break if its last part isn't empty and doesn't
 pub ends_some : (xs ys : List ℕ) → (ys ≡ [] → ⊥) → ends_in_break ys ≡ false → ends_in_break (xs ++ ys) ≡ false
 ends_some xs [] some last = absurd (some refl)
 ends_some xs (y ∷ ys) some last = ends_append xs y ys last
 
+-- two texts that neither begin nor end with a line break don't do so together
 pub capped_append : (xs ys : List ℕ) → IsCapped xs → IsCapped ys → IsCapped (xs ++ ys)
 capped_append xs [] one two = rw (append-nil xs) one
 capped_append xs (y ∷ ys) one two = record { first = begins_append xs (y ∷ ys) one.first two.first; last = ends_append xs y ys two.last }
@@ -102,11 +107,13 @@ pub last_of : (c : ℕ) (cs : List ℕ) → (leading_run : List ℕ) × (d : ℕ
 last_of c [] = ([], c, refl)
 last_of c (e ∷ cs) = let rest = last_of e cs in (c ∷ rest.0, rest.1, ap (λ xs. c ∷ xs) rest.2)
 
+-- the last character of a text that doesn't end with a line break isn't one
 last_plain : (leading_run : List ℕ) (d : ℕ) → ends_in_break (leading_run ++ d ∷ []) ≡ false → is_break d ≡ false
 last_plain [] d last = last
 last_plain (c ∷ []) d last = last
 last_plain (c ∷ e ∷ leading_run) d last = last_plain (e ∷ leading_run) d last
 
+-- the letter for a character that isn't a line break isn't one
 letter_plain : (c : ℕ) → is_break c ≡ false → is_unbroken (letter c) ≡ true
 letter_plain c plain = elim (cases_Bool (c == 0x131)) [
   | inl dotless ↦ rw dotless refl
@@ -121,6 +128,7 @@ marked_letter : (c mark : ℕ) → is_break c ≡ false → is_unbroken mark ≡
 marked_letter c mark plain mark_plain =
     plain_nfc (letter c ∷ mark ∷ []) (and_from _ _ (letter_plain c plain) (and_from _ _ mark_plain refl))
 
+-- the characters for a mark without a letter have no line break
 bare_plain : (mark : ℕ) → is_unbroken mark ≡ true → list_all is_unbroken (bare mark) ≡ true
 bare_plain mark plain = elim (cases_Bool (mark == 0x302)) [
   | inl circumflex ↦ rw circumflex refl
@@ -148,6 +156,7 @@ flowing_marked mark (c ∷ cs) plain last =
     ∙ ap (λ xs. flowing false split.0 ++ xs) (flowing_plain false (nfc (letter split.1 ∷ mark ∷ [])) composed)
     ∙ sym (with_mark-push mark (flowing false split.0) split.1) ∙ sym (ap (with_mark mark) whole)
 
+-- a text that neither begins nor ends with a line break doesn't do so with a mark on its last character
 capped_marked : (mark : ℕ) (cs : List ℕ) → is_unbroken mark ≡ true → IsCapped cs → IsCapped (with_mark mark cs)
 capped_marked mark [] plain capped = capped_plain (bare mark) (bare_plain mark plain)
 capped_marked mark (c ∷ cs) plain capped =
@@ -178,10 +187,12 @@ data Kind (name : List ℕ) : Type 0 where
   precedes : ((cs : List ℕ) → command_text name (Some cs) ≡ 169 ∷ cs) → Kind name
   stays : ((cs : List ℕ) → command_text name (Some cs) ≡ 92 ∷ (name ++ 123 ∷ (cs ++ 125 ∷ []))) → Kind name
 
+-- no mark of an accent is a line break
 accents_plain : list_all (λ row. is_unbroken row.1) accents ≡ true
 unfolding accents
 accents_plain = refl
 
+-- no text of a symbol has a line break
 symbols_plain : list_all (λ row. list_all is_unbroken row.1) symbols ≡ true
 unfolding symbols
 symbols_plain = refl
@@ -205,9 +216,11 @@ kind_found name None (Some xs) accent_is symbol_is =
     (λ cs. given_symbol name (Some cs) xs accent_is symbol_is)
 kind_found name None None accent_is symbol_is = kind_other name accent_is symbol_is
 
+-- each command has one of these effects
 kind_of : (name : List ℕ) → Kind name
 kind_of name = kind_found name (value_named accents name) (value_named symbols name) refl refl
 
+-- a command's text neither begins nor ends with a line break if its argument doesn't
 capped_kind : {name : List ℕ} → Kind name → (cs : List ℕ) → list_all is_unbroken name ≡ true → IsCapped cs
     → IsCapped (command_text name (Some cs))
 capped_kind {name} (Kind.marks m plain is) cs named capped = subst IsCapped (sym (is cs)) (capped_marked m cs plain capped)
@@ -222,6 +235,7 @@ capped_kind {name} (Kind.stays is) cs named capped =
 pub capped_given : (name cs : List ℕ) → list_all is_unbroken name ≡ true → IsCapped cs → IsCapped (command_text name (Some cs))
 capped_given name cs named capped = capped_kind (kind_of name) cs named capped
 
+-- putting a command with a capped argument on one line is putting its argument on one line
 flowing_kind : {name : List ℕ} → Kind name → (cs : List ℕ) → list_all is_unbroken name ≡ true → IsCapped cs
     → flowing false (command_text name (Some cs)) ≡ command_text name (Some (flowing false cs))
 flowing_kind (Kind.marks m plain is) cs named capped =
@@ -241,7 +255,7 @@ flowing_kind {name} (Kind.stays is) cs named capped =
 
 -- applying a command and putting its argument on one line can be exchanged
 pub laid_given : (is_flat : Bool) (name cs : List ℕ) → list_all is_unbroken name ≡ true → IsCapped cs
-    → laid is_flat (command_text name (Some cs)) ≡ command_text name (Some (laid is_flat cs))
+    → flat_if is_flat (command_text name (Some cs)) ≡ command_text name (Some (flat_if is_flat cs))
 laid_given true name cs named capped = flowing_kind (kind_of name) cs named capped
 laid_given false name cs named capped = refl
 
@@ -267,6 +281,7 @@ alone_found name None (Some xs) accent_is symbol_is all =
 alone_found name None None accent_is symbol_is all =
     ap (list_all is_unbroken) (given_other name None accent_is symbol_is) ∙ alone_other name all
 
+-- the text of a command without an argument has no line break if its name has none
 pub alone_plain : (name : List ℕ) → list_all is_unbroken name ≡ true → list_all is_unbroken (command_text name None) ≡ true
 alone_plain name all = alone_found name (value_named accents name) (value_named symbols name) refl refl all
 
@@ -277,6 +292,7 @@ space_after space (Atom.normal c ∷ rest) = space_after (ends_in_space space (c
 space_after space (Atom.verbatim c ∷ rest) = space_after (is_whitespace c) rest
 space_after space (Atom.math text ∷ rest) = space_after space rest
 
+-- formatting atoms one part after the other, given whether the first part ends with white space
 pub formatted_append : (space : Bool) (xs ys : List Atom)
     → formatted_atoms space (xs ++ ys) ≡ formatted_atoms space xs ++ formatted_atoms (space_after space xs) ys
 formatted_append space [] ys = refl
@@ -292,6 +308,7 @@ pub formatted_normal : (space : Bool) (cs : List ℕ) → formatted_atoms space 
 formatted_normal space [] = refl
 formatted_normal space (c ∷ cs) = ap (λ xs. char_on_line space c ++ xs) (formatted_normal (ends_in_space space (char_on_line space c)) cs)
 
+-- the formatted text of verbatim characters is the characters
 pub formatted_verbatim : (space : Bool) (depth : ℕ) (cs : List ℕ) → formatted_atoms space (map (character (suc depth)) cs) ≡ cs
 formatted_verbatim space depth [] = refl
 formatted_verbatim space depth (c ∷ cs) = ap (λ xs. c ∷ xs) (formatted_verbatim (is_whitespace c) depth cs)
@@ -309,10 +326,12 @@ written_append true xs ys led =
     ap (flowing false) (formatted_append false xs ys ∙ ap (λ cs. formatted_atoms false xs ++ cs) (led.any (space_after false xs)))
     ∙ flowing_append false (formatted_atoms false xs) (formatted_atoms false ys) led.first
 
+-- a text that doesn't begin with a line break doesn't do so on one line
 begins_flowing : (space : Bool) (cs : List ℕ) → begins is_break cs ≡ false → begins is_break (flowing space cs) ≡ false
 begins_flowing space [] plain = refl
 begins_flowing space (c ∷ cs) plain = rw (plain, plain) refl
 
+-- characters that don't begin with a line break are atoms that don't
 pub led_characters : (depth : ℕ) (cs : List ℕ) → begins is_break cs ≡ false → IsLed (map (character depth) cs)
 led_characters zero cs plain = record {
   any = λ space. formatted_normal space cs ∙ flowing_any space cs plain ∙ sym (formatted_normal false cs);
@@ -323,6 +342,7 @@ led_characters (suc depth) cs plain = record {
   first = ap (begins is_break) (formatted_verbatim false depth cs) ∙ plain;
 }
 
+-- math doesn't begin with a line break, since it begins with `$`
 pub led_math : (text : List ℕ) → IsLed (Atom.math text ∷ [])
 led_math text = record { any = λ space. refl; first = refl }
 
@@ -333,14 +353,17 @@ is_flat_at is_flat depth = is_flat || depth == 0
 in_braces : (depth : ℕ) → (suc depth == 0) ≡ false
 in_braces depth = ne_eqb (suc depth) 0 (λ same. omega (arith, same))
 
+-- characters of an argument are put on one line outside braces, or if the argument around them is
 pub written_characters : (is_flat : Bool) (depth : ℕ) (cs : List ℕ)
-    → argument_written is_flat (map (character depth) cs) ≡ laid (is_flat_at is_flat depth) cs
+    → argument_written is_flat (map (character depth) cs) ≡ flat_if (is_flat_at is_flat depth) cs
 written_characters false zero cs = formatted_normal false cs
 written_characters false (suc depth) cs = rw (in_braces depth) (formatted_verbatim false depth cs)
 written_characters true zero cs =
     ap (flowing false) (formatted_normal false cs) ∙ flowing_plain false (flowing false cs) (flowing_lined false cs)
 written_characters true (suc depth) cs = ap (flowing false) (formatted_verbatim false depth cs)
 
-pub written_math : (is_flat : Bool) (text : List ℕ) → argument_written is_flat (Atom.math text ∷ []) ≡ 36 ∷ (laid is_flat text ++ 36 ∷ [])
+-- math in an argument is written between dollar signs, on one line if the flag says so
+pub written_math : (is_flat : Bool) (text : List ℕ)
+    → argument_written is_flat (Atom.math text ∷ []) ≡ 36 ∷ (flat_if is_flat text ++ 36 ∷ [])
 written_math false text = refl
 written_math true text = ap (λ cs. 36 ∷ cs) (flowing_append false text (36 ∷ []) refl)

@@ -37,6 +37,7 @@ pub record Itself (is_verbatim : Bool) (u v : Place) : Type 0 where
   pub passed : MovesPast u shown v
   pub goes : (depth : ℕ) → Goes is_verbatim depth (left u) (map (character depth) shown) depth (left v)
 
+-- an empty run is parsed as itself
 pub itself_none : (is_verbatim : Bool) (u : Place) → IsUtf8 (ahead u) → Itself is_verbatim u u
 itself_none is_verbatim u utf8 = record { shown = []; passed = passed_none u utf8; goes = λ depth. goes_here is_verbatim depth (left u) }
 
@@ -55,6 +56,7 @@ itself_more {is_verbatim} {u} {v} {w} {c} before char goes =
           (sym (map-append (character depth) before.shown (c ∷ []))) (goes_then (before.goes depth) here);
     }
 
+-- an ordinary character is parsed as itself
 pub itself_ordinary : {is_verbatim : Bool} {u v w : Place} {c : ℕ} → Itself is_verbatim u v → CharAt v c w
     → is_ordinary is_verbatim c ≡ true → Itself is_verbatim u w
 itself_ordinary {is_verbatim} {u} {v} {w} {c} before char ordinary =
@@ -64,6 +66,7 @@ itself_ordinary {is_verbatim} {u} {v} {w} {c} before char ordinary =
     goes_unit {u = ContentUnit.other c} {inner = []} one refl (λ argument holds. absurd (no_argument holds))
     refl)
 
+-- a space with no white space after it is parsed as itself
 itself_space : {is_verbatim : Bool} {u v w : Place} → Itself is_verbatim u v → CharAt v 32 w
     → begins is_space (left w) ≡ false → Itself is_verbatim u w
 unfolding is_space
@@ -74,6 +77,7 @@ itself_space {is_verbatim} {u} {v} {w} before char stops =
     goes_unit {u = ContentUnit.spaces (32 ∷ [])} {inner = []} one refl
     (λ argument holds. absurd (no_argument holds)) refl)
 
+-- a hyphen with no hyphen after it is parsed as itself
 itself_hyphen : {is_verbatim : Bool} {u v w : Place} → Itself is_verbatim u v → CharAt v 45 w
     → begins (λ d. d == 45) (left w) ≡ false → Itself is_verbatim u w
 itself_hyphen {is_verbatim} {u} {v} {w} before char stops =
@@ -83,6 +87,7 @@ itself_hyphen {is_verbatim} {u} {v} {w} before char stops =
     goes_unit {u = ContentUnit.hyphens 1} {inner = []} one refl (λ argument holds. absurd (no_argument holds))
     refl)
 
+-- a space or a hyphen that stands alone is parsed as itself
 pub itself_alone : {is_verbatim : Bool} {u v w : Place} {c : ℕ} → Itself is_verbatim u v → CharAt v c w
     → is_alone c (left w) ≡ true → Itself is_verbatim u w
 itself_alone {is_verbatim} {u} {v} {w} {c} before char alone =
@@ -105,6 +110,7 @@ alone_space c rest is = rw is (or-false (not (begins is_space rest)))
 pub alone_hyphen : (c : ℕ) (rest : List ℕ) → c ≡ 45 → is_alone c rest ≡ not (begins (λ d. d == 45) rest)
 alone_hyphen c rest is = rw is refl
 
+-- at the end of a text, a character that isn't a space stands alone if it is a hyphen
 pub alone_last : (c : ℕ) (rest : List ℕ) → rest ≡ [] → (c ≡ 32 → ⊥) → is_alone c rest ≡ (c == 45)
 alone_last c rest ends differs = rw (ends, ne_eqb c 32 differs) (and-true (c == 45))
 
@@ -147,6 +153,7 @@ some_space : (space rest tail : List ℕ) (c : ℕ) → c ∷ rest ≡ space ++ 
 some_space [] rest tail c is white stops = absurd (both_ways (begins is_space tail) stops (subst (λ t. begins is_space t ≡ true) is white))
 some_space (d ∷ ds) rest tail c is white stops = refl
 
+-- the longest run of white space is a unit
 pub spaces_next : (is_verbatim : Bool) {u w : Place} (c : ℕ) (rest space : List ℕ) → left u ≡ c ∷ rest
     → is_space c ≡ true → Passes u space w → list_all is_space space ≡ true → begins is_space (left w) ≡ false
     → IsNext is_verbatim (ContentUnit.spaces space) (left u) (left w)
@@ -199,6 +206,7 @@ pub escaped_next : (is_verbatim : Bool) {u w : Place} (c : ℕ) → Passes u (92
     → is_escaped is_verbatim c ≡ true → IsNext is_verbatim (ContentUnit.escaped c) (left u) (left w)
 escaped_next is_verbatim c passed escaped = record { fits = escaped; spells = passed.left }
 
+-- an escaped character, with its backslash, is parsed as the character
 pub reads_escaped : {is_verbatim : Bool} {u w : Place} {c : ℕ}
     → IsNext is_verbatim (ContentUnit.escaped c) (left u) (left w) → Passes u (92 ∷ c ∷ []) w
     → ReadsAs is_verbatim u (c ∷ []) w

@@ -11,9 +11,11 @@ use Rattle.bib_text.proofs.TextFacts.{ahead, MovesPast, passed_char, passed_run,
 use Rattle.bib_contents.specs.Contents.{begins}
 use Rattle.bib_contents.specs.Progress.{left, Passes}
 
+-- a run of characters in the bytes of a text is a run of its characters
 pub passes : {u v : Place} {cs : List ℕ} → MovesPast u cs v → Passes u cs v
 passes passed = record { same = passed.same; here = passed.here; next = passed.next; left = passed.spelt }
 
+-- one run of characters after another is one run
 pub passes_then : {u v w : Place} {cs ds : List ℕ} → Passes u cs v → Passes v ds w → Passes u (cs ++ ds) w
 passes_then {u} {v} {w} {cs} {ds} first second =
     let joined : encode_utf8_all (cs ++ ds) ≡ encode_utf8_all cs ++ encode_utf8_all ds = encodes-append cs ds in
@@ -30,6 +32,7 @@ passes_then {u} {v} {w} {cs} {ds} first second =
       left = first.left ∙ ap (λ bs. cs ++ bs) second.left ∙ sym (append_assoc cs ds _);
     }
 
+-- from a place to itself no character is passed
 pub passes_none : (u : Place) → Passes u [] u
 passes_none u = record { same = refl; here = refl; next = omega arith; left = refl }
 
@@ -41,22 +44,26 @@ stands u c rest utf8 is = (_, char_here u.text (encode_utf8_all rest) u.at c (sy
 pub stands_left : {u v : Place} {c : ℕ} → CharAt u c v → IsUtf8 (ahead u) → left u ≡ c ∷ left v
 stands_left char utf8 = (passed_char char utf8).spelt
 
+-- the character at a place is the first of the characters left there, and at the end of the text none are left
 pub peeked : (u : Place) (found : Option ℕ) → IsUtf8 (ahead u)
     → MatchOption found (AtEnd u) (λ c. (v : Place) × CharAt u c v)
     → MatchOption found (left u ≡ []) (λ c. (rest : List ℕ) × (left u ≡ c ∷ rest))
 peeked u None utf8 end = chars_at_end u end
 peeked u (Some c) utf8 char = (_, stands_left char.1 utf8)
 
+-- eating a character passes it, and at the end of the text nothing is passed
 pub taken : (u v : Place) (found : Option ℕ) → IsUtf8 (ahead u)
     → MatchOption found (AtEnd u × (v ≡ u)) (λ c. CharAt u c v)
     → MatchOption found ((left u ≡ []) × (v ≡ u)) (λ c. Passes u (c ∷ []) v)
 taken u v None utf8 end = (chars_at_end u end.0, end.1)
 taken u v (Some c) utf8 char = passes (passed_char char utf8)
 
+-- eating a character leaves the text unchanged
 pub taken_same : (u v : Place) (found : Option ℕ) → MatchOption found (AtEnd u × (v ≡ u)) (λ c. CharAt u c v) → v.text ≡ u.text
 taken_same u v None end = ap (λ w. w.text) end.1
 taken_same u v (Some c) char = char.same
 
+-- after eating a character, the bytes that are left are UTF-8
 pub taken_utf8 : (u v : Place) (found : Option ℕ) → IsUtf8 (ahead u)
     → MatchOption found (AtEnd u × (v ≡ u)) (λ c. CharAt u c v) → IsUtf8 (ahead v)
 taken_utf8 u v None utf8 end = rw end.1 utf8
@@ -67,6 +74,7 @@ pub begins_not : (test : ℕ → Bool) (u : Place) (cs : List ℕ) → IsUtf8 (a
 begins_not test u [] utf8 is stops = refl
 begins_not test u (c ∷ cs) utf8 is stops = let here = stands u c cs utf8 is in stops c here.0 here.1
 
+-- eating a character if it is `c` passes it, or the text doesn't begin with it
 pub taken_if : (u v : Place) (c : ℕ) (found : Bool) → IsUtf8 (ahead u)
     → MatchBool found (CharAt u c v) ((v ≡ u) × ((w : Place) → CharAt u c w → ⊥))
     → MatchBool found (Passes u (c ∷ []) v) ((v ≡ u) × (begins (λ d. d == c) (left u) ≡ false))
@@ -78,11 +86,13 @@ taken_if u v c false utf8 none = (
       false_from_ne_true (d == c) (λ same. none.1 w (subst (λ x. CharAt u x w) (eqb-true d c same) char))),
 )
 
+-- eating a character if it is `c` leaves the text unchanged
 pub taken_if_same : (u v : Place) (c : ℕ) (found : Bool)
     → MatchBool found (CharAt u c v) ((v ≡ u) × ((w : Place) → CharAt u c w → ⊥)) → v.text ≡ u.text
 taken_if_same u v c true char = char.same
 taken_if_same u v c false none = ap (λ w. w.text) none.0
 
+-- after eating a character if it is `c`, the bytes that are left are UTF-8
 pub taken_if_utf8 : (u v : Place) (c : ℕ) (found : Bool) → IsUtf8 (ahead u)
     → MatchBool found (CharAt u c v) ((v ≡ u) × ((w : Place) → CharAt u c w → ⊥)) → IsUtf8 (ahead v)
 taken_if_utf8 u v c true utf8 char = (passed_char char utf8).utf8
@@ -97,6 +107,7 @@ taken_while test u v eaten utf8 text longest is =
     let same : chars eaten ≡ passed.0 = chars_whole passed.0 eaten text (is ∙ passed_between passed.1) in
     (rw same (passes passed.1), rw same passed.2, begins_not test v (left v) passed.1.utf8 refl longest.stops)
 
+-- after the longest run of characters that pass a test, the bytes that are left are UTF-8
 pub taken_while_utf8 : (test : ℕ → Bool) (u v : Place) → IsUtf8 (ahead u) → Longest test u v → IsUtf8 (ahead v)
 taken_while_utf8 test u v utf8 longest = (passed_run longest.run utf8).1.utf8
 

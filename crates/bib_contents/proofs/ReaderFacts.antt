@@ -8,7 +8,7 @@ use Rattle.std.proofs.lemmas.List.{append-nil}
 use Rattle.bib_chunks.specs.Styled.{Atom, styled}
 use Rattle.bib_chunks.specs.declared.chunk.Chunk.{Chunk}
 use Rattle.bib_text.specs.declared.spanned.Spanned.{Spanned}
-use Rattle.bib_contents.specs.Contents.{ContentUnit, Argument, Reads, IsNext, fits, unit_spelling, is_ordinary, character, meaning, is_closable, depth_after, held}
+use Rattle.bib_contents.specs.Contents.{ContentUnit, Argument, Reads, IsNext, fits, unit_spelling, is_ordinary, character, meaning, is_closable, depth_after, inner_text}
 use Rattle.bib_contents.specs.ContentErrors.ContentFails.{following}
 use Rattle.bib_contents.specs.Contents.Reads.{end, next}
 use Rattle.bib_chunks.specs.Joined.{ArePlaced}
@@ -37,7 +37,7 @@ goes_then {is_verbatim} {depth} {after} {last} {text} {rest} {tail} {first} {sec
 pub unit_back : {is_verbatim : Bool} {depth : ℕ} {text rest : List ℕ} {u : ContentUnit} {whole : List Atom}
     → IsNext is_verbatim u text rest → Reads is_verbatim depth text whole
     → (is_closable depth u ≡ true)
-    × ((argument : List ℕ) → held u ≡ Some argument → (inner : List Atom) × Reads false 0 argument inner)
+    × ((argument : List ℕ) → inner_text u ≡ Some argument → (inner : List Atom) × Reads false 0 argument inner)
     × ((more : List Atom) × Reads is_verbatim (depth_after depth u) rest more)
 unit_back one end = absurd (no_unit_at_end one)
 unit_back {is_verbatim} {depth} {text} {rest} {u} one
@@ -52,7 +52,7 @@ unit_back {is_verbatim} {depth} {text} {rest} {u} one
 -- a unit was parsed
 pub goes_unit : {is_verbatim : Bool} {depth after : ℕ} {text rest : List ℕ} {u : ContentUnit} {inner : List Atom}
     → IsNext is_verbatim u text rest → is_closable depth u ≡ true
-    → ((argument : List ℕ) → held u ≡ Some argument → Reads false 0 argument inner) → after ≡ depth_after depth u
+    → ((argument : List ℕ) → inner_text u ≡ Some argument → Reads false 0 argument inner) → after ≡ depth_after depth u
     → Goes is_verbatim depth text (meaning depth u inner) after rest
 goes_unit {inner = inner} one closable argument deep = record {
   onward = λ more read. next one closable argument (rw (← deep) read);
@@ -60,6 +60,7 @@ goes_unit {inner = inner} one closable argument deep = record {
   fails = λ kind fails. following one closable (λ text holds. (inner, argument text holds)) (rw (← deep) fails);
 }
 
+-- `None` is not `Some`
 pub no_argument : {t : List ℕ} → None ≡ Some t → ⊥
 no_argument same = cc
 
@@ -80,9 +81,11 @@ pub record ReadSoFar (is_verbatim : Bool) (whole : List ℕ) (start : List Atom)
   pub goes : Goes is_verbatim 0 whole atoms depth rest
   pub is : now ≡ start ++ atoms
 
+-- at the start of a text no atoms were added
 pub read_none : (is_verbatim : Bool) (whole : List ℕ) (start now : List Atom) → now ≡ start → ReadSoFar is_verbatim whole start whole 0 now
 read_none is_verbatim whole start now same = record { atoms = []; goes = goes_here is_verbatim 0 whole; is = same ∙ sym (append-nil start) }
 
+-- after more of a text was parsed as atoms, these are added
 pub read_plain : {is_verbatim : Bool} {whole text rest : List ℕ} {start now more : List Atom} {depth : ℕ}
     (atoms : List Atom) → ReadSoFar is_verbatim whole start text depth now
     → Goes is_verbatim depth text atoms depth rest
@@ -93,6 +96,7 @@ read_plain {start = start} atoms read goes written = record {
   is = written ∙ ap (λ xs. xs ++ atoms) read.is ∙ append_assoc start read.atoms atoms;
 }
 
+-- after a unit was parsed, its atoms are added
 pub read_unit : {is_verbatim : Bool} {whole text rest : List ℕ} {u : ContentUnit} {start now more : List Atom}
     {depth after : ℕ} → ReadSoFar is_verbatim whole start text depth now → IsNext is_verbatim u text rest
     → Took u depth now after more → ReadSoFar is_verbatim whole start rest after more
@@ -121,28 +125,29 @@ placed_wider low high higher [] placed wider = omega (arith, placed, wider)
 placed_wider low high higher (c ∷ rest) placed wider = (placed.0, placed.1, placed_wider _ high higher rest placed.2 wider)
 
 -- the length of a unit's argument in braces, in characters; 0 if it has none
-abbrev pub held_length : ContentUnit → ℕ
-held_length (ContentUnit.command name space (Argument.braced text)) = length text
-held_length u = 0
+abbrev pub inner_length : ContentUnit → ℕ
+inner_length (ContentUnit.command name space (Argument.braced text)) = length text
+inner_length u = 0
 
-pub held_length_is : (u : ContentUnit) (text : List ℕ) → held u ≡ Some text → length text ≡ held_length u
-held_length_is (ContentUnit.command name space (Argument.braced inside)) text is = cc
-held_length_is (ContentUnit.command name space Argument.without) text is = absurd (no_argument is)
-held_length_is (ContentUnit.command name space Argument.empty) text is = absurd (no_argument is)
-held_length_is (ContentUnit.command name space (Argument.single c)) text is = absurd (no_argument is)
-held_length_is (ContentUnit.hyphens n) text is = absurd (no_argument is)
-held_length_is (ContentUnit.spaces cs) text is = absurd (no_argument is)
-held_length_is ContentUnit.opening text is = absurd (no_argument is)
-held_length_is ContentUnit.closing text is = absurd (no_argument is)
-held_length_is (ContentUnit.escaped c) text is = absurd (no_argument is)
-held_length_is ContentUnit.backslash text is = absurd (no_argument is)
-held_length_is (ContentUnit.copied c) text is = absurd (no_argument is)
-held_length_is (ContentUnit.formula math) text is = absurd (no_argument is)
-held_length_is (ContentUnit.other c) text is = absurd (no_argument is)
+-- the length of a unit's argument in braces is that of its text
+pub inner_length_is : (u : ContentUnit) (text : List ℕ) → inner_text u ≡ Some text → length text ≡ inner_length u
+inner_length_is (ContentUnit.command name space (Argument.braced inside)) text is = cc
+inner_length_is (ContentUnit.command name space Argument.without) text is = absurd (no_argument is)
+inner_length_is (ContentUnit.command name space Argument.empty) text is = absurd (no_argument is)
+inner_length_is (ContentUnit.command name space (Argument.single c)) text is = absurd (no_argument is)
+inner_length_is (ContentUnit.hyphens n) text is = absurd (no_argument is)
+inner_length_is (ContentUnit.spaces cs) text is = absurd (no_argument is)
+inner_length_is ContentUnit.opening text is = absurd (no_argument is)
+inner_length_is ContentUnit.closing text is = absurd (no_argument is)
+inner_length_is (ContentUnit.escaped c) text is = absurd (no_argument is)
+inner_length_is ContentUnit.backslash text is = absurd (no_argument is)
+inner_length_is (ContentUnit.copied c) text is = absurd (no_argument is)
+inner_length_is (ContentUnit.formula math) text is = absurd (no_argument is)
+inner_length_is (ContentUnit.other c) text is = absurd (no_argument is)
 
 -- a unit is longer than its argument in braces
 unit_longer : (is_verbatim : Bool) (u : ContentUnit) (rest : List ℕ) → fits is_verbatim u rest ≡ true
-    → held_length u < length (unit_spelling u)
+    → inner_length u < length (unit_spelling u)
 unit_longer is_verbatim (ContentUnit.command name space (Argument.braced text)) rest right =
     let inside : length (text ++ 125 ∷ []) ≡ length text + 1 = length-append text (125 ∷ []) in
     let spaced : length (space ++ 123 ∷ (text ++ 125 ∷ [])) ≡ length space + (length (text ++ 125 ∷ []) + 1) =
@@ -168,9 +173,9 @@ unit_longer is_verbatim (ContentUnit.other c) rest right = omega arith
 
 -- the text after a unit and the argument of the unit are shorter than the text before it
 pub unit_shorter : {is_verbatim : Bool} {u : ContentUnit} {text rest : List ℕ} → IsNext is_verbatim u text rest
-    → (length rest < length text) × (held_length u < length text)
+    → (length rest < length text) × (inner_length u < length text)
 unit_shorter {is_verbatim} {u} {text} {rest} one =
-    let longer : held_length u < length (unit_spelling u) = unit_longer is_verbatim u rest one.fits in
+    let longer : inner_length u < length (unit_spelling u) = unit_longer is_verbatim u rest one.fits in
     let size : length text ≡ length (unit_spelling u) + length rest = ap length one.spells ∙ length-append (unit_spelling u) rest in
     (omega arith, omega arith)
 
@@ -181,6 +186,7 @@ nothing_grows out growing empty =
     (ap (λ cs. styled out ++ map (character growing.depth) cs) (ap chars empty ∙ chars-nil)
     ∙ append-nil (styled out))
 
+-- a text of length 0 is empty
 pub no_bytes : (bs : List ℕ) → length bs ≡ 0 → bs ≡ []
 no_bytes [] none = refl
 no_bytes (b ∷ bs) none = absurd (omega (arith, none))

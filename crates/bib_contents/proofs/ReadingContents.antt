@@ -8,7 +8,7 @@ use Rattle.bib_text.specs.Places.{Place}
 use Rattle.bib_chunks.specs.Styled.{Atom, styled}
 use Rattle.bib_chunks.specs.declared.chunk.Chunk.{Chunk}
 use Rattle.bib_text.specs.declared.spanned.Spanned.{Spanned}
-use Rattle.bib_contents.specs.Contents.{ContentUnit, IsNext, Reads, character, depth_after, unit_spelling, saturated}
+use Rattle.bib_contents.specs.Contents.{ContentUnit, IsNext, Reads, character, depth_after, unit_spelling, saturate}
 use Rattle.bib_chunks.specs.Joined.{AreJoined, ArePlaced}
 use Rattle.bib_contents.specs.Progress.{left, Passes, Renders, Took, StaysPlaced, so_far}
 use Rattle.bib_contents.specs.declared.growing.OpenChunk.{OpenChunk}
@@ -22,7 +22,7 @@ pub record Reading (is_verbatim : Bool) (text : List ℕ) (offset : ℕ) (start 
   pub read : ReadSoFar is_verbatim (chars text) (styled start) (left s) growing.depth (so_far out growing)
   pub shorter : length (left s) ≤ length (chars text)
   pub joined : AreJoined start → AreJoined out
-  pub placed : (low : ℕ) → ArePlaced low offset start → ArePlaced low growing.start out × (growing.start ≤ saturated (offset + s.at))
+  pub placed : (low : ℕ) → ArePlaced low offset start → ArePlaced low growing.start out × (growing.start ≤ saturate (offset + s.at))
   pub deep : growing.depth ≤ s.at
   pub same : s.text ≡ text
   pub within : s.at ≤ length s.text
@@ -111,7 +111,7 @@ pub reading_unit : {is_verbatim : Bool} {text : List ℕ} {offset : ℕ} {start 
     → Reading is_verbatim text offset start s growing out → IsNext is_verbatim u (left s) (left t) → t.text ≡ s.text
     → t.at ≡ s.at + length (encode_utf8_all (unit_spelling u)) → t.at ≤ length t.text
     → Took u growing.depth (so_far out growing) grown.depth (so_far more grown) → (AreJoined out → AreJoined more)
-    → StaysPlaced out growing (saturated (offset + s.at)) more grown (saturated (offset + t.at))
+    → StaysPlaced out growing (saturate (offset + s.at)) more grown (saturate (offset + t.at))
     → Reading is_verbatim text offset start t grown more
 reading_unit {is_verbatim} {text} {offset} {start} {out} {more} {s} {t} {u} growing grown reading one same next within took joined moved =
     let shorter = unit_shorter one in
@@ -144,7 +144,7 @@ reading_all growing after reading ends is =
 pub reading_ends : {is_verbatim : Bool} {text : List ℕ} {offset : ℕ} {start out : List (Spanned Chunk)} {s : Place}
     (growing : OpenChunk) → Reading is_verbatim text offset start s growing out → (low : ℕ)
     → ArePlaced low offset start
-    → ArePlaced low growing.start out × (growing.start ≤ saturated (offset + length text))
+    → ArePlaced low growing.start out × (growing.start ≤ saturate (offset + length text))
 reading_ends {is_verbatim} {text} {offset} {start} {out} {s} growing reading low placed =
     let was = reading.placed low placed in
     let within : s.at ≤ length s.text = reading.within in

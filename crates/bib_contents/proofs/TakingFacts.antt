@@ -10,7 +10,7 @@ use Rattle.bib_chunks.specs.Writing.{Writes}
 use Rattle.bib_chunks.specs.declared.chunk.Chunk.{Chunk}
 use Rattle.bib_text.specs.declared.spanned.Spanned.{Spanned}
 use Rattle.bib_text.proofs.TextFacts.{chars_whole}
-use Rattle.bib_contents.specs.Contents.{Argument, ContentUnit, IsNext, unit_spelling, Reads, character, meaning, is_closable, depth_after, held, unit_text}
+use Rattle.bib_contents.specs.Contents.{Argument, ContentUnit, IsNext, unit_spelling, Reads, character, meaning, is_closable, depth_after, inner_text, unit_text}
 use Rattle.bib_chunks.specs.Joined.{ArePlaced}
 use Rattle.bib_contents.specs.Progress.{Took, left, so_far}
 use Rattle.bib_contents.proofs.UnitFacts.{command_parts}
@@ -39,6 +39,7 @@ pub record IsTextUnit (depth : ℕ) (u : ContentUnit) : Type 0 where
   pub deep : depth ≡ depth_after depth u
   pub means : (inner : List Atom) → meaning depth u inner ≡ map (character depth) (unit_text u inner)
 
+-- each unit that is written as characters is a unit of text
 pub text_unit : (depth : ℕ) (u : TextUnit) → IsTextUnit depth (text_unit_of u)
 text_unit depth (shown.Hyphens n) = record { closable = refl; deep = refl; means = λ inner. refl }
 text_unit depth (shown.Spaces text) = record { closable = refl; deep = refl; means = λ inner. refl }
@@ -54,7 +55,7 @@ held_is same = cc
 
 -- characters were appended to the open chunk
 took_characters : (u : ContentUnit) (growing grown : OpenChunk) (out : List (Spanned Chunk)) (inner : List Atom)
-    → IsTextUnit growing.depth u → ((argument : List ℕ) → held u ≡ Some argument → Reads false 0 argument inner)
+    → IsTextUnit growing.depth u → ((argument : List ℕ) → inner_text u ≡ Some argument → Reads false 0 argument inner)
     → Writes growing.text grown.text (unit_text u inner) → grown.depth ≡ growing.depth
     → Took u growing.depth (so_far out growing) grown.depth (so_far out grown)
 took_characters u growing grown out inner is argument written depth =
@@ -75,8 +76,9 @@ took_characters u growing grown out inner is argument written depth =
           ∙ ap (λ xs. so_far out growing ++ xs) (sym (is.means inner));
     }
 
+-- a unit whose text was appended to the open chunk was parsed
 pub took_text : (unit : TextUnit) (growing grown : OpenChunk) (out : List (Spanned Chunk)) (inner : List Atom)
-    → ((argument : List ℕ) → held (text_unit_of unit) ≡ Some argument → Reads false 0 argument inner)
+    → ((argument : List ℕ) → inner_text (text_unit_of unit) ≡ Some argument → Reads false 0 argument inner)
     → Writes growing.text grown.text (unit_text (text_unit_of unit) inner) → grown.depth ≡ growing.depth
     → Took (text_unit_of unit) growing.depth (so_far out growing) grown.depth (so_far out grown)
 took_text unit growing grown out inner argument written depth =
@@ -103,6 +105,7 @@ as_is (shown.Copied c) = refl
 as_is (shown.Command name space argument) = refl
 as_is (shown.Other c) = refl
 
+-- a unit that isn't put on one line is written as its text
 pub as_text : (old new : List ℕ) (unit : TextUnit)
     → new ≡ old ++ encode_utf8_all (unit_written false (text_unit_of unit))
     → new ≡ old ++ encode_utf8_all (unit_text (text_unit_of unit) [])
@@ -132,6 +135,7 @@ took_opening depth grown before out empty same atoms = record {
   atoms = sym (nothing_grows out grown empty) ∙ atoms ∙ sym (append-nil before);
 }
 
+-- a closing brace finishes the chunk and leaves one open brace less
 pub took_closing : (depth : ℕ) (grown : OpenChunk) (before : List Atom) (out : List (Spanned Chunk)) → (depth ≡ 0 → ⊥)
     → string_bytes grown.text ≡ [] → grown.depth ≡ depth - 1 → styled out ≡ before
     → Took ContentUnit.closing depth before grown.depth (so_far out grown)

@@ -12,6 +12,7 @@ abbrev pub prefix : (ℕ → Bool) → List ℕ → List ℕ
 prefix test [] = []
 prefix test (c ∷ cs) = if test c then c ∷ prefix test cs else []
 
+-- the characters from the first one on that fails the test
 abbrev pub following : (ℕ → Bool) → List ℕ → List ℕ
 following test [] = []
 following test (c ∷ cs) = if test c then following test cs else c ∷ cs
@@ -24,6 +25,7 @@ braces depth (c ∷ cs) =
     else if c == 125 then (if nat_lt 0 depth then c ∷ braces (depth - 1) cs else [])
     else c ∷ braces depth cs
 
+-- the argument with which the text after a command's name and white space begins
 abbrev pub first_argument : Bool → Bool → List ℕ → Argument
 first_argument takes spaced [] = if takes then Argument.empty else Argument.without
 first_argument takes spaced (c ∷ cs) =
@@ -31,12 +33,15 @@ first_argument takes spaced (c ∷ cs) =
     else if takes then Argument.single c
     else Argument.without
 
+-- the command with this name and white space, before the rest of a text
 abbrev pub command_of : List ℕ → List ℕ → List ℕ → ContentUnit
 command_of name space rest = ContentUnit.command name space (first_argument (takes_next name space) (not (is_empty space)) rest)
 
+-- the command with this name, with the white space at the start of the rest of a text
 abbrev pub first_command : List ℕ → List ℕ → ContentUnit
 first_command name rest = command_of name (prefix is_space rest) (following is_space rest)
 
+-- the unit that begins with a backslash, given the text after it
 abbrev pub first_escape : Bool → List ℕ → ContentUnit
 first_escape is_verbatim [] = ContentUnit.backslash
 first_escape is_verbatim (c ∷ cs) =
@@ -66,6 +71,7 @@ prefix_run test (c ∷ cs) rest all stops =
     let parts = and_parts (test c) (list_all test cs) all in
     rw parts.0 (ap (λ xs. c ∷ xs) (prefix_run test cs rest parts.1 stops))
 
+-- the rest after the longest run of characters that pass a test
 pub after_run : (test : ℕ → Bool) (cs rest : List ℕ) → list_all test cs ≡ true → begins test rest ≡ false
     → following test (cs ++ rest) ≡ rest
 after_run test [] [] all stops = refl
@@ -93,6 +99,7 @@ braces_run depth (c ∷ cs) rest balanced =
 pub other_than : (test : ℕ → Bool) (c k : ℕ) → test c ≡ true → test k ≡ false → (c == k) ≡ false
 other_than test c k passes fails = ne_eqb c k (λ same. both_ways (test k) fails (rw same at passes))
 
+-- hyphens before another character are the longest run of them
 pub hyphens_run : (n : ℕ) (rest : List ℕ) → begins (λ c. c == 45) rest ≡ false
     → prefix (λ c. c == 45) (replicate n 45 ++ rest) ≡ replicate n 45
 hyphens_run zero rest stops = prefix_run (λ c. c == 45) [] rest refl stops

@@ -5,7 +5,7 @@ use Rattle.std.proofs.lemmas.Bool.{cases_Bool, and_parts, and_from, both_ways, e
 use Rattle.bib_chunks.specs.Formatted.{is_break, flowing, formatted_atoms}
 use Rattle.bib_chunks.specs.Styled.{Atom}
 use Rattle.bib_contents.specs.Commands.{command_text}
-use Rattle.bib_contents.specs.Contents.{Argument, ContentUnit, Reads, begins, character, dashes, fits, held, is_blank, is_space, meaning, unit_text}
+use Rattle.bib_contents.specs.Contents.{Argument, ContentUnit, Reads, begins, character, dashes, fits, inner_text, is_blank, is_space, meaning, unit_text}
 use Rattle.bib_contents.specs.Contents.Reads.{end, next}
 use Rattle.bib_contents.proofs.ArgumentReading.{name_plain, dashes_plain, escaped_plain, ordinary_plain, single_plain}
 use Rattle.bib_contents.proofs.LaidFacts.{IsCapped, IsLed, ends_in_break, ends_append, flowing_lined, begins_append, capped_plain, capped_given, alone_plain, formatted_append, formatted_normal, formatted_verbatim, led_characters, led_math, space_after}
@@ -16,9 +16,11 @@ pub record IsWhole (atoms : List Atom) : Type 0 where
   pub led : IsLed atoms
   pub last : ends_in_break (formatted_atoms false atoms) ≡ false
 
+-- the formatted text of a whole text's atoms neither begins nor ends with a line break
 pub whole_capped : {atoms : List Atom} → IsWhole atoms → IsCapped (formatted_atoms false atoms)
 whole_capped whole = record { first = whole.led.first; last = whole.last }
 
+-- two lists of atoms that don't begin with a line break don't do so together
 led_append : (xs ys : List Atom) → IsLed xs → IsLed ys → IsLed (xs ++ ys)
 led_append xs ys one two =
     let parts : (space : Bool) → formatted_atoms space (xs ++ ys) ≡ formatted_atoms false xs ++ formatted_atoms false ys = λ space.
@@ -40,11 +42,13 @@ record HasEnds (u : ContentUnit) (inner : List Atom) : Type 0 where
   first : begins is_break (unit_text u inner) ≡ false
   last : breaks_last u ≡ false → ends_in_break (unit_text u inner) ≡ false
 
+-- a unit whose text neither begins nor ends with a line break has such ends
 capped_ends : (u : ContentUnit) (inner : List Atom) → IsCapped (unit_text u inner) → HasEnds u inner
 capped_ends u inner capped = record { first = capped.first; last = λ plain. capped.last }
 
+-- each unit has such ends, if its argument in braces is a whole text
 unit_ends : (u : ContentUnit) (rest : List ℕ) (inner : List Atom) → fits false u rest ≡ true
-    → ((text : List ℕ) → held u ≡ Some text → IsWhole inner) → HasEnds u inner
+    → ((text : List ℕ) → inner_text u ≡ Some text → IsWhole inner) → HasEnds u inner
 unit_ends (ContentUnit.hyphens n) rest inner right whole =
     capped_ends (ContentUnit.hyphens n) inner (capped_plain (dashes n) (dashes_plain n))
 unit_ends (ContentUnit.spaces cs) rest inner right whole = capped_ends (ContentUnit.spaces cs) inner (capped_plain (32 ∷ []) refl)
@@ -95,6 +99,7 @@ added_characters depth u inner has = record {
   last = λ plain. characters_last depth (unit_text u inner) (has.last plain);
 }
 
+-- the atoms of a unit with such ends don't begin with a line break, and end with one only after a backslash
 added : (depth : ℕ) (u : ContentUnit) (inner : List Atom) → HasEnds u inner → IsAdded u (meaning depth u inner)
 added depth (ContentUnit.hyphens n) inner has = added_characters depth (ContentUnit.hyphens n) inner has
 added depth (ContentUnit.spaces cs) inner has = added_characters depth (ContentUnit.spaces cs) inner has
@@ -119,11 +124,13 @@ space_shown : (depth : ℕ) (more : List Atom) → formatted_atoms false (charac
 space_shown zero more none = cc
 space_shown (suc depth) more none = cc
 
+-- white space isn't formatted to nothing
 spaces_shown : (depth : ℕ) (u : ContentUnit) (c : ℕ) (rest : List ℕ) (inner more : List Atom)
     → u ≡ ContentUnit.spaces (c ∷ rest) → formatted_atoms false (meaning depth u inner ++ more) ≡ [] → ⊥
 spaces_shown depth u c rest inner more is none =
     space_shown depth more (subst (λ w. formatted_atoms false (meaning depth w inner ++ more) ≡ []) is none)
 
+-- a text that begins with a line break isn't formatted to nothing
 some_after : (c : ℕ) (depth : ℕ) (text : List ℕ) (atoms : List Atom) → is_break c ≡ true
     → begins (λ d. d == c) text ≡ true → Reads false depth text atoms → formatted_atoms false atoms ≡ [] → ⊥
 some_after c depth [] atoms breaks follows read none = both_ways false refl follows
@@ -150,6 +157,7 @@ after_break (ContentUnit.formula text) depth rest atoms breaks right read none =
 after_break (ContentUnit.command name space argument) depth rest atoms breaks right read none = both_ways false refl breaks
 after_break (ContentUnit.other c) depth rest atoms breaks right read none = both_ways false refl breaks
 
+-- two texts don't end with a line break if `ys` doesn't, and isn't empty when the unit ends with one
 last_joined : (u : ContentUnit) (xs ys : List ℕ) → (breaks_last u ≡ true → ys ≡ [] → ⊥)
     → (breaks_last u ≡ false → ends_in_break xs ≡ false) → ends_in_break ys ≡ false → ends_in_break (xs ++ ys) ≡ false
 last_joined u xs [] some alone last = elim (cases_Bool (breaks_last u)) [

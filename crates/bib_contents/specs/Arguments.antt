@@ -60,12 +60,12 @@ IsFoundIn text low (InBraces inside) high = IsInside text low inside high
 IsFoundIn text low found high = Unit {0}
 
 -- characters, on one line if the flag says so
-abbrev pub laid : Bool → List ℕ → List ℕ
-laid is_flat cs = if is_flat then flowing false cs else cs
+abbrev pub flat_if : Bool → List ℕ → List ℕ
+flat_if is_flat cs = if is_flat then flowing false cs else cs
 
 -- the text of an argument's atoms: formatted, and put on one line if the flag says that an argument around it is
 abbrev pub argument_written : Bool → List Atom → List ℕ
-argument_written is_flat atoms = laid is_flat (formatted_atoms false atoms)
+argument_written is_flat atoms = flat_if is_flat (formatted_atoms false atoms)
 
 -- the text of a unit without an argument in braces; the flag says whether it is put on one line, where a line break
 -- after a backslash becomes a space

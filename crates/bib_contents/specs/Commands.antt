@@ -67,9 +67,9 @@ with_mark mark (c ∷ []) = nfc (letter c ∷ mark ∷ [])
 with_mark mark (c ∷ d ∷ cs) = c ∷ with_mark mark (d ∷ cs)
 
 -- the text of an accent: without an argument the combining mark, otherwise the argument with the mark
-abbrev pub accented : ℕ → Option (List ℕ) → List ℕ
-accented mark None = mark ∷ []
-accented mark (Some argument) = with_mark mark argument
+abbrev pub accent_text : ℕ → Option (List ℕ) → List ℕ
+accent_text mark None = mark ∷ []
+accent_text mark (Some argument) = with_mark mark argument
 
 -- the text of a command that is neither an accent nor a symbol. `o` and `copyright` depend on whether there is an
 -- argument. An unknown command is kept. (`bytes_eq` compares two lists of numbers, here code points.)
@@ -84,11 +84,11 @@ other name (Some argument) =
     else codes "\\" ++ name ++ codes "{" ++ argument ++ codes "}"
 
 -- the text of a command, given the mark if its name is that of an accent, and the text if it is that of a symbol
-abbrev pub found : Option ℕ → Option (List ℕ) → List ℕ → Option (List ℕ) → List ℕ
-found (Some mark) text name argument = accented mark argument
-found None (Some text) name argument = text
-found None None name argument = other name argument
+abbrev pub text_from_tables : Option ℕ → Option (List ℕ) → List ℕ → Option (List ℕ) → List ℕ
+text_from_tables (Some mark) text name argument = accent_text mark argument
+text_from_tables None (Some text) name argument = text
+text_from_tables None None name argument = other name argument
 
 -- the text of a command with this name, given the text of its argument if it has one
 unfoldable pub command_text : List ℕ → Option (List ℕ) → List ℕ
-command_text name argument = found (value_named accents name) (value_named symbols name) name argument
+command_text name argument = text_from_tables (value_named accents name) (value_named symbols name) name argument

@@ -6,7 +6,7 @@ use Rattle.bib_chunks.specs.Styled.{Atom}
 use Rattle.bib_syntax.specs.declared.raw.Token.TheVariants.{ClosingBrace}
 use Rattle.bib_syntax.specs.declared.raw.ParseErrorKind.{ParseErrorKind}
 use Rattle.bib_syntax.specs.declared.raw.ParseErrorKind.TheVariants.{UnexpectedEof, Unexpected}
-use Rattle.bib_contents.specs.Contents.{ContentUnit, IsNext, Reads, balances, depth_after, held, is_closable, is_name, is_whole_name}
+use Rattle.bib_contents.specs.Contents.{ContentUnit, IsNext, Reads, balances, depth_after, inner_text, is_closable, is_name, is_whole_name}
 use Rattle.bib_text.specs.Characters as char
 
 -- a text begins with a unit that doesn't end, outside verbatim fields. It is math without a second dollar sign, a
@@ -28,8 +28,9 @@ pub data ContentFails : Bool → ℕ → List ℕ → ParseErrorKind → Type 0 
   ended : {is_verbatim : Bool} {depth : ℕ} {text : List ℕ} → UnitFails is_verbatim text → ContentFails is_verbatim depth text UnexpectedEof
   inside : {is_verbatim : Bool} {depth : ℕ} {u : ContentUnit} {text rest argument : List ℕ} {kind : ParseErrorKind}
       → IsNext is_verbatim u text rest
-      → held u ≡ Some argument → ContentFails false 0 argument kind → ContentFails is_verbatim depth text kind
+      → inner_text u ≡ Some argument → ContentFails false 0 argument kind → ContentFails is_verbatim depth text kind
   following : {is_verbatim : Bool} {depth : ℕ} {u : ContentUnit} {text rest : List ℕ} {kind : ParseErrorKind}
       → IsNext is_verbatim u text rest
-      → is_closable depth u ≡ true → ((argument : List ℕ) → held u ≡ Some argument → (atoms : List Atom) × Reads false 0 argument atoms)
+      → is_closable depth u ≡ true
+      → ((argument : List ℕ) → inner_text u ≡ Some argument → (atoms : List Atom) × Reads false 0 argument atoms)
       → ContentFails is_verbatim (depth_after depth u) rest kind → ContentFails is_verbatim depth text kind

@@ -215,9 +215,9 @@ depth_after depth ContentUnit.closing = depth - 1
 depth_after depth u = depth
 
 -- the text of a unit's argument in braces, if it has one
-abbrev pub held : ContentUnit → Option (List ℕ)
-held (ContentUnit.command name space (Argument.braced text)) = Some text
-held u = None
+abbrev pub inner_text : ContentUnit → Option (List ℕ)
+inner_text (ContentUnit.command name space (Argument.braced text)) = Some text
+inner_text u = None
 
 -- a text is parsed as these atoms, with so many braces open before it. It consists of units, and their arguments in
 -- braces are parsed as contents that aren't verbatim. Braces that are open at the end are ignored.
@@ -225,7 +225,7 @@ pub data Reads : Bool → ℕ → List ℕ → List Atom → Type 0 where
   end : {is_verbatim : Bool} {depth : ℕ} → Reads is_verbatim depth [] []
   next : {is_verbatim : Bool} {depth : ℕ} {u : ContentUnit} {text rest : List ℕ} {inner atoms : List Atom}
       → IsNext is_verbatim u text rest → is_closable depth u ≡ true
-      → ((argument : List ℕ) → held u ≡ Some argument → Reads false 0 argument inner)
+      → ((argument : List ℕ) → inner_text u ≡ Some argument → Reads false 0 argument inner)
       → Reads is_verbatim (depth_after depth u) rest atoms
       → Reads is_verbatim depth text (meaning depth u inner ++ atoms)
 
@@ -246,5 +246,5 @@ abbrev pub StaysBetween : ℕ → ℕ → ParseError → Type 0
 StaysBetween low high e = (e ≡ out_of_memory) ⊎ LiesBetween low high e
 
 -- a position, at most the greatest 64-bit number
-abbrev pub saturated : ℕ → ℕ
-saturated n = min n (2 ^ 64 - 1)
+abbrev pub saturate : ℕ → ℕ
+saturate n = min n (2 ^ 64 - 1)

@@ -10,18 +10,18 @@ use Rattle.bib_contents.specs.declared.commands.Effect.TheVariants.{Mark, Symbol
 use Rattle.bib_text.specs.Characters as char
 
 -- the text before the argument of a command with this name
-abbrev pub made_before : Effect → List ℕ → List ℕ
-made_before (Mark mark) name = []
-made_before (Symbol text) name = []
-made_before Copyright name = 169 ∷ []
-made_before Unknown name = char.backslash ∷ (name ++ char.open_brace ∷ [])
+abbrev pub before_argument : Effect → List ℕ → List ℕ
+before_argument (Mark mark) name = []
+before_argument (Symbol text) name = []
+before_argument Copyright name = 169 ∷ []
+before_argument Unknown name = char.backslash ∷ (name ++ char.open_brace ∷ [])
 
 -- the text of a command with this name and this argument
-abbrev pub made : Effect → List ℕ → List ℕ → List ℕ
-made (Mark mark) name argument = with_mark mark argument
-made (Symbol text) name argument = chars text.now
-made Copyright name argument = 169 ∷ argument
-made Unknown name argument = char.backslash ∷ (name ++ char.open_brace ∷ (argument ++ char.close_brace ∷ []))
+abbrev pub effect_text : Effect → List ℕ → List ℕ → List ℕ
+effect_text (Mark mark) name argument = with_mark mark argument
+effect_text (Symbol text) name argument = chars text.now
+effect_text Copyright name argument = 169 ∷ argument
+effect_text Unknown name argument = char.backslash ∷ (name ++ char.open_brace ∷ (argument ++ char.close_brace ∷ []))
 
 -- if the effect is a mark, that doesn't decompose (NFD); if it is a symbol, that is UTF-8
 abbrev pub IsFit : Effect → Type 0

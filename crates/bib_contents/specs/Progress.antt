@@ -13,7 +13,7 @@ use Rattle.bib_syntax.specs.declared.raw.Token.TheVariants.{ClosingBrace}
 use Rattle.bib_syntax.specs.declared.raw.ParseErrorKind.{ParseErrorKind}
 use Rattle.bib_syntax.specs.declared.raw.ParseErrorKind.TheVariants.{Unexpected}
 use Rattle.bib_contents.specs.ContentErrors.{ContentFails}
-use Rattle.bib_contents.specs.Contents.{ContentUnit, Reads, begins, is_space, character, meaning, is_closable, depth_after, held}
+use Rattle.bib_contents.specs.Contents.{ContentUnit, Reads, begins, is_space, character, meaning, is_closable, depth_after, inner_text}
 use Rattle.bib_chunks.specs.Joined.{ArePlaced}
 use Rattle.bib_contents.specs.declared.growing.OpenChunk.{OpenChunk}
 
@@ -58,7 +58,7 @@ so_far out growing = styled out ++ map (character growing.depth) (chars (string_
 pub record Took (u : ContentUnit) (depth : ℕ) (before : List Atom) (next_depth : ℕ) (after : List Atom) : Type 0 where
   pub inner : List Atom
   pub closable : is_closable depth u ≡ true
-  pub argument : (text : List ℕ) → held u ≡ Some text → Reads false 0 text inner
+  pub argument : (text : List ℕ) → inner_text u ≡ Some text → Reads false 0 text inner
   pub deep : next_depth ≡ depth_after depth u
   pub atoms : after ≡ before ++ meaning depth u inner
 
@@ -66,7 +66,7 @@ pub record Took (u : ContentUnit) (depth : ℕ) (before : List Atom) (next_depth
 abbrev pub IsUntaken : ContentUnit → ℕ → ParseErrorKind → Type 0
 IsUntaken u depth kind =
     ((is_closable depth u ≡ false) × (kind ≡ Unexpected ClosingBrace))
-    ⊎ ((text : List ℕ) × (held u ≡ Some text) × ContentFails false 0 text kind)
+    ⊎ ((text : List ℕ) × (inner_text u ≡ Some text) × ContentFails false 0 text kind)
 
 -- chunks stay placed: if `growing` begins after `chunks` and not after `end`, the next open chunk begins after `more`
 -- and not after `following`

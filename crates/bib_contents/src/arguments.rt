@@ -8,8 +8,8 @@ ghost use Rattle.bib_chunks.specs.Writing.{Writes};
 ghost use Rattle.bib_contents.specs.Arguments.{AreKnown, KeepsFrame, IsReadOn, IsReadTo, IsShorterThan, IsArgumentBetween, StandsRight};
 ghost use Rattle.bib_contents.specs.Commands.{command_text};
 ghost use Rattle.bib_contents.specs.ContentErrors.{ContentFails};
-ghost use Rattle.bib_contents.specs.Contents.{IsNext, Reads, is_name, StaysBetween, saturated};
-ghost use Rattle.bib_contents.specs.Effects.{IsFit, made, made_before};
+ghost use Rattle.bib_contents.specs.Contents.{IsNext, Reads, is_name, StaysBetween, saturate};
+ghost use Rattle.bib_contents.specs.Effects.{IsFit, before_argument, effect_text};
 ghost use Rattle.bib_contents.specs.Progress.{left};
 ghost use Rattle.bib_contents.specs.UnitViews.{unit_of};
 ghost use Rattle.bib_syntax.specs.Errors.{out_of_memory};
@@ -18,7 +18,7 @@ use crate::characters::Characters;
 use crate::classes::is_ordinary;
 use crate::commands::Effect;
 use crate::ends::Ends;
-use crate::errors::{ended, unopened};
+use crate::errors::{closing_brace_error, early_end_error};
 use crate::units::{Unit, eat_unit};
 use crate::writing::{write_math, write_unit};
 use bib_syntax::raw::ParseError;
@@ -57,10 +57,10 @@ impl<'s> Frame<'s> {
         ensures frame { IfOk result (λ frame. (frame.s ≡ inside.entry) × (frame.depth ≡ 0) ×
             (frame.is_flat ≡ is_flat)) }
         ensures wrote { IfOk result (λ frame. Writes text.old text.new
-            (made_before frame.effect (chars name.now)) ×
+            (before_argument frame.effect (chars name.now)) ×
             (frame.start ≡ length (string_bytes text.new))) }
         ensures made { IfOk result (λ frame. (argument : List ℕ) →
-            command_text (chars name.now) (Some argument) ≡ made frame.effect (chars name.now) argument) }
+            command_text (chars name.now) (Some argument) ≡ effect_text frame.effect (chars name.now) argument) }
         ensures fit { IfOk result (λ frame. IsFit frame.effect) }
     {
         let effect = Effect::of(name);
@@ -114,7 +114,7 @@ impl<'s> Frame<'s> {
         }
         let start = self.s.cursor();
         let Some(unit) = eat_unit(&mut self.s, false, ends) else {
-            return Err(ended(offset.saturating_add(self.s.len())));
+            return Err(early_end_error(offset.saturating_add(self.s.len())));
         };
         let end = offset.saturating_add(start);
         let following = offset.saturating_add(self.s.cursor());
@@ -157,7 +157,7 @@ impl<'s> Frame<'s> {
             Unit::Opening => self.depth += 1,
             Unit::Closing => {
                 if self.depth == 0 {
-                    return Err(unopened(start, end));
+                    return Err(closing_brace_error(start, end));
                 }
                 self.depth -= 1;
             }

@@ -132,7 +132,7 @@ impl<'s> Characters<'s> {
 
     // Consumes characters that are parsed as themselves, and returns their text: ordinary ones, and single spaces and
     // hyphens.
-    pub(crate) fn eat_shown(&mut self, is_verbatim: bool) -> &'s str
+    pub(crate) fn eat_as_is(&mut self, is_verbatim: bool) -> &'s str
         ensures { ReadsAs is_verbatim self.old (chars result.now) self.new }
     {
         let text = self.text;

@@ -6,7 +6,7 @@ ghost use Rattle.std.specs.Str.{chars};
 ghost use Rattle.bib_text.specs.Enums.{value_named};
 ghost use Rattle.bib_chunks.specs.Writing.{Writes};
 ghost use Rattle.bib_contents.specs.Commands.{accents, symbols, letter, bare, with_mark, other, command_text};
-ghost use Rattle.bib_contents.specs.Effects.{made, made_before, IsFit};
+ghost use Rattle.bib_contents.specs.Effects.{before_argument, effect_text, IsFit};
 ghost use Rattle.unicode_normalization.specs.Forms.{Nfd, nfc, is_in_form};
 
 use std::alloc::AllocError;
@@ -192,7 +192,7 @@ impl Effect {
     // Returns the effect of the command with this name.
     pub(crate) fn of(name: &str) -> Self
         ensures made { (argument : List ℕ) →
-            command_text (chars name.now) (Some argument) ≡ made result (chars name.now) argument }
+            command_text (chars name.now) (Some argument) ≡ effect_text result (chars name.now) argument }
         ensures fit { IsFit result }
     {
         if let Some(mark) = accent_mark(name) {
@@ -210,7 +210,7 @@ impl Effect {
 
     // Writes the text before the argument.
     pub(crate) fn begin(self, out: &mut String, name: &str) -> Result<(), AllocError>
-        ensures { OnOk result (Writes out.old out.new (made_before self (chars name.now))) }
+        ensures { OnOk result (Writes out.old out.new (before_argument self (chars name.now))) }
     {
         match self {
             Effect::Mark(_) => {}
@@ -231,10 +231,10 @@ impl Effect {
         requires begun { (base inside : List ℕ) × (length (encode_utf8_all base) ≡ start) ×
             (string_bytes out.old ≡ encode_utf8_all (base ++ inside)) }
         ensures { (base name inside : List ℕ) →
-            length (encode_utf8_all (base ++ made_before self name)) ≡ start →
-            string_bytes out.old ≡ encode_utf8_all ((base ++ made_before self name) ++ inside) →
+            length (encode_utf8_all (base ++ before_argument self name)) ≡ start →
+            string_bytes out.old ≡ encode_utf8_all ((base ++ before_argument self name) ++ inside) →
             OnOk result (string_bytes out.new ≡
-            encode_utf8_all (base ++ made self name inside)) }
+            encode_utf8_all (base ++ effect_text self name inside)) }
     {
         match self {
             Effect::Mark(mark) => mark_last(out, start, mark)?,

@@ -5,7 +5,7 @@ ghost use Rattle.std.specs.Str.{chars};
 ghost use Rattle.bib_chunks.specs.Styled.{Atom, styled};
 ghost use Rattle.bib_contents.specs.Arguments.{HasCommandName, IsArgumentBetween};
 ghost use Rattle.bib_contents.specs.ContentErrors.{ContentFails};
-ghost use Rattle.bib_contents.specs.Contents.{IsContent, IsUnread, unit_spelling, StaysBetween, saturated};
+ghost use Rattle.bib_contents.specs.Contents.{IsContent, IsUnread, unit_spelling, StaysBetween, saturate};
 ghost use Rattle.bib_syntax.specs.Errors.{out_of_memory};
 ghost use Rattle.bib_chunks.specs.Joined.{AreJoined, ArePlaced};
 ghost use Rattle.bib_contents.specs.Progress.{StaysPlaced, IsUntaken, Took, so_far};
@@ -14,7 +14,7 @@ ghost use Rattle.bib_contents.specs.UnitViews.{unit_of};
 use crate::arguments::write_applied;
 use crate::characters::Characters;
 use crate::ends::Ends;
-use crate::errors::{ended, unopened};
+use crate::errors::{closing_brace_error, early_end_error};
 use crate::growing::{OpenChunk, finish, finish_before_math, finish_chunk};
 use crate::plain::write_plain;
 use crate::units::{Unit, eat_unit};
@@ -46,7 +46,7 @@ fn take(
         IfErr result (StaysBetween (offset + span.start) (offset + span.end)) }
     ensures joined { OnOk result (AreJoined out.old → AreJoined out.new) }
     ensures placed { OnOk result (StaysPlaced out.old growing.old
-        (saturated (offset + span.start)) out.new growing.new (saturated (offset + span.end))) }
+        (saturate (offset + span.start)) out.new growing.new (saturate (offset + span.end))) }
 {
     let end = offset.saturating_add(span.start);
     let following = offset.saturating_add(span.end);
@@ -66,7 +66,7 @@ fn take(
         }
         Unit::Closing => {
             if growing.depth == 0 {
-                return Err(unopened(end, following));
+                return Err(closing_brace_error(end, following));
             }
             let depth = growing.depth - 1;
             finish_chunk(out, growing, end, depth, following)?;
@@ -94,7 +94,7 @@ pub fn contents(
         (styled out.new ≡ styled out.old ++ atoms)) }
     ensures joined { OnOk result (AreJoined out.old → AreJoined out.new) }
     ensures placed { OnOk result ((low : ℕ) → ArePlaced low offset out.old →
-        ArePlaced low (saturated (offset + length text.now)) out.new) }
+        ArePlaced low (saturate (offset + length text.now)) out.new) }
     ensures refused { IfErr result (λ e. (e ≡ out_of_memory) ⊎
         (IsUnread e.kind × ((atoms : List Atom) →
         IsContent is_verbatim (chars text.now) atoms → ⊥))) }
@@ -120,7 +120,7 @@ pub fn contents(
         }
         let start = s.cursor();
         let Some(unit) = eat_unit(&mut s, is_verbatim, &ends) else {
-            return Err(ended(end));
+            return Err(early_end_error(end));
         };
         take(out, &mut growing, alloc, unit, offset, start..s.cursor())?;
     }

@@ -7,7 +7,7 @@ ghost use Rattle.bib_syntax.specs.declared.raw.ParseErrorKind.TheVariants.{Unexp
 use bib_syntax::raw::{ParseError, ParseErrorKind, Token};
 
 // Returns the error of a closing brace that has no opening one.
-pub(crate) fn unopened(start: usize, end: usize) -> ParseError
+pub(crate) fn closing_brace_error(start: usize, end: usize) -> ParseError
     ensures kind { result.kind ≡ Unexpected ClosingBrace }
     ensures place { result.span ≡ record { start = start; end = end } }
 {
@@ -18,7 +18,7 @@ pub(crate) fn unopened(start: usize, end: usize) -> ParseError
 }
 
 // Returns the error of a text that ends too early, with an empty span at its end.
-pub(crate) fn ended(end: usize) -> ParseError
+pub(crate) fn early_end_error(end: usize) -> ParseError
     ensures kind { result.kind ≡ UnexpectedEof }
     ensures place { result.span ≡ record { start = end; end = end } }
 {

@@ -33,7 +33,7 @@ fn chunk_of(depth: usize, text: String) -> Chunk
 }
 
 // Shrinks the text if more than 15 bytes are unused. Fewer are left, since an allocator does not take them back.
-fn fitted(mut text: String) -> String
+fn shrink(mut text: String) -> String
     ensures { string_bytes result ≡ string_bytes text }
 {
     if text.capacity() > text.len() + 15 {
@@ -58,7 +58,7 @@ pub(crate) fn finish_chunk(
         growing.old.start ≤ end → ArePlaced low end out.new) }
 {
     let empty = String::new(*growing.text.allocator());
-    let text = fitted(std::mem::replace(&mut growing.text, empty));
+    let text = shrink(std::mem::replace(&mut growing.text, empty));
     append(
         out,
         Spanned::new(chunk_of(growing.depth, text), growing.start..end),

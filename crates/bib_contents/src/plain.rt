@@ -71,7 +71,7 @@ pub(crate) fn write_plain(
     ensures { OnOk result (Renders is_verbatim s.old s.new text.old text.new) }
 {
     'runs: loop {
-        text.push_str(s.eat_shown(is_verbatim))?;
+        text.push_str(s.eat_as_is(is_verbatim))?;
         if !write_run(text, s, is_verbatim)? {
             return Ok(());
         }

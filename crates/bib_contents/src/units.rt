@@ -103,7 +103,7 @@ fn search<'s>(s: &mut Characters<'s>) -> Option<Characters<'s>>
 }
 
 // Parses an argument after its opening brace. Searches for the closing one if its position isn't known.
-fn braced<'s>(s: &mut Characters<'s>, ends: &Ends) -> Option<Characters<'s>>
+fn argument_in_braces<'s>(s: &mut Characters<'s>, ends: &Ends) -> Option<Characters<'s>>
     requires known { AreKnown ends.now s.old.text }
     ensures same { s.new.text ≡ s.old.text }
     ensures found { MatchOption result
@@ -149,7 +149,7 @@ fn eat_argument<'s>(
             return Some(Found::Plain(Argument::Without));
         }
         s.eat();
-        let Some(inside) = braced(s, ends) else {
+        let Some(inside) = argument_in_braces(s, ends) else {
             return None;
         };
         return Some(Found::Braced(inside));

@@ -4,7 +4,7 @@ ghost use Rattle.std.specs.Prelude.{◌≡◌, ◌∷◌, [], ◌++◌, OnOk, So
 ghost use Rattle.std.specs.Str.{chars};
 ghost use Rattle.bib_chunks.specs.Formatted as formatted;
 ghost use Rattle.bib_chunks.specs.Writing.{Writes};
-ghost use Rattle.bib_contents.specs.Arguments.{laid, unit_written};
+ghost use Rattle.bib_contents.specs.Arguments.{flat_if, unit_written};
 ghost use Rattle.bib_contents.specs.Commands.{command_text};
 ghost use Rattle.bib_contents.specs.Contents.{dashes};
 ghost use Rattle.bib_contents.specs.UnitViews.{text_unit_of};
@@ -47,7 +47,7 @@ fn is_break(c: char) -> bool
 }
 
 // Returns the character that is written after a kept backslash: on one line a line break becomes a space.
-fn copied(c: char, is_flat: bool) -> char
+fn flat_character(c: char, is_flat: bool) -> char
     ensures { result ≡ (if is_flat then (if formatted.is_break c then 32 else c) else c) }
 {
     if is_flat && is_break(c) {
@@ -71,7 +71,7 @@ pub(crate) fn write_unit(
         TextUnit::Backslash => text.push('\\')?,
         TextUnit::Copied(c) => {
             text.push('\\')?;
-            text.push(copied(c, is_flat))?;
+            text.push(flat_character(c, is_flat))?;
         }
         TextUnit::Command(name, _, argument) => match argument {
             Argument::Without => write_alone(text, name)?,
@@ -85,7 +85,7 @@ pub(crate) fn write_unit(
 
 // Writes a text on one line.
 fn write_flat(text: &mut String, alloc: Global, part: &str) -> Result<(), AllocError>
-    ensures { OnOk result (Writes text.old text.new (laid true (chars part.now))) }
+    ensures { OnOk result (Writes text.old text.new (flat_if true (chars part.now))) }
 {
     let chunk = Chunk::Normal(Text::from_str(alloc, part)?);
     let chunks = [Spanned::new(chunk, 0..0)];
@@ -95,8 +95,13 @@ fn write_flat(text: &mut String, alloc: Global, part: &str) -> Result<(), AllocE
 }
 
 // Writes a text, on one line if `is_flat`, otherwise unchanged.
-fn write_laid(text: &mut String, alloc: Global, part: &str, is_flat: bool) -> Result<(), AllocError>
-    ensures { OnOk result (Writes text.old text.new (laid is_flat (chars part.now))) }
+fn write_flat_if(
+    text: &mut String,
+    alloc: Global,
+    part: &str,
+    is_flat: bool,
+) -> Result<(), AllocError>
+    ensures { OnOk result (Writes text.old text.new (flat_if is_flat (chars part.now))) }
 {
     if is_flat {
         return write_flat(text, alloc, part);
@@ -113,10 +118,10 @@ pub(crate) fn write_math(
     is_flat: bool,
 ) -> Result<(), AllocError>
     ensures { OnOk result (Writes text.old text.new
-        (char.dollar ∷ (laid is_flat (chars math.now) ++ char.dollar ∷ []))) }
+        (char.dollar ∷ (flat_if is_flat (chars math.now) ++ char.dollar ∷ []))) }
 {
     text.push('$')?;
-    write_laid(text, alloc, math, is_flat)?;
+    write_flat_if(text, alloc, math, is_flat)?;
     text.push('$')?;
     Ok(())
 }

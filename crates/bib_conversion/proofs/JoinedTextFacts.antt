@@ -21,7 +21,7 @@ use Rattle.bib_dates.specs.Parts.{after_run, begins_with, lies, run, sign, small
 use Rattle.bib_dates.specs.Readings.{Reading, ◌>>=◌, readable_value}
 use Rattle.bib_dates.specs.Readings.Reading.{says, error, unread}
 use Rattle.bib_dates.specs.ThreeFields.{after_gap, day_after, day_field, day_number, day_of, month_and_day, month_field, month_named, month_with_day, names, on_day, only_day, reported_day, three_fields_of, with_era, year_field}
-use Rattle.bib_dates.specs.Written.{datetime_text, padded}
+use Rattle.bib_dates.specs.Written.{datetime_text, with_zeros}
 use Rattle.bib_dates.proofs.Digits.{four, run_digits}
 use Rattle.bib_dates.proofs.DatesReread.{is_date_byte, is_side, text_survives, all_more, any_byte, any_none, both, date_plain, digit_bytes, no_slash, no_x}
 use Rattle.bib_dates.proofs.PartsReread.{Ends, IsNumber, after_hyphen, digits_plain, four_digits, hyphens_read, not_negative, nothing, number_reads, small_number_reads, two_digits, year_reads, within}
@@ -234,33 +234,33 @@ side_fails : (n m k : ℕ) → n < 10000 → m < 12 → k < 31 → days_in_month
 unfolding side after_year after_month
 side_fails n m k year month day past =
     let h = year_kept n year in
-    let is : IsNumber 2 (m + 1) (padded 2 (m + 1)) = two_digits (m + 1) (omega arith) in
-    let last : IsNumber 2 (k + 1) (padded 2 (k + 1)) = two_digits (k + 1) (omega arith) in
-    let tail = rw append-nil at (after_hyphen 2 (k + 1) (padded 2 (k + 1)) [] last refl) in
-    let ends = after_hyphen 2 (m + 1) (padded 2 (m + 1)) (45 ∷ padded 2 (k + 1)) is tail.plain in
+    let is : IsNumber 2 (m + 1) (with_zeros 2 (m + 1)) = two_digits (m + 1) (omega arith) in
+    let last : IsNumber 2 (k + 1) (with_zeros 2 (k + 1)) = two_digits (k + 1) (omega arith) in
+    let tail = rw append-nil at (after_hyphen 2 (k + 1) (with_zeros 2 (k + 1)) [] last refl) in
+    let ends = after_hyphen 2 (m + 1) (with_zeros 2 (m + 1)) (45 ∷ with_zeros 2 (k + 1)) is tail.plain in
     rw (
-      year_reads (pos n) (45 ∷ (padded 2 (m + 1) ++ (45 ∷ padded 2 (k + 1)))) h ends,
-      trim_start-plain (45 ∷ (padded 2 (m + 1) ++ (45 ∷ padded 2 (k + 1)))) ends.plain,
-      hyphens_read 2 (m + 1) (padded 2 (m + 1)) (45 ∷ padded 2 (k + 1)) (lit< tt) is tail,
-      small_number_reads 1 12 (m + 1) MonthOutOfRange (padded 2 (m + 1)) (45 ∷ padded 2 (k + 1))
+      year_reads (pos n) (45 ∷ (with_zeros 2 (m + 1) ++ (45 ∷ with_zeros 2 (k + 1)))) h ends,
+      trim_start-plain (45 ∷ (with_zeros 2 (m + 1) ++ (45 ∷ with_zeros 2 (k + 1)))) ends.plain,
+      hyphens_read 2 (m + 1) (with_zeros 2 (m + 1)) (45 ∷ with_zeros 2 (k + 1)) (lit< tt) is tail,
+      small_number_reads 1 12 (m + 1) MonthOutOfRange (with_zeros 2 (m + 1)) (45 ∷ with_zeros 2 (k + 1))
           (within 1 12 (m + 1) (omega arith) (omega arith)) is tail,
-      trim_start-plain (45 ∷ padded 2 (k + 1)) tail.plain,
-      rw append-nil at (hyphens_read 2 (k + 1) (padded 2 (k + 1)) [] (lit< tt) last nothing),
+      trim_start-plain (45 ∷ with_zeros 2 (k + 1)) tail.plain,
+      rw append-nil at (hyphens_read 2 (k + 1) (with_zeros 2 (k + 1)) [] (lit< tt) last nothing),
       rw append-nil at
-          (small_number_fails 1 (days_in_month (pos n) (m + 1)) (k + 1) DayOutOfRange (padded 2 (k + 1)) []
+          (small_number_fails 1 (days_in_month (pos n) (m + 1)) (k + 1) DayOutOfRange (with_zeros 2 (k + 1)) []
           (beyond 1 (days_in_month (pos n) (m + 1)) (k + 1) (omega arith)) last nothing),
     ) refl
 
 text_bytes : (n m k : ℕ) → n < 10000 → m < 12 → k < 31
     → list_all is_date_byte (datetime_text (datetime (pos n) (Some m) (Some k) None)) ≡ true
 text_bytes n m k year month day =
-    let y : IsNumber 4 n (padded 4 n) = four_digits n (omega arith) in
-    let is : IsNumber 2 (m + 1) (padded 2 (m + 1)) = two_digits (m + 1) (omega arith) in
-    let last : IsNumber 2 (k + 1) (padded 2 (k + 1)) = two_digits (k + 1) (omega arith) in
+    let y : IsNumber 4 n (with_zeros 4 n) = four_digits n (omega arith) in
+    let is : IsNumber 2 (m + 1) (with_zeros 2 (m + 1)) = two_digits (m + 1) (omega arith) in
+    let last : IsNumber 2 (k + 1) (with_zeros 2 (k + 1)) = two_digits (k + 1) (omega arith) in
     rw (not_negative n)
-    (both is_date_byte (padded 4 n) ((45 ∷ padded 2 (m + 1)) ++ (45 ∷ padded 2 (k + 1))) (digit_bytes (padded 4 n) y.digits)
-    (both is_date_byte (padded 2 (m + 1)) (45 ∷ padded 2 (k + 1)) (digit_bytes (padded 2 (m + 1)) is.digits)
-    (digit_bytes (padded 2 (k + 1)) last.digits)))
+    (both is_date_byte (with_zeros 4 n) ((45 ∷ with_zeros 2 (m + 1)) ++ (45 ∷ with_zeros 2 (k + 1))) (digit_bytes (with_zeros 4 n) y.digits)
+    (both is_date_byte (with_zeros 2 (m + 1)) (45 ∷ with_zeros 2 (k + 1)) (digit_bytes (with_zeros 2 (m + 1)) is.digits)
+    (digit_bytes (with_zeros 2 (k + 1)) last.digits)))
 
 value_fails : (text : List ℕ) (kind : TypeErrorKind) → list_all is_date_byte text ≡ true → side text ≡ error kind
     → date_value text ≡ error kind

@@ -16,7 +16,7 @@ use Rattle.bib_dates.specs.declared.date.Datetime.{Datetime}
 use Rattle.bib_dates.specs.Kept.{IsKeptDay, IsKeptDatetime, IsKeptValue, IsKeptDate}
 use Rattle.bib_dates.specs.Parts.{lies}
 use Rattle.bib_dates.specs.Dates.{datetime, side, is_open, range, holds, date_value, last, is_uncertain, is_approximate, marked_date, date_of}
-use Rattle.bib_dates.specs.Written.{padded, year_text, month_day_text, datetime_text, value_text, mark_text, date_text}
+use Rattle.bib_dates.specs.Written.{with_zeros, year_text, month_day_text, datetime_text, value_text, mark_text, date_text}
 use Rattle.bib_chunks.specs.Values.{text}
 use Rattle.bib_chunks.proofs.ValueFacts.{is_simple, simple_text}
 use Rattle.bib_dates.specs.Chunks.{date_read, date_written}
@@ -35,43 +35,50 @@ pub record IsSide (d : Datetime) (text : List ℕ) : Type 0 where
   pub long : 4 ≤ length text
   pub read : side text ≡ says d
 
+-- bytes that pass a test pass a weaker one
 pub all_more : (p q : ℕ → Bool) → ((b : ℕ) → p b ≡ true → q b ≡ true) → (xs : List ℕ) → list_all p xs ≡ true → list_all q xs ≡ true
 all_more p q f [] h = refl
 all_more p q f (x ∷ xs) h = let k = and_parts (p x) (list_all p xs) h in and_from _ _ (f x k.0) (all_more p q f xs k.1)
 
+-- if no byte that passes `p` passes `q`, bytes that all pass `p` contain none that passes `q`
 pub any_none : (p q : ℕ → Bool) → ((b : ℕ) → p b ≡ true → q b ≡ false) → (xs : List ℕ) → list_all p xs ≡ true → list_any q xs ≡ false
 any_none p q f [] h = refl
 any_none p q f (x ∷ xs) h = let k = and_parts (p x) (list_all p xs) h in rw (f x k.0) (any_none p q f xs k.1)
 
+-- digits are bytes of a date
 pub digit_bytes : (xs : List ℕ) → list_all is_ascii_digit xs ≡ true → list_all is_date_byte xs ≡ true
 digit_bytes xs h = all_more is_ascii_digit is_date_byte (λ b k. rw k refl) xs h
 
+-- if each byte of two texts passes a test, so does each byte of both together
 pub both : (p : ℕ → Bool) (xs ys : List ℕ) → list_all p xs ≡ true → list_all p ys ≡ true → list_all p (xs ++ ys) ≡ true
 both p xs ys h k = list_all-append p xs ys ∙ and_from _ _ h k
 
+-- a written month and day consist of digits and hyphens
 number_bytes : (y : ℤ) (m d : Option ℕ) → IsKeptDay y m d → list_all is_date_byte (month_day_text m d) ≡ true
 number_bytes y None d k = refl
 number_bytes y (Some m) None k =
-    let is : IsNumber 2 (m + 1) (padded 2 (m + 1)) = two_digits (m + 1) (omega arith) in
-    digit_bytes (padded 2 (m + 1)) is.digits
+    let is : IsNumber 2 (m + 1) (with_zeros 2 (m + 1)) = two_digits (m + 1) (omega arith) in
+    digit_bytes (with_zeros 2 (m + 1)) is.digits
 number_bytes y (Some m) (Some d) k =
     let few = month_short y (m + 1) in
-    let is : IsNumber 2 (m + 1) (padded 2 (m + 1)) = two_digits (m + 1) (omega (arith, k.0)) in
-    let day : IsNumber 2 (d + 1) (padded 2 (d + 1)) = two_digits (d + 1) (omega (arith, k.1)) in
-    both is_date_byte (padded 2 (m + 1)) (45 ∷ padded 2 (d + 1)) (digit_bytes (padded 2 (m + 1)) is.digits)
-    (digit_bytes (padded 2 (d + 1)) day.digits)
+    let is : IsNumber 2 (m + 1) (with_zeros 2 (m + 1)) = two_digits (m + 1) (omega (arith, k.0)) in
+    let day : IsNumber 2 (d + 1) (with_zeros 2 (d + 1)) = two_digits (d + 1) (omega (arith, k.1)) in
+    both is_date_byte (with_zeros 2 (m + 1)) (45 ∷ with_zeros 2 (d + 1)) (digit_bytes (with_zeros 2 (m + 1)) is.digits)
+    (digit_bytes (with_zeros 2 (d + 1)) day.digits)
 
+-- a written year consists of digits and hyphens, and has at least four bytes
 year_bytes : (y : ℤ) → IsYear y → (list_all is_date_byte (year_text y) ≡ true) × (4 ≤ length (year_text y))
 year_bytes (pos n) h =
-    let is : IsNumber 4 n (padded 4 n) = four_digits n (omega (arith, ints)) in
-    rw (not_negative n) (digit_bytes (padded 4 n) is.digits, omega (arith, is.size))
+    let is : IsNumber 4 n (with_zeros 4 n) = four_digits n (omega (arith, ints)) in
+    rw (not_negative n) (digit_bytes (with_zeros 4 n) is.digits, omega (arith, is.size))
 year_bytes (negsuc n) h =
-    let is : IsNumber 4 (suc n) (padded 4 (suc n)) = four_digits (suc n) (omega (arith, ints)) in
-    (digit_bytes (padded 4 (suc n)) is.digits, omega (arith, is.size))
+    let is : IsNumber 4 (suc n) (with_zeros 4 (suc n)) = four_digits (suc n) (omega (arith, ints)) in
+    (digit_bytes (with_zeros 4 (suc n)) is.digits, omega (arith, is.size))
 
 whole : (d : Datetime) → d.time ≡ None → datetime d.year d.month d.day None ≡ d
 whole d e = ap (λ t. record { year = d.year; month = d.month; day = d.day; time = t }) (sym e)
 
+-- the text of a kept date is the text of a side
 pub is_side : (d : Datetime) → IsKeptDatetime d → IsSide d (datetime_text d)
 is_side d kept =
     let year = year_bytes d.year kept.year in record {
@@ -82,12 +89,15 @@ is_side d kept =
 
 -- ---- sides
 
+-- a digit or a hyphen is a plain byte
 pub date_plain : (b : ℕ) → is_date_byte b ≡ true → is_plain b ≡ true
 date_plain b h = grind (arith, nat_tests)
 
+-- a digit or a hyphen is no slash
 pub no_slash : (b : ℕ) → is_date_byte b ≡ true → (b == 47) ≡ false
 no_slash b h = grind (arith, nat_tests)
 
+-- a digit or a hyphen is no `X`
 pub no_x : (b : ℕ) → is_date_byte b ≡ true → (b == 88) ≡ false
 no_x b h = grind (arith, nat_tests)
 
@@ -97,6 +107,7 @@ no_point b h = grind (arith, nat_tests)
 passes_slash : (b : ℕ) → is_date_byte b ≡ true → not (b == 47) ≡ true
 passes_slash b h = grind (arith, nat_tests)
 
+-- the text of a side is plain
 plain_side : (d : Datetime) (text : List ℕ) → IsSide d text → plain text ≡ true
 plain_side d text is = all_more is_date_byte is_plain date_plain text is.bytes
 
@@ -107,6 +118,7 @@ not_points (b ∷ text) h some = let k = and_parts (is_date_byte b) (list_all is
 some_long : (n : ℕ) → 4 ≤ n → (n == 0) ≡ false
 some_long n h = grind (arith, nat_tests)
 
+-- the text of a side isn't that of an open side
 closed : (d : Datetime) (text : List ℕ) → IsSide d text → is_open text ≡ false
 closed d text is =
     let h = plain_side d text is in
@@ -152,10 +164,12 @@ none_of p xs ys h k = list_any-append p xs ys ∙ rw h k
 one_of : (p : ℕ → Bool) (xs ys : List ℕ) → list_any p xs ≡ false → list_any p ys ≡ true → list_any p (xs ++ ys) ≡ true
 one_of p xs ys h k = list_any-append p xs ys ∙ rw h k
 
+-- the text of a side parses as one date
 at_reads : (d : Datetime) (text : List ℕ) → IsSide d text → date_value text ≡ says (At d)
 unfolding date_value
 at_reads d text is = rw (without_x text is.bytes, without_slash text is.bytes, is.read) refl
 
+-- the text of a side and `/..` parse as the range from it on
 after_reads : (d : Datetime) (text : List ℕ) → IsSide d text → date_value (text ++ codes "/..") ≡ says (After d)
 unfolding date_value range
 after_reads d text is = rw (
@@ -168,10 +182,12 @@ after_reads d text is = rw (
   points_open,
 ) refl
 
+-- `../` and the text of a side parse as the range up to it
 before_reads : (d : Datetime) (text : List ℕ) → IsSide d text → date_value (codes "../" ++ text) ≡ says (Before d)
 unfolding date_value range
 before_reads d text is = rw (without_x text is.bytes, points_open, closed d text is, is.read) refl
 
+-- the texts of two sides with a slash between them parse as the range
 between_reads : (d e : Datetime) (text other : List ℕ) → IsSide d text → IsSide e other
     → date_value (text ++ (47 ∷ other)) ≡ says (Between d e)
 unfolding date_value range
@@ -188,6 +204,7 @@ between_reads d e text other is too = rw (
 
 -- ---- the mark
 
+-- a digit, a hyphen, a slash or a point
 abbrev pub is_value_byte : ℕ → Bool
 is_value_byte b = is_date_byte b || lies 46 47 b
 
@@ -199,6 +216,7 @@ pub record IsValue (v : DateValue) (text : List ℕ) : Type 0 where
 value_bytes : (d : Datetime) (text : List ℕ) → IsSide d text → list_all is_value_byte text ≡ true
 value_bytes d text is = all_more is_date_byte is_value_byte (λ b k. rw k refl) text is.bytes
 
+-- the text of a kept date or range is such a text
 pub is_value : (v : DateValue) → IsKeptValue v → IsValue v (value_text v [])
 is_value (At d) k =
     let is = is_side d k in
@@ -221,6 +239,7 @@ is_value (Between a b) k =
       read = between_reads a b (datetime_text a) (datetime_text b) is too;
     })
 
+-- the text of a date or a range ends with its mark
 mark_after : (v : DateValue) (mark : List ℕ) → value_text v mark ≡ value_text v [] ++ mark
 mark_after (At d) mark = rw append-nil refl
 mark_after (After d) mark = sym (append_assoc (datetime_text d) (codes "/..") mark)
@@ -244,6 +263,7 @@ not_uncertain b h = grind (arith, nat_tests)
 not_approximate : (b : ℕ) → (is_value_byte b || b == 0) ≡ true → is_approximate b ≡ false
 not_approximate b h = grind (arith, nat_tests)
 
+-- the last byte of such a text is no mark
 last_bare : (text : List ℕ) → list_all is_value_byte text ≡ true → (is_uncertain (last text) ≡ false) × (is_approximate (last text) ≡ false)
 last_bare text h =
     let k =
@@ -251,18 +271,22 @@ last_bare text h =
     (all_more is_value_byte (λ b. is_value_byte b || b == 0) (λ b q. rw q refl) text h) (length text - 1) in
     (not_uncertain (last text) k, not_approximate (last text) k)
 
+-- a date or a range with these marks
 abbrev date : DateValue → Bool → Bool → Date
 date v u a = record { value = v; uncertain = u; approximate = a }
 
+-- a text without a mark parses as a date without one
 marked_bare : (v : DateValue) (text : List ℕ) → IsValue v text → marked_date text ≡ says (date v false false)
 unfolding marked_date
 marked_bare v text is = let bare = last_bare text is.bytes in rw (bare.0, bare.1, is.read) refl
 
+-- a text with a mark parses as the date with it
 marked_by : (v : DateValue) (text : List ℕ) (c : ℕ) → IsValue v text → (is_uncertain c || is_approximate c) ≡ true
     → marked_date (text ++ (c ∷ [])) ≡ says (date v (is_uncertain c) (is_approximate c))
 unfolding marked_date
 marked_by v text c is h = rw (last_is text c, h, prefix_is text c, is.read) refl
 
+-- a text with a mark or none parses as the date with it
 marked_reads : (v : DateValue) (text : List ℕ) (u a : Bool) → IsValue v text → marked_date (text ++ mark_text u a) ≡ says (date v u a)
 marked_reads v text true true is = marked_by v text 37 is refl
 marked_reads v text true false is = marked_by v text 63 is refl
@@ -278,6 +302,7 @@ mark_plain true false = refl
 mark_plain false true = refl
 mark_plain false false = refl
 
+-- the text of a kept date is plain
 written_is_plain : (d : Date) → IsKeptDate d → plain (date_text d) ≡ true
 written_is_plain d kept =
     let is = is_value d.value kept in

@@ -21,7 +21,7 @@ use Rattle.bib_dates.proofs.PlainTexts.{is_plain, plain, trim_start-plain}
 use Rattle.bib_dates.specs.Parts.{run, after_run, lies, number, small_number, begins_with, after_hyphens, sign, year}
 use Rattle.bib_dates.specs.Times.{after_day}
 use Rattle.bib_dates.specs.Dates.{datetime, after_month, after_year, side}
-use Rattle.bib_dates.specs.Written.{zeros, padded, year_text, datetime_text}
+use Rattle.bib_dates.specs.Written.{zeros, with_zeros, year_text, datetime_text}
 use Rattle.bib_dates.specs.Readings.Reading.{says}
 
 is_digit : (d : ℕ) → digit_value d < 10 → is_ascii_digit d ≡ true
@@ -39,13 +39,13 @@ zeros_value : (k : ℕ) (ds : List ℕ) → digits_value 10 (replicate k 48 ++ d
 zeros_value zero ds = refl
 zeros_value (suc k) ds = zeros_value k ds
 
--- a padded number: `width` digits with this value
+-- a text of `width` digits with the value `n`
 pub record IsNumber (width n : ℕ) (text : List ℕ) : Type 0 where
   pub digits : list_all is_ascii_digit text ≡ true
   pub size : length text ≡ width
   pub value : digits_value 10 text ≡ n
 
-pub padded_number : (width n : ℕ) → 0 < width → n < 10 ^ width → n < 2 ^ 64 → IsNumber width n (padded width n)
+pub padded_number : (width n : ℕ) → 0 < width → n < 10 ^ width → n < 2 ^ 64 → IsNumber width n (with_zeros width n)
 padded_number width n some small fits =
     let numeral = decimal_is_IsNumeral n fits in
     let short : length (decimal n) ≤ width = length-decimal-le width n some small fits in record {
@@ -56,7 +56,7 @@ padded_number width n some small fits =
       value = zeros_value (width - length (decimal n)) (decimal n) ∙ numeral.1;
     }
 
--- the text after a number doesn't begin with a digit
+-- the text after a number: a plain one that doesn't begin with a digit
 pub record Ends (rest : List ℕ) : Type 0 where
   pub plain : plain rest ≡ true
   pub no_digit : prefix_len is_ascii_digit rest ≡ 0
@@ -91,6 +91,7 @@ following width n xs rest is ends =
 starts_plain : (width n : ℕ) (xs rest : List ℕ) → IsNumber width n xs → Ends rest → trim_start (xs ++ rest) ≡ xs ++ rest
 starts_plain width n xs rest is ends = trim_start-plain (xs ++ rest) (plain-append xs rest (digits_plain xs is.digits) ends.plain)
 
+-- a number of an allowed width is parsed, up to the text after it
 pub number_reads : (low high width n : ℕ) (xs rest : List ℕ) → lies low high width ≡ true → IsNumber width n xs
     → Ends rest → number low high (xs ++ rest) ≡ says (n, rest)
 unfolding number
@@ -104,6 +105,7 @@ number_reads low high width n xs rest fits is ends =
       is.value,
     ) refl
 
+-- a number of two digits within the bounds is parsed as it
 pub small_number_reads : (low high n : ℕ) (kind : TypeErrorKind) (xs rest : List ℕ) → lies low high n ≡ true
     → IsNumber 2 n xs → Ends rest → small_number low high kind (xs ++ rest) ≡ says (n, rest)
 unfolding small_number
@@ -132,6 +134,7 @@ year_digits n xs rest is ends =
       is.value,
     ) refl
 
+-- four digits after a minus are parsed as a negative year
 year_minus : (n : ℕ) (xs rest : List ℕ) → IsNumber 4 n xs → Ends rest → year (45 ∷ (xs ++ rest)) ≡ says (neg_ℤ (pos n), rest)
 unfolding year sign
 year_minus n xs rest is ends =
@@ -145,18 +148,22 @@ year_minus n xs rest is ends =
       is.value,
     ) refl
 
-pub four_digits : (n : ℕ) → n ≤ 9999 → IsNumber 4 n (padded 4 n)
+-- a number up to 9,999 has four digits with zeros before it
+pub four_digits : (n : ℕ) → n ≤ 9999 → IsNumber 4 n (with_zeros 4 n)
 four_digits n h = padded_number 4 n (lit< tt) (omega arith) (omega arith)
 
-pub two_digits : (n : ℕ) → n < 100 → IsNumber 2 n (padded 2 n)
+-- a number below 100 has two digits with zeros before it
+pub two_digits : (n : ℕ) → n < 100 → IsNumber 2 n (with_zeros 2 n)
 two_digits n h = padded_number 2 n (lit< tt) (omega arith) (omega arith)
 
+-- a natural number isn't negative
 pub not_negative : (n : ℕ) → is_negative (pos n) ≡ false
 not_negative n = grind (arith, nat_tests)
 
+-- a written year is parsed as it
 pub year_reads : (y : ℤ) (rest : List ℕ) → IsYear y → Ends rest → year (year_text y ++ rest) ≡ says (y, rest)
-year_reads (pos n) rest h ends = rw (not_negative n) (year_digits n (padded 4 n) rest (four_digits n (omega (arith, ints))) ends)
-year_reads (negsuc n) rest h ends = year_minus (suc n) (padded 4 (suc n)) rest (four_digits (suc n) (omega (arith, ints))) ends
+year_reads (pos n) rest h ends = rw (not_negative n) (year_digits n (with_zeros 4 n) rest (four_digits n (omega (arith, ints))) ends)
+year_reads (negsuc n) rest h ends = year_minus (suc n) (with_zeros 4 (suc n)) rest (four_digits (suc n) (omega (arith, ints))) ends
 
 no_hyphen : (xs rest : List ℕ) → list_all is_ascii_digit xs ≡ true → 0 < length xs → prefix_len (λ b. b == 45) (xs ++ rest) ≡ 0
 no_hyphen [] rest h some = absurd (omega arith)
@@ -164,6 +171,7 @@ no_hyphen (x ∷ xs) rest h some =
     let p = and_parts _ _ h in
     let e : (x == 45) ≡ false = ne_eqb x 45 (λ e. let q : is_ascii_digit 45 ≡ true = ap is_ascii_digit (sym e) ∙ p.0 in cc) in rw e refl
 
+-- after a hyphen the number is left
 pub hyphens_read : (width n : ℕ) (xs rest : List ℕ) → 0 < width → IsNumber width n xs → Ends rest
     → after_hyphens (45 ∷ (xs ++ rest)) ≡ says (xs ++ rest)
 unfolding after_hyphens
@@ -180,50 +188,53 @@ nothing = record { plain = refl; no_digit = refl }
 pub after_hyphen : (width n : ℕ) (xs rest : List ℕ) → IsNumber width n xs → plain rest ≡ true → Ends (45 ∷ (xs ++ rest))
 after_hyphen width n xs rest is h = record { plain = plain-append xs rest (digits_plain xs is.digits) h; no_digit = refl }
 
+-- a month has at most 31 days
 pub month_short : (y : ℤ) (m : ℕ) → days_in_month y m ≤ 31
 month_short y m = grind (arith, nat_tests)
 
 one_less : (n : ℕ) → n + 1 - 1 ≡ n
 one_less n = omega arith
 
+-- a number between two bounds passes the test
 pub within : (low high n : ℕ) → low ≤ n → n ≤ high → lies low high n ≡ true
 within low high n h k = grind (arith, nat_tests)
 
+-- a written date without a time parses as a side
 pub side_reads : (y : ℤ) (m d : Option ℕ) → IsYear y → IsKeptDay y m d
     → side (datetime_text (datetime y m d None)) ≡ says (datetime y m d None)
 unfolding side after_year after_month after_day
 side_reads y None None h k = rw (year_reads y [] h nothing, trim_start-plain [] refl) refl
 side_reads y None (Some d) h k = absurd k
 side_reads y (Some m) None h k =
-    let p = padded 2 (m + 1) in
-    let is : IsNumber 2 (m + 1) (padded 2 (m + 1)) = two_digits (m + 1) (omega arith) in
-    let ends = rw append-nil at (after_hyphen 2 (m + 1) (padded 2 (m + 1)) [] is refl) in
+    let p = with_zeros 2 (m + 1) in
+    let is : IsNumber 2 (m + 1) (with_zeros 2 (m + 1)) = two_digits (m + 1) (omega arith) in
+    let ends = rw append-nil at (after_hyphen 2 (m + 1) (with_zeros 2 (m + 1)) [] is refl) in
     rw (
-      year_reads y (45 ∷ padded 2 (m + 1)) h ends,
-      trim_start-plain (45 ∷ padded 2 (m + 1)) ends.plain,
-      rw append-nil at (hyphens_read 2 (m + 1) (padded 2 (m + 1)) [] (lit< tt) is nothing),
+      year_reads y (45 ∷ with_zeros 2 (m + 1)) h ends,
+      trim_start-plain (45 ∷ with_zeros 2 (m + 1)) ends.plain,
+      rw append-nil at (hyphens_read 2 (m + 1) (with_zeros 2 (m + 1)) [] (lit< tt) is nothing),
       rw append-nil at
-          (small_number_reads 1 12 (m + 1) MonthOutOfRange (padded 2 (m + 1)) []
+          (small_number_reads 1 12 (m + 1) MonthOutOfRange (with_zeros 2 (m + 1)) []
           (within 1 12 (m + 1) (omega arith) (omega arith)) is nothing),
       trim_start-plain [] refl,
       one_less m,
     ) refl
 side_reads y (Some m) (Some d) h k =
     let few = month_short y (m + 1) in
-    let is : IsNumber 2 (m + 1) (padded 2 (m + 1)) = two_digits (m + 1) (omega (arith, k.0)) in
-    let day : IsNumber 2 (d + 1) (padded 2 (d + 1)) = two_digits (d + 1) (omega (arith, k.1)) in
-    let tail = rw append-nil at (after_hyphen 2 (d + 1) (padded 2 (d + 1)) [] day refl) in
-    let ends = after_hyphen 2 (m + 1) (padded 2 (m + 1)) (45 ∷ padded 2 (d + 1)) is tail.plain in
+    let is : IsNumber 2 (m + 1) (with_zeros 2 (m + 1)) = two_digits (m + 1) (omega (arith, k.0)) in
+    let day : IsNumber 2 (d + 1) (with_zeros 2 (d + 1)) = two_digits (d + 1) (omega (arith, k.1)) in
+    let tail = rw append-nil at (after_hyphen 2 (d + 1) (with_zeros 2 (d + 1)) [] day refl) in
+    let ends = after_hyphen 2 (m + 1) (with_zeros 2 (m + 1)) (45 ∷ with_zeros 2 (d + 1)) is tail.plain in
     rw (
-      year_reads y (45 ∷ (padded 2 (m + 1) ++ (45 ∷ padded 2 (d + 1)))) h ends,
-      trim_start-plain (45 ∷ (padded 2 (m + 1) ++ (45 ∷ padded 2 (d + 1)))) ends.plain,
-      hyphens_read 2 (m + 1) (padded 2 (m + 1)) (45 ∷ padded 2 (d + 1)) (lit< tt) is tail,
-      small_number_reads 1 12 (m + 1) MonthOutOfRange (padded 2 (m + 1)) (45 ∷ padded 2 (d + 1))
+      year_reads y (45 ∷ (with_zeros 2 (m + 1) ++ (45 ∷ with_zeros 2 (d + 1)))) h ends,
+      trim_start-plain (45 ∷ (with_zeros 2 (m + 1) ++ (45 ∷ with_zeros 2 (d + 1)))) ends.plain,
+      hyphens_read 2 (m + 1) (with_zeros 2 (m + 1)) (45 ∷ with_zeros 2 (d + 1)) (lit< tt) is tail,
+      small_number_reads 1 12 (m + 1) MonthOutOfRange (with_zeros 2 (m + 1)) (45 ∷ with_zeros 2 (d + 1))
           (within 1 12 (m + 1) (omega arith) (omega (arith, k.0))) is tail,
-      trim_start-plain (45 ∷ padded 2 (d + 1)) tail.plain,
-      rw append-nil at (hyphens_read 2 (d + 1) (padded 2 (d + 1)) [] (lit< tt) day nothing),
+      trim_start-plain (45 ∷ with_zeros 2 (d + 1)) tail.plain,
+      rw append-nil at (hyphens_read 2 (d + 1) (with_zeros 2 (d + 1)) [] (lit< tt) day nothing),
       rw append-nil at
-          (small_number_reads 1 (days_in_month y (m + 1)) (d + 1) DayOutOfRange (padded 2 (d + 1)) []
+          (small_number_reads 1 (days_in_month y (m + 1)) (d + 1) DayOutOfRange (with_zeros 2 (d + 1)) []
           (within 1 (days_in_month y (m + 1)) (d + 1) (omega arith) (omega (arith, k.1))) day nothing),
       trim_start-plain [] refl,
       one_less m,

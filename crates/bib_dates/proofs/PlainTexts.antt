@@ -14,6 +14,7 @@ use Rattle.bib_dates.specs.Parts.{lies}
 abbrev pub is_plain : ℕ → Bool
 is_plain b = lies 33 96 b || b == 126
 
+-- whether a text consists of such bytes
 abbrev pub plain : List ℕ → Bool
 plain text = list_all is_plain text
 
@@ -41,14 +42,17 @@ drop_none : (text : List ℕ) → plain text ≡ true → drop_trailing_whitespa
 drop_none [] h = refl
 drop_none (b ∷ text) h = let p = and_parts _ _ h in rw (plain_dark b p.0) (ap (λ t. b ∷ t) (drop_none text p.1))
 
+-- trimming the start of a plain text leaves it unchanged
 pub trim_start-plain : (text : List ℕ) → plain text ≡ true → trim_start text ≡ text
 unfolding trim_start
 trim_start-plain text h = rw (chars-IsAscii text (ascii text h), skip_none text h) (encodes-IsAscii text (ascii text h))
 
+-- trimming the end of a plain text leaves it unchanged
 pub trim_end-plain : (text : List ℕ) → plain text ≡ true → trim_end text ≡ text
 unfolding trim_end
 trim_end-plain text h = rw (chars-IsAscii text (ascii text h), drop_none text h) (encodes-IsAscii text (ascii text h))
 
+-- putting a plain text in upper case leaves it unchanged
 pub capitals-plain : (text : List ℕ) → plain text ≡ true → str_to_ascii_uppercase text ≡ text
 capitals-plain [] h = refl
 capitals-plain (b ∷ text) h = let p = and_parts _ _ h in rw (plain_capital b p.0) (ap (λ t. b ∷ t) (capitals-plain text p.1))

@@ -28,10 +28,10 @@ reading (Err (Specified reason)) = error (error_kind_of reason)
 reading (Err (Unspecified reason)) = unread
 
 -- the same for a part, with the rest of the text
-abbrev pub parsed : {A : Type 0} → Result (A × Bor (List ℕ)) ReadError → Parsed A
-parsed (Ok p) = says (p.0, p.1.now)
-parsed (Err (Specified reason)) = error (error_kind_of reason)
-parsed (Err (Unspecified reason)) = unread
+abbrev pub part_reading : {A : Type 0} → Result (A × Bor (List ℕ)) ReadError → Parsed A
+part_reading (Ok p) = says (p.0, p.1.now)
+part_reading (Err (Specified reason)) = error (error_kind_of reason)
+part_reading (Err (Unspecified reason)) = unread
 
 -- the same for the rest of a text only
 abbrev pub rest : Result (Bor (List ℕ)) ReadError → Reading (List ℕ)

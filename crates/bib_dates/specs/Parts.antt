@@ -63,8 +63,8 @@ sign text =
     then (false, drop 1 text) else (false, text)
 
 -- a number with its sign
-abbrev pub signed : Bool → ℕ → ℤ
-signed is_minus n = if is_minus then neg_ℤ (pos n) else pos n
+abbrev pub with_sign : Bool → ℕ → ℤ
+with_sign is_minus n = if is_minus then neg_ℤ (pos n) else pos n
 
 -- the year for a signed number of two digits: 2000 is added to one below 50, 1900 to others
 abbrev pub of_century : ℤ → ℤ
@@ -75,6 +75,6 @@ unfoldable pub year : List ℕ → Parsed ℤ
 year text =
     let here = sign (trim_start text) in
     let digits = trim_start here.1 in
-    let y = signed here.0 (digits_value 10 (run is_ascii_digit digits)) in
+    let y = with_sign here.0 (digits_value 10 (run is_ascii_digit digits)) in
     if prefix_len is_ascii_digit digits == 2 then says (of_century y, after_run is_ascii_digit digits)
     else if prefix_len is_ascii_digit digits == 4 then says (y, after_run is_ascii_digit digits) else unread

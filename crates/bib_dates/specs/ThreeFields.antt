@@ -16,7 +16,7 @@ use Rattle.bib_text.specs.Runs.{rest_after}
 use Rattle.bib_tables.specs.declared.type_error.TypeErrorKind.TheVariants.{DayOutOfRange, MonthOutOfRange, InvalidFormat, YearZeroCE}
 use Rattle.bib_dates.specs.Readings.{Reading, ◌>>=◌, Parsed}
 use Rattle.bib_dates.specs.Readings.Reading.{says, error, unread}
-use Rattle.bib_dates.specs.Parts.{run, after_run, lies, begins_with, sign, signed}
+use Rattle.bib_dates.specs.Parts.{run, after_run, lies, begins_with, sign, with_sign}
 use Rattle.bib_dates.specs.Dates.{datetime}
 use Rattle.bib_text.specs.Characters as char
 
@@ -60,7 +60,7 @@ with_era has_sign is_minus n text =
     else if stands (codes "CE") text then of_era has_sign n (pos n) (after_word (codes "CE") text)
     else if stands (codes "BCE") text then of_era has_sign n (pos 1 -ℤ pos n) (after_word (codes "BCE") text)
     else if stands (codes "BC") text then of_era has_sign n (pos 1 -ℤ pos n) (after_word (codes "BC") text)
-    else says (signed is_minus n)
+    else says (with_sign is_minus n)
 
 -- the year field: an optional sign, one to four digits, and an optional era
 unfoldable pub year_field : List ℕ → Reading ℤ

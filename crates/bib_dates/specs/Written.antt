@@ -15,16 +15,16 @@ abbrev pub zeros : ℕ → ℕ → List ℕ
 zeros width n = replicate (width - length (decimal n)) char.zero
 
 -- a number in at least so many digits
-abbrev pub padded : ℕ → ℕ → List ℕ
-padded width n = zeros width n ++ decimal n
+abbrev pub with_zeros : ℕ → ℕ → List ℕ
+with_zeros width n = zeros width n ++ decimal n
 
 -- a year in at least four digits, with a sign if it is negative
 abbrev pub year_text : ℤ → List ℕ
-year_text y = if is_negative y then char.hyphen ∷ padded 4 (unsigned_abs y) else padded 4 (unsigned_abs y)
+year_text y = if is_negative y then char.hyphen ∷ with_zeros 4 (unsigned_abs y) else with_zeros 4 (unsigned_abs y)
 
 -- a month or a day, which counts from 0, as its number from 1 in at least two digits
 abbrev pub count_text : ℕ → List ℕ
-count_text n = padded 2 (n + 1)
+count_text n = with_zeros 2 (n + 1)
 
 -- a month and a day, each after a hyphen; a day without a month isn't written
 abbrev pub month_day_text : Option ℕ → Option ℕ → List ℕ

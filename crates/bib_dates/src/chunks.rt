@@ -21,7 +21,7 @@ ghost use Rattle.bib_dates.specs.Chunks.{
 use crate::date::{Date, DateValue, Datetime};
 use crate::errors::{ReadError, UnspecifiedKind};
 use crate::fields::{day_after, day_field, day_place, month_field, year_field};
-use crate::read::marked;
+use crate::read::marked_date;
 use crate::write;
 use bib_chunks::chunk::making::normal;
 use bib_chunks::chunk::{Chunks, ChunksRef, Span, format_verbatim, whole_span};
@@ -29,7 +29,7 @@ use bib_tables::type_error::TypeError;
 use std::alloc::{AllocError, Global};
 
 // Returns the parsed value, or its error with this span.
-fn found<T: Drop>(read: Result<T, ReadError>, span: Span) -> Result<T, TypeError>
+fn with_span<T: Drop>(read: Result<T, ReadError>, span: Span) -> Result<T, TypeError>
     ensures reads { AnswersReading (reading read) result }
     ensures place { LiesAt span result }
 {
@@ -61,7 +61,7 @@ impl Date {
     {
         let mut text = format_verbatim(alloc, chunks)?;
         text.make_ascii_uppercase();
-        found(marked(text.as_str().trim_end()), whole_span(chunks))
+        with_span(marked_date(text.as_str().trim_end()), whole_span(chunks))
     }
 
     /// Parses the formatted texts of a year, a month and a day as a date. An era may come after the year, and the month
@@ -106,7 +106,7 @@ fn year_of(alloc: Global, chunks: ChunksRef<'_>) -> Result<i32, TypeError>
     ensures place { LiesAt (Styled.whole_span chunks.now) result }
 {
     let text = format_verbatim(alloc, chunks)?;
-    found(year_field(text.as_str()), whole_span(chunks))
+    with_span(year_field(text.as_str()), whole_span(chunks))
 }
 
 // Parses the day field.
@@ -121,7 +121,7 @@ fn day_of(alloc: Global, chunks: ChunksRef<'_>) -> Result<Option<u8>, TypeError>
     } else {
         UnspecifiedKind::MissingNumber
     };
-    found(day_field(text.as_str(), reason), span)
+    with_span(day_field(text.as_str(), reason), span)
 }
 
 // Parses the month field, and the day field or, without one, the day after the month.
@@ -135,9 +135,9 @@ fn month_and_day_of(
     ensures place { LiesAt (month_error_place month.now (option_copied day.entry)) result }
 {
     let text = format_verbatim(alloc, month)?;
-    let (number, following) = found(month_field(text.as_str()), whole_span(month))?;
+    let (number, following) = with_span(month_field(text.as_str()), whole_span(month))?;
     let Some(day) = day else {
-        let day = found(day_after(following), day_place(text.as_str(), following))?;
+        let day = with_span(day_after(following), day_place(text.as_str(), following))?;
         return Ok((number, day));
     };
     let day = day_of(alloc, day)?;

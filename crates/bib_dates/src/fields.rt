@@ -4,13 +4,13 @@ ghost use Rattle.std.specs.Prelude.{◌≡◌, ◌<◌, ◌&&◌, ◌==◌, not,
 ghost use Rattle.std.specs.List.{prefix_len};
 ghost use Rattle.std.specs.Char.{is_ascii_alphabetic};
 ghost use Rattle.std.specs.Str.Parse.{AllDigits, digits_value};
-ghost use Rattle.bib_dates.specs.Code.{reading, parsed};
+ghost use Rattle.bib_dates.specs.Code.{reading, part_reading};
 ghost use Rattle.bib_dates.specs.Parts;
 ghost use Rattle.bib_dates.specs.Readings.Reading.{says};
 ghost use Rattle.bib_dates.specs.ThreeFields as Spec;
 
 use crate::errors::{ReadError, SpecifiedKind, UnspecifiedKind};
-use crate::parts::{after, digits, sign, signed, value};
+use crate::parts::{after, digits, sign, value, with_sign};
 use bib_chunks::chunk::Span;
 use bib_text::scanner::Scanner;
 
@@ -88,7 +88,7 @@ fn with_era(has_sign: bool, is_minus: bool, n: u16, text: &str) -> Result<i32, R
     if let Some(following) = after_two(text, b'B', b'C') {
         return of_era(has_sign, n, 1 - i32::from(n), following);
     }
-    Ok(signed(is_minus, n))
+    Ok(with_sign(is_minus, n))
 }
 
 // Parses the year field.
@@ -179,7 +179,7 @@ fn named_month(text: &str) -> (Option<u8>, &str)
 // Parses the month field, and returns the month and the text after it.
 #[tactic(auto, unfolding(crate::specs::ThreeFields::month_field))]
 pub(crate) fn month_field(text: &str) -> Result<(Option<u8>, &str), ReadError>
-    ensures { parsed result ≡ Spec.month_field text.now }
+    ensures { part_reading result ≡ Spec.month_field text.now }
 {
     let (digits, following) = digits(text.trim_start());
     if digits.len() < 1 || 2 < digits.len() {

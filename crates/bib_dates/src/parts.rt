@@ -5,7 +5,7 @@ ghost use Rattle.std.specs.List.{prefix_len};
 ghost use Rattle.std.specs.Char.{is_ascii_digit};
 ghost use Rattle.std.specs.Str.Parse.{digits_value, AllDigits};
 ghost use Rattle.jiff_core.specs.Calendar.{IsYear};
-ghost use Rattle.bib_dates.specs.Code.{parsed, rest, error_kind_of};
+ghost use Rattle.bib_dates.specs.Code.{part_reading, rest, error_kind_of};
 ghost use Rattle.bib_dates.specs.Parts as Spec;
 
 use crate::errors::{ReadError, SpecifiedKind, UnspecifiedKind};
@@ -85,7 +85,7 @@ pub(crate) fn number(
 ) -> Result<(u16, &str), ReadError>
     requires some { 0 < low }
     requires few { high ≤ 4 }
-    ensures value { parsed result ≡ Spec.number low high text.now }
+    ensures value { part_reading result ≡ Spec.number low high text.now }
     ensures short { high ≤ 2 → IfOk result (λ p. p.0 < 100) }
 {
     let (digits, following) = digits(text.trim_start());
@@ -103,7 +103,7 @@ pub(crate) fn small_number(
     reason: SpecifiedKind,
     text: &str,
 ) -> Result<(u8, &str), ReadError>
-    ensures value { parsed result ≡ Spec.small_number low high (error_kind_of reason) text.now }
+    ensures value { part_reading result ≡ Spec.small_number low high (error_kind_of reason) text.now }
     ensures within { IfOk result (λ p. (low ≤ p.0) × (p.0 ≤ high)) }
 {
     let (n, following) = number(1, 2, UnspecifiedKind::InvalidFormat, text)?;
@@ -171,7 +171,7 @@ fn of_century(year: i32) -> i32
 // Parses a year of two or four digits, with an optional sign.
 #[tactic(auto, unfolding(crate::specs::Parts::year))]
 pub(crate) fn year(text: &str) -> Result<(i32, &str), ReadError>
-    ensures value { parsed result ≡ Spec.year text.now }
+    ensures value { part_reading result ≡ Spec.year text.now }
     ensures within { IfOk result (λ p. IsYear p.0) }
 {
     let (is_minus, following) = sign(text.trim_start());
@@ -179,7 +179,7 @@ pub(crate) fn year(text: &str) -> Result<(i32, &str), ReadError>
     if digits.len() != 2 && digits.len() != 4 {
         return Err(ReadError::Unspecified(UnspecifiedKind::InvalidFormat));
     }
-    let year = signed(is_minus, value(digits));
+    let year = with_sign(is_minus, value(digits));
     if digits.len() == 2 {
         return Ok((of_century(year), following));
     }
@@ -187,9 +187,9 @@ pub(crate) fn year(text: &str) -> Result<(i32, &str), ReadError>
 }
 
 // Returns the number with its sign.
-pub(crate) fn signed(is_minus: bool, n: u16) -> i32
+pub(crate) fn with_sign(is_minus: bool, n: u16) -> i32
     requires { n < 10000 }
-    ensures value { result ≡ Spec.signed is_minus n }
+    ensures value { result ≡ Spec.with_sign is_minus n }
     ensures within { IsYear result }
     ensures low { n < 100 → neg_ℤ (pos 99) ≤ℤ result }
     ensures high { n < 100 → result ≤ℤ pos 99 }

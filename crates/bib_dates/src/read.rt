@@ -5,7 +5,7 @@ ghost use Rattle.std.specs.List.{before_first, after_first};
 ghost use Rattle.bib_text.specs.Characters as char;
 ghost use Rattle.jiff_core.specs.Calendar.{IsDate, IsYear, days_in_month};
 ghost use Rattle.bib_tables.specs.declared.type_error.TypeErrorKind.TheVariants.{DayOutOfRange};
-ghost use Rattle.bib_dates.specs.Code.{reading, parsed};
+ghost use Rattle.bib_dates.specs.Code.{reading, part_reading};
 ghost use Rattle.bib_dates.specs.Parts;
 ghost use Rattle.bib_dates.specs.Dates as Spec;
 
@@ -36,7 +36,7 @@ fn day(year: i32, month: u8, text: &str) -> Result<(u8, &str), ReadError>
     requires year { IsYear year }
     requires low { 1 ≤ month }
     requires high { month ≤ 12 }
-    ensures value { parsed result ≡ Parts.small_number 1 (days_in_month year month) DayOutOfRange text.now }
+    ensures value { part_reading result ≡ Parts.small_number 1 (days_in_month year month) DayOutOfRange text.now }
     ensures some { IfOk result (λ p. 1 ≤ p.0) }
 {
     let (n, following) = number(1, 2, UnspecifiedKind::InvalidFormat, text)?;
@@ -338,7 +338,7 @@ fn without_mark(text: &str) -> &str
 
 // Parses a date with the mark at its end.
 #[tactic(auto, unfolding(crate::specs::Dates::marked_date))]
-pub(crate) fn marked(text: &str) -> Result<Date, ReadError>
+pub(crate) fn marked_date(text: &str) -> Result<Date, ReadError>
     ensures { reading result ≡ Spec.marked_date text.now }
 {
     let value = date_value(without_mark(text))?;

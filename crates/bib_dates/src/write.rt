@@ -3,7 +3,7 @@
 ghost use Rattle.std.specs.Prelude.{◌≡◌, ◌∷◌, IfOk, Some, string_bytes};
 ghost use Rattle.std.specs.Fmt.{WritesOnOk};
 ghost use Rattle.std.specs.Option.{option_map};
-ghost use Rattle.bib_dates.specs.Written.{year_text, count_text, padded, month_text, day_text, datetime_text, first_side, second_side, mark_text, date_text};
+ghost use Rattle.bib_dates.specs.Written.{year_text, count_text, with_zeros, month_text, day_text, datetime_text, first_side, second_side, mark_text, date_text};
 ghost use Rattle.bib_text.specs.Characters as char;
 
 use crate::date::{Date, DateValue, Datetime};
@@ -40,7 +40,7 @@ fn year<W: fmt::Write>(f: &mut fmt::Formatter<W>, year: i32) -> fmt::Result
 
 // Writes a number in at least four digits.
 fn four_wide<W: fmt::Write>(f: &mut fmt::Formatter<W>, n: u32) -> fmt::Result
-    ensures { WritesOnOk W.write_str_gives f.old result (padded 4 n) f.new }
+    ensures { WritesOnOk W.write_str_gives f.old result (with_zeros 4 n) f.new }
 {
     write!(f, "{n:04}")
 }
@@ -55,7 +55,7 @@ fn count<W: fmt::Write>(f: &mut fmt::Formatter<W>, n: u8) -> fmt::Result
 
 // Returns a number in at least four digits.
 fn four_digits(alloc: Global, n: u32) -> Result<String, AllocError>
-    ensures { IfOk result (λ text. string_bytes text ≡ padded 4 n) }
+    ensures { IfOk result (λ text. string_bytes text ≡ with_zeros 4 n) }
 {
     format!(in alloc; "{n:04}")
 }

@@ -13,6 +13,7 @@ use Rattle.bib_chunks.specs.Values.{Value, nowhere, alone}
 use Rattle.bib_chunks.proofs.SeparatedFacts.{no_place}
 use Rattle.bib_chunks.proofs.AndListFacts.{and_separates}
 
+-- a normal chunk with a detached span
 abbrev pub normal : List ℕ → Spanned Chunk
 normal text = nowhere (Normal text)
 
@@ -21,6 +22,7 @@ pub record IsPart (chunk : Chunk) : Type 0 where
   pub one : pieces 3 (between_ands false) chunk no_place ≡ alone chunk
   pub ends : (first last : Bool) → trimmed_chunk first last chunk no_place ≡ nowhere chunk
 
+-- each of these chunks is one part
 abbrev pub AllParts : List Chunk → Type 0
 AllParts [] = Unit {0}
 AllParts (chunk ∷ chunks) = IsPart chunk × AllParts chunks
@@ -29,9 +31,11 @@ AllParts (chunk ∷ chunks) = IsPart chunk × AllParts chunks
 whole_part : (text left : List ℕ) (at : ℕ) → left ≡ text → chunk_part text no_place at left ≡ normal text
 whole_part text left at same = ap (chunk_part text no_place at) same ∙ (rw (eq-eqb (length text) (length text) refl) refl)
 
+-- a piece that is the whole text is the chunk
 untouched : (text : List ℕ) → piece text no_place 0 false false text ≡ normal text
 untouched text = whole_part text _ _ refl
 
+-- a whole text without white space at its ends stays the chunk when it is trimmed
 whole_piece : (text : List ℕ) (first last : Bool) → trim_start text ≡ text → trim_end text ≡ text
     → piece text no_place 0 first last text ≡ normal text
 whole_piece text true true start end = whole_part text _ _ (ap trim_end start ∙ end)
@@ -63,6 +67,7 @@ empties span true = with_span (Normal []) span.start span.end ∷ []
 abbrev pub before_and : Range ℕ
 before_and = and_separates.before
 
+-- the span of the empty chunk after a separator
 abbrev pub after_and : Range ℕ
 after_and = and_separates.after
 
@@ -70,12 +75,14 @@ after_and = and_separates.after
 abbrev pub padded : Bool → Bool → Chunk → Value
 padded before following chunk = empties after_and before ++ (nowhere chunk ∷ empties before_and following)
 
+-- the parts of a list as they are parsed; the flag says whether a separator comes before them
 abbrev pub padded_parts : Bool → Chunk → List Chunk → List Value
 padded_parts before chunk [] = padded before false chunk ∷ []
 padded_parts before chunk (next ∷ more) = padded before true chunk ∷ padded_parts true next more
 
 -- the ends of the list
 
+-- trimming leaves the chunks after the first one unchanged
 trimmed_after : (chunk : Chunk) (chunks : List Chunk) → IsPart chunk → AllParts chunks
     → trimmed_chunks false (written_after (chunk ∷ chunks)) ≡ written_after (chunk ∷ chunks)
 trimmed_after chunk [] part all =
@@ -89,6 +96,7 @@ trimmed_after chunk (next ∷ more) part all =
     ∙ ap (λ l. trimmed_chunk false false (Normal (codes " and ")) no_place ∷ nowhere chunk ∷ l) (trimmed_after next more all.0 all.1)
     ∙ ap (λ c. c ∷ nowhere chunk ∷ written_after (next ∷ more)) (untouched (codes " and "))
 
+-- trimming leaves a written list unchanged
 trimmed_whole : (chunk : Chunk) (chunks : List Chunk) → IsPart chunk → AllParts chunks
     → trimmed_ends (nowhere chunk ∷ written_after chunks) ≡ nowhere chunk ∷ written_after chunks
 trimmed_whole chunk [] part all = ap (λ c. c ∷ []) (part.ends true true)

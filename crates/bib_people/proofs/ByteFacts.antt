@@ -29,6 +29,7 @@ ascii_fact test all b below =
     (ap test here ∙ fails)) all))
     (cases_Bool (test b))
 
+-- a test that holds if another does, given that this holds
 pub implied : (a b : Bool) → (not a || b) ≡ true → a ≡ true → b ≡ true
 implied true b both is = both
 implied false b both is = absurd (both_ways false refl is)
@@ -37,9 +38,11 @@ implied false b both is = absurd (both_ways false refl is)
 pub name_small : (b : ℕ) → is_name_byte b ≡ true → b < 128
 name_small b name = grind (arith, nat_tests)
 
+-- an ASCII uppercase letter is ASCII
 pub capital_small : (b : ℕ) → is_capital_letter b ≡ true → b < 128
 capital_small b name = grind (arith, nat_tests)
 
+-- an ASCII lowercase letter is ASCII
 pub letter_small : (b : ℕ) → is_small_letter b ≡ true → b < 128
 letter_small b name = grind (arith, nat_tests)
 
@@ -50,6 +53,7 @@ is_plain b = not (is_whitespace b) && (not (b == 44) && (not (b == 61) && goes_o
 plain_table : list_all (λ b. not (is_name_byte b) || is_plain b) (range_with_len 0 128) ≡ true
 plain_table = refl
 
+-- a byte of a name is plain
 pub name_plain : (b : ℕ) → is_name_byte b ≡ true → is_plain b ≡ true
 name_plain b name =
     implied (is_name_byte b) (is_plain b)
@@ -82,9 +86,11 @@ small_low b small =
 abbrev pub is_line_byte : ℕ → Bool
 is_line_byte b = is_name_byte b || (b == 32 || b == 44)
 
+-- a byte of a written name is ASCII
 pub line_small : (b : ℕ) → is_line_byte b ≡ true → b < 128
 line_small b line = grind (arith, nat_tests)
 
+-- a byte that is neither an equals sign nor a line break
 abbrev pub is_open : ℕ → Bool
 is_open b = not (b == 61) && goes_on b
 
@@ -97,11 +103,13 @@ line_open b line =
     implied (is_line_byte b) (is_open b)
     (ascii_fact (λ x. not (is_line_byte x) || is_open x) line_table b (line_small b line)) line
 
+-- a byte of a name is a byte of a written name
 pub name_line : (b : ℕ) → is_name_byte b ≡ true → is_line_byte b ≡ true
 name_line b name = rw name refl
 
 -- texts of ASCII
 
+-- bytes that pass a test for ASCII bytes only are an ASCII text
 pub ascii_of : (test : ℕ → Bool) → ((b : ℕ) → test b ≡ true → b < 128) → (bs : List ℕ) → list_all test bs ≡ true → IsAscii bs
 ascii_of test small [] all k = omega arith
 ascii_of test small (b ∷ bs) all zero = small b (and_parts (test b) (list_all test bs) all).0
@@ -115,6 +123,7 @@ all_follow one two follows (b ∷ bs) all =
     let both = and_parts (one b) (list_all one bs) all in
     and_from (two b) (list_all two bs) (follows b both.0) (all_follow one two follows bs both.1)
 
+-- bytes that all fail a test contain none that passes it
 pub none_of : (test : ℕ → Bool) (bs : List ℕ) → list_all (λ b. not (test b)) bs ≡ true → list_any test bs ≡ false
 none_of test [] all = refl
 none_of test (b ∷ bs) all =
@@ -145,18 +154,21 @@ drop_none (b ∷ c ∷ bs) last =
     cond_second (is_whitespace b) (length (drop_trailing_whitespace (c ∷ bs)) == 0) []
     (b ∷ drop_trailing_whitespace (c ∷ bs)) some ∙ ap (λ l. b ∷ l) more
 
+-- a text without white space at its start is the same when that is trimmed
 pub start_none : (bs : List ℕ) → IsAscii bs → skip_leading_whitespace bs ≡ bs → trim_start bs ≡ bs
 unfolding trim_start
 start_none bs ascii none =
     ap (λ cs. encode_utf8_all (skip_leading_whitespace cs)) (chars-IsAscii bs ascii) ∙ ap encode_utf8_all none
     ∙ encodes-IsAscii bs ascii
 
+-- a space before a text without white space at its start is trimmed
 pub start_one : (bs : List ℕ) → IsAscii (32 ∷ bs) → IsAscii bs → skip_leading_whitespace bs ≡ bs → trim_start (32 ∷ bs) ≡ bs
 unfolding trim_start
 start_one bs ascii more none =
     ap (λ cs. encode_utf8_all (skip_leading_whitespace cs)) (chars-IsAscii (32 ∷ bs) ascii) ∙ ap encode_utf8_all none
     ∙ encodes-IsAscii bs more
 
+-- a text that doesn't end with a space is the same when its end is trimmed
 pub end_none : (bs : List ℕ) → IsAscii bs → ends_in_space false bs ≡ false → trim_end bs ≡ bs
 unfolding trim_end
 end_none bs ascii last =

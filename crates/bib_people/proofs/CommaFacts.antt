@@ -13,6 +13,7 @@ use Rattle.bib_text.specs.declared.spanned.Spanned.{Spanned}
 use Rattle.bib_chunks.specs.Cuts.{with_span, chunk_part, piece, halves, both_pieces, cut_characters, cut_first, cut_after, cut_at}
 use Rattle.bib_people.proofs.AndLists.{empties}
 
+-- a comma
 abbrev pub is_comma : ℕ → Bool
 is_comma b = b == 44
 
@@ -20,6 +21,7 @@ is_comma b = b == 44
 abbrev pub stands : Range ℕ → List ℕ → Spanned Chunk
 stands span text = with_span (Normal text) span.start span.end
 
+-- the cut at the first comma
 cut_prefix : (leading_run rest : List ℕ) → list_any is_comma leading_run ≡ false
     → cut_characters 44 (leading_run ++ (44 ∷ rest)) ≡ Some (leading_run, rest)
 cut_prefix [] rest none = refl
@@ -28,6 +30,7 @@ cut_prefix (b ∷ bs) rest none =
     let here = both.0 in
     rw here (ap (option_map (λ cut. (b ∷ cut.0, cut.1))) (cut_prefix bs rest both.1))
 
+-- a text without a comma isn't cut
 cut_none : (text : List ℕ) → list_any is_comma text ≡ false → cut_characters 44 text ≡ None
 cut_none [] none = refl
 cut_none (b ∷ bs) none =
@@ -52,6 +55,7 @@ pub record AreHalves (leading_run rest : List ℕ) (span : Range ℕ) : Type 0 w
   pub right : Range ℕ
   pub cut : halves (Normal (leading_run ++ (44 ∷ rest))) span 44 ≡ Some (stands left (trim_end leading_run), stands right (trim_start rest))
 
+-- the halves of a chunk at its first comma
 pub halves_at : (leading_run rest : List ℕ) (span : Range ℕ) → list_any is_comma leading_run ≡ false
     → chars (leading_run ++ (44 ∷ rest)) ≡ leading_run ++ (44 ∷ rest) → encode_utf8_all leading_run ≡ leading_run
     → encode_utf8_all rest ≡ rest → AreHalves leading_run rest span
@@ -76,6 +80,7 @@ halves_at leading_run rest span none same spelt spells =
           ∙ ap (λ c. Some (stands one.span (trim_end leading_run), c)) two_is;
     }
 
+-- a chunk without a comma has no halves
 halves_none : (text : List ℕ) (span : Range ℕ) → list_any is_comma text ≡ false → chars text ≡ text → halves (Normal text) span 44 ≡ None
 halves_none text span none same =
     ap (λ cs. option_map (both_pieces (len_utf8 44) text span) (cut_characters 44 cs)) same

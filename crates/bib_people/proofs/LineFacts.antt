@@ -22,9 +22,11 @@ use Rattle.std.proofs.Math.Bool.{and-false}
 
 -- words
 
+-- each of these words is kept, and its first byte passes the test
 abbrev pub AllWords : (ℕ → Bool) → List (List ℕ) → Type 0
 AllWords test words = list_all (is_kept_word test) words ≡ true
 
+-- a kept word is one too if its first byte may be any byte of a name
 pub kept_any : (test : ℕ → Bool) (word : List ℕ) → is_kept_word test word ≡ true → is_kept_word is_name_byte word ≡ true
 kept_any test [] kept = absurd (false≢true kept)
 kept_any test (b ∷ bs) kept =
@@ -33,9 +35,11 @@ kept_any test (b ∷ bs) kept =
     and_from (is_name_byte b) (list_all is_name_byte (b ∷ bs) && not (is_word_and (b ∷ bs)))
     (and_parts (is_name_byte b) (list_all is_name_byte bs) inner.0).0 outer.1
 
+-- the same for each of several words
 pub all_any : (test : ℕ → Bool) (words : List (List ℕ)) → AllWords test words → AllWords is_name_byte words
 all_any test words all = all_follow (is_kept_word test) (is_kept_word is_name_byte) (kept_any test) words all
 
+-- a byte of a name is no white space
 pub name_no_space : (b : ℕ) → is_name_byte b ≡ true → not (is_whitespace b) ≡ true
 name_no_space b name = (and_parts (not (is_whitespace b)) _ (name_plain b name)).0
 
@@ -43,6 +47,7 @@ name_no_space b name = (and_parts (not (is_whitespace b)) _ (name_plain b name))
 abbrev pub is_line_item : List ℕ → Bool
 is_line_item word = is_item word && list_all is_line_byte word
 
+-- a kept word is an item of a line
 pub kept_line : (word : List ℕ) → is_kept_word is_name_byte word ≡ true → is_line_item word ≡ true
 kept_line [] kept = absurd (false≢true kept)
 kept_line (b ∷ bs) kept =
@@ -53,6 +58,7 @@ kept_line (b ∷ bs) kept =
     (and_from (is_solid (b ∷ bs)) (not (is_word_and (b ∷ bs))) solid inner.1)
     (all_follow is_name_byte is_line_byte name_line (b ∷ bs) inner.0)
 
+-- kept words are items of a line
 pub all_line : (words : List (List ℕ)) → AllWords is_name_byte words → list_all is_line_item words ≡ true
 all_line words all = all_follow (is_kept_word is_name_byte) is_line_item kept_line words all
 
@@ -65,12 +71,15 @@ line_is_solid word line = (and_parts (is_solid word) (not (is_word_and word)) (l
 line_is_bytes : (word : List ℕ) → is_line_item word ≡ true → list_all is_line_byte word ≡ true
 line_is_bytes word line = (and_parts (is_item word) (list_all is_line_byte word) line).1
 
+-- items of a line aren't empty and contain no white space
 pub items_solid : (items : List (List ℕ)) → list_all is_line_item items ≡ true → list_all is_solid items ≡ true
 items_solid items all = all_follow is_line_item is_solid line_is_solid items all
 
+-- a line consists of bytes of a written name
 pub items_bytes : (items : List (List ℕ)) → list_all is_line_item items ≡ true → list_all is_line_byte (spaced items) ≡ true
 items_bytes items all = spaced_all is_line_byte refl items (all_follow is_line_item (λ w. list_all is_line_byte w) line_is_bytes items all)
 
+-- a line is ASCII
 pub items_ascii : (items : List (List ℕ)) → list_all is_line_item items ≡ true → IsAscii (spaced items)
 items_ascii items all = ascii_of is_line_byte line_small (spaced items) (items_bytes items all)
 
@@ -100,6 +109,7 @@ comma_after word (next ∷ more) =
     ap (λ l. 32 ∷ (word ++ l)) (comma_after next more)
     ∙ ap (λ l. 32 ∷ l) (sym (append_assoc word (after_words (next ∷ more)) (44 ∷ [])))
 
+-- a comma after the last word is a comma at the end of the line
 comma_spaced : (word : List ℕ) (words : List (List ℕ)) → spaced (comma (word ∷ words)) ≡ spaced (word ∷ words) ++ 44 ∷ []
 comma_spaced word [] = append-nil (word ++ 44 ∷ []) ∙ ap (λ l. l ++ 44 ∷ []) (sym (append-nil word))
 comma_spaced word (next ∷ more) =
@@ -127,6 +137,7 @@ comma_item (b ∷ bs) line =
     and_from (is_item ((b ∷ bs) ++ 44 ∷ [])) (list_all is_line_byte ((b ∷ bs) ++ 44 ∷ []))
     (and_from (is_solid ((b ∷ bs) ++ 44 ∷ [])) (not (is_word_and ((b ∷ bs) ++ 44 ∷ []))) all_solid (ap not (no_word (b ∷ bs)))) all_bytes
 
+-- words with a comma after the last one are items of a line
 pub comma_items : (words : List (List ℕ)) → list_all is_line_item words ≡ true → list_all is_line_item (comma words) ≡ true
 comma_items [] all = refl
 comma_items (word ∷ []) all =
@@ -148,6 +159,7 @@ spaced_then (x ∷ xs) (y ∷ ys) some more =
 abbrev pub line_items : List (List ℕ) → List (List ℕ) → List (List ℕ) → List (List ℕ)
 line_items leading_run suffix given = comma leading_run ++ (comma suffix ++ given)
 
+-- the words of a person are items of a line
 pub line_all : (leading_run suffix given : List (List ℕ)) → AllWords is_name_byte leading_run
     → AllWords is_name_byte suffix → AllWords is_name_byte given
     → list_all is_line_item (line_items leading_run suffix given) ≡ true
@@ -172,6 +184,7 @@ suffix_line (s ∷ ss) given all some =
     ∙ ap (λ l. l ++ (32 ∷ spaced given)) (sym (comma_spaced s ss))
     ∙ sym (spaced_then (comma (s ∷ ss)) given (comma_some s ss) some)
 
+-- a list with a non-empty end isn't empty
 pub more_some : (xs ys : List (List ℕ)) → 0 < length ys → 0 < length (xs ++ ys)
 more_some [] ys some = some
 more_some (x ∷ xs) ys some = omega arith

@@ -20,6 +20,7 @@ use Rattle.bib_chunks.proofs.AndFacts.{between_other, word_here}
 abbrev pub is_solid : List ℕ → Bool
 is_solid word = name_begins (λ b. true) word && list_all (λ b. not (is_whitespace b)) word
 
+-- such a word that isn't `and`
 abbrev pub is_item : List ℕ → Bool
 is_item word = is_solid word && not (is_word_and word)
 
@@ -60,12 +61,14 @@ spaced_begins ((b ∷ bs) ∷ words) all =
 
 -- two lists of words
 
+-- words with a space before each, one list after the other
 pub after_append : (xs ys : List (List ℕ)) → after_words (xs ++ ys) ≡ after_words xs ++ after_words ys
 after_append [] ys = refl
 after_append (x ∷ xs) ys =
     ap (λ l. 32 ∷ (x ++ l)) (after_append xs ys)
     ∙ ap (λ l. 32 ∷ l) (sym (append_assoc x (after_words xs) (after_words ys)))
 
+-- the line of two non-empty lists of words has a space between theirs
 pub spaced_append : (x : List ℕ) (xs : List (List ℕ)) (y : List ℕ) (ys : List (List ℕ))
     → spaced ((x ∷ xs) ++ (y ∷ ys)) ≡ spaced (x ∷ xs) ++ (32 ∷ spaced (y ∷ ys))
 spaced_append x xs y ys = ap (λ l. x ++ l) (after_append xs (y ∷ ys)) ∙ sym (append_assoc x (after_words xs) (after_words (y ∷ ys)))
@@ -81,6 +84,7 @@ after_all test space (word ∷ words) all =
     ∙ and_from (list_all test word) (list_all test (after_words words)) both.0
     (after_all test space words both.1))
 
+-- if the space and each byte of the words pass a test, so does each byte of their line
 pub spaced_all : (test : ℕ → Bool) → test 32 ≡ true → (words : List (List ℕ))
     → list_all (λ w. list_all test w) words ≡ true → list_all test (spaced words) ≡ true
 spaced_all test space [] all = refl
@@ -166,10 +170,11 @@ spaced_one ((b ∷ bs) ∷ words) all =
 
 -- the words of a name
 
--- words with a gap of one space before each, except the first
+-- the gap before a word: nothing before the first one, otherwise a space
 abbrev pub gap_of : Bool → List Letter
 gap_of first = cond first [] (letter false 32 ∷ [])
 
+-- words with a gap of one space before each, except before the first one if the flag says so
 abbrev pub words_at : Bool → List (List ℕ) → List Word
 words_at first [] = []
 words_at first (word ∷ words) = a_word (gap_of first) (map (letter false) word) ∷ words_at false words
@@ -182,6 +187,7 @@ solid_letters (b ∷ bs) all =
     let here : is_gap (letter false b) ≡ false = let fails = not-true (is_whitespace b) both.0 in rw fails refl in
     rw here (solid_letters bs both.1)
 
+-- the letters of an ASCII text, none of them verbatim
 abbrev pub letters_of : List ℕ → List Letter
 letters_of = map (letter false)
 
@@ -199,6 +205,7 @@ one_word b bs words solid more =
     ∙ words_word (letter false b) (letters_of bs) (letters_of (after_words words)) here (solid_letters bs both.1) (apart_after words)
     ∙ ap (λ ws. a_word [] (letters_of (b ∷ bs)) ∷ ws) more
 
+-- a text of words with a space before each has these words, each after a gap
 after_words_of : (words : List (List ℕ)) → list_all is_solid words ≡ true → words_of (letters_of (after_words words)) ≡ words_at false words
 after_words_of [] all = refl
 after_words_of ([] ∷ words) all = absurd (false≢true all)
@@ -222,6 +229,7 @@ letters_after (word ∷ words) =
     ap (λ l. letter false 32 ∷ (letters_of word ++ l)) (letters_after words)
     ∙ ap (λ l. letter false 32 ∷ l) (sym (map-append (letter false) word (after_words words)))
 
+-- the letters of words are those of their line
 pub letters_spaced : (first : Bool) (words : List (List ℕ)) → word_letters true (words_at first words) ≡ letters_of (spaced words)
 letters_spaced first [] = refl
 letters_spaced first (word ∷ words) =

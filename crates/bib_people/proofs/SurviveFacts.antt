@@ -17,7 +17,7 @@ use Rattle.bib_chunks.proofs.FormattedFacts.{goes_on, flowing_run}
 use Rattle.bib_chunks.specs.Cuts.{cut_at}
 use Rattle.bib_people.specs.declared.person.Person.{Person}
 use Rattle.bib_people.specs.Letters.{Letter, letters, Word, a_word, words_of, text_of_words}
-use Rattle.bib_people.specs.Names.{Cuts, is_low, leading, through_last, before_comma, person, shown, formats_to_nothing, at_last_space, with_comma, with_commas, cut_by_commas, by_commas, before_comma_person, cut_person, in_parts, is_in_parts, person_of}
+use Rattle.bib_people.specs.Names.{Cuts, is_low, leading, through_last, before_comma, person, trimmed_text, formats_to_nothing, at_last_space, with_comma, with_commas, cut_by_commas, by_commas, before_comma_person, cut_person, in_parts, is_in_parts, person_of}
 use Rattle.bib_people.specs.People.{people_of, people_chunks, people_from, person_chunks, suffix_text}
 use Rattle.bib_people.specs.Kept.{is_capital_letter, is_small_letter, is_name_byte, is_kept_word, name_begins, after_words, spaced, IsKeptPerson, AllKept, ArePeople}
 use Rattle.bib_people.proofs.WordFacts.{letter, spelt}
@@ -31,9 +31,11 @@ use Rattle.bib_people.proofs.CommaFacts.{is_comma, stands, AreHalves, halves_at,
 
 -- the text of words
 
+-- a byte of a name or a space
 abbrev is_text_byte : ℕ → Bool
 is_text_byte b = is_name_byte b || b == 32
 
+-- such a byte is neither a comma nor a line break
 text_plain : (b : ℕ) → is_text_byte b ≡ true → (not (is_comma b) && goes_on b) ≡ true
 text_plain b text = elim (or_cases (is_name_byte b) (b == 32) text) [
   | inl name ↦ let plain = name_plain b name in
@@ -62,6 +64,7 @@ word_bytes word kept =
     let outer = and_parts (name_begins is_name_byte word) _ kept in
     all_follow is_name_byte is_text_byte name_text_byte word (and_parts (list_all is_name_byte word) _ outer.1).0
 
+-- kept words with single spaces between them are a text of words
 pub is_text : (words : List (List ℕ)) → AllWords is_name_byte words → IsText (spaced words)
 is_text words all =
     let line = all_line words all in
@@ -99,19 +102,22 @@ space_small : (text : List ℕ) → IsAscii text → IsAscii (32 ∷ text)
 space_small text ascii zero = omega arith
 space_small text ascii (suc k) = ascii k
 
+-- a space before a text of words is trimmed
 pub after_space : (text : List ℕ) → IsText text → trim_start (32 ∷ text) ≡ text
 after_space text is = start_one text (space_small text is.ascii) is.ascii is.skips
 
 -- parts of a name, with or without empty chunks around them
 
+-- a text of words, with or without an empty chunk after it, is formatted to itself
 formatted_text : (text : List ℕ) (span : Range ℕ) (following : Bool) → IsText text
     → formatted_chars (stands span text ∷ empties before_and following) ≡ text
 formatted_text text span following is =
     ap (λ l. flowing false (chars text) ++ l) (formatted_empties before_and (space_after false (Normal text)) following)
     ∙ append-nil (flowing false (chars text)) ∙ ap (flowing false) is.same ∙ is.flows
 
+-- such chunks have the text as their trimmed text
 shown_text : (text : List ℕ) (span : Range ℕ) (following : Bool) → IsText text
-    → shown (stands span text ∷ empties before_and following) ≡ text
+    → trimmed_text (stands span text ∷ empties before_and following) ≡ text
 shown_text text span following is =
     ap (λ cs. trim (encode_utf8_all cs)) (formatted_text text span following is) ∙ ap trim is.spelt ∙ trim_same text is
 
@@ -119,6 +125,7 @@ and_no : (a b : Bool) → b ≡ false → (a && b) ≡ false
 and_no true b no_b = no_b
 and_no false b no_b = refl
 
+-- such chunks aren't formatted to nothing
 not_blank : (text : List ℕ) (span : Range ℕ) (following : Bool) → IsText text → 0 < length text
     → formats_to_nothing (stands span text ∷ empties before_and following) ≡ false
 not_blank text span following is some =
@@ -126,6 +133,7 @@ not_blank text span following is some =
     (ap (λ cs. length cs == 0) (formatted_text text span following is)
     ∙ ne_eqb (length text) 0 (λ none. omega arith))
 
+-- a text of words, with or without an empty chunk before it, has its bytes as letters
 letters_text : (before : Bool) (text : List ℕ) (span : Range ℕ) → IsText text
     → letters (empties after_and before ++ (stands span text ∷ [])) ≡ letters_of text
 letters_text false text span is = append-nil (letters_of (chars text)) ∙ ap letters_of is.same
@@ -139,6 +147,7 @@ words_append : (first : Bool) (xs ys : List (List ℕ))
 words_append first [] ys = (first, refl)
 words_append first (x ∷ xs) ys = let more = words_append false xs ys in (more.0, ap (λ l. a_word (gap_of first) (letters_of x) ∷ l) more.1)
 
+-- words that begin in lower case are low
 low_words : (first : Bool) (words : List (List ℕ)) → AllWords is_small_letter words → list_all is_low (words_at first words) ≡ true
 low_words first [] all = refl
 low_words first ([] ∷ words) all = absurd (false≢true all)
@@ -148,6 +157,7 @@ low_words first ((b ∷ bs) ∷ words) all =
     and_from (is_lowercase b) (list_all is_low (words_at false words))
     (and_parts (is_lowercase b) _ (small_low b small)).0 (low_words false words both.1)
 
+-- words that begin in upper case aren't low
 high_words : (first : Bool) (words : List (List ℕ)) → AllWords is_capital_letter words
     → list_all (λ w. not (is_low w)) (words_at first words) ≡ true
 high_words first [] all = refl
@@ -187,9 +197,11 @@ no_words test (y ∷ ys) all =
     let here = not-true (test y) both.0 in
     rw here (no_words test ys both.1)
 
+-- the cuts of a name before a comma, with a prefix of so many words
 abbrev a_cut : ℕ → Cuts
 a_cut prefix = record { given = 0; prefix = prefix }
 
+-- low words before others that aren't low are the prefix
 cut_prefix : (xs ys : List Word) → list_all is_low xs ≡ true → list_all (λ w. not (is_low w)) ys ≡ true → 0 < length ys
     → before_comma (xs ++ ys) ≡ record { given = 0; prefix = length xs }
 unfolding before_comma
@@ -207,6 +219,7 @@ letters_chars : (text : List ℕ) → map (λ l. l.char) (letters_of text) ≡ t
 letters_chars [] = refl
 letters_chars (b ∷ bs) = ap (λ l. b ∷ l) (letters_chars bs)
 
+-- kept words have their line as their text
 spelt_words : (first : Bool) (words : List (List ℕ)) → AllWords is_name_byte words → text_of_words (words_at first words) ≡ spaced words
 spelt_words first words all =
     let is = is_text words all in
@@ -216,6 +229,7 @@ spelt_words first words all =
 
 -- one person
 
+-- a part whose text contains no equals sign isn't in the extended format
 padded_no_equals : (before following : Bool) (text : List ℕ) → list_any (λ b. b == 61) text ≡ false
     → is_in_parts (padded before following (Normal text)) ≡ false
 padded_no_equals true true text none = rw none refl
@@ -223,6 +237,7 @@ padded_no_equals true false text none = rw none refl
 padded_no_equals false true text none = rw none refl
 padded_no_equals false false text none = rw none refl
 
+-- the person of a name, given the chunks before and after the first comma
 abbrev with_commas_of : List (Spanned Chunk) → List (Spanned Chunk) → Person
 with_commas_of first second = with_commas first second (cut_at second 44)
 
@@ -230,6 +245,7 @@ words_some : (first : Bool) (words : List (List ℕ)) → 0 < length words → 0
 words_some first [] some = absurd (omega arith)
 words_some first (w ∷ ws) some = omega arith
 
+-- a part that is a line of words isn't in the extended format
 no_equals : (items : List (List ℕ)) → list_all is_line_item items ≡ true → (before following : Bool)
     → is_in_parts (padded before following (Normal (spaced items))) ≡ false
 no_equals items all before following =
@@ -273,14 +289,15 @@ with_comma_read before following prefix name given suffix a c small capital any 
     ap
     (λ blank.
     cond blank (at_last_space (encode_utf8_all (formatted_chars first)) suffix)
-    (before_comma_person (words_of (letters first)) (shown second) suffix))
+    (before_comma_person (words_of (letters first)) (trimmed_text second) suffix))
     (not_blank (spaced given) c following last has_given)
-    ∙ ap (λ ws. before_comma_person ws (shown second) suffix) words
-    ∙ ap (λ cut. cut_person cut (xs ++ ys) (shown second) suffix) cuts
-    ∙ ap (λ n. person n (shown second) (text_of_words (take (length xs) (xs ++ ys))) suffix) name_is
-    ∙ ap (λ q. person (spaced name) (shown second) q suffix) prefix_is
+    ∙ ap (λ ws. before_comma_person ws (trimmed_text second) suffix) words
+    ∙ ap (λ cut. cut_person cut (xs ++ ys) (trimmed_text second) suffix) cuts
+    ∙ ap (λ n. person n (trimmed_text second) (text_of_words (take (length xs) (xs ++ ys))) suffix) name_is
+    ∙ ap (λ q. person (spaced name) (trimmed_text second) q suffix) prefix_is
     ∙ ap (λ g. person (spaced name) g (spaced prefix) suffix) (shown_text (spaced given) c following last)
 
+-- a line that isn't empty has words
 pub some_words : (words : List (List ℕ)) → 0 < length (spaced words) → 0 < length words
 some_words [] some = some
 some_words (w ∷ ws) some = omega arith
@@ -329,15 +346,16 @@ after_read before following prefix name ((s ∷ t) ∷ ss) given a c small capit
     ∙ ap
     (λ l.
     with_comma first (stands cut.right l ∷ empties before_and following)
-    (shown (stands cut.left (trim_end (spaced suffix)) ∷ []))) (after_space (spaced given) last)
+    (trimmed_text (stands cut.left (trim_end (spaced suffix)) ∷ []))) (after_space (spaced given) last)
     ∙ ap
     (λ l.
     with_comma first (stands cut.right (spaced given) ∷ empties before_and following)
-    (shown (stands cut.left l ∷ []))) middle.end
+    (trimmed_text (stands cut.left l ∷ []))) middle.end
     ∙ ap (with_comma first (stands cut.right (spaced given) ∷ empties before_and following))
     (shown_text (spaced suffix) cut.left false middle)
     ∙ with_comma_read before following prefix name given (spaced suffix) a cut.right small capital any has_name has_given
 
+-- a written person's line, as a part of a list, is parsed as the person
 name_read : (before following : Bool) (prefix name suffix given : List (List ℕ)) → AllWords is_small_letter prefix
     → AllWords is_capital_letter name → AllWords is_name_byte suffix → AllWords is_name_byte given → 0 < length name
     → 0 < length (spaced given)
@@ -379,6 +397,7 @@ name_read before following prefix name suffix given small capital tail any has_n
 
 -- people
 
+-- a kept person consists of its words
 as_words : (p : Person) (k : IsKeptPerson p)
     → p ≡ person (spaced k.name.words) (spaced k.given_name.words) (spaced k.prefix.words) (spaced k.suffix.words)
 as_words p k =
@@ -438,9 +457,11 @@ as_words p k =
 some_spaced : (text : List ℕ) (words : List (List ℕ)) → text ≡ spaced words → 0 < length text → 0 < length (spaced words)
 some_spaced text words is some = omega (arith, ap length is)
 
+-- the words of a kept person's line
 line_of : (p : Person) → IsKeptPerson p → List (List ℕ)
 line_of p k = line_items (k.prefix.words ++ k.name.words) k.suffix.words k.given_name.words
 
+-- a kept person is written as its line
 person_written : (p : Person) (k : IsKeptPerson p) → person_chunks p ≡ normal (spaced (line_of p k)) ∷ []
 unfolding line_of
 person_written p k =
@@ -449,6 +470,7 @@ person_written p k =
     (some_words k.name.words (some_spaced p.name k.name.words k.name.spell k.has_name)) k.suffix.kept
     (some_words k.given_name.words (some_spaced p.given_name k.given_name.words k.given_name.spell k.has_given_name))
 
+-- a kept person parses from its line, as a part of a list
 person_read : (p : Person) (k : IsKeptPerson p) (before following : Bool)
     → person_of (padded before following (Normal (spaced (line_of p k)))) ≡ p
 unfolding line_of
@@ -459,6 +481,7 @@ person_read p k before following =
     (some_spaced p.given_name k.given_name.words k.given_name.spell k.has_given_name)
     ∙ sym (as_words p k)
 
+-- a kept person's line is one part of a list
 person_part : (p : Person) (k : IsKeptPerson p) → IsPart (Normal (spaced (line_of p k)))
 unfolding line_of
 person_part p k =
@@ -477,12 +500,14 @@ all_parts : (people : List Person) (all : AllKept people) → AllParts (lines pe
 all_parts [] all = tt
 all_parts (p ∷ people) all = (person_part p all.0, all_parts people all.1)
 
+-- people after the first one are written as their lines
 after_written : (people : List Person) (all : AllKept people) → people_from false people ≡ written_after (lines people all)
 after_written [] all = refl
 after_written (p ∷ people) all =
     ap (λ l. normal (codes " and ") ∷ (l ++ people_from false people)) (person_written p all.0)
     ∙ ap (λ l. normal (codes " and ") ∷ normal (spaced (line_of p all.0)) ∷ l) (after_written people all.1)
 
+-- the parts of written people are parsed as the people
 parts_read : (before : Bool) (p : Person) (people : List Person) (k : IsKeptPerson p) (all : AllKept people)
     → map person_of (padded_parts before (Normal (spaced (line_of p k))) (lines people all)) ≡ p ∷ people
 parts_read before p [] k all = ap (λ x. x ∷ []) (person_read p k before false)
@@ -501,5 +526,6 @@ people_survive (p ∷ people) are =
     (all_parts people are.all.1))
     ∙ parts_read false p people are.all.0 are.all.1
 
+-- kept people parse from their written form
 pub people_survive_read : (people : List Person) → ArePeople people → Some (people_of (people_chunks people)) ≡ Some people
 people_survive_read people are = ap (λ x. Some x) (people_survive people are)

@@ -13,9 +13,11 @@ letter is_verbatim c = record { char = c; is_verbatim = is_verbatim }
 
 -- the run at the start of a list
 
+-- the run at the start of a list is one longer if the first element passes the test
 one_passes : {A : Type 0} (p : A → Bool) (x : A) (xs : List A) → p x ≡ true → prefix_len p (x ∷ xs) ≡ suc (prefix_len p xs)
 one_passes p x xs passes = rw passes (omega arith)
 
+-- the run at the start of a list is empty if the first element fails the test
 none_passes : {A : Type 0} (p : A → Bool) (x : A) (xs : List A) → p x ≡ false → prefix_len p (x ∷ xs) ≡ 0
 none_passes p x xs fails = rw fails refl
 
@@ -68,6 +70,7 @@ one_letter : (l : Letter) (words : List Word) → is_gap l ≡ false → stand_a
 one_letter l [] no_gap apart = rw no_gap refl
 one_letter l (word ∷ words) no_gap apart = let apart_here = not-true (length word.gap == 0) apart in rw (no_gap, apart_here) refl
 
+-- the letters of a word, before words that stand apart from it, are that word
 pub words_word : (l : Letter) (inside after : List Letter) → is_gap l ≡ false
     → list_all (λ x. not (is_gap x)) inside ≡ true → stand_apart (words_of after) ≡ true
     → words_of (l ∷ (inside ++ after)) ≡ a_word [] (l ∷ inside) ∷ words_of after
@@ -87,9 +90,11 @@ apart_words l (word ∷ words) gap =
     let far : (suc (length word.gap) == 0) ≡ false = ne_eqb (suc (length word.gap)) 0 (λ same. omega arith) in
     rw gap (ap not far)
 
+-- words after a gap stand apart
 pub apart_gap : (l : Letter) (rest : List Letter) → is_gap l ≡ true → stand_apart (words_of (l ∷ rest)) ≡ true
 apart_gap l rest gap = apart_words l (words_of rest) gap
 
+-- the words after the first one stand apart from it
 apart_after : (following after : List Letter) → after ≡ drop (word_len following) following → stand_apart (words_of after) ≡ true
 apart_after following [] is = apart_end
 apart_after following (l ∷ rest) is = apart_gap l rest (not-false (is_gap l) (after_fails (λ x. not (is_gap x)) following l rest (sym is)))
@@ -115,6 +120,7 @@ next rest before (b ∷ bs) inside after gap whole first some in_word out =
     let sizes : length rest ≡ length before + length (b ∷ bs) = ap length whole ∙ length-append before (b ∷ bs) in
     (ap words_of whole ∙ words_gap before (b ∷ bs) inside (words_of after) gap after_words, omega arith)
 
+-- the first word of letters, its gap, and fewer letters left
 pub next_word : (rest before following inside after : List Letter) → before ≡ take (gap_len rest) rest
     → following ≡ drop (gap_len rest) rest → 0 < length following → inside ≡ take (word_len following) following
     → after ≡ drop (word_len following) following
@@ -128,6 +134,7 @@ empty : {A : Type 0} (xs : List A) → length xs ≡ 0 → xs ≡ []
 empty [] none = refl
 empty (x ∷ xs) none = absurd (omega arith)
 
+-- a list that isn't empty has elements
 pub some_left : {A : Type 0} (xs : List A) (is_empty : Bool) → is_empty ≡ (length xs == 0) → is_empty ≡ false → 0 < length xs
 some_left [] is_empty is not_empty = absurd (both_ways is_empty not_empty is)
 some_left (x ∷ xs) is_empty is not_empty = omega arith
@@ -149,6 +156,7 @@ word_pushed all new word words rest total pushed here is =
 
 -- texts
 
+-- the text of letters, in bytes
 abbrev pub spelt : List Letter → List ℕ
 spelt letters = encode_utf8_all (map (λ l. l.char) letters)
 

@@ -79,8 +79,8 @@ abbrev pub name_text : Cuts → List Word → List ℕ
 name_text cuts words = text_of_words (drop cuts.prefix (drop cuts.given words))
 
 -- the formatted text of chunks, in bytes, without the white space at its ends
-abbrev pub shown : List (Spanned Chunk) → List ℕ
-shown chunks = trim (encode_utf8_all (formatted_chars chunks))
+abbrev pub trimmed_text : List (Spanned Chunk) → List ℕ
+trimmed_text chunks = trim (encode_utf8_all (formatted_chars chunks))
 
 -- a person with only the four parts of BibTeX
 abbrev pub person : List ℕ → List ℕ → List ℕ → List ℕ → Person
@@ -135,12 +135,12 @@ before_comma_person words given suffix = cut_person (before_comma words) words g
 abbrev pub with_comma : List (Spanned Chunk) → List (Spanned Chunk) → List ℕ → Person
 with_comma first second suffix =
     if formats_to_nothing second then at_last_space (encode_utf8_all (formatted_chars first)) suffix
-    else before_comma_person (words_of (letters first)) (shown second) suffix
+    else before_comma_person (words_of (letters first)) (trimmed_text second) suffix
 
 -- the person of a name with a comma, given the chunks before and after the first one, and their cut at a second one
 abbrev pub with_commas : List (Spanned Chunk) → List (Spanned Chunk) → Option (List (Spanned Chunk) × List (Spanned Chunk)) → Person
 with_commas first second None = with_comma first second []
-with_commas first second (Some cut) = with_comma first cut.1 (shown cut.0)
+with_commas first second (Some cut) = with_comma first cut.1 (trimmed_text cut.0)
 
 -- the person of a name, given its cut at the first comma
 abbrev pub cut_by_commas : List (Spanned Chunk) → Option (List (Spanned Chunk) × List (Spanned Chunk)) → Person
@@ -159,8 +159,8 @@ KeyValue = List ℕ × List ℕ
 
 -- a key and a value, given the chunks and their cut at the equals sign; without an equals sign the value is empty
 abbrev pub part_cut : List (Spanned Chunk) → Option (List (Spanned Chunk) × List (Spanned Chunk)) → KeyValue
-part_cut chunks None = (shown chunks, [])
-part_cut chunks (Some cut) = (shown cut.0, shown cut.1)
+part_cut chunks None = (trimmed_text chunks, [])
+part_cut chunks (Some cut) = (trimmed_text cut.0, trimmed_text cut.1)
 
 -- the key and the value of a part
 abbrev pub key_value_of : List (Spanned Chunk) → KeyValue

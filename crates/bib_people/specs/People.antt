@@ -38,13 +38,13 @@ plain_chunks p =
 -- a person in the extended format
 
 -- a key and its value: a normal chunk and a verbatim one. `key` contains the comma before the key and the equals sign.
-unfoldable pub keyed : List ℕ → List ℕ → Value
-keyed key value = nowhere (Normal key) ∷ nowhere (Verbatim value) ∷ []
+unfoldable pub key_and_value : List ℕ → List ℕ → Value
+key_and_value key value = nowhere (Normal key) ∷ nowhere (Verbatim value) ∷ []
 
 -- a key and its value, if there is a value
-abbrev pub keyed_some : List ℕ → Option (List ℕ) → Value
-keyed_some key None = []
-keyed_some key (Some value) = keyed key value
+abbrev pub key_if_some : List ℕ → Option (List ℕ) → Value
+key_if_some key None = []
+key_if_some key (Some value) = key_and_value key value
 
 -- the text of a flag
 abbrev pub flag_text : Bool → List ℕ
@@ -52,25 +52,25 @@ flag_text true = codes "true"
 flag_text false = codes "false"
 
 -- a key and its flag, if there is a flag
-abbrev pub keyed_flag : List ℕ → Option Bool → Value
-keyed_flag key None = []
-keyed_flag key (Some flag) = keyed key (flag_text flag)
+abbrev pub key_and_flag : List ℕ → Option Bool → Value
+key_and_flag key None = []
+key_and_flag key (Some flag) = key_and_value key (flag_text flag)
 
 -- the four parts of a person with their keys
 abbrev pub four_keys : Person → Value
 four_keys p =
-    keyed (codes "given=") p.given_name
+    key_and_value (codes "given=") p.given_name
     ++
-    (keyed (codes ", family=") p.name
-    ++ (keyed (codes ", prefix=") p.prefix ++ keyed (codes ", suffix=") p.suffix))
+    (key_and_value (codes ", family=") p.name
+    ++ (key_and_value (codes ", prefix=") p.prefix ++ key_and_value (codes ", suffix=") p.suffix))
 
 -- the optional parts of a person with their keys
 abbrev pub more_keys : Person → Value
 more_keys p =
-    keyed_some (codes ", id=") p.id
+    key_if_some (codes ", id=") p.id
     ++
-    (keyed_some (codes ", prefix-i=") p.prefix_initials
-    ++ (keyed_some (codes ", given-i=") p.given_initials ++ keyed_flag (codes ", useprefix=") p.use_prefix))
+    (key_if_some (codes ", prefix-i=") p.prefix_initials
+    ++ (key_if_some (codes ", given-i=") p.given_initials ++ key_and_flag (codes ", useprefix=") p.use_prefix))
 
 -- whether a person has one of the optional parts
 abbrev pub has_more : Person → Bool

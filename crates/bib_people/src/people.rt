@@ -2,7 +2,7 @@
 
 ghost use Rattle.std.specs.Prelude.{◌≡◌, ◌++◌, OnOk, IfOk, codes};
 ghost use Rattle.std.specs.Str.{chars};
-ghost use Rattle.bib_people.specs.People.{people_of, suffix_text, after_prefix, begins_capital, plain_chunks, keyed, keyed_some, keyed_flag, four_keys, more_keys, has_more, person_chunks, joined_person, people_chunks};
+ghost use Rattle.bib_people.specs.People.{people_of, suffix_text, after_prefix, begins_capital, plain_chunks, key_and_value, key_if_some, key_and_flag, four_keys, more_keys, has_more, person_chunks, joined_person, people_chunks};
 
 use crate::person::Person;
 use bib_chunks::chunk::cuts::and_list;
@@ -79,9 +79,9 @@ fn push_plain(alloc: Global, all: &mut Chunks, person: &Person) -> Result<(), Al
 }
 
 // Writes a key and its value. `key` contains the comma before the key and the equals sign.
-#[tactic(auto, unfolding(crate::specs::People::keyed))]
-fn push_keyed(alloc: Global, all: &mut Chunks, key: &str, value: &str) -> Result<(), AllocError>
-    ensures { OnOk result (all.new ≡ all.old ++ keyed key.now value.now) }
+#[tactic(auto, unfolding(crate::specs::People::key_and_value))]
+fn push_key(alloc: Global, all: &mut Chunks, key: &str, value: &str) -> Result<(), AllocError>
+    ensures { OnOk result (all.new ≡ all.old ++ key_and_value key.now value.now) }
 {
     push_normal(all, Text::from_str(alloc, key)?)?;
     push_verbatim(all, Text::from_str(alloc, value)?)
@@ -94,10 +94,10 @@ fn push_some(
     key: &str,
     value: &Option<Text>,
 ) -> Result<(), AllocError>
-    ensures { OnOk result (all.new ≡ all.old ++ keyed_some key.now value.now) }
+    ensures { OnOk result (all.new ≡ all.old ++ key_if_some key.now value.now) }
 {
     match value {
-        Some(value) => push_keyed(alloc, all, key, value.as_str()),
+        Some(value) => push_key(alloc, all, key, value.as_str()),
         None => Ok(()),
     }
 }
@@ -109,11 +109,11 @@ fn push_flag(
     key: &str,
     flag: Option<bool>,
 ) -> Result<(), AllocError>
-    ensures { OnOk result (all.new ≡ all.old ++ keyed_flag key.now flag) }
+    ensures { OnOk result (all.new ≡ all.old ++ key_and_flag key.now flag) }
 {
     match flag {
-        Some(true) => push_keyed(alloc, all, key, "true"),
-        Some(false) => push_keyed(alloc, all, key, "false"),
+        Some(true) => push_key(alloc, all, key, "true"),
+        Some(false) => push_key(alloc, all, key, "false"),
         None => Ok(()),
     }
 }
@@ -122,10 +122,10 @@ fn push_flag(
 fn push_four_keys(alloc: Global, all: &mut Chunks, person: &Person) -> Result<(), AllocError>
     ensures { OnOk result (all.new ≡ all.old ++ four_keys person.now) }
 {
-    push_keyed(alloc, all, "given=", person.given_name.as_str())?;
-    push_keyed(alloc, all, ", family=", person.name.as_str())?;
-    push_keyed(alloc, all, ", prefix=", person.prefix.as_str())?;
-    push_keyed(alloc, all, ", suffix=", person.suffix.as_str())
+    push_key(alloc, all, "given=", person.given_name.as_str())?;
+    push_key(alloc, all, ", family=", person.name.as_str())?;
+    push_key(alloc, all, ", prefix=", person.prefix.as_str())?;
+    push_key(alloc, all, ", suffix=", person.suffix.as_str())
 }
 
 // Writes the optional parts of a person with their keys.

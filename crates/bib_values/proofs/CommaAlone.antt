@@ -40,6 +40,7 @@ is_normal_scalar (Atom.normal c) = scalar c
 is_normal_scalar (Atom.verbatim c) = false
 is_normal_scalar (Atom.math text) = false
 
+-- a normal atom whose character is valid and no comma
 abbrev pub is_letter : Atom → Bool
 is_letter (Atom.normal c) = scalar c && not (c == 44)
 is_letter (Atom.verbatim c) = false
@@ -50,6 +51,7 @@ letter (Atom.normal c) is other = and_from _ _ is (ap not other)
 letter (Atom.verbatim c) is other = is
 letter (Atom.math text) is other = is
 
+-- normal atoms with valid characters and without a comma are such letters
 letters : (atoms : List Atom) → list_all is_normal_scalar atoms ≡ true → list_any is_normal_comma atoms ≡ false
     → list_all is_letter atoms ≡ true
 letters [] all none = refl
@@ -86,6 +88,7 @@ unbroken_stays space c is = ⊎_elim (λ yes. rw yes (broken_stays space)) goes 
         let parts = and_parts (scalar c) (not (c == 44)) is in
         rw flows (and_from _ _ (and_from (scalar c) _ parts.0 (and_from _ _ parts.1 (ap not flows))) refl)
 
+-- such characters, put on one line, are valid and neither a comma nor a line break
 flowing_stays : (space : Bool) (cs : List ℕ) → list_all is_letter (map Atom.normal cs) ≡ true → list_all stays (flowing space cs) ≡ true
 flowing_stays space [] all = refl
 flowing_stays space (c ∷ cs) all =
@@ -103,14 +106,15 @@ chunk_stays space (Normal t) all = flowing_stays space (chars t) all
 chunk_stays space (Verbatim t) all = no_verbatim (chars t) all
 chunk_stays space (Math t) all = absurd (false≢true all)
 
-part_stays : (space : Bool) (part : Value) → list_all is_letter (styled part) ≡ true
-    → list_all stays (formatted_chars_after space part) ≡ true
+-- the formatted text of such a part has only such characters
+part_stays : (space : Bool) (part : Value) → list_all is_letter (styled part) ≡ true → list_all stays (formatted_chars_after space part) ≡ true
 part_stays space [] all = refl
 part_stays space (c ∷ part) all =
     let both = all-parts is_letter (atoms_of c.v) (styled part) all in
     all-append stays (formatted_chunk (λ cs. cs) space c.v) _ (chunk_stays space c.v both.0)
     (part_stays (space_after space c.v) part both.1)
 
+-- such characters are valid, and plain in a comma list
 staying : (cs : List ℕ) → list_all stays cs ≡ true → (scalars cs ≡ true) × (list_all is_plain_in_list cs ≡ true)
 staying [] all = (refl, refl)
 staying (c ∷ cs) all =
@@ -136,6 +140,7 @@ comma_text : IsUtf8 (codes ",")
 unfolding lib.Utf8.encode
 comma_text = (44 ∷ [], (refl, refl))
 
+-- the chunks of written texts are UTF-8
 written_texts : (texts : List (List ℕ)) → AllByRecursion IsUtf8 texts
     → AreTexts (flat_map (after_separator (codes ",")) (map (λ t. alone (Normal t)) texts))
 written_texts [] utf8 = tt
@@ -145,6 +150,7 @@ scalar_atoms : (cs : List ℕ) → scalars cs ≡ true → list_all is_normal_sc
 scalar_atoms [] all = refl
 scalar_atoms (c ∷ cs) all = let parts = and_parts (scalar c) (scalars cs) all in and_from _ _ parts.0 (scalar_atoms cs parts.1)
 
+-- the atoms of written texts are normal, with valid characters
 written_normal : (texts : List (List ℕ)) → AllByRecursion IsUtf8 texts
     → list_all is_normal_scalar (styled (flat_map (after_separator (codes ",")) (map (λ t. alone (Normal t)) texts)))
     ≡ true
@@ -154,6 +160,7 @@ written_normal (t ∷ texts) utf8 =
     all-append is_normal_scalar (map Atom.normal (chars t)) _ (scalar_atoms (chars t) (scalars-chars t utf8.0))
     (written_normal texts utf8.1)
 
+-- if the parts of a written list contain no comma, its texts are plain
 all_plain : (parts : List Value) (texts : List (List ℕ)) → AllByRecursion IsUtf8 texts → map text parts ≡ texts
     → AllByRecursion (λ part. list_all is_normal_scalar part ≡ true) (map styled parts)
     → AllByRecursion HoldsNoComma parts → AllByRecursion IsPlain texts

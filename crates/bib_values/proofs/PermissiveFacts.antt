@@ -24,6 +24,7 @@ pub permissive_survives : {M : Type 0} (reads : Value → Option M) (writes : M 
 permissive_survives reads writes kept law (typed m) k = ap (λ read. Some (permissive read (writes m))) (law m k)
 permissive_survives reads writes kept law (as_chunks chunks) k = ap (λ read. Some (permissive read chunks)) k
 
+-- the display name of a language
 abbrev name : Language → List ℕ
 name language = (language_row language).name
 
@@ -45,6 +46,7 @@ read_one part language formats =
     ∙ language_named-name language in
     ap (λ found. permissive found part) named
 
+-- parts that are formatted to the names of languages are parsed as the languages
 read_all : (parts : List Value) (languages : List Language) → map formatted_chars parts ≡ map chars (map name languages)
     → map (λ part. permissive (language_read part) part) parts ≡ map (λ language. typed language) languages
 unfolding first_text other_texts
@@ -64,12 +66,14 @@ languages_of (typed language ∷ rest) all =
     (language ∷ more.0, ap (λ xs. typed language ∷ xs) more.1)
 languages_of (as_chunks chunks ∷ rest) all = absurd all.0
 
+-- languages are written as their names, each as one verbatim chunk
 written_names : (languages : List Language)
     → map (permissive_written language_written) (map (λ language. typed language) languages)
     ≡ map (λ t. alone (Verbatim t)) (map name languages)
 written_names [] = refl
 written_names (l ∷ languages) = ap (λ xs. language_written l ∷ xs) (written_names languages)
 
+-- a list of one language or more parses from its written form
 typed_survive : (language : Language) (rest : List Language)
     → languages_read (languages_written (map (λ l. typed l) (language ∷ rest))) ≡ map (λ l. typed l) (language ∷ rest)
 unfolding languages_read
@@ -77,6 +81,7 @@ typed_survive language rest =
     ap (λ parts. languages_read (parts_written parts)) (written_names (language ∷ rest))
     ∙ read_all _ (language ∷ rest) (parts_format (name language) (map name rest))
 
+-- kept languages parse from their written form
 pub languages_survive : (values : List (Permissive Language)) → LanguagesKept values
     → Some (languages_read (languages_written values)) ≡ Some values
 languages_survive [] kept = absurd (omega (arith, kept.0))

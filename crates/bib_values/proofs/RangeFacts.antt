@@ -17,6 +17,7 @@ use Rattle.bib_values.proofs.NumberFacts.{digits_model}
 use Rattle.bib_values.specs.Ranges.{is_small, leading_number, is_dash, after_dash, ends_at, up_to, goes_on_with, with_first, all_of}
 use Rattle.bib_text.specs.Runs.{leading_run, rest_after}
 
+-- the digits at the start of a text are digits
 prefix_digits : (cs : List ℕ) → all_ascii_digits (leading_run is_ascii_digit cs) ≡ true
 prefix_digits [] = refl
 prefix_digits (c ∷ cs) = here (is_ascii_digit c) c (leading_run is_ascii_digit cs) refl (prefix_digits cs)
@@ -26,12 +27,14 @@ prefix_digits (c ∷ cs) = here (is_ascii_digit c) c (leading_run is_ascii_digit
     here true c ds is more = and_from _ _ is more
     here false c ds is more = refl
 
+-- digits of a number that fits in 32 bits pass the test
 pub small_yes : (ds : List ℕ) → (0 < length ds) × (digits_value 10 ds < 2 ^ 32) → is_small ds ≡ true
 small_yes ds holds =
     let some : 0 < length ds = holds.0 in
     let fits : digits_value 10 ds < 2 ^ 32 = holds.1 in
     grind (arith, nat_tests)
 
+-- digits of no such number fail the test
 small_no : (ds : List ℕ) → ((0 < length ds) × (digits_value 10 ds < 2 ^ 32) → ⊥) → is_small ds ≡ false
 small_no ds fails = false_from_ne_true (is_small ds) (λ holds.
     let some : 0 < length ds = grind (arith, nat_tests) in
@@ -68,6 +71,7 @@ pub undashed_end : (cs : List ℕ) → cs ≡ [] → after_dash cs ≡ None
 unfolding after_dash
 undashed_end cs is = ap after_dash is
 
+-- an empty text has no characters
 pub chars_empty : (bs : List ℕ) → length bs ≡ 0 → chars bs ≡ []
 chars_empty [] none = chars-nil
 chars_empty (b ∷ bs) none = absurd (omega arith)
@@ -110,11 +114,13 @@ joined_first : {A : Type 0} (a r : A) (found : Option (List A))
 joined_first a r None = refl
 joined_first a r (Some rs) = refl
 
+-- with one value more at the end, all values are those before and this one
 all_push : {A : Type 0} (xs : List (Option A)) (r : A) → all_of (xs ++ Some r ∷ []) ≡ option_map (λ rs. rs ++ r ∷ []) (all_of xs)
 all_push [] r = refl
 all_push (Some a ∷ xs) r = ap (with_first (Some a)) (all_push xs r) ∙ joined_first a r (all_of xs)
 all_push (None ∷ xs) r = refl
 
+-- if one value is missing, there are not all values
 all_without : {A : Type 0} (xs ys : List (Option A)) → all_of (xs ++ None ∷ ys) ≡ None
 all_without [] ys = refl
 all_without (Some a ∷ xs) ys = ap (with_first (Some a)) (all_without xs ys)

@@ -17,10 +17,12 @@ use Rattle.bib_values.proofs.RangeFacts.{small_yes}
 Halts : (ℕ → Bool) → List ℕ → Type 0
 Halts test cs = (leading_run test cs ≡ []) × (rest_after test cs ≡ cs)
 
+-- an empty text begins with no character that passes the test
 halts_none : (test : ℕ → Bool) → Halts test []
 unfolding Halts
 halts_none test = (refl, refl)
 
+-- a text whose first character fails the test
 halts_at : (test : ℕ → Bool) (c : ℕ) (cs : List ℕ) → test c ≡ false → Halts test (c ∷ cs)
 unfolding Halts
 halts_at test c cs fails = (cond-false (test c) _ _ fails, cond-false (test c) _ _ fails)
@@ -32,6 +34,7 @@ halts_run test other apart [] rest all halts = halts
 halts_run test other apart (c ∷ run) rest all halts =
     halts_at test c (run ++ rest) (apart c (and_parts (other c) (list_all other run) all).0)
 
+-- a non-empty run of characters that fail the test
 halts_some : (test other : ℕ → Bool) → ((c : ℕ) → other c ≡ true → test c ≡ false) → (run rest : List ℕ)
     → list_all other run ≡ true → 0 < length run → Halts test (run ++ rest)
 halts_some test other apart [] rest all some = absurd (omega (arith, some))
@@ -56,10 +59,12 @@ dash_no_digit c is = grind (arith, nat_tests)
 dash_not_white : (c : ℕ) → is_dash c ≡ true → is_whitespace c ≡ false
 dash_not_white c is = grind (arith, nat_tests)
 
+-- the text after a run that ends there
 passed : (test : ℕ → Bool) (run rest : List ℕ) → list_all test run ≡ true → Halts test rest → rest_after test (run ++ rest) ≡ rest
 unfolding Halts
 passed test run rest all halts = split_after test run rest all halts.1
 
+-- the run at the start of a text, if it ends there
 taken : (test : ℕ → Bool) (run rest : List ℕ) → list_all test run ≡ true → Halts test rest → leading_run test (run ++ rest) ≡ run
 unfolding Halts
 taken test run rest all halts = split_prefix test run rest all halts.0
@@ -83,11 +88,13 @@ end_digit a b rest EndsRange.lone = halts_none is_ascii_digit
 end_digit a b rest (EndsRange.dashed dash hyphens white digits is_dashed all_hyphens all_white is) =
     halts_at is_ascii_digit dash _ (dash_no_digit dash is_dashed)
 
+-- the text that ends a range doesn't begin with white space
 end_white : (a b : ℕ) (rest : List ℕ) → EndsRange a rest b → Halts is_whitespace rest
 end_white a b rest EndsRange.lone = halts_none is_whitespace
 end_white a b rest (EndsRange.dashed dash hyphens white digits is_dashed all_hyphens all_white is) =
     halts_at is_whitespace dash _ (dash_not_white dash is_dashed)
 
+-- a text that ends a range is parsed as its end
 end_read : (a b : ℕ) (rest : List ℕ) → EndsRange a rest b → goes_on_with a rest ≡ Some (record { start = a; end = b })
 unfolding after_dash
 end_read a b rest EndsRange.lone = refl
@@ -133,6 +140,7 @@ prefix_after test (c ∷ cs) = here (test c) (prefix_after test cs)
     here true is = ap (λ xs. c ∷ xs) is
     here false is = refl
 
+-- the characters of a run pass the test
 prefix_passes : (test : ℕ → Bool) (cs : List ℕ) → list_all test (leading_run test cs) ≡ true
 prefix_passes test [] = refl
 prefix_passes test (c ∷ cs) = here (test c) refl (prefix_passes test cs)
@@ -164,6 +172,7 @@ record IsDashed (cs left : List ℕ) : Type 0 where
   pub all : list_all (λ c. c == 45) hyphens ≡ true
   pub spells : cs ≡ dash ∷ (hyphens ++ left)
 
+-- a parsed dash is a dash, any `-`, and the text after them
 dash_spelt : (cs left : List ℕ) → after_dash cs ≡ Some left → IsDashed cs left
 unfolding after_dash
 dash_spelt [] left is = cc
@@ -180,6 +189,7 @@ dash_spelt (c ∷ cs) left is =
 same_end : (a b : ℕ) (range : Range ℕ) → Some (record { start = a; end = b }) ≡ Some range → (range.start ≡ a) × (b ≡ range.end)
 same_end a b range is = let same : record { start = a; end = b } ≡ range = cc in (sym (ap (λ r. r.start) same), ap (λ r. r.end) same)
 
+-- a parsed dash and end are a text that ends a range
 dashed_spelt : (a b : ℕ) (cs left : List ℕ) (range : Range ℕ) → IsDashed cs left
     → leading_number (rest_after is_whitespace left) ≡ Some (b, []) → b ≡ range.end → EndsRange a cs range.end
 dashed_spelt a b cs left range dashed read same =
@@ -197,6 +207,7 @@ dashed_spelt a b cs left range dashed read same =
     (EndsRange.dashed dashed.dash dashed.hyphens (leading_run is_whitespace left) digits dashed.is dashed.all
     (prefix_passes is_whitespace left) reported.0))
 
+-- what is parsed after the start of a range is a text that ends it
 end_spelt : (a : ℕ) (rest : List ℕ) (range : Range ℕ) → goes_on_with a rest ≡ Some range → (range.start ≡ a) × EndsRange a rest range.end
 end_spelt a [] range is = let same = same_end a a range is in (same.0, subst (λ n. EndsRange a [] n) same.1 EndsRange.lone)
 end_spelt a (c ∷ cs) range is = by_dash (after_dash (c ∷ cs)) refl is
@@ -215,6 +226,7 @@ end_spelt a (c ∷ cs) range is = by_dash (after_dash (c ∷ cs)) refl is
     by_dash (Some left) dash ends =
         by_number left (leading_number (rest_after is_whitespace left)) (dash_spelt (c ∷ cs) left dash) refl ends
 
+-- what is parsed as a range is one by the grammar
 range_from : (text : List ℕ) (range : Range ℕ) (found : Option (ℕ × List ℕ))
     → leading_number (rest_after is_whitespace text) ≡ found → starts_with found ≡ Some range → IsRange text range
 range_from text range None read is = cc

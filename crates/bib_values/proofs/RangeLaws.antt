@@ -28,6 +28,7 @@ use Rattle.bib_values.proofs.RangeFacts.{small_yes}
 abbrev is_byte : ℕ → Bool
 is_byte b = is_ascii_digit b || b == 45
 
+-- characters that pass a test pass a weaker one
 weaken : (p q : ℕ → Bool) → ((c : ℕ) → p c ≡ true → q c ≡ true) → (cs : List ℕ) → list_all p cs ≡ true → list_all q cs ≡ true
 weaken p q each [] all = refl
 weaken p q each (c ∷ cs) all =
@@ -37,6 +38,7 @@ weaken p q each (c ∷ cs) all =
 all_both : (p : ℕ → Bool) (xs ys : List ℕ) → list_all p xs ≡ true → list_all p ys ≡ true → list_all p (xs ++ ys) ≡ true
 all_both p xs ys first second = list_all-append p xs ys ∙ and_from _ _ first second
 
+-- decimal digits are ASCII digits
 digits_all : (ds : List ℕ) → AllDigits 10 ds → list_all is_ascii_digit ds ≡ true
 digits_all [] all = refl
 digits_all (d ∷ ds) all =
@@ -44,6 +46,7 @@ digits_all (d ∷ ds) all =
     let here : is_ascii_digit d ≡ true = grind (arith, nat_tests) in
     and_from _ _ here (digits_all ds all.1)
 
+-- a written number consists of ASCII digits
 pub decimal_digits : (n : ℕ) → n < 2 ^ 32 → list_all is_ascii_digit (decimal n) ≡ true
 decimal_digits n small = digits_all _ (decimal_is_IsNumeral n (omega arith)).0.1
 
@@ -89,6 +92,7 @@ number_decimal n rest small none left =
     ∙ ap (λ v. Some (v, rest_after is_ascii_digit (decimal n ++ rest))) value
     ∙ ap (λ xs. Some (n, xs)) (split_after is_ascii_digit (decimal n) rest (decimal_digits n small) left)
 
+-- a written range consists of digits and a hyphen
 range_bytes : (r : Range ℕ) → RangeKept r → list_all is_byte (range_text r) ≡ true
 range_bytes r kept =
     all_both is_byte (decimal r.start ++ codes "-") (decimal r.end)
@@ -103,6 +107,7 @@ dash_passed b small =
     (stays (λ d. d == 45) (decimal b)
     (weaken is_ascii_digit (λ c. not (c == 45)) digit_hyphen (decimal b) (decimal_digits b small)))
 
+-- a kept range parses from its text
 pub range_text_read : (r : Range ℕ) → RangeKept r → range_of (range_text r) ≡ Some r
 unfolding range_of
 range_text_read r kept =
@@ -125,6 +130,7 @@ range_chars r kept =
     chars-IsAscii (range_text r)
     (simple_ascii (range_text r) (weaken is_byte is_simple byte_simple (range_text r) (range_bytes r kept)))
 
+-- the text of a kept range is plain in a comma list
 range_plain : (r : Range ℕ) → RangeKept r → IsPlain (range_text r)
 range_plain r kept =
     let bytes = range_bytes r kept in
@@ -137,6 +143,7 @@ texts_plain : (ranges : List (Range ℕ)) → AllByRecursion RangeKept ranges �
 texts_plain [] kept = tt
 texts_plain (r ∷ rest) kept = (range_plain r kept.0, texts_plain rest kept.1)
 
+-- the texts of kept ranges are a kept list of texts
 texts_kept : (ranges : List (Range ℕ)) → RangesKept ranges → StringsKept (map range_text ranges)
 texts_kept [] kept = absurd (omega (arith, kept.0))
 texts_kept (r ∷ rest) kept = (omega arith, texts_plain (r ∷ rest) kept.1)
@@ -144,6 +151,7 @@ texts_kept (r ∷ rest) kept = (omega arith, texts_plain (r ∷ rest) kept.1)
 one_read : (r : Range ℕ) → RangeKept r → range_of (chars (range_text r)) ≡ Some r
 one_read r kept = ap range_of (range_chars r kept) ∙ range_text_read r kept
 
+-- the texts of kept ranges are parsed as the ranges
 all_read : (ranges : List (Range ℕ)) → AllByRecursion RangeKept ranges
     → all_of (map range_of (map chars (map range_text ranges))) ≡ Some ranges
 all_read [] kept = refl
@@ -155,6 +163,7 @@ composed : (parts : List Value) → map (λ part. range_of (formatted_chars part
 composed [] = refl
 composed (p ∷ parts) = ap (λ xs. range_of (formatted_chars p) ∷ xs) (composed parts)
 
+-- a list of kept ranges parses from its written form
 pub ranges_survive : (ranges : List (Range ℕ)) → RangesKept ranges → ranges_read (ranges_written ranges) ≡ Some ranges
 unfolding ranges_read
 ranges_survive ranges kept =
@@ -163,5 +172,6 @@ ranges_survive ranges kept =
     ∙ ap (map range_of) (parts_format (map range_text ranges) (texts_kept ranges kept)))
     ∙ all_read ranges kept.1
 
+-- a kept range parses from its written form
 pub range_survives : (r : Range ℕ) → RangeKept r → range_read (range_written r) ≡ Some r
 range_survives r kept = ap first_of (ranges_survive (r ∷ []) (omega arith, (kept, tt)))

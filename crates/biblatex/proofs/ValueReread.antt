@@ -15,7 +15,7 @@ use Rattle.bib_chunks.specs.declared.chunk.Chunk.{Chunk}
 use Rattle.bib_chunks.specs.declared.chunk.Chunk.TheVariants.{Normal, Verbatim, Math}
 use Rattle.bib_text.specs.declared.spanned.Spanned.{Spanned}
 use Rattle.bib_contents.specs.Commands.{command_text, accents, symbols}
-use Rattle.bib_contents.specs.Contents.{ContentUnit, Argument, is_escapable, is_escaped, is_space, is_blank, is_name_character, is_sign, is_mark, is_accent_letter, is_ordinary, begins, unit_spelling, fits, IsNext, meaning, character, depth_after, is_closable, held, Reads}
+use Rattle.bib_contents.specs.Contents.{ContentUnit, Argument, is_escapable, is_escaped, is_space, is_blank, is_name_character, is_sign, is_mark, is_accent_letter, is_ordinary, begins, unit_spelling, fits, IsNext, meaning, character, depth_after, is_closable, inner_text, Reads}
 use Rattle.bib_contents.specs.Contents.Reads.{end, next}
 
 -- the depth of braces, given whether the pair of braces around verbatim chunks is open
@@ -31,7 +31,7 @@ pub record IsSpelt (v : Bool) (c : ℕ) (rest : List ℕ) : Type 0 where
   pub means : (depth : ℕ) → meaning depth unit [] ≡ character depth c ∷ []
   pub stays : (depth : ℕ) → depth_after depth unit ≡ depth
   pub closable : (depth : ℕ) → is_closable depth unit ≡ true
-  pub holds : (text : List ℕ) → held unit ≡ Some text → [] ≡ text
+  pub holds : (text : List ℕ) → inner_text unit ≡ Some text → [] ≡ text
 
 no_text : {P : Type 0} {text : List ℕ} → None ≡ Some text → P
 no_text none = absurd (cc)
@@ -174,7 +174,7 @@ put : {v : Bool} {c : ℕ} {rest : List ℕ} {atoms : List Atom} (depth : ℕ) �
 put {v} {c} {rest} {atoms} depth one read =
     let first : IsNext v one.unit (char_spelling v c ++ rest) rest =
     record { fits = one.right; spells = ap (λ cs. cs ++ rest) (sym one.spelt) } in
-    let inside : (text : List ℕ) → held one.unit ≡ Some text → Reads false 0 text [] =
+    let inside : (text : List ℕ) → inner_text one.unit ≡ Some text → Reads false 0 text [] =
     λ text holds. subst (λ t. Reads false 0 t []) (one.holds text holds) end in
     let following : Reads v (depth_after depth one.unit) rest atoms = subst (λ d. Reads v d rest atoms) (sym (one.stays depth)) read in
     subst (λ xs. Reads v depth (char_spelling v c ++ rest) (xs ++ atoms)) (one.means depth)

@@ -3,7 +3,7 @@
 ghost use Rattle.std.specs.Prelude.{false, MatchOption, ◌≡◌, ◌≤◌, ◌+◌, length, IfOk};
 ghost use Rattle.std.specs.List.{list_any};
 ghost use Rattle.bib_people.specs.WordKinds.{IsLastSpace, cuts_of};
-ghost use Rattle.bib_people.specs.Names.{is_space_byte, person, shown, formats_to_nothing, at_last_space, whole_person, cut_person, without_comma, with_comma, by_commas};
+ghost use Rattle.bib_people.specs.Names.{is_space_byte, person, trimmed_text, formats_to_nothing, at_last_space, whole_person, cut_person, without_comma, with_comma, by_commas};
 
 use super::Person;
 use super::cuts::{Cuts, before_comma, whole_name};
@@ -30,8 +30,8 @@ fn person(name: Text, given_name: Text, prefix: Text, suffix: Text) -> Person
 }
 
 // Returns the text of chunks, without the white space at its ends.
-pub(crate) fn shown(alloc: Global, chunks: ChunksRef<'_>) -> Result<Text, AllocError>
-    ensures { IfOk result (λ text. text ≡ shown chunks.now) }
+pub(crate) fn trimmed_text(alloc: Global, chunks: ChunksRef<'_>) -> Result<Text, AllocError>
+    ensures { IfOk result (λ text. text ≡ trimmed_text chunks.now) }
 {
     let text = format_verbatim(alloc, chunks)?;
     Text::from_str(alloc, text.as_str().trim())
@@ -125,7 +125,7 @@ fn with_comma(
     let letters = letters(alloc, first)?;
     let words = words(alloc, letters.as_slice())?;
     let cuts = before_comma(words.as_slice());
-    let given = shown(alloc, second)?;
+    let given = trimmed_text(alloc, second)?;
     cut_person(alloc, words.as_slice(), cuts, given, suffix)
 }
 
@@ -139,6 +139,6 @@ pub(crate) fn by_commas(alloc: Global, chunks: ChunksRef<'_>) -> Result<Person, 
     let Some((suffix, given)) = cut_at(alloc, rest.as_slice(), ',')? else {
         return with_comma(alloc, first.as_slice(), rest.as_slice(), Text::new(alloc));
     };
-    let suffix = shown(alloc, suffix.as_slice())?;
+    let suffix = trimmed_text(alloc, suffix.as_slice())?;
     with_comma(alloc, first.as_slice(), given.as_slice(), suffix)
 }

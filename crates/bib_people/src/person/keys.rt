@@ -7,7 +7,7 @@ ghost use Rattle.bib_chunks.specs.Styled.{text_of};
 ghost use Rattle.bib_people.specs.Names.{key_value_of, parts_of, last_value, person_of_parts, in_parts, is_in_parts};
 
 use super::Person;
-use super::commas::shown;
+use super::commas::trimmed_text;
 use bib_chunks::chunk::ChunksRef;
 use bib_chunks::chunk::cuts::{comma_list, cut_at};
 use bib_text::items::Items;
@@ -34,11 +34,11 @@ fn read_part(alloc: Global, chunks: ChunksRef<'_>) -> Result<Part, AllocError>
     ensures { IfOk result (λ part. part ≡ key_value_of chunks.now) }
 {
     let Some((key, value)) = cut_at(alloc, chunks, '=')? else {
-        let key = shown(alloc, chunks)?;
+        let key = trimmed_text(alloc, chunks)?;
         return Ok((key, Text::new(alloc)));
     };
-    let key = shown(alloc, key.as_slice())?;
-    let value = shown(alloc, value.as_slice())?;
+    let key = trimmed_text(alloc, key.as_slice())?;
+    let value = trimmed_text(alloc, value.as_slice())?;
     Ok((key, value))
 }
 

@@ -4,7 +4,7 @@ use Rattle.std.specs.Str.{chars}
 use Rattle.std.proofs.lemmas.Result.{err_from_is_err_and}
 use Rattle.std.proofs.lemmas.Str.{IsUtf8-string_bytes}
 use Rattle.bib_contents.specs.Arguments.{argument_written}
-use Rattle.bib_contents.specs.Effects.{made_before}
+use Rattle.bib_contents.specs.Effects.{before_argument}
 use Rattle.bib_contents.specs.Progress.{left}
 use Rattle.bib_contents.proofs.ArgumentReading.{name_plain}
 use Rattle.bib_contents.proofs.EffectFacts.{wrote_from}
@@ -28,7 +28,9 @@ units-init c =
 pub units-preserved-in-Read : goal.units-preserved-in-Read
 units-preserved-in-Read c =
     let inv = c.units.invariant in
-    let read = rw c.in-Read.is at (c.in_ok-next.ensures.read inv.whole (inv.under ++ made_before c.units.frame.effect inv.name) inv.read) in
+    let read =
+    rw c.in-Read.is at
+    (c.in_ok-next.ensures.read inv.whole (inv.under ++ before_argument c.units.frame.effect inv.name) inv.read) in
     reading_on inv c.in_ok-next.ensures.kept c.in_ok-next.ensures.right read
 
 pub units-smaller-in-Read : goal.units-smaller-in-Read
@@ -41,7 +43,7 @@ units-preserved-in-Follows c =
     let inv = c.units.invariant in
     let read =
     rw c.in-Follows.is at
-    (c.in_ok-next.ensures.read inv.whole (inv.under ++ made_before c.units.frame.effect inv.name) inv.read) in
+    (c.in_ok-next.ensures.read inv.whole (inv.under ++ before_argument c.units.frame.effect inv.name) inv.read) in
     let shorter = rw c.in-Follows.is at c.in_ok-next.ensures.shorter in
     let opened = c.in_ok-above-in-Follows.ensures in
     let reversed = reversed_push c.push.new.self.items c.units.frames.items _ c.in_ok-push-in-Follows.ensures.items in
@@ -61,22 +63,26 @@ units-smaller-in-Follows c =
 pub end-requires : goal.end-requires
 end-requires c =
     let inv = c.units.invariant in
-    let read = rw c.in-End.is at (c.in_ok-next.ensures.read inv.whole (inv.under ++ made_before c.units.frame.effect inv.name) inv.read) in
+    let read =
+    rw c.in-End.is at
+    (c.in_ok-next.ensures.read inv.whole (inv.under ++ before_argument c.units.frame.effect inv.name) inv.read) in
     let kept = c.in_ok-next.ensures.kept in
     let begun = begun_on inv.begun kept c.in_ok-next.ensures.right in
     let said = argument_written c.next.new.self.is_flat read.0.atoms in
-    let now = read.0.wrote ∙ ap (λ e. encode_utf8_all ((inv.under ++ made_before e inv.name) ++ said)) (sym kept.effect) in
-    record { fit = begun.fit; begun = (inv.under ++ made_before c.next.new.self.effect inv.name, said, begun.start, now) }
+    let now = read.0.wrote ∙ ap (λ e. encode_utf8_all ((inv.under ++ before_argument e inv.name) ++ said)) (sym kept.effect) in
+    record { fit = begun.fit; begun = (inv.under ++ before_argument c.next.new.self.effect inv.name, said, begun.start, now) }
 
 pub returns-in_default-clause-read : goal.returns-in_default-clause-read
 returns-in_default-clause-read c =
     let none = no_elements c.units.frames.items (omega (arith, c.in_default.ensures.cases.0, c.units.frames.ok.0)) in
     let inv = rw none at c.units.invariant in
-    let read = rw c.in-End.is at (c.in_ok-next.ensures.read inv.whole (inv.under ++ made_before c.units.frame.effect inv.name) inv.read) in
+    let read =
+    rw c.in-End.is at
+    (c.in_ok-next.ensures.read inv.whole (inv.under ++ before_argument c.units.frame.effect inv.name) inv.read) in
     let kept = c.in_ok-next.ensures.kept in
     let begun = begun_on inv.begun kept c.in_ok-next.ensures.right in
     let said = argument_written c.next.new.self.is_flat read.0.atoms in
-    let now = read.0.wrote ∙ ap (λ e. encode_utf8_all ((inv.under ++ made_before e inv.name) ++ said)) (sym kept.effect) in
+    let now = read.0.wrote ∙ ap (λ e. encode_utf8_all ((inv.under ++ before_argument e inv.name) ++ said)) (sym kept.effect) in
     let done = reading_done inv kept read.0 (c.in_ok-end-in-End.ensures inv.under inv.name said begun.start now) in
     (done.0, done.1, wrote_from (string_bytes c.args.text.now) _ _ (IsUtf8-string_bytes c.args.text.now) done.2)
 
@@ -84,11 +90,13 @@ pub units-preserved : goal.units-preserved
 units-preserved c =
     let reversed = reversed_push c.units.frames.items c.pop.new.self.items c.in-Some.below c.in-Some.ensures.items in
     let inv = rw reversed at c.units.invariant in
-    let read = rw c.in-End.is at (c.in_ok-next.ensures.read inv.whole (inv.under ++ made_before c.units.frame.effect inv.name) inv.read) in
+    let read =
+    rw c.in-End.is at
+    (c.in_ok-next.ensures.read inv.whole (inv.under ++ before_argument c.units.frame.effect inv.name) inv.read) in
     let kept = c.in_ok-next.ensures.kept in
     let begun = begun_on inv.begun kept c.in_ok-next.ensures.right in
     let said = argument_written c.next.new.self.is_flat read.0.atoms in
-    let now = read.0.wrote ∙ ap (λ e. encode_utf8_all ((inv.under ++ made_before e inv.name) ++ said)) (sym kept.effect) in
+    let now = read.0.wrote ∙ ap (λ e. encode_utf8_all ((inv.under ++ before_argument e inv.name) ++ said)) (sym kept.effect) in
     reading_below inv kept read.0 (c.in_ok-end-in-End.ensures inv.under inv.name said begun.start now)
 
 pub units-smaller : goal.units-smaller
@@ -101,7 +109,7 @@ pub returns-in_err-next-clause-refused : goal.returns-in_err-next-clause-refused
 returns-in_err-next-clause-refused c =
     let inv = c.units.invariant in
     let p = err_from_is_err_and c.from_residual-in_err-next.result c.from_residual-in_err-next.ensures.1 in
-    rw (p.1, p.2) (elim (c.in_err-next.ensures.refused inv.whole (inv.under ++ made_before c.units.frame.effect inv.name) inv.read) [
+    rw (p.1, p.2) (elim (c.in_err-next.ensures.refused inv.whole (inv.under ++ before_argument c.units.frame.effect inv.name) inv.read) [
       | inl memory ↦ inl memory
       | inr fails ↦ inr (fails_up inv.waiting fails)
     ])

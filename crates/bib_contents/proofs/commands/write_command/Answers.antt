@@ -3,7 +3,7 @@ use Rattle.std.specs.Prelude.{encode_utf8_all, string_bytes}
 use Rattle.std.specs.Str.{chars}
 use Rattle.std.proofs.lemmas.Str.{encodes-chars, IsUtf8-string_bytes}
 use Rattle.bib_text.proofs.TextFacts.{pushed_chars}
-use Rattle.bib_contents.specs.Effects.{made_before}
+use Rattle.bib_contents.specs.Effects.{before_argument}
 use Rattle.bib_contents.proofs.EffectFacts.{wrote_after, wrote_more, wrote_from}
 use Rattle.bib_contents.proofs.commands.write_command.Goals as goal
 
@@ -24,7 +24,7 @@ pub returns : goal.returns
 returns c =
     let old = string_bytes c.args.out.now in
     let begun = wrote_after old (string_bytes c.begin.new.out) _ (IsUtf8-string_bytes c.args.out.now) c.in_ok-begin.ensures in
-    let size : length (encode_utf8_all (chars old ++ made_before c.of-effect.result (chars c.args.name.now)))
+    let size : length (encode_utf8_all (chars old ++ before_argument c.of-effect.result (chars c.args.name.now)))
     ≡ c.len-start.result =
     omega (arith, ap length begun, c.len-start.ensures) in
     let pushed = wrote_more (string_bytes c.begin.new.out) (string_bytes c.push_str.new.self) _ (chars c.args.argument.now) begun

@@ -40,7 +40,7 @@ returns-in_default-clause-refused c =
     let grown : OpenChunk = record { text = c.write_plain.new.text; depth = was.depth; start = was.start; is_first = was.is_first } in
     let run : Reading c.args.is_verbatim c.args.text.now c.args.offset c.args.out.now c.write_plain.new.s grown c.units.out =
     reading_plain was grown c.units.invariant c.in_ok-write_plain.ensures refl refl in
-    let fails = fails_unit run.read (c.in_default.ensures.fails c.if-done.ensures) c.ended.ensures.kind in
+    let fails = fails_unit run.read (c.in_default.ensures.fails c.if-done.ensures) c.early_end_error.ensures.kind in
     inr (fails_kind fails, fails_stuck fails)
 
 pub returns-in_default-clause-fails : goal.returns-in_default-clause-fails
@@ -49,7 +49,7 @@ returns-in_default-clause-fails c =
     let grown : OpenChunk = record { text = c.write_plain.new.text; depth = was.depth; start = was.start; is_first = was.is_first } in
     let run : Reading c.args.is_verbatim c.args.text.now c.args.offset c.args.out.now c.write_plain.new.s grown c.units.out =
     reading_plain was grown c.units.invariant c.in_ok-write_plain.ensures refl refl in
-    inr (fails_unit run.read (c.in_default.ensures.fails c.if-done.ensures) c.ended.ensures.kind)
+    inr (fails_unit run.read (c.in_default.ensures.fails c.if-done.ensures) c.early_end_error.ensures.kind)
 
 pub take-requires : goal.take-requires
 take-requires c =

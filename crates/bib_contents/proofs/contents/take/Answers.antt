@@ -5,7 +5,7 @@ use Rattle.std.proofs.lemmas.Result.{err_from_is_err_and}
 use Rattle.bib_contents.specs.Progress.{left}
 use Rattle.bib_contents.specs.UnitViews.{text_unit_of}
 use Rattle.bib_contents.specs.declared.growing.OpenChunk.{OpenChunk}
-use Rattle.bib_contents.proofs.ArgumentReading.{held_none, holds_none}
+use Rattle.bib_contents.proofs.ArgumentReading.{no_inner_text, holds_none}
 use Rattle.bib_contents.proofs.TakingFacts.{as_text, took_text, took_applied, took_formula, took_opening, took_closing, formula_wide, placed_after}
 use Rattle.bib_contents.proofs.contents.take.Goals as goal
 use Rattle.bib_contents.proofs.contents.take.Goals.{in-Shown+in_ok-write_unit-in-Shown, in-Applied+in_ok-write_applied-in-Applied, in-Formula+in_ok-finish_before_math-in-Formula, in-Opening+in_ok-finish_chunk-in-Opening, in-Closing+else-growing-eq0+in_ok-finish_chunk-in-Closing}
@@ -22,7 +22,7 @@ returns-clause-taken c = elim c.match-unit.branch [
       } in
       rw (w.out-is, w.growing-is, w.in-Shown.is)
       (took_text w.in-Shown.shown c.args.growing.now grown c.args.out.now []
-      (λ argument holds. holds_none (text_unit_of w.in-Shown.shown) argument (held_none w.in-Shown.shown) holds)
+      (λ argument holds. holds_none (text_unit_of w.in-Shown.shown) argument (no_inner_text w.in-Shown.shown) holds)
       (as_text _ _ w.in-Shown.shown w.in_ok-write_unit-in-Shown.ensures) refl)
   | in-Applied+in_ok-write_applied-in-Applied w ↦
       let read = w.in_ok-write_applied-in-Applied.ensures.read in

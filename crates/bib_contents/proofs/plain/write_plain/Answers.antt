@@ -8,22 +8,22 @@ use Rattle.bib_contents.proofs.plain.write_plain.Goals as goal
 
 pub returns-then-not-branch : goal.returns-then-not-branch
 returns-then-not-branch c =
-    let shown = chars c.eat_shown.result.now in
-    let run : Renders c.args.is_verbatim c.runs.s c.eat_shown.new.self c.runs.text c.push_str.new.self = (
+    let shown = chars c.eat_as_is.result.now in
+    let run : Renders c.args.is_verbatim c.runs.s c.eat_as_is.new.self c.runs.text c.push_str.new.self = (
       shown,
-      c.eat_shown.ensures,
+      c.eat_as_is.ensures,
       pushed_chars _ _ _ _ shown c.in_ok-push_str.was c.push_str.ensures.bytes
-          (sym (encodes-chars _ c.eat_shown.utf8)),
+          (sym (encodes-chars _ c.eat_as_is.utf8)),
     ) in
     renders_then _ _ _ c.runs.invariant (renders_then _ _ _ run c.in_ok-write_run.ensures.read)
 
 pub runs-preserved : goal.runs-preserved
 runs-preserved c =
-    let shown = chars c.eat_shown.result.now in
-    let run : Renders c.args.is_verbatim c.runs.s c.eat_shown.new.self c.runs.text c.push_str.new.self = (
+    let shown = chars c.eat_as_is.result.now in
+    let run : Renders c.args.is_verbatim c.runs.s c.eat_as_is.new.self c.runs.text c.push_str.new.self = (
       shown,
-      c.eat_shown.ensures,
+      c.eat_as_is.ensures,
       pushed_chars _ _ _ _ shown c.in_ok-push_str.was c.push_str.ensures.bytes
-          (sym (encodes-chars _ c.eat_shown.utf8)),
+          (sym (encodes-chars _ c.eat_as_is.utf8)),
     ) in
     renders_then _ _ _ c.runs.invariant (renders_then _ _ _ run c.in_ok-write_run.ensures.read)

@@ -1,16 +1,18 @@
 use Rattle.std.proofs.Common.{◌∙◌, arith}
-use Rattle.bib_dates.proofs.Digits.{parsed, two, three, four}
+use Rattle.bib_dates.proofs.Digits.{parse_value, two, three, four}
 use Rattle.bib_dates.proofs.parts.value.Goals as goal
 
 pub returns-clause-value : goal.returns-clause-value
 returns-clause-value c =
-    c.unwrap_or.ensures ∙ parsed c.args.digits.now c.parse.result c.requires.digits c.requires.some c.requires.count c.parse.ensures.value.0
+    c.unwrap_or.ensures
+    ∙ parse_value c.args.digits.now c.parse.result c.requires.digits c.requires.some c.requires.count
+    c.parse.ensures.value.0
 
 pub returns-clause-below : goal.returns-clause-below
 returns-clause-below c =
     let value =
     c.unwrap_or.ensures
-    ∙ parsed c.args.digits.now c.parse.result c.requires.digits c.requires.some c.requires.count
+    ∙ parse_value c.args.digits.now c.parse.result c.requires.digits c.requires.some c.requires.count
     c.parse.ensures.value.0 in
     omega (arith, value, four c.args.digits.now c.requires.digits c.requires.count)
 
@@ -18,7 +20,7 @@ pub returns-clause-short : goal.returns-clause-short
 returns-clause-short c few =
     let value =
     c.unwrap_or.ensures
-    ∙ parsed c.args.digits.now c.parse.result c.requires.digits c.requires.some c.requires.count
+    ∙ parse_value c.args.digits.now c.parse.result c.requires.digits c.requires.some c.requires.count
     c.parse.ensures.value.0 in
     omega (arith, value, two c.args.digits.now c.requires.digits few)
 
@@ -26,6 +28,6 @@ pub returns-clause-shorter : goal.returns-clause-shorter
 returns-clause-shorter c few =
     let value =
     c.unwrap_or.ensures
-    ∙ parsed c.args.digits.now c.parse.result c.requires.digits c.requires.some c.requires.count
+    ∙ parse_value c.args.digits.now c.parse.result c.requires.digits c.requires.some c.requires.count
     c.parse.ensures.value.0 in
     omega (arith, value, three c.args.digits.now c.requires.digits few)

@@ -29,7 +29,7 @@ returns-in_default-clause-refused c whole base read =
     let ran = read_run (chars c.eat_while-run.result.now) read c.eat_while-run.ensures.passed.left all.0
     (pushed_chars _ _ _ _ (chars c.eat_while-run.result.now) c.in_ok-push_str.was c.push_str.ensures.bytes
     (sym (encodes-chars _ c.eat_while-run.utf8))) in
-    inr (fails_on ran (c.in_default.ensures.fails c.if-done.ensures) c.ended.ensures.kind)
+    inr (fails_on ran (c.in_default.ensures.fails c.if-done.ensures) c.early_end_error.ensures.kind)
 
 pub returns-clause-kept : goal.returns-clause-kept
 returns-clause-kept c =
@@ -117,4 +117,5 @@ returns-in_default-clause-within c fits =
     let size = c.len.ensures in
     let place = c.saturating_add.ensures in
     let within : c.args.self.now.s.at ≤ length c.args.self.now.s.text = c.requires.right.within in
-    rw c.ended.ensures.place (inr (omega (arith, place, size, same, within, fits), omega arith, omega (arith, place, size, same, fits)))
+    rw c.early_end_error.ensures.place
+    (inr (omega (arith, place, size, same, within, fits), omega arith, omega (arith, place, size, same, fits)))

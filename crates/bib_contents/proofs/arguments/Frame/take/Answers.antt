@@ -16,7 +16,7 @@ returns-in-Applied-clause-shorter c before low one stands = (
 
 pub returns-then-self-eq0-clause-refused : goal.returns-then-self-eq0-clause-refused
 returns-then-self-eq0-clause-refused c whole base before one read =
-    inr (fails_closing read (rw c.in-Closing.is at one) c.if-self-eq0.true c.unopened.ensures.kind)
+    inr (fails_closing read (rw c.in-Closing.is at one) c.if-self-eq0.true c.closing_brace_error.ensures.kind)
 
 pub returns-clause-read : goal.returns-clause-read
 returns-clause-read c whole base before one read = elim c.match-unit.branch [

@@ -1,7 +1,7 @@
 use Rattle.std.proofs.Common.{◌<◌, length, arith}
 use Rattle.bib_contents.specs.Arguments.{Closes}
 use Rattle.bib_contents.proofs.ArgumentFacts.{known_encloses, closes_boundary}
-use Rattle.bib_contents.proofs.units.braced.Goals as goal
+use Rattle.bib_contents.proofs.units.argument_in_braces.Goals as goal
 
 pub jump-requires : goal.jump-requires
 jump-requires c =

@@ -2,7 +2,7 @@ use Rattle.std.proofs.Common.{length, ◌-◌, ◌≤◌}
 use Rattle.std.specs.Str.{IsCharBoundary}
 use Rattle.bib_text.specs.Places.{place}
 use Rattle.bib_contents.proofs.PlainFacts.{Itself}
-use Rattle.bib_contents.proofs.characters.Characters.eat_shown.Given as goal
+use Rattle.bib_contents.proofs.characters.Characters.eat_as_is.Given as goal
 
 -- each passed character is parsed as itself, and the cursor is at a character boundary
 abbrev pub invariant-run : goal.invariant-run

@@ -2,7 +2,7 @@ use Rattle.std.proofs.Common.{sym}
 use Rattle.std.specs.Str.{chars}
 use Rattle.std.proofs.lemmas.Str.{encodes-chars}
 use Rattle.bib_text.proofs.TextFacts.{pushed_chars}
-use Rattle.bib_contents.proofs.writing.write_laid.Goals as goal
+use Rattle.bib_contents.proofs.writing.write_flat_if.Goals as goal
 
 pub returns : goal.returns
 returns c =

@@ -3,8 +3,8 @@ use Rattle.std.proofs.lemmas.Str.{IsCharBoundary-after_ascii}
 use Rattle.bib_text.specs.Places.{place, CharAt}
 use Rattle.bib_text.proofs.PlaceFacts.{ascii_here, boundary_after}
 use Rattle.bib_contents.proofs.PlainFacts.{itself_start, itself_ordinary, itself_alone, itself_char, itself_reads, reads_moved}
-use Rattle.bib_contents.proofs.characters.Characters.eat_shown.Goals as goal
-use Rattle.bib_contents.proofs.characters.Characters.eat_shown.Goals.{then-is_ordinary, else-is_ordinary}
+use Rattle.bib_contents.proofs.characters.Characters.eat_as_is.Goals as goal
+use Rattle.bib_contents.proofs.characters.Characters.eat_as_is.Goals.{then-is_ordinary, else-is_ordinary}
 
 pub run-init : goal.run-init
 run-init c = (
