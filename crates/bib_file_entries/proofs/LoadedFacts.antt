@@ -18,7 +18,7 @@ use Rattle.bib_abbreviations.specs.Abbreviations.{Definitions}
 use Rattle.bib_syntax.specs.Reading.{FieldReading, EntryReading}
 use Rattle.bib_abbreviations.proofs.LawFacts.{evaluates_same}
 use Rattle.bib_entry.specs.declared.entry.Entry.{Entry}
-use Rattle.bib_file_entries.specs.Bibliography.{Bibliography, claims, aliases, appended, empty_bibliography}
+use Rattle.bib_file_entries.specs.Bibliography.{Bibliography, claims, aliases, empty_bibliography, with_last_entry}
 use Rattle.bib_chunks.specs.Lists.{comma_texts}
 use Rattle.bib_file_entries.specs.Loaded.{AllCanBeRead, IsEntry, AreEntries, IsFirstErrorOfFields, IsFirstErrorOfEntries, FieldSays, field_in, is_claimed, loaded_after}
 use Rattle.bib_collections.specs.Names.{AreIndicesBelow, claimed, claims_for}
@@ -73,7 +73,7 @@ absent_by (Some x) is_new is new = sym new ∙ is
 pub loaded_more : (bibliography : Bibliography) (first second : List Entry)
     → loaded_after bibliography (first ++ second) ≡ loaded_after (loaded_after bibliography first) second
 loaded_more bibliography [] second = refl
-loaded_more bibliography (entry ∷ first) second = loaded_more (appended bibliography entry) first second
+loaded_more bibliography (entry ∷ first) second = loaded_more (with_last_entry bibliography entry) first second
 
 one_more : (test : Bool) (index : ℕ) (had : Option ℕ) (later : Bool)
     → (is_some (cond test (Some index) had) || later) ≡ (is_some had || (test || later))
@@ -130,7 +130,7 @@ pub bibliography_next : (found : List Entry) (entry : Entry) (names : ByText ℕ
     → loaded_after empty_bibliography (found ++ entry ∷ [])
     ≡ record { entries = found ++ entry ∷ []; names = claimed names (claims_for (claims entry) (length found)) }
 bibliography_next found entry names loaded =
-    loaded_more empty_bibliography found (entry ∷ []) ∙ ap (λ bibliography. appended bibliography entry) loaded
+    loaded_more empty_bibliography found (entry ∷ []) ∙ ap (λ bibliography. with_last_entry bibliography entry) loaded
 
 -- each name still points to an entry when an entry is added with its claims
 pub below_next : (found : List Entry) (entry : Entry) (names : ByText ℕ) → AreIndicesBelow (length found) names

@@ -17,7 +17,7 @@ use Rattle.bib_inheritance.specs.EntryTexts.{EntryTexts, first_some, no_entry}
 use Rattle.bib_inheritance.specs.declared.inheritable_date.InheritableDate.{InheritableDate as Kept}
 use Rattle.bib_inheritance.specs.declared.inheritable_date.InheritableDate.TheVariants.{Undated, Unreadable, Dated}
 use Rattle.bib_inheritance.specs.Resolving.{at_index, texts_of_entries, texts_of_entry}
-use Rattle.bib_inheritance.specs.Turning.{AddsAmong, AreDates, Dates, IsDateAt, date_at, dated_in}
+use Rattle.bib_inheritance.specs.Turning.{AddsAmong, AreDates, Dates, IsDateAt, date_at, inheritable_chunks}
 use Rattle.bib_text.proofs.ListFacts.{some_same}
 
 -- ---- an empty cache, and one more date
@@ -103,19 +103,21 @@ module _ (entries : List Entry) (dates : Dates) (index : ℕ) (are : AreDates en
   abbrev here : EntryTexts
   here = at_index (texts_of_entries entries) index
 
-  pub dated_here : (chunks : List (Spanned Chunk)) → dated_in (date_at dates index) ≡ Some chunks
+  pub dated_here : (chunks : List (Spanned Chunk)) → inheritable_chunks (date_at dates index) ≡ Some chunks
       → dated_text (inheritable_date here.fields) ≡ Some (styled chunks)
   dated_here chunks is = go (date_at dates index) refl is where
-    go : (o : Option Kept) → date_at dates index ≡ o → dated_in o ≡ Some chunks
+    go : (o : Option Kept) → date_at dates index ≡ o → inheritable_chunks o ≡ Some chunks
         → dated_text (inheritable_date here.fields) ≡ Some (styled chunks)
     go None there is = cc
     go (Some Undated) there is = cc
     go (Some (Unreadable error)) there is = cc
     go (Some (Dated found)) there is = ap dated_text (are index (Dated found) there).is ∙ ap (λ c. Some (styled c)) (some_same is)
 
-  pub undated_here : IsSome (date_at dates index) → dated_in (date_at dates index) ≡ None → dated_text (inheritable_date here.fields) ≡ None
+  pub undated_here : IsSome (date_at dates index) → inheritable_chunks (date_at dates index) ≡ None
+      → dated_text (inheritable_date here.fields) ≡ None
   undated_here was is = go (date_at dates index) refl was is where
-    go : (o : Option Kept) → date_at dates index ≡ o → IsSome o → dated_in o ≡ None → dated_text (inheritable_date here.fields) ≡ None
+    go : (o : Option Kept) → date_at dates index ≡ o → IsSome o → inheritable_chunks o ≡ None
+        → dated_text (inheritable_date here.fields) ≡ None
     go None there was is = absurd (false≢true was)
     go (Some Undated) there was is = ap dated_text (are index Undated there).is
     go (Some (Unreadable error)) there was is = ap dated_text (are index (Unreadable error) there).is.0

@@ -5,7 +5,7 @@ use Rattle.std.proofs.lemmas.List.{drop_more, map-append, take-append-drop, take
 use Rattle.std.proofs.lemmas.Fn.{FoldsTo-push}
 use Rattle.bib_entry.specs.declared.entry.Entry.{Entry}
 use Rattle.biblatex.specs.HandedOver.{AreCutShort, AreSomeTaken, AreTaken, IsOneRefused, entry_texts}
-use Rattle.biblatex.specs.Writing.{parting}
+use Rattle.biblatex.specs.Writing.{empty_line_unless}
 use Rattle.biblatex.specs.declared.write.WriteError.{WriteError}
 use Rattle.biblatex.specs.declared.write.WriteError.TheVariants.{Refused, OutOfMemory}
 use Rattle.biblatex.proofs.WritingFacts.{first_taken, is_empty}
@@ -14,7 +14,7 @@ use Rattle.biblatex.proofs.WritingFacts.{first_taken, is_empty}
 
 -- the text of an entry, given whether it is the first
 abbrev pub text_of : (Entry → List ℕ) → Bool → Entry → List ℕ
-text_of written is_first e = parting is_first ++ (written e ++ codes "\n")
+text_of written is_first e = empty_line_unless is_first ++ (written e ++ codes "\n")
 
 -- the texts of entries, split at one entry
 texts_around : (written : Entry → List ℕ) (before : List Entry) (e : Entry) (after : List Entry)
