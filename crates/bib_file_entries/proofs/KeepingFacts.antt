@@ -43,6 +43,7 @@ pub record KeptSoFar (definitions : Definitions) (said rest : List Pair) (old er
 pub kept_none : (definitions : Definitions) (said : List Pair) (old : List ParseError) → KeptSoFar definitions said said old old []
 kept_none definitions said old = record { kept = []; more = []; onward = λ fields later is. is; read = tt; noted = sym (append-nil old) }
 
+-- adding errors twice adds their concatenation
 added_twice : (old more first : List ParseError) (errors new : List ParseError) → errors ≡ old ++ more
     → new ≡ errors ++ first → new ≡ old ++ (more ++ first)
 added_twice old more first errors new is now = now ∙ ap (λ l. l ++ first) is ∙ append_assoc old more first
@@ -145,6 +146,7 @@ record BeginsAt {A : Type 0} (all : List A) (index : ℕ) (one : A) (rest : List
   more : drop (suc index) all ≡ rest
   within : index < length all
 
+-- the element at an index from which the rest of the list begins with it
 begins_at : {A : Type 0} (all : List A) (index : ℕ) (one : A) (rest : List A) → drop index all ≡ one ∷ rest → BeginsAt all index one rest
 begins_at [] zero one rest is = cc
 begins_at [] (suc index) one rest is = cc

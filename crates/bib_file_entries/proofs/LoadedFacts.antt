@@ -60,11 +60,12 @@ no_entries {definitions} {claimed} (IsFirstErrorOfEntries.following {rest = more
     (AreEntries.next {entry = two} {entries = others} fresh' read' rest) =
     no_entries error (subst (λ names. AreEntries definitions (claimed ++ names) more others) (claims_same two one read' read) rest)
 
--- a name that isn't new was claimed before, and one that is new was not
+-- a name that isn't new was claimed before
 pub had_by : {A : Type 0} (o : Option A) (is_new : Bool) → is_new ≡ is_none o → is_new ≡ false → is_some o ≡ true
 had_by None is_new is old = sym old ∙ is
 had_by (Some x) is_new is old = refl
 
+-- a name that is new wasn't claimed before
 pub absent_by : {A : Type 0} (o : Option A) (is_new : Bool) → is_new ≡ is_none o → is_new ≡ true → is_some o ≡ false
 absent_by None is_new is new = refl
 absent_by (Some x) is_new is new = sym new ∙ is

@@ -114,6 +114,7 @@ other_name entry_type (r ∷ rest) q other =
 
 -- ---- the list of fields of a function
 
+-- a list of fields with a field of this name in front, if there is a value
 abbrev with_first : List ℕ → Option Value → List (List ℕ × Value) → List (List ℕ × Value)
 with_first name None rest = rest
 with_first name (Some value) rest = (name, value) ∷ rest
@@ -415,6 +416,7 @@ module _ (own : List Entry) (graph : Graph) (long : length graph ≡ length own)
   key_at : (entries : List Entry) (index : ℕ) → get_or (map (λ (e : Entry). e.key) entries) index [] ≡ (get_or entries index blank).key
   key_at entries index = get_or-map (λ (e : Entry). e.key) entries index blank
 
+  -- if each reference is in range and there is no cycle, the equation has a solution of entries
   pub heirs : (entries : List Entry) × AreHeirs own graph entries
   heirs = (
     values,

@@ -37,6 +37,7 @@ field_gathered own given gone q =
     ∙ first_after q (entries own) given
     ∙ ap (λ o. first_some o (first_named given q)) (sym (get-entries own q)))
 
+-- removing three names one after another is removing any of them
 three : {A : Type 0} (a b c : Bool) (x : Option A) → cond c None (cond b None (cond a None x)) ≡ cond (a || (b || (c || false))) None x
 three true true true x = refl
 three true true false x = refl

@@ -35,6 +35,7 @@ Value = List (Spanned Chunk)
 abbrev pub Loan : Type 0
 Loan = Bor (List ℕ) × Bor Value
 
+-- the collected fields by name
 abbrev pub GatheredFields : Type 0
 GatheredFields = BTreeMap (Bor (List ℕ)) (Bor Value)
 
@@ -60,7 +61,7 @@ bytes_decides n q = go (bytes_eq n q) refl where
   go true t = inl (t, (bytes_eq-Decides n q).0 t)
   go false t = inr (t, λ e. false≢true (sym t ∙ (bytes_eq-Decides n q).1 e))
 
--- the fields collected for the first `i` names
+-- the second map is the first one with the offers for the first `i` names, which replace its fields
 abbrev pub IsGathered : Names → ℕ → EntryTexts → GatheredFields → GatheredFields → Type 0
 IsGathered names i s old new = (q : List ℕ) → gathered_text new q ≡ first_some (offer_among (take i names) s q) (gathered_text old q)
 
@@ -165,6 +166,7 @@ bytes_turned q n =
     other true never = absurd (never refl)
     other false never = refl
 
+-- comparing two names by order is comparing their bytes
 pub flipped : (q n : List ℕ) → eq_by_cmp by_bytes q n ≡ bytes_eq n q
 flipped q n = is_eq-slice_cmp q n ∙ bytes_turned q n
 
@@ -301,6 +303,7 @@ gathered_next n c rest q =
     ap (λ b. option_map text_of_loan (cond b (Some c) (lookup (tree.is_at (λ key. slice_cmp nat_cmp q key.now)) rest))) (flipped q n.now)
     ∙ mapped_if text_of_loan (bytes_eq n.now q) (Some c) (lookup (tree.is_at (λ key. slice_cmp nat_cmp q key.now)) rest)
 
+-- the first value of a name in a concatenation
 found-following : (q : List ℕ) (xs ys : List (List ℕ × Value))
     → find by_bytes q (xs ++ ys) ≡ first_some (find by_bytes q xs) (find by_bytes q ys)
 found-following q [] ys = refl
@@ -320,6 +323,7 @@ pub styled_first : (a b : Option Value) → option_map styled (first_some a b) �
 styled_first None b = refl
 styled_first (Some x) b = refl
 
+-- `first_some` is associative
 first_last : {A : Type 0} (a b c : Option A) → first_some a (first_some b c) ≡ first_some (first_some a b) c
 first_last None b c = refl
 first_last (Some x) b c = refl

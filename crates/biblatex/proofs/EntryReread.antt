@@ -133,6 +133,7 @@ pub record WrittenEntry : Type 0 where
   pub key : List ℕ
   pub lines : List Line
 
+-- the bytes of an entry
 abbrev pub entry_bytes : WrittenEntry → List ℕ
 entry_bytes e = 64 ∷ (e.kind ++ (123 ∷ (e.key ++ (44 ∷ 10 ∷ (flat_map line_text e.lines ++ 125 ∷ [])))))
 

@@ -66,9 +66,11 @@ module _ {K : Type 0} (hands_over : K → List ℕ → Bool → K → Type 0) wh
 
   -- ---- a text that the sink did not take
 
+  -- before its first text, a sink took none of the texts
   pub none_taken : (old : K) (text : List ℕ) → AreSomeTaken hands_over old (text ∷ []) old
   none_taken old text = record { before = []; text = text; after = []; parts = refl; taken = refl }
 
+  -- a sink that refused the only text refused one of the texts
   pub one_refused : (old new : K) (text t : List ℕ) → t ≡ text → hands_over old t false new → IsOneRefused hands_over old (text ∷ []) new
   one_refused old new text t is refused = record {
     before = [];

@@ -109,7 +109,7 @@ names_go l m (x ∷ a) (y ∷ b) n e c =
     ∙ ap (λ k. claimed m.names (claims_for (claims y) k)) n)
     (ap (drop 1) c)
 
--- the graph of entries depends only on their names and texts
+-- the graph of entries, from the names and the texts of the entries
 by_all_texts : (names : ByText ℕ) (own : List Entry)
     → graph_by names own ≡ map (λ (s : EntryTexts). references names s.fields) (texts_of_entries own)
 by_all_texts names [] = refl
@@ -211,6 +211,7 @@ bibliography_of accepted =
 
 -- ---- an accepted file has no error
 
+-- if the dates that entries require can be parsed, no entry that lacks a required date refers to a bad date
 pub bad_apart : (own : List EntryTexts) (graph : Graph) (values : List EntryTexts) (index : ℕ)
     → looks_for_date (at_index own index) ≡ true → list_any (is_bad_date values) (refs_of graph index) ≡ true
     → AreDatesRead own graph values → ⊥

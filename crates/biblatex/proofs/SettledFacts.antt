@@ -30,7 +30,7 @@ whole_run {test} {u} {v} text b is longest done = (
       done.1 (subst AtEnd (sym here) refl)),
 )
 
--- a text is an identifier exactly if its first character begins one and the rest is a run of its other characters
+-- a text whose first character begins an identifier is one exactly if its other characters continue it
 pub identifier_whole : {second : Place} {c : ℕ} (text : List ℕ) (b : Bool) → CharAt (place text 0) c second
     → is_id_start c ≡ true → IsTrue b ↔ Run is_id_continue second (place text (length text))
     → IsTrue b ↔ IsIdentifier text

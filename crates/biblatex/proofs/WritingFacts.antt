@@ -46,6 +46,7 @@ next_written written es i e first within is flag =
     ∙ ap (λ b. entries_text written (take i es) ++ (empty_line_unless b ++ (written e ++ codes "\n")))
     (first_taken es i within ∙ sym flag)
 
+-- an index that follows another is not 0
 pub not_first : (i : ℕ) → false ≡ (i + 1 == 0)
 not_first i = grind arith
 

@@ -38,6 +38,7 @@ pub record IsKind (t : EntryType) : Type 0 where
   pub starts : is_id_start first ≡ true
   pub goes : list_all is_id_continue rest ≡ true
 
+-- each type has such a name
 pub kind : (t : EntryType) → IsKind t
 unfolding entry_type_of named_or_alias encode
 kind Article = record { again = refl; entry = refl; first = 97; rest = codes "rticle"; spelt = refl; starts = refl; goes = refl }
