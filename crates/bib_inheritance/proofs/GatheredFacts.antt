@@ -293,8 +293,8 @@ inheritable_gathered entry_type s required optional pages author q x a b c d =
 -- Copies
 
 -- the copied field of a name: the collected one, if the entry lacks it
-abbrev pub copied : ByText Value → List Loan → List ℕ → Option (List Atom)
-copied own gathered q = cond (is_some (fields_of own q)) None (gathered_text_in gathered q)
+abbrev pub copied_text : ByText Value → List Loan → List ℕ → Option (List Atom)
+copied_text own gathered q = cond (is_some (fields_of own q)) None (gathered_text_in gathered q)
 
 -- the styled text of a name in a list of collected fields
 gathered_next : (n : Bor (List ℕ)) (c : Bor Value) (rest : List Loan) (q : List ℕ)
@@ -330,7 +330,8 @@ first_last (Some x) b c = refl
 
 -- the copies so far, together with those of the remaining fields, are all copies
 abbrev pub AreCopied : ByText Value → List Loan → List Loan → List (List ℕ × Value) → Type 0
-AreCopied own all left copies = (q : List ℕ) → copied own all q ≡ first_some (option_map styled (first_named copies q)) (copied own left q)
+AreCopied own all left copies =
+    (q : List ℕ) → copied_text own all q ≡ first_some (option_map styled (first_named copies q)) (copied_text own left q)
 
 -- before the first collected field, nothing is copied
 pub copied_none : (own : ByText Value) (all : List Loan) → AreCopied own all all []
@@ -341,7 +342,7 @@ pub copied_skip : (own : ByText Value) (all rest left : List Loan) (n : Bor (Lis
     (copies : List (List ℕ × Value)) → left ≡ (n, c) ∷ rest → is_some (get own n.now) ≡ true
     → AreCopied own all left copies → AreCopied own all rest copies
 copied_skip own all rest left n c copies is had h q =
-    h q ∙ ap (first_some (option_map styled (first_named copies q))) (ap (λ l. copied own l q) is
+    h q ∙ ap (first_some (option_map styled (first_named copies q))) (ap (λ l. copied_text own l q) is
     ∙ ap (cond (is_some (fields_of own q)) None) (gathered_next n c rest q)
     ∙ elim (bytes_decides n.now q) [
       | inl t ↦
@@ -368,23 +369,23 @@ copied_more own all rest left n c v copies is lacks same h q =
     ∙ styled_first (first_named copies q) (first_named ((n.now, v) ∷ []) q)
     ∙ ap (first_some (option_map styled (first_named copies q))) one
     in
-    let here : copied own left q ≡ first_some (cond (bytes_eq n.now q) (Some (styled c.now)) None) (copied own rest q) =
-    ap (λ l. copied own l q) is ∙ ap (cond (is_some (fields_of own q)) None) (gathered_next n c rest q)
+    let here : copied_text own left q ≡ first_some (cond (bytes_eq n.now q) (Some (styled c.now)) None) (copied_text own rest q) =
+    ap (λ l. copied_text own l q) is ∙ ap (cond (is_some (fields_of own q)) None) (gathered_next n c rest q)
     ∙ elim (bytes_decides n.now q) [
       | inl t ↦
           let own_lacks : is_some (fields_of own q) ≡ false =
           sym (same_some styled (get own q)) ∙ subst (λ x. is_some (get own x) ≡ false) t.1 lacks in
           ap (λ b. cond b None (cond (bytes_eq n.now q) (Some (styled c.now)) (gathered_text_in rest q))) own_lacks
           ∙ ap (λ b. cond b (Some (styled c.now)) (gathered_text_in rest q)) t.0
-          ∙ sym (ap (λ b. first_some (cond b (Some (styled c.now)) None) (copied own rest q)) t.0)
+          ∙ sym (ap (λ b. first_some (cond b (Some (styled c.now)) None) (copied_text own rest q)) t.0)
       | inr t ↦
           ap (λ b. cond (is_some (fields_of own q)) None (cond b (Some (styled c.now)) (gathered_text_in rest q))) t.0
-          ∙ sym (ap (λ b. first_some (cond b (Some (styled c.now)) None) (copied own rest q)) t.0)
+          ∙ sym (ap (λ b. first_some (cond b (Some (styled c.now)) None) (copied_text own rest q)) t.0)
     ]
     in
     h q ∙ ap (first_some (option_map styled (first_named copies q))) here
-    ∙ first_last (option_map styled (first_named copies q)) (cond (bytes_eq n.now q) (Some (styled c.now)) None) (copied own rest q)
-    ∙ ap (λ o. first_some o (copied own rest q)) (sym before)
+    ∙ first_last (option_map styled (first_named copies q)) (cond (bytes_eq n.now q) (Some (styled c.now)) None) (copied_text own rest q)
+    ∙ ap (λ o. first_some o (copied_text own rest q)) (sym before)
 
 pub copied_some : {A : Type 0} (o : Option (Bor A)) → is_some (option_copied o) ≡ is_some o
 copied_some None = refl
@@ -392,10 +393,10 @@ copied_some (Some x) = refl
 
 -- no collected field remains
 pub copied_all : (own : ByText Value) (all left : List Loan) (copies : List (List ℕ × Value)) → left ≡ []
-    → AreCopied own all left copies → (q : List ℕ) → option_map styled (first_named copies q) ≡ copied own all q
+    → AreCopied own all left copies → (q : List ℕ) → option_map styled (first_named copies q) ≡ copied_text own all q
 copied_all own all left copies none h q =
     sym
-    (h q ∙ ap (λ l. first_some (option_map styled (first_named copies q)) (copied own l q)) none
+    (h q ∙ ap (λ l. first_some (option_map styled (first_named copies q)) (copied_text own l q)) none
     ∙ ap (first_some (option_map styled (first_named copies q))) (nothing (is_some (fields_of own q)))
     ∙ alone (option_map styled (first_named copies q)))
   where

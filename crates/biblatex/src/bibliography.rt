@@ -73,7 +73,7 @@ impl Error for InsertError {}
 
 impl InsertError {
     // Returns the error for an entry that was not added.
-    fn handing_back(_error: AllocError, entry: Entry) -> InsertError
+    fn for_entry(_error: AllocError, entry: Entry) -> InsertError
         ensures { result.entry ≡ entry }
     {
         InsertError { entry }
@@ -235,7 +235,7 @@ impl Bibliography {
             return Ok(Some(had));
         }
         if let Err(error) = claim_next(&mut self.entries, &mut self.names, &entry) {
-            return Err(InsertError::handing_back(error, entry));
+            return Err(InsertError::for_entry(error, entry));
         }
         self.entries.push_reserved(entry);
         Ok(None)
