@@ -221,7 +221,7 @@ fn reserve(&mut self, count: usize) -> Result<(), AllocError> {
 """,
     "a copy": "fn clone(&self) -> Kind {\n    match self {\n        Kind::OutOfMemory => Kind::OutOfMemory,\n    }\n}\n",
     "an io error": "fn f() -> Result<(), AllocError> {\n    match g() {\n        Err(error) if error.kind() == ErrorKind::OutOfMemory => Err(AllocError),\n        _ => Ok(()),\n    }\n}\n",
-    "a value handed back": "fn handing_back(_error: AllocError, chunks: Chunks) -> SetError\n    ensures { result.chunks ≡ chunks }\n{\n    SetError { chunks }\n}\n",
+    "a value handed back": "fn for_chunks(_error: AllocError, chunks: Chunks) -> SetError\n    ensures { result.chunks ≡ chunks }\n{\n    SetError { chunks }\n}\n",
 }
 
 

@@ -6,7 +6,7 @@ use Rattle.std.proofs.lemmas.List.{map-append, flat_map_more, take_more}
 use Rattle.std.proofs.lemmas.List.Elements.{All-nil, All-push}
 use Rattle.biblatex.specs.Syntax.{Entry, Bibliography, TypeError, AreMalformed, Names, missing_of, superfluous_of}
 use Rattle.bib.specs.Answering.{AddsReport}
-use Rattle.bib.specs.Output.{AreReported, IsReport, Reported, ShowsReports, field_line, malformed_line, report_lines}
+use Rattle.bib.specs.Output.{AreReported, EntryReport, IsReport, ShowsReports, field_line, malformed_line, report_lines}
 
 -- appending three texts one after another appends their concatenation
 appended : (old one two new a b c : List ℕ) → one ≡ old ++ a → two ≡ one ++ b → new ≡ two ++ c → new ≡ old ++ (a ++ (b ++ c))
@@ -63,7 +63,7 @@ pub report_next : (before : List (Bor Entry)) (entry : Bor Entry) (old new : Lis
     → AreReported (map (λ e. e.now) before) old → AddsReport entry.now old new
     → AreReported (map (λ e. e.now) (before ++ entry ∷ [])) new
 report_next before entry old new so_far more =
-    let report : Reported = (entry.now, more.0) in
+    let report : EntryReport = (entry.now, more.0) in
     record {
       reports = so_far.reports ++ report ∷ [];
       listed =

@@ -28,12 +28,12 @@ abbrev pub not_utf8 : List ℕ
 not_utf8 = error_line (codes "input is not UTF-8")
 
 -- the words before the quoted name in the line of an error, and the name, for the kinds that quote one
-abbrev pub quoting : ParseErrorKind → Option (List ℕ × List ℕ)
-quoting (UnknownAbbreviation name) = Some (codes "unknown abbreviation ", name)
-quoting (DuplicateKey key) = Some (codes "duplicate key ", key)
-quoting (AbbreviationCycle name) = Some (codes "circular abbreviation ", name)
-quoting (ReferenceCycle key) = Some (codes "circular reference ", key)
-quoting _ = None
+abbrev pub words_and_name : ParseErrorKind → Option (List ℕ × List ℕ)
+words_and_name (UnknownAbbreviation name) = Some (codes "unknown abbreviation ", name)
+words_and_name (DuplicateKey key) = Some (codes "duplicate key ", key)
+words_and_name (AbbreviationCycle name) = Some (codes "circular abbreviation ", name)
+words_and_name (ReferenceCycle key) = Some (codes "circular reference ", key)
+words_and_name _ = None
 
 -- the line of an error that quotes a name. The form of the quoted name is specified only for ASCII names
 pub record IsQuotingLine (said : List ℕ × List ℕ) (span : Range ℕ) (text : List ℕ) : Type 0 where
@@ -45,7 +45,7 @@ pub record IsQuotingLine (said : List ℕ × List ℕ) (span : Range ℕ) (text 
 -- that is specified
 abbrev pub ShowsError : ParseError → List ℕ → Type 0
 ShowsError e text =
-    MatchOption (quoting e.kind) (IfSome (error_text e) (λ listed. text ≡ error_line listed))
+    MatchOption (words_and_name e.kind) (IfSome (error_text e) (λ listed. text ≡ error_line listed))
     (λ said. IsQuotingLine said e.span text)
 
 -- the key of each entry on a line of its own, in the order of the file
@@ -93,23 +93,23 @@ abbrev pub malformed_line : List ℕ → List ℕ × TypeError → List ℕ
 malformed_line key error_answer = field_line key (codes "malformed") (error_answer.0 ++ (codes ": " ++ type_kind_text error_answer.1.kind))
 
 -- a report: an entry, and the errors of its fields
-abbrev pub Reported : Type 0
-Reported = Entry × List (List ℕ × TypeError)
+abbrev pub EntryReport : Type 0
+EntryReport = Entry × List (List ℕ × TypeError)
 
 -- the lines of a report: the missing fields, the superfluous fields, and the fields that can't be parsed, one on each line
-abbrev pub report_lines : Reported → List ℕ
+abbrev pub report_lines : EntryReport → List ℕ
 report_lines report =
     flat_map (field_line report.0.key (codes "missing")) (missing_of report.0)
     ++ (flat_map (field_line report.0.key (codes "superfluous")) (superfluous_of report.0)
     ++ flat_map (malformed_line report.0.key) report.1)
 
 -- the errors of a report are those of its entry, each with a kind that its field allows
-abbrev pub IsReport : Reported → Type 0
+abbrev pub IsReport : EntryReport → Type 0
 IsReport report = AreMalformed report.0 report.1
 
 -- `printed` is a report on each of these entries, in order
 pub record AreReported (entries : List Entry) (printed : List ℕ) : Type 0 where
-  pub reports : List Reported
+  pub reports : List EntryReport
   pub listed : map (λ report. report.0) reports ≡ entries
   pub allowed : All IsReport reports
   pub text : printed ≡ flat_map report_lines reports

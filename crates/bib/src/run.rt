@@ -67,13 +67,13 @@ fn command_of(words: &[String]) -> Option<Command>
         (Name (map string_bytes words.now)) }
 {
     match words {
-        [word] => named(word.as_str()),
+        [word] => command_by_name(word.as_str()),
         _ => None,
     }
 }
 
 // Returns the command with this name, if there is one.
-fn named(word: &str) -> Option<Command>
+fn command_by_name(word: &str) -> Option<Command>
     ensures { MatchOption result ((command : Command) → word.now ≡ command_name command → ⊥)
         (λ command. word.now ≡ command_name command) }
 {
@@ -115,7 +115,7 @@ fn keys(alloc: Global, text: &str) -> Result<Answer, AllocError>
 }
 
 // Parses a text as a bibliography, and returns the output for the error if it can't be parsed.
-fn parsed(alloc: Global, text: &str) -> Result<Result<Bibliography, Answer>, AllocError>
+fn parse_bibliography(alloc: Global, text: &str) -> Result<Result<Bibliography, Answer>, AllocError>
     ensures { IfOk result (IsParseAnswer text.now) }
 {
     match Bibliography::parse(alloc, text) {
@@ -129,7 +129,7 @@ fn bibliography(alloc: Global, text: String) -> Result<Result<Bibliography, Answ
     ensures text { IsUtf8 (string_bytes text) }
     ensures bibliography { IfOk result (IsParseAnswer (string_bytes text)) }
 {
-    parsed(alloc, text.as_str())
+    parse_bibliography(alloc, text.as_str())
 }
 
 // Runs the command `biblatex` on a text.
@@ -185,7 +185,7 @@ fn check(alloc: Global, text: String) -> Result<Answer, AllocError>
 }
 
 // Runs the command `settled` on a text.
-fn settled(alloc: Global, text: String) -> Result<Answer, AllocError>
+fn settled_answer(alloc: Global, text: String) -> Result<Answer, AllocError>
     ensures { IfOk result (λ answer. IsBibliographyAnswer ShowsSettled (string_bytes text)
         (string_bytes answer.text) answer.status) }
 {
@@ -217,7 +217,7 @@ fn answer_text(alloc: Global, command: Command, text: String) -> Result<Answer, 
         Command::Biblatex => biblatex(alloc, text),
         Command::Bibtex => bibtex(alloc, text),
         Command::Check => check(alloc, text),
-        Command::Settled => settled(alloc, text),
+        Command::Settled => settled_answer(alloc, text),
     }
 }
 

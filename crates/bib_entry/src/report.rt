@@ -47,9 +47,9 @@ impl Entry {
     {
         let asked = self.entry_type.requirements(alloc)?;
         Ok(Report {
-            missing: self.missing(alloc, &asked)?,
-            superfluous: self.superfluous(alloc, &asked)?,
-            malformed: self.malformed(alloc)?,
+            missing: self.missing_fields(alloc, &asked)?,
+            superfluous: self.superfluous_fields(alloc, &asked)?,
+            malformed: self.malformed_fields(alloc)?,
         })
     }
 }

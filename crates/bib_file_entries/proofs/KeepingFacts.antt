@@ -12,7 +12,7 @@ use Rattle.bib_tables.specs.EntryType.{entry_type_of}
 use Rattle.bib_file_entries.specs.Bibliography.{claims, empty_bibliography}
 use Rattle.bib_file_entries.specs.Claiming.{IsKeptSoFar, place_of}
 use Rattle.bib_file_entries.specs.Keeping.{AreKeptFields, IsKeptEntry, IsKeptField, IsLeftOut}
-use Rattle.bib_file_entries.specs.Kept.{EntriesKept, FieldsKept, IsKeptFrom, duplicate_key, mended, unknown_names, with_fields}
+use Rattle.bib_file_entries.specs.Kept.{EntriesKept, FieldsKept, IsKeptFrom, duplicate_key, mended_field, unknown_names, with_fields}
 use Rattle.bib_file_entries.specs.Loaded.{CanBeRead, is_claimed, loaded_after}
 use Rattle.bib_file_entries.specs.Loading.{IsRead, last_field, pieces_of}
 use Rattle.bib_file_entries.proofs.BibliographyFacts.{below_empty}
@@ -43,6 +43,7 @@ pub record KeptSoFar (definitions : Definitions) (said rest : List Pair) (old er
 pub kept_none : (definitions : Definitions) (said : List Pair) (old : List ParseError) → KeptSoFar definitions said said old old []
 kept_none definitions said old = record { kept = []; more = []; onward = λ fields later is. is; read = tt; noted = sym (append-nil old) }
 
+-- adding errors twice adds their concatenation
 added_twice : (old more first : List ParseError) (errors new : List ParseError) → errors ≡ old ++ more
     → new ≡ errors ++ first → new ≡ old ++ (more ++ first)
 added_twice old more first errors new is now = now ∙ ap (λ l. l ++ first) is ∙ append_assoc old more first
@@ -53,18 +54,18 @@ pub kept_next : {definitions : Definitions} {said rest : List Pair} {f : Pair} {
     → KeptSoFar definitions said (f ∷ rest) old errors pairs → IsKeptField definitions f errors new pair
     → KeptSoFar definitions said rest old new (pairs ++ pair ∷ [])
 kept_next {definitions} {said} {rest} {f} {old} {errors} {new} {pairs} pair so_far field =
-    let can : CanBeRead definitions (mended definitions (field_of f)) = subst (CanBeRead definitions) field.is field.read.readable in
+    let can : CanBeRead definitions (mended_field definitions (field_of f)) = subst (CanBeRead definitions) field.is field.read.readable in
     record {
       kept = so_far.kept ++ field.kept ∷ [];
       more = so_far.more ++ unknown_names definitions (pieces_of f);
       onward = λ fields later is.
-          let listed : map field_of so_far.kept ++ (mended definitions (field_of f) ∷ fields)
+          let listed : map field_of so_far.kept ++ (mended_field definitions (field_of f) ∷ fields)
           ≡ map field_of (so_far.kept ++ field.kept ∷ []) ++ fields =
           ap (λ g. map field_of so_far.kept ++ (g ∷ fields)) (sym field.is)
           ∙ sym (append_assoc (map field_of so_far.kept) (field_of field.kept ∷ []) fields)
           ∙ ap (λ l. l ++ fields) (sym (map-append field_of so_far.kept (field.kept ∷ []))) in
           let told =
-          so_far.onward (mended definitions (field_of f) ∷ fields)
+          so_far.onward (mended_field definitions (field_of f) ∷ fields)
           (unknown_names definitions (pieces_of f) ++ later) (FieldsKept.kept can is) in
           subst
           (λ l.
@@ -72,7 +73,7 @@ kept_next {definitions} {said} {rest} {f} {old} {errors} {new} {pairs} pair so_f
           ((so_far.more ++ unknown_names definitions (pieces_of f)) ++ later)) listed
           (subst
           (FieldsKept definitions (map field_of said)
-          (map field_of so_far.kept ++ (mended definitions (field_of f) ∷ fields)))
+          (map field_of so_far.kept ++ (mended_field definitions (field_of f) ∷ fields)))
           (sym (append_assoc so_far.more (unknown_names definitions (pieces_of f)) later)) told);
       read = AllZip-push (IsRead definitions) so_far.kept pairs field.kept pair so_far.read field.read;
       noted = added_twice old so_far.more (unknown_names definitions (pieces_of f)) errors new so_far.noted field.errors;
@@ -145,6 +146,7 @@ record BeginsAt {A : Type 0} (all : List A) (index : ℕ) (one : A) (rest : List
   more : drop (suc index) all ≡ rest
   within : index < length all
 
+-- the element at an index from which the rest of the list begins with it
 begins_at : {A : Type 0} (all : List A) (index : ℕ) (one : A) (rest : List A) → drop index all ≡ one ∷ rest → BeginsAt all index one rest
 begins_at [] zero one rest is = cc
 begins_at [] (suc index) one rest is = cc

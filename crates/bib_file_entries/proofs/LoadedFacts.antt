@@ -18,7 +18,7 @@ use Rattle.bib_abbreviations.specs.Abbreviations.{Definitions}
 use Rattle.bib_syntax.specs.Reading.{FieldReading, EntryReading}
 use Rattle.bib_abbreviations.proofs.LawFacts.{evaluates_same}
 use Rattle.bib_entry.specs.declared.entry.Entry.{Entry}
-use Rattle.bib_file_entries.specs.Bibliography.{Bibliography, claims, aliases, appended, empty_bibliography}
+use Rattle.bib_file_entries.specs.Bibliography.{Bibliography, claims, aliases, empty_bibliography, with_last_entry}
 use Rattle.bib_chunks.specs.Lists.{comma_texts}
 use Rattle.bib_file_entries.specs.Loaded.{AllCanBeRead, IsEntry, AreEntries, IsFirstErrorOfFields, IsFirstErrorOfEntries, FieldSays, field_in, is_claimed, loaded_after}
 use Rattle.bib_collections.specs.Names.{AreIndicesBelow, with_claims, claims_for}
@@ -60,11 +60,12 @@ no_entries {definitions} {claimed} (IsFirstErrorOfEntries.following {rest = more
     (AreEntries.next {entry = two} {entries = others} fresh' read' rest) =
     no_entries error (subst (λ names. AreEntries definitions (claimed ++ names) more others) (claims_same two one read' read) rest)
 
--- a name that isn't new was claimed before, and one that is new was not
+-- a name that isn't new was claimed before
 pub had_by : {A : Type 0} (o : Option A) (is_new : Bool) → is_new ≡ is_none o → is_new ≡ false → is_some o ≡ true
 had_by None is_new is old = sym old ∙ is
 had_by (Some x) is_new is old = refl
 
+-- a name that is new wasn't claimed before
 pub absent_by : {A : Type 0} (o : Option A) (is_new : Bool) → is_new ≡ is_none o → is_new ≡ true → is_some o ≡ false
 absent_by None is_new is new = refl
 absent_by (Some x) is_new is new = sym new ∙ is
@@ -73,7 +74,7 @@ absent_by (Some x) is_new is new = sym new ∙ is
 pub loaded_more : (bibliography : Bibliography) (first second : List Entry)
     → loaded_after bibliography (first ++ second) ≡ loaded_after (loaded_after bibliography first) second
 loaded_more bibliography [] second = refl
-loaded_more bibliography (entry ∷ first) second = loaded_more (appended bibliography entry) first second
+loaded_more bibliography (entry ∷ first) second = loaded_more (with_last_entry bibliography entry) first second
 
 one_more : (test : Bool) (index : ℕ) (had : Option ℕ) (later : Bool)
     → (is_some (cond test (Some index) had) || later) ≡ (is_some had || (test || later))
@@ -130,7 +131,7 @@ pub bibliography_next : (found : List Entry) (entry : Entry) (names : ByText ℕ
     → loaded_after empty_bibliography (found ++ entry ∷ [])
     ≡ record { entries = found ++ entry ∷ []; names = with_claims names (claims_for (claims entry) (length found)) }
 bibliography_next found entry names loaded =
-    loaded_more empty_bibliography found (entry ∷ []) ∙ ap (λ bibliography. appended bibliography entry) loaded
+    loaded_more empty_bibliography found (entry ∷ []) ∙ ap (λ bibliography. with_last_entry bibliography entry) loaded
 
 -- each name still points to an entry when an entry is added with its claims
 pub below_next : (found : List Entry) (entry : Entry) (names : ByText ℕ) → AreIndicesBelow (length found) names

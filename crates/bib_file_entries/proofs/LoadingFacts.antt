@@ -37,7 +37,7 @@ chosen : {A B : Type 0} (f : A → B) (b : Bool) (a : A) (o : Option A)
 chosen f true a o = refl
 chosen f false a o = refl
 
--- inserting the next definition into the map of the definitions so far
+-- inserting the next definition into the map of the last definitions so far gives the last definitions with it
 pub defined_more : {F : Type 0} (f : F → List Piece) (pairs : List Pair) (i : ℕ) (p : Pair) (field : F) (name : List ℕ)
     (before after : Option F)
     → i < length pairs → p ≡ get_or pairs i p → f field ≡ pieces_of p → option_map f before ≡ last_definition (take i pairs) name
@@ -115,7 +115,7 @@ module _ (definitions : Definitions) where
       (subst (AllZip (IsRead definitions) (take i fields ++ p ∷ [])) (sym pushed)
       (AllZip-push (IsRead definitions) (take i fields) pairs p pair all read))
 
-  -- the contents of a name, given its raw field
+  -- `value` is the contents of the raw field of a name, or none if there is no such field
   abbrev pub IsFound : List ℕ → Option Pair → Option (List (Spanned Chunk)) → Type 0
   IsFound name field value =
       MatchOption field (value ≡ None)

@@ -5,7 +5,7 @@ use Rattle.std.proofs.lemmas.List.{append-nil, map-append, take_more}
 use Rattle.bib_abbreviations.specs.Abbreviations.{Definitions, IsFirstError, error_at, is_known}
 use Rattle.bib_tables.specs.VerbatimFields.{is_verbatim_field}
 use Rattle.bib_file_entries.specs.Keeping.{IsLeftOut}
-use Rattle.bib_file_entries.specs.Kept.{mended, mended_piece, unknown_names}
+use Rattle.bib_file_entries.specs.Kept.{mended_field, mended_piece, unknown_names}
 use Rattle.bib_file_entries.specs.Loaded.{CanBeRead, name_of}
 use Rattle.bib_file_entries.specs.Loading.{pieces_of}
 use Rattle.bib_file_entries.specs.Reading.{IsFieldError}
@@ -47,7 +47,7 @@ known_stay definitions (abbreviation p ∷ rest) none =
 
 -- a field without undefined abbreviations is not changed
 pub field_stays : (definitions : Definitions) (p : Pair) → unknown_names definitions (pieces_of p) ≡ []
-    → field_of p ≡ mended definitions (field_of p)
+    → field_of p ≡ mended_field definitions (field_of p)
 field_stays definitions p none =
     let build : List Piece → FieldReading =
     λ pieces.
@@ -64,7 +64,7 @@ now_or (Some x) d = refl
 
 -- a field that can't be parsed after the replacement is left out
 pub left_out : (definitions : Definitions) (said kept : Pair) (old errors new : List ParseError) (e : ParseError)
-    → field_of kept ≡ mended definitions (field_of said) → IsFieldError definitions kept e
+    → field_of kept ≡ mended_field definitions (field_of said) → IsFieldError definitions kept e
     → errors ≡ old ++ unknown_names definitions (pieces_of said) → new ≡ errors ++ e ∷ [] → IsLeftOut definitions said old new
 left_out definitions said kept old errors new e is error noted pushed = record {
   error = e;

@@ -36,7 +36,7 @@ found_map : {A B C : Type 0} (g : B → C) (f : A → B) (o : Option A) → opti
 found_map g f None = refl
 found_map g f (Some x) = refl
 
--- the definition of an abbreviation
+-- the last definition of a name is its definition in terms of the grammar
 pub definition_same : (pairs : List Pair) (name : List ℕ) → last_definition pairs name ≡ definition_in (map field_of pairs) name
 definition_same pairs name =
     sym (
@@ -45,18 +45,19 @@ definition_same pairs name =
     ∙ found_map (λ (f : FieldReading). f.value.pieces) field_of (find (λ p. bytes_eq name p.key.v.now) (reverse pairs))
     )
 
--- fields that can be parsed
+-- raw fields that can be parsed can be parsed in terms of the grammar
 pub readable_same : (definitions : Definitions) (pairs : List Pair) → AreReadable definitions pairs
     → AllCanBeRead definitions (map field_of pairs)
 readable_same definitions [] all = tt
 readable_same definitions (p ∷ rest) all = (all.0, readable_same definitions rest all.1)
 
--- the first error of fields
+-- the first error of raw fields is their first error in terms of the grammar
 pub error_same : {definitions : Definitions} {pairs : List Pair} {e : ParseError} → IsFieldsError definitions pairs e
     → IsFirstErrorOfFields definitions (map field_of pairs) e
 error_same (IsFieldsError.here error unread) = IsFirstErrorOfFields.here error unread
 error_same (IsFieldsError.following read error) = IsFirstErrorOfFields.following read (error_same error)
 
+-- the contents of a raw field are those of its reading in terms of the grammar
 field_same : (definitions : Definitions) (o : Option Pair) (at : Option (List (Spanned Chunk)))
     → MatchOption o (at ≡ None) (λ p. (chunks : List (Spanned Chunk)) × (at ≡ Some chunks) × IsFieldOf definitions p chunks)
     → MatchOption (option_map field_of o) (at ≡ None)
@@ -64,7 +65,7 @@ field_same : (definitions : Definitions) (o : Option Pair) (at : Option (List (S
 field_same definitions None at found = found
 field_same definitions (Some p) at found = found
 
--- the contents of a name among fields
+-- the contents of the last raw field of a name are those of its field in terms of the grammar
 pub found_same : (definitions : Definitions) (fields : List Pair) (name : List ℕ) (at : Option (List (Spanned Chunk)))
     → MatchOption (last_field fields name) (at ≡ None)
     (λ p. (chunks : List (Spanned Chunk)) × (at ≡ Some chunks) × IsFieldOf definitions p chunks)
@@ -80,7 +81,7 @@ found_same definitions fields name at found =
     (λ f. (chunks : List (Spanned Chunk)) × (at ≡ Some chunks) × FieldSays definitions f chunks)) (sym same)
     (field_same definitions (last_field fields name) at found)
 
--- the entry of a raw entry
+-- the entry of a raw entry is its entry in terms of the grammar
 pub entry_same : {definitions : Definitions} {raw : Spanned RawEntry} {entry : Entry}
     → IsEntryOf definitions raw.v entry → IsEntry definitions (entry_reading_of raw) entry
 entry_same {definitions} {raw} {entry} read = record {

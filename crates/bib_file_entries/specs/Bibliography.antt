@@ -45,43 +45,43 @@ abbrev pub entry_of : Bibliography → List ℕ → Option Entry
 entry_of bibliography name = option_and_then (λ index. slice_get bibliography.entries index) (index_of bibliography name)
 
 -- a bibliography with an entry added at the end; the names that the entry claims point to it
-abbrev pub appended : Bibliography → Entry → Bibliography
-appended bibliography entry = record {
+abbrev pub with_last_entry : Bibliography → Entry → Bibliography
+with_last_entry bibliography entry = record {
   entries = bibliography.entries ++ entry ∷ [];
   names = with_claims bibliography.names (claims_for (claims entry) (length bibliography.entries));
 }
 
 -- a bibliography with the entry at an index replaced, and the names unchanged
-abbrev pub exchanged : Bibliography → ℕ → Entry → Bibliography
-exchanged bibliography index entry = record bibliography { entries = slice_set bibliography.entries index entry }
+abbrev pub with_other_entry : Bibliography → ℕ → Entry → Bibliography
+with_other_entry bibliography index entry = record bibliography { entries = slice_set bibliography.entries index entry }
 
 -- a bibliography with an entry added: in place of the entry at the index, if there is one, and at the end otherwise
-abbrev pub inserted_at : Bibliography → Entry → Option ℕ → Bibliography
-inserted_at bibliography entry (Some index) = exchanged bibliography index entry
-inserted_at bibliography entry None = appended bibliography entry
+abbrev pub with_entry_at : Bibliography → Entry → Option ℕ → Bibliography
+with_entry_at bibliography entry (Some index) = with_other_entry bibliography index entry
+with_entry_at bibliography entry None = with_last_entry bibliography entry
 
 -- a bibliography with an entry added: in place of the entry that its key points to, if there is one, and at the end otherwise
-abbrev pub inserted : Bibliography → Entry → Bibliography
-inserted bibliography entry = inserted_at bibliography entry (index_of bibliography entry.key)
+abbrev pub with_entry_by_key : Bibliography → Entry → Bibliography
+with_entry_by_key bibliography entry = with_entry_at bibliography entry (index_of bibliography entry.key)
 
 -- a bibliography without the entry at an index, and without the names that point to it; greater indices decrease by one
 abbrev pub without_entry : Bibliography → ℕ → Bibliography
 without_entry bibliography index = record { entries = remove bibliography.entries index; names = without_index bibliography.names index }
 
 -- a bibliography without the entry at an index; unchanged if there is no index
-abbrev pub removed_at : Bibliography → Option ℕ → Bibliography
-removed_at bibliography (Some index) = without_entry bibliography index
-removed_at bibliography None = bibliography
+abbrev pub without_entry_at : Bibliography → Option ℕ → Bibliography
+without_entry_at bibliography (Some index) = without_entry bibliography index
+without_entry_at bibliography None = bibliography
 
 -- a bibliography without the entry that a name points to, and without all names that point to it; unchanged if there is none
-abbrev pub removed : Bibliography → List ℕ → Bibliography
-removed bibliography name = removed_at bibliography (index_of bibliography name)
+abbrev pub without_entry_by_name : Bibliography → List ℕ → Bibliography
+without_entry_by_name bibliography name = without_entry_at bibliography (index_of bibliography name)
 
 -- a bibliography with another name that points to an index; unchanged if there is no index
-abbrev pub aliased_at : Bibliography → List ℕ → Option ℕ → Bibliography
-aliased_at bibliography alias (Some index) = record bibliography { names = by_name.insert bibliography.names alias index }
-aliased_at bibliography alias None = bibliography
+abbrev pub with_alias_at : Bibliography → List ℕ → Option ℕ → Bibliography
+with_alias_at bibliography alias (Some index) = record bibliography { names = by_name.insert bibliography.names alias index }
+with_alias_at bibliography alias None = bibliography
 
 -- a bibliography with another name (`alias`) for the entry that a name points to; unchanged if there is none
-abbrev pub aliased : Bibliography → List ℕ → List ℕ → Bibliography
-aliased bibliography name alias = aliased_at bibliography alias (index_of bibliography name)
+abbrev pub with_alias : Bibliography → List ℕ → List ℕ → Bibliography
+with_alias bibliography name alias = with_alias_at bibliography alias (index_of bibliography name)

@@ -6,7 +6,7 @@ use Rattle.bib_abbreviations.specs.Abbreviations.{Definitions, IsFirstError}
 use Rattle.bib_chunks.specs.declared.chunk.Chunk.{Chunk}
 use Rattle.bib_entry.specs.declared.entry.Entry.{Entry}
 use Rattle.bib_tables.specs.VerbatimFields.{is_verbatim_field}
-use Rattle.bib_file_entries.specs.Kept.{FieldsKept, mended, unknown_names, with_fields}
+use Rattle.bib_file_entries.specs.Kept.{FieldsKept, mended_field, unknown_names, with_fields}
 use Rattle.bib_file_entries.specs.Loaded.{CanBeRead, IsEntry, name_of}
 use Rattle.bib_file_entries.specs.Loading.{IsRead, pieces_of}
 use Rattle.bib_syntax.specs.Reading.{EntryReading, FieldReading}
@@ -19,7 +19,7 @@ use Rattle.bib_text.specs.declared.spanned.Spanned.{Spanned}
 pub record IsKeptField (definitions : Definitions) (said : Pair) (old new : List ParseError)
     (pair : List ℕ × List (Spanned Chunk)) : Type 0 where
   pub kept : Pair
-  pub is : field_of kept ≡ mended definitions (field_of said)
+  pub is : field_of kept ≡ mended_field definitions (field_of said)
   pub read : IsRead definitions kept pair
   pub errors : new ≡ old ++ unknown_names definitions (pieces_of said)
 
@@ -28,8 +28,8 @@ pub record IsKeptField (definitions : Definitions) (said : Pair) (old new : List
 pub record IsLeftOut (definitions : Definitions) (said : Pair) (old new : List ParseError) : Type 0 where
   pub error : ParseError
   pub first : IsFirstError definitions (is_verbatim_field (name_of (field_of said))) []
-      (mended definitions (field_of said)).value.pieces error
-  pub unread : CanBeRead definitions (mended definitions (field_of said)) → ⊥
+      (mended_field definitions (field_of said)).value.pieces error
+  pub unread : CanBeRead definitions (mended_field definitions (field_of said)) → ⊥
   pub errors : new ≡ old ++ (unknown_names definitions (pieces_of said) ++ error ∷ [])
 
 -- a field is parsed, or left out

@@ -19,8 +19,8 @@ mended_piece definitions (literal p) = literal p
 mended_piece definitions (abbreviation p) = if is_known definitions p.text then abbreviation p else literal p
 
 -- a raw field, with each undefined abbreviation replaced by its name as text
-abbrev pub mended : Definitions → FieldReading → FieldReading
-mended definitions f = record f { value = record f.value { pieces = map (mended_piece definitions) f.value.pieces } }
+abbrev pub mended_field : Definitions → FieldReading → FieldReading
+mended_field definitions f = record f { value = record f.value { pieces = map (mended_piece definitions) f.value.pieces } }
 
 -- the errors of the undefined abbreviations among pieces, in order, each at its span
 abbrev pub unknown_names : Definitions → List Piece → List ParseError
@@ -34,12 +34,12 @@ unknown_names definitions (abbreviation p ∷ rest) =
 -- can't be parsed even so
 pub data FieldsKept (definitions : Definitions) : List FieldReading → List FieldReading → List ParseError → Type 0 where
   none : FieldsKept definitions [] [] []
-  kept : {f : FieldReading} {rest fields : List FieldReading} {errors : List ParseError} → CanBeRead definitions (mended definitions f)
-      → FieldsKept definitions rest fields errors
-      → FieldsKept definitions (f ∷ rest) (mended definitions f ∷ fields) (unknown_names definitions f.value.pieces ++ errors)
+  kept : {f : FieldReading} {rest fields : List FieldReading} {errors : List ParseError}
+      → CanBeRead definitions (mended_field definitions f) → FieldsKept definitions rest fields errors
+      → FieldsKept definitions (f ∷ rest) (mended_field definitions f ∷ fields) (unknown_names definitions f.value.pieces ++ errors)
   left_out : {f : FieldReading} {rest fields : List FieldReading} {e : ParseError} {errors : List ParseError}
-      → IsFirstError definitions (is_verbatim_field (name_of f)) [] (mended definitions f).value.pieces e
-      → (CanBeRead definitions (mended definitions f) → ⊥) → FieldsKept definitions rest fields errors
+      → IsFirstError definitions (is_verbatim_field (name_of f)) [] (mended_field definitions f).value.pieces e
+      → (CanBeRead definitions (mended_field definitions f) → ⊥) → FieldsKept definitions rest fields errors
       → FieldsKept definitions (f ∷ rest) fields (unknown_names definitions f.value.pieces ++ e ∷ errors)
 
 -- a raw entry with other fields

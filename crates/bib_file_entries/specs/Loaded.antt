@@ -17,7 +17,7 @@ use Rattle.bib_syntax.specs.declared.raw.ParseError.{ParseError}
 use Rattle.bib_syntax.specs.declared.raw.ParseErrorKind.TheVariants.{DuplicateKey}
 use Rattle.bib_tables.specs.EntryType.{entry_type_of}
 use Rattle.bib_entry.specs.declared.entry.Entry.{Entry}
-use Rattle.bib_file_entries.specs.Bibliography.{Bibliography, claims, appended}
+use Rattle.bib_file_entries.specs.Bibliography.{Bibliography, claims, with_last_entry}
 
 -- the definition of an abbreviation: the last one in the file, even after its use
 abbrev pub definition_in : List FieldReading → Definitions
@@ -103,4 +103,4 @@ pub data IsFirstErrorOfEntries (definitions : Definitions) : List (List ℕ) →
 -- a bibliography with entries added at the end, in order, each with the names that it claims
 abbrev pub loaded_after : Bibliography → List Entry → Bibliography
 loaded_after bibliography [] = bibliography
-loaded_after bibliography (entry ∷ entries) = loaded_after (appended bibliography entry) entries
+loaded_after bibliography (entry ∷ entries) = loaded_after (with_last_entry bibliography entry) entries

@@ -8,7 +8,7 @@ ghost use Rattle.bib_syntax.specs.Views.{entry_reading_of, field_of, file_of, pi
 ghost use Rattle.bib_syntax.specs.declared.raw.ParseErrorKind.TheVariants.{UnknownAbbreviation};
 ghost use Rattle.bib_file_entries.specs.Claiming.{IsKeptSoFar};
 ghost use Rattle.bib_file_entries.specs.Keeping.{AreKeptFields, IsKeptEntry, IsTried};
-ghost use Rattle.bib_file_entries.specs.Kept.{mended, mended_piece, unknown_names};
+ghost use Rattle.bib_file_entries.specs.Kept.{mended_field, mended_piece, unknown_names};
 ghost use Rattle.bib_file_entries.specs.Loaded.{definition_in};
 ghost use Rattle.bib_file_entries.specs.Loading.{pieces_of};
 ghost use Rattle.bib_collections.specs.Names.{AreIndicesBelow};
@@ -45,7 +45,7 @@ pub struct KeptEntries {
 }
 
 // Returns the error of an undefined abbreviation, at its span.
-fn unknown(alloc: Global, name: &str, span: &Span) -> Result<ParseError, AllocError>
+fn unknown_abbreviation(alloc: Global, name: &str, span: &Span) -> Result<ParseError, AllocError>
     ensures { IfOk result (λ e. e ≡
         record { span = span.now; kind = UnknownAbbreviation name.now }) }
 {
@@ -79,7 +79,7 @@ fn has_unknown(field: &[Spanned<RawChunk<'_>>], reader: &FieldReader<'_, '_>) ->
 }
 
 // Returns a copy of a piece, and replaces an undefined abbreviation by its name as text. Appends an error for it.
-fn mended_piece<'s>(
+fn mend_piece<'s>(
     alloc: Global,
     piece: &Spanned<RawChunk<'s>>,
     reader: &FieldReader<'_, '_>,
@@ -94,7 +94,7 @@ fn mended_piece<'s>(
         RawChunk::Normal(text) => RawChunk::Normal(text),
         RawChunk::Abbreviation(name) if reader.knows(name) => RawChunk::Abbreviation(name),
         RawChunk::Abbreviation(name) => {
-            errors.push(unknown(alloc, name, &piece.span)?)?;
+            errors.push(unknown_abbreviation(alloc, name, &piece.span)?)?;
             RawChunk::Normal(name)
         }
     };
@@ -103,7 +103,7 @@ fn mended_piece<'s>(
 
 // Returns copies of the pieces of a field, and replaces each undefined abbreviation by its name as text. Appends an error for
 // each.
-fn mended_pieces<'s>(
+fn mend_pieces<'s>(
     alloc: Global,
     field: &[Spanned<RawChunk<'s>>],
     reader: &FieldReader<'_, '_>,
@@ -116,28 +116,28 @@ fn mended_pieces<'s>(
 {
     let mut pieces = Vec::with_capacity(alloc, field.len())?;
     'pieces: for piece in field {
-        pieces.push(mended_piece(alloc, piece, reader, errors)?)?;
+        pieces.push(mend_piece(alloc, piece, reader, errors)?)?;
     }
     Ok(pieces)
 }
 
 // Returns a copy of a field with each undefined abbreviation replaced by its name as text, or `None` if it has none. Appends
 // an error for each.
-fn mended<'s>(
+fn mend_field<'s>(
     alloc: Global,
     field: &Pair<'s>,
     reader: &FieldReader<'_, '_>,
     errors: &mut Vec<ParseError>,
 ) -> Result<Option<Pair<'s>>, AllocError>
     ensures mended { IfOk result (λ copy. field_of (unwrap_or copy field.now) ≡
-        mended (given_by reader.now) (field_of field.now)) }
+        mended_field (given_by reader.now) (field_of field.now)) }
     ensures errors { OnOk result (errors.new.items ≡ errors.old.items ++
         unknown_names (given_by reader.now) (pieces_of field.now)) }
 {
     if !has_unknown(&field.value.v, reader) {
         return Ok(None);
     }
-    let pieces = mended_pieces(alloc, &field.value.v, reader, errors)?;
+    let pieces = mend_pieces(alloc, &field.value.v, reader, errors)?;
     let (name, value) = (&field.key.span, &field.value.span);
     Ok(Some(Pair {
         key: Spanned::new(field.key.v, name.start..name.end),
@@ -156,7 +156,7 @@ fn keep_field<'s>(
     ensures same { reader.new ≡ reader.old }
     ensures tried { IfOk result (IsTried (given_by reader.old) field.now errors.old.items errors.new.items) }
 {
-    let copy = mended(alloc, field, reader, errors)?;
+    let copy = mend_field(alloc, field, reader, errors)?;
     match read_field(alloc, copy.as_ref().unwrap_or(field), reader) {
         Ok(read) => Ok(Some(read)),
         Err(e) => {

@@ -91,12 +91,12 @@ pub(crate) fn read_field<'f, 's>(
 {
     let name = field.key.v.to_ascii_lowercase(alloc)?;
     let chunks = reader.read(name.as_str(), &field.value.v)?;
-    Ok((Text::from_string(name), fitted(chunks)))
+    Ok((Text::from_string(name), shrink_chunks(chunks)))
 }
 
 // Returns the same chunks without spare capacity. Most fields have one chunk, and a list that has grown has capacity for
 // four.
-fn fitted(chunks: Chunks) -> Chunks
+fn shrink_chunks(chunks: Chunks) -> Chunks
     ensures { result ≡ chunks }
 {
     let mut list = chunks.into_vec();

@@ -15,7 +15,7 @@ use Rattle.bib_entry.specs.declared.entry.Entry.{Entry}
 use Rattle.bib_tables.specs.EntryType.{entry_type_of, entry_type_by_name_or_alias}
 use Rattle.bib_tables.specs.VerbatimFields.{is_verbatim_field}
 use Rattle.bib_tables.specs.declared.mechanics.EntryType.TheVariants.{Unknown}
-use Rattle.bib_file_entries.specs.Bibliography.{Bibliography, aliases, appended, claims, empty_bibliography}
+use Rattle.bib_file_entries.specs.Bibliography.{Bibliography, aliases, claims, empty_bibliography, with_last_entry}
 use Rattle.bib_file_entries.specs.Loaded.{AllCanBeRead, AreEntries, FieldSays, IsEntry, IsFirstErrorOfEntries, IsFirstErrorOfFields, definition_in, field_in, is_claimed, loaded_after, name_of}
 use Rattle.bib_format.specs.Formatted.{content, entry_content, entry_in_order, field_in_lowercase, says_in_order}
 use Rattle.bib_format.specs.declared.style.Style.{Style}
@@ -254,7 +254,7 @@ names_zip l m [] [] count names all = names
 names_zip l m [] (b ∷ bs) count names all = absurd all
 names_zip l m (a ∷ as') [] count names all = absurd all
 names_zip l m (a ∷ as') (b ∷ bs) count names all =
-    names_zip (appended l a) (appended m b) as' bs
+    names_zip (with_last_entry l a) (with_last_entry m b) as' bs
     (length-append l.entries (a ∷ []) ∙ ap (λ k. k + 1) count ∙ sym (length-append m.entries (b ∷ [])))
     (ap (λ n. with_claims n (claims_for (claims a) (length l.entries))) names
     ∙ ap (λ cs. with_claims m.names (claims_for cs (length l.entries))) all.0.claims

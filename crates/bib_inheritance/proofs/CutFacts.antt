@@ -79,7 +79,7 @@ none_reported fails reports (suc n) never =
     subst (λ k. EachReported fails reports k []) (add-one n)
     (passed (none_reported fails reports n (λ index below. never index (omega arith))) (never n (omega arith)))
 
--- the same errors for equivalent conditions
+-- the errors stay valid if the condition is replaced by an equivalent one
 pub each_same : (fails fails' : ℕ → Type 0) (reports reports' : ℕ → ParseError → Type 0) (n : ℕ)
     (errors : List ParseError) → ((index : ℕ) → fails index → fails' index)
     → ((index : ℕ) → fails' index → fails index) → ((index : ℕ) (e : ParseError) → reports index e → reports' index e)
@@ -104,7 +104,7 @@ module _ (spans : List (Range ℕ)) (own : List Entry) (graph : Graph) where
   abbrev pub IsOnCycle : ℕ → Type 0
   IsOnCycle index = Leads graph index index
 
-  -- the entries and the graph after those below an index that are on cycles have lost their references
+  -- the entries below `i` that are on cycles have lost their references, also in the graph, and are reported
   pub record HaveCut (i : ℕ) (entries : List Entry) (refs : Graph) (errors : List ParseError) : Type 0 where
     pub as_long : length entries ≡ length own
     pub keys : map (λ e. e.key) entries ≡ map (λ e. e.key) own
@@ -119,6 +119,7 @@ module _ (spans : List (Range ℕ)) (own : List Entry) (graph : Graph) where
     pub follows : (names : ByText ℕ) → graph ≡ graph_by names own → refs ≡ graph_by names entries
     pub each : EachReported IsOnCycle (IsCycleAt spans own) i errors
 
+  -- before the first index, nothing has changed
   pub cut_none : HaveCut 0 own graph []
   cut_none = record {
     as_long = refl;
@@ -218,6 +219,7 @@ module _ (spans : List (Range ℕ)) (own : List Entry) (graph : Graph) where
     chain_kept a b (one edge) = one (edge_kept a b edge)
     chain_kept a c (more {b = b} edge leads) = more (edge_kept a b edge) (chain_kept b c leads)
 
+    -- after the last index, all entries on cycles have lost their references
     pub cut_all : i ≡ length own → length graph ≡ length own → IsCut spans own graph entries refs errors
     cut_all at_end rows = record {
       cut = record {

@@ -61,7 +61,7 @@ module _ (looks : List Bool) (graph : Graph) (entries : List Entry) (index : ℕ
 
 -- ---- all entries
 
--- the error of a reference's date is the error of the own entry
+-- the error of a date, by the resolved entries, is its error by the own entries
 date_error : (own : List Entry) (graph : Graph) (entries : List Entry) (index : ℕ) (e : ParseError)
     → map (λ e. e.key) entries ≡ map (λ e. e.key) own → AllKeepChunks own entries
     → IsUnreadError graph entries index e → IsDateError own graph (texts_of_entries entries) index e

@@ -17,7 +17,7 @@ use Rattle.bib_inheritance.specs.EntryTexts.{EntryTexts, first_some, no_entry}
 use Rattle.bib_inheritance.specs.declared.inheritable_date.InheritableDate.{InheritableDate as Kept}
 use Rattle.bib_inheritance.specs.declared.inheritable_date.InheritableDate.TheVariants.{Undated, Unreadable, Dated}
 use Rattle.bib_inheritance.specs.Resolving.{at_index, texts_of_entries, texts_of_entry}
-use Rattle.bib_inheritance.specs.Turning.{AddsAmong, AreDates, Dates, IsDateAt, date_at, dated_in}
+use Rattle.bib_inheritance.specs.Turning.{AddsAmong, AreDates, Dates, IsDateAt, date_at, inheritable_chunks}
 use Rattle.bib_text.proofs.ListFacts.{some_same}
 
 -- ---- an empty cache, and one more date
@@ -33,6 +33,7 @@ unread_more (d ∷ dates) none zero = none 0
 unread_more (d ∷ dates) none (suc index) = unread_more dates (λ k. none (suc k)) index
 
 module _ (entries : List Entry) where
+  -- a cache without dates is valid
   pub none_read : (dates : Dates) → ((index : ℕ) → IsNone (date_at dates index)) → AreDates entries dates
   none_read dates none index d is = absurd (false≢true (sym (none index) ∙ ap is_some is))
 
@@ -60,14 +61,14 @@ reads_more dates index other d within there = elim (cases_Bool (eqb other index)
 -- ---- the last date
 
 module _ (at : ℕ → EntryTexts) where
-  -- the last date of a suffix is the last date
+  -- the last date of a suffix, if it has one, is the last date of the list
   date_prefix : (k : ℕ) (indices : List ℕ) (date : List Atom) → last_date (map at (drop k indices)) ≡ Some date
       → last_date (map at indices) ≡ Some date
   date_prefix zero indices date h = h
   date_prefix (suc k) [] date h = h
   date_prefix (suc k) (p ∷ rest) date h = ap (λ o. first_some o (dated_text (inheritable_date (at p).fields))) (date_prefix k rest date h)
 
-  -- the date of one more entry from the end, if those after it have none
+  -- if no entry after it has a date, the last date from an entry on is the date of that entry
   date_next : (indices : List ℕ) (done : ℕ) → done < length indices → last_date (map at (drop (length indices - done) indices)) ≡ None
       → last_date (map at (drop (length indices - (done + 1)) indices))
       ≡ dated_text (inheritable_date (at (get_or indices (length indices - 1 - done) 0)).fields)
@@ -80,12 +81,14 @@ module _ (at : ℕ → EntryTexts) where
       ∙ ap (λ o. first_some o (dated_text (inheritable_date (at (get_or indices k 0)).fields))) none'
       ∙ ap (λ n. dated_text (inheritable_date (at (get_or indices n 0)).fields)) here
 
+  -- if that entry has none either, there is still no last date
   pub date_none : (indices : List ℕ) (done : ℕ) → done < length indices
       → dated_text (inheritable_date (at (get_or indices (length indices - 1 - done) 0)).fields) ≡ None
       → last_date (map at (drop (length indices - done) indices)) ≡ None
       → last_date (map at (drop (length indices - (done + 1)) indices)) ≡ None
   date_none indices done within has none = date_next indices done within none ∙ has
 
+  -- if that entry has a date, it is the last date of the list
   pub date_found : (indices : List ℕ) (done : ℕ) (date : List Atom) → done < length indices
       → dated_text (inheritable_date (at (get_or indices (length indices - 1 - done) 0)).fields) ≡ Some date
       → last_date (map at (drop (length indices - done) indices)) ≡ None
@@ -98,24 +101,27 @@ pub read_at : {A : Type 0} (of : Option Kept → A) (dates : Dates) (index : ℕ
     → of (date_at dates index) ≡ of (get_or dates index o)
 read_at of dates index o below = ap of (get_or_default dates index None o below)
 
--- the cached date of an entry is its date
 module _ (entries : List Entry) (dates : Dates) (index : ℕ) (are : AreDates entries dates) where
   abbrev here : EntryTexts
   here = at_index (texts_of_entries entries) index
 
-  pub dated_here : (chunks : List (Spanned Chunk)) → dated_in (date_at dates index) ≡ Some chunks
+  -- a cached date with chunks is the date of the entry, with their styled text
+  pub dated_here : (chunks : List (Spanned Chunk)) → inheritable_chunks (date_at dates index) ≡ Some chunks
       → dated_text (inheritable_date here.fields) ≡ Some (styled chunks)
   dated_here chunks is = go (date_at dates index) refl is where
-    go : (o : Option Kept) → date_at dates index ≡ o → dated_in o ≡ Some chunks
+    go : (o : Option Kept) → date_at dates index ≡ o → inheritable_chunks o ≡ Some chunks
         → dated_text (inheritable_date here.fields) ≡ Some (styled chunks)
     go None there is = cc
     go (Some Undated) there is = cc
     go (Some (Unreadable error)) there is = cc
     go (Some (Dated found)) there is = ap dated_text (are index (Dated found) there).is ∙ ap (λ c. Some (styled c)) (some_same is)
 
-  pub undated_here : IsSome (date_at dates index) → dated_in (date_at dates index) ≡ None → dated_text (inheritable_date here.fields) ≡ None
+  -- an entry whose cached date has no chunks has no date that can be inherited
+  pub undated_here : IsSome (date_at dates index) → inheritable_chunks (date_at dates index) ≡ None
+      → dated_text (inheritable_date here.fields) ≡ None
   undated_here was is = go (date_at dates index) refl was is where
-    go : (o : Option Kept) → date_at dates index ≡ o → IsSome o → dated_in o ≡ None → dated_text (inheritable_date here.fields) ≡ None
+    go : (o : Option Kept) → date_at dates index ≡ o → IsSome o → inheritable_chunks o ≡ None
+        → dated_text (inheritable_date here.fields) ≡ None
     go None there was is = absurd (false≢true was)
     go (Some Undated) there was is = ap dated_text (are index Undated there).is
     go (Some (Unreadable error)) there was is = ap dated_text (are index (Unreadable error) there).is.0
@@ -164,15 +170,18 @@ refs_after graph turns i index order within among = subst (Contains (take i turn
 module _ (graph : Graph) (turns indices : List ℕ) (i : ℕ) (order : IsTopologicalOrder graph turns)
     (within : i < length turns) (row : indices ≡ refs_of graph (get_or turns i 0)) (old new : Dates)
     (added : AddsAmong indices old new) (following : AreAfter (take i turns) old) where
+  -- after the dates of an entry's references are cached, all entries with cached dates come before it
   still_after : (index : ℕ) → IsSome (date_at new index) → Contains (take i turns) index
   still_after index there = elim (added index there) [
     | inl before ↦ following index before
     | inr among ↦ refs_after graph turns i index order within (subst (λ l. Contains l index) row among)
   ]
 
+  -- so the date of the entry itself is not cached
   pub turn_unread : IsSome (date_at new (get_or turns i 0)) → ⊥
   turn_unread there = new_turn graph turns i order within (still_after (get_or turns i 0) there)
 
+  -- and all entries with cached dates are among the first `i + 1`
   pub after_more : AreAfter (take (i + 1) turns) new
   after_more index there =
       subst (λ l. Contains l index) (sym (take_more turns i 0 within))

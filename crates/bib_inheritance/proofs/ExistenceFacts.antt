@@ -27,7 +27,7 @@ use Rattle.bib_dates.specs.declared.date.Date.{Date}
 use Rattle.bib_collections.specs.Graph.{Graph, HasNoCycle, IsInRange, Solves, refs_of}
 use Rattle.bib_collections.proofs.Walks as walks
 use Rattle.bib_inheritance.specs.InheritableDate.{date_for, dated_text, inheritable_date, inheritable_date_by, last_date, looks_for_date, of_one_field, of_three_fields, three_fields, written_date}
-use Rattle.bib_inheritance.specs.Inherited.{date_parts, field_by, first_offer, inherited, inherited_field, offer, offered_field, offered_from, plain_field, wants}
+use Rattle.bib_inheritance.specs.Inherited.{date_parts, field_by, first_offer, inherited_field, offer, offer_names, offered_field, plain_field, wants, with_inherited_fields}
 use Rattle.bib_inheritance.specs.References.{plain}
 use Rattle.bib_inheritance.specs.EntryTexts.{EntryTexts, FieldTexts, fields_of, first_named, first_some, has, no_entry, texts_of_fields}
 use Rattle.bib_inheritance.proofs.FieldFacts as made
@@ -57,7 +57,7 @@ first_styled fields (name ∷ names) =
 abbrev inherited_chunks : EntryType → List ℕ → List Entry → Option Value
 inherited_chunks entry_type name [] = None
 inherited_chunks entry_type name (r ∷ rest) =
-    first_some (cond (wants entry_type (texts_of_entry r) name) (first_chunks r.fields (offered_from r.entry_type name)) None)
+    first_some (cond (wants entry_type (texts_of_entry r) name) (first_chunks r.fields (offer_names r.entry_type name)) None)
     (inherited_chunks entry_type name rest)
 
 -- the styled text of these chunks is the inherited field
@@ -65,11 +65,11 @@ inherited_styled : (entry_type : EntryType) (name : List ℕ) (refs : List Entry
     → option_map styled (inherited_chunks entry_type name refs) ≡ inherited_field entry_type name (texts_of_entries refs)
 inherited_styled entry_type name [] = refl
 inherited_styled entry_type name (r ∷ rest) =
-    let given = cond (wants entry_type (texts_of_entry r) name) (first_chunks r.fields (offered_from r.entry_type name)) None in
+    let given = cond (wants entry_type (texts_of_entry r) name) (first_chunks r.fields (offer_names r.entry_type name)) None in
     styled_first given (inherited_chunks entry_type name rest)
     ∙ ap (λ o. first_some o (option_map styled (inherited_chunks entry_type name rest)))
-    (styled_if (wants entry_type (texts_of_entry r) name) (first_chunks r.fields (offered_from r.entry_type name))
-    ∙ ap (λ o. cond (wants entry_type (texts_of_entry r) name) o None) (first_styled r.fields (offered_from r.entry_type name)))
+    (styled_if (wants entry_type (texts_of_entry r) name) (first_chunks r.fields (offer_names r.entry_type name))
+    ∙ ap (λ o. cond (wants entry_type (texts_of_entry r) name) o None) (first_styled r.fields (offer_names r.entry_type name)))
     ∙ ap (first_some (offered_field entry_type (texts_of_entry r) name)) (inherited_styled entry_type name rest)
 
 -- ---- the names that can be inherited are finitely many
@@ -114,6 +114,7 @@ other_name entry_type (r ∷ rest) q other =
 
 -- ---- the list of fields of a function
 
+-- a list of fields with a field of this name in front, if there is a value
 abbrev with_first : List ℕ → Option Value → List (List ℕ × Value) → List (List ℕ × Value)
 with_first name None rest = rest
 with_first name (Some value) rest = (name, value) ∷ rest
@@ -249,11 +250,11 @@ date_chunks own refs = go (looks_for_date (texts_of_entry own)) where
 fields_by : (own : Entry) (given : List (List ℕ × Value)) (date : Option Value)
     → (fields : ByText Value) × ((name : List ℕ) → get fields name ≡ field_by date (get own.fields) (first_named given) name)
 fields_by own given None = (
-  remove (made.made (reverse (reverse (entries own.fields ++ given)))) (codes "xdata"),
+  remove (made.fields_map (reverse (reverse (entries own.fields ++ given)))) (codes "xdata"),
   λ q. made.field_gathered own.fields given (codes "xdata") q,
 )
 fields_by own given (Some date) =
-    let plain_ones = remove (made.made (reverse (reverse (entries own.fields ++ given)))) (codes "xdata") in (
+    let plain_ones = remove (made.fields_map (reverse (reverse (entries own.fields ++ given)))) (codes "xdata") in (
       insert (remove (remove (remove plain_ones (codes "year")) (codes "month")) (codes "day")) (codes "date") date,
       λ q. made.field_dated plain_ones (codes "year") (codes "month") (codes "day") (codes "date") date q
           ∙ ap (λ o. cond (bytes_eq q (codes "date")) (Some date) (cond (is_one_of date_parts q) None o))
@@ -263,7 +264,7 @@ fields_by own given (Some date) =
 -- an entry after inheriting: it has the same key, the fields of the rule, and the own chunks of the fields that it keeps
 pub record IsHeir (own : Entry) (refs : List Entry) (entry : Entry) : Type 0 where
   pub key : entry.key ≡ own.key
-  pub is : texts_of_entry entry ≡ inherited (texts_of_entry own) (texts_of_entries refs)
+  pub is : texts_of_entry entry ≡ with_inherited_fields (texts_of_entry own) (texts_of_entries refs)
   pub keeps : KeepsChunks own entry
 
 -- an own field keeps its chunks or is removed
@@ -405,8 +406,8 @@ module _ (own : List Entry) (graph : Graph) (long : length graph ≡ length own)
       let refs = map (λ r. get_or values r blank) (refs_of graph index) in
       sym (entry_at values index)
       ∙ (is_heir index within).is
-      ∙ ap (λ s. inherited s (texts_of_entries refs)) (entry_at own index)
-      ∙ ap (inherited (at_index (texts_of_entries own) index)) (at_indices values (refs_of graph index))
+      ∙ ap (λ s. with_inherited_fields s (texts_of_entries refs)) (entry_at own index)
+      ∙ ap (with_inherited_fields (at_index (texts_of_entries own) index)) (at_indices values (refs_of graph index))
 
   long_values : length values ≡ length graph
   unfolding values solved
@@ -415,6 +416,7 @@ module _ (own : List Entry) (graph : Graph) (long : length graph ≡ length own)
   key_at : (entries : List Entry) (index : ℕ) → get_or (map (λ (e : Entry). e.key) entries) index [] ≡ (get_or entries index blank).key
   key_at entries index = get_or-map (λ (e : Entry). e.key) entries index blank
 
+  -- if each reference is in range and there is no cycle, the equation has a solution of entries
   pub heirs : (entries : List Entry) × AreHeirs own graph entries
   heirs = (
     values,

@@ -10,7 +10,7 @@ use Rattle.bib_collections.specs.Sorted.{ByText, by_bytes}
 use Rattle.bib_tables.specs.Requirements.{is_one_of}
 use Rattle.bib_tables.specs.declared.mechanics.EntryType.{EntryType}
 use Rattle.bib_inheritance.specs.InheritableDate.{date_for}
-use Rattle.bib_inheritance.specs.Inherited.{date_parts, field_by, inherited, plain_field, inherited_field}
+use Rattle.bib_inheritance.specs.Inherited.{date_parts, field_by, plain_field, inherited_field, with_inherited_fields}
 use Rattle.bib_inheritance.specs.EntryTexts.{EntryTexts, FieldTexts, fields_of, first_named, first_some, texts_of_fields}
 use Rattle.bib_inheritance.proofs.GatheredFacts.{Value, bytes_turned, first_after, styled_first}
 
@@ -22,21 +22,22 @@ removed_at : (m : Map) (k q : List ℕ) → get (remove m k) q ≡ cond (bytes_e
 removed_at m k q = get-remove nat_list_cmp_total m k q ∙ ap (λ b. cond b None (get m q)) (is_eq-slice_cmp q k)
 
 -- the map of a list of fields
-abbrev pub made : List (List ℕ × Value) → Map
-made pairs = from_entries pairs
+abbrev pub fields_map : List (List ℕ × Value) → Map
+fields_map pairs = from_entries pairs
 
 -- the field of a name after adding fields and removing one: the own field counts before the added one
 pub field_gathered : (own : Map) (given : List (List ℕ × Value)) (gone q : List ℕ)
-    → get (remove (made (reverse (reverse (entries own ++ given)))) gone) q
+    → get (remove (fields_map (reverse (reverse (entries own ++ given)))) gone) q
     ≡ cond (bytes_eq q gone) None (first_some (get own q) (first_named given q))
 field_gathered own given gone q =
-    removed_at (made (reverse (reverse (entries own ++ given)))) gone q
+    removed_at (fields_map (reverse (reverse (entries own ++ given)))) gone q
     ∙ ap (cond (bytes_eq q gone) None)
     (get-from_entries nat_list_cmp_total (reverse (reverse (entries own ++ given))) q
     ∙ ap (find by_bytes q) (reverse-reverse (entries own ++ given))
     ∙ first_after q (entries own) given
     ∙ ap (λ o. first_some o (first_named given q)) (sym (get-entries own q)))
 
+-- removing three names one after another is removing any of them
 three : {A : Type 0} (a b c : Bool) (x : Option A) → cond c None (cond b None (cond a None x)) ≡ cond (a || (b || (c || false))) None x
 three true true true x = refl
 three true true false x = refl
@@ -114,7 +115,7 @@ pub inherits : (entry_type : EntryType) (own fields : Map) (refs : List EntryTex
     ≡ cond (is_some (fields_of own name)) None (inherited_field entry_type name refs))
     → option_map styled date ≡ date_for (texts_of_fields entry_type own) refs
     → ((name : List ℕ) → get fields name ≡ field_by date (get own) (first_named given) name)
-    → texts_of_fields entry_type fields ≡ inherited (texts_of_fields entry_type own) refs
+    → texts_of_fields entry_type fields ≡ with_inherited_fields (texts_of_fields entry_type own) refs
 inherits entry_type own fields refs given date gives dated h =
     let same : (name : List ℕ)
     → fields_of fields name

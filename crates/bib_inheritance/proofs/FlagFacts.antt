@@ -56,7 +56,7 @@ unread_same true looks any none = refl
 unread_same false true any none = sym (none refl)
 unread_same false false any none = refl
 
--- that only flagged entries count as lacking a required date doesn't change which refer to a bad date
+-- counting only flagged entries as lacking a required date leaves the same entries that refer to a bad date
 unread_by : (names : ByText ℕ) (own : List Entry) (test : ℕ → Bool) (index : ℕ)
     → (get_or (map looks_by own) index false && list_any test (refs_of (graph_by names own) index))
     ≡ (looks_for_date (at_index (texts_of_entries own) index) && list_any test (refs_of (graph_by names own) index))

@@ -23,7 +23,7 @@ use Rattle.bib_collections.specs.Sorted.{ByText, by_bytes}
 use Rattle.bib_tables.specs.Requirements.{Names, texts, rules_of, author_names, page_names, inheritable, is_container, is_one_of, never_inherited}
 use Rattle.bib_tables.specs.declared.mechanics.EntryType.{EntryType}
 use Rattle.bib_inheritance.specs.Inherited.{offer, offered_field, inherited_field}
-use Rattle.bib_inheritance.specs.Gathering.{gathered_text, gathered_text_in, offered_among}
+use Rattle.bib_inheritance.specs.Gathering.{gathered_text, gathered_text_in, offer_among}
 use Rattle.bib_inheritance.specs.EntryTexts.{EntryTexts, fields_of, first_named, first_some, has, texts_of_reference, texts_of_references}
 use Rattle.bib_inheritance.specs.declared.offers.Reference.{Reference}
 use Rattle.std.proofs.Math.Bool.{and-false, or-false, or-true}
@@ -35,8 +35,9 @@ Value = List (Spanned Chunk)
 abbrev pub Loan : Type 0
 Loan = Bor (List ℕ) × Bor Value
 
-abbrev pub Gathered : Type 0
-Gathered = BTreeMap (Bor (List ℕ)) (Bor Value)
+-- the collected fields by name
+abbrev pub GatheredFields : Type 0
+GatheredFields = BTreeMap (Bor (List ℕ)) (Bor Value)
 
 abbrev text_of_loan : Bor Value → List Atom
 text_of_loan c = styled c.now
@@ -46,7 +47,7 @@ mapped_if f true x y = refl
 mapped_if f false x y = refl
 
 -- a collected field after one more insertion
-pub gathered_inserted : (m n : Gathered) (bs : List ℕ) (c : Bor Value)
+pub gathered_inserted : (m n : GatheredFields) (bs : List ℕ) (c : Bor Value)
     → tree.UpdatesBy (λ x y. slice_cmp nat_cmp x.now y.now) (λ k. slice_cmp nat_cmp bs k.now) m n (Some c)
     → (q : List ℕ) → gathered_text n q ≡ cond (bytes_eq bs q) (Some (styled c.now)) (gathered_text m q)
 gathered_inserted m n bs c h q =
@@ -60,9 +61,9 @@ bytes_decides n q = go (bytes_eq n q) refl where
   go true t = inl (t, (bytes_eq-Decides n q).0 t)
   go false t = inr (t, λ e. false≢true (sym t ∙ (bytes_eq-Decides n q).1 e))
 
--- the fields collected for the first `i` names
-abbrev pub IsGathered : Names → ℕ → EntryTexts → Gathered → Gathered → Type 0
-IsGathered names i s old new = (q : List ℕ) → gathered_text new q ≡ first_some (offered_among (take i names) s q) (gathered_text old q)
+-- the second map is the first one with the offers for the first `i` names, which replace its fields
+abbrev pub IsGathered : Names → ℕ → EntryTexts → GatheredFields → GatheredFields → Type 0
+IsGathered names i s old new = (q : List ℕ) → gathered_text new q ≡ first_some (offer_among (take i names) s q) (gathered_text old q)
 
 -- a name is among the first `i + 1` names if it is among the first `i` or is the next
 among_more : (names : Names) (i : ℕ) (q : List ℕ) (b : Bool) → i < length names → bytes_eq (get_or names i []) q ≡ b
@@ -71,14 +72,14 @@ among_more names i q b h e = list_any_more (λ each. bytes_eq each q) names i []
 
 -- the next name adds no offer for another name
 among_other : (names : Names) (i : ℕ) (s : EntryTexts) (q : List ℕ) → i < length names
-    → bytes_eq (get_or names i []) q ≡ false → offered_among (take (i + 1) names) s q ≡ offered_among (take i names) s q
+    → bytes_eq (get_or names i []) q ≡ false → offer_among (take (i + 1) names) s q ≡ offer_among (take i names) s q
 among_other names i s q h e =
     ap (λ b. cond (not (is_one_of never_inherited q) && b) (offer s q) None)
     (among_more names i q false h e ∙ or-false (is_one_of (take i names) q))
 
 -- nothing is offered for a name that is never inherited or has no offer
 among_none : (names : Names) (s : EntryTexts) (q : List ℕ) → (is_one_of never_inherited q ≡ true) ⊎ (offer s q ≡ None)
-    → offered_among names s q ≡ None
+    → offer_among names s q ≡ None
 among_none names s q (inl k) = ap (λ k. cond (not k && is_one_of names q) (offer s q) None) k
 among_none names s q (inr o) =
     ap (λ v. cond (not (is_one_of never_inherited q) && is_one_of names q) v None) o
@@ -89,13 +90,13 @@ among_none names s q (inr o) =
     both false = refl
 
 -- before the first name, nothing is collected
-pub gathered_none : (names : Names) (s : EntryTexts) (gathered : Gathered) → IsGathered names 0 s gathered gathered
+pub gathered_none : (names : Names) (s : EntryTexts) (gathered : GatheredFields) → IsGathered names 0 s gathered gathered
 gathered_none names s gathered q =
     ap (λ b. first_some (cond b (offer s q) None) (gathered_text gathered q))
     (sym (and-false (not (is_one_of never_inherited q))))
 
 -- the next name is never inherited, or the reference offers nothing for it
-pub gathered_skip : (names : Names) (i : ℕ) (s : EntryTexts) (n : List ℕ) (old new : Gathered) → i < length names
+pub gathered_skip : (names : Names) (i : ℕ) (s : EntryTexts) (n : List ℕ) (old new : GatheredFields) → i < length names
     → n ≡ get_or names i [] → (is_one_of never_inherited n ≡ true) ⊎ (offer s n ≡ None) → IsGathered names i s old new
     → IsGathered names (i + 1) s old new
 gathered_skip names i s n old new within at none h q =
@@ -111,7 +112,7 @@ gathered_skip names i s n old new within at none h q =
     ]
 
 -- the next name has an offer
-pub gathered_more : (names : Names) (i : ℕ) (s : EntryTexts) (n : List ℕ) (c : Bor Value) (old mid new : Gathered)
+pub gathered_more : (names : Names) (i : ℕ) (s : EntryTexts) (n : List ℕ) (c : Bor Value) (old mid new : GatheredFields)
     → i < length names → n ≡ get_or names i [] → is_one_of never_inherited n ≡ false → offer s n ≡ Some (styled c.now)
     → tree.UpdatesBy (λ x y. slice_cmp nat_cmp x.now y.now) (λ k. slice_cmp nat_cmp n k.now) mid new (Some c)
     → IsGathered names i s old mid → IsGathered names (i + 1) s old new
@@ -119,7 +120,7 @@ gathered_more names i s n c old mid new within at free gives updates h q =
     elim (bytes_decides n q) [
       | inl t ↦
           let among = among_more names i q true within (ap (λ x. bytes_eq x q) (sym at) ∙ t.0) ∙ or-true (is_one_of (take i names) q) in
-          let is : offered_among (take (i + 1) names) s q ≡ Some (styled c.now) =
+          let is : offer_among (take (i + 1) names) s q ≡ Some (styled c.now) =
           ap (λ b. cond (not (is_one_of never_inherited q) && b) (offer s q) None) among
           ∙ ap (λ k. cond (not k && true) (offer s q) None) (subst (λ x. is_one_of never_inherited x ≡ false) t.1 free)
           ∙ subst (λ x. offer s x ≡ Some (styled c.now)) t.1 gives
@@ -144,7 +145,7 @@ twice true true true (Some v) x = refl
 
 -- collecting for one list of names and then for another is collecting for both
 pub offered_both : (a b : Names) (s : EntryTexts) (q : List ℕ) (x : Option (List Atom))
-    → first_some (offered_among b s q) (first_some (offered_among a s q) x) ≡ first_some (offered_among (a ++ b) s q) x
+    → first_some (offer_among b s q) (first_some (offer_among a s q) x) ≡ first_some (offer_among (a ++ b) s q) x
 offered_both a b s q x =
     twice (not (is_one_of never_inherited q)) (is_one_of a q) (is_one_of b q) (offer s q) x
     ∙ ap (λ v. first_some (cond (not (is_one_of never_inherited q) && v) (offer s q) None) x)
@@ -165,6 +166,7 @@ bytes_turned q n =
     other true never = absurd (never refl)
     other false never = refl
 
+-- comparing two names by order is comparing their bytes
 pub flipped : (q n : List ℕ) → eq_by_cmp by_bytes q n ≡ bytes_eq n q
 flipped q n = is_eq-slice_cmp q n ∙ bytes_turned q n
 
@@ -185,7 +187,7 @@ has_names m q = sym (is_some-find q (entries m)) ∙ ap is_some (sym (get-entrie
 -- a container is offered each field of its reference
 pub given_container : (entry_type : EntryType) (reference : Reference) (names : Names) (q : List ℕ)
     → is_container entry_type ≡ true → names ≡ map (λ e. e.0) (entries reference.fields.now)
-    → offered_among names (texts_of_reference reference) q ≡ offered_field entry_type (texts_of_reference reference) q
+    → offer_among names (texts_of_reference reference) q ≡ offered_field entry_type (texts_of_reference reference) q
 given_container entry_type reference names q is all =
     let s = texts_of_reference reference in
     ap (λ b. cond (not (is_one_of never_inherited q) && b) (offer s q) None)
@@ -203,7 +205,7 @@ given_container entry_type reference names q is all =
 
 -- any other entry is offered the fields that its type inherits
 pub given_other : (entry_type : EntryType) (s : EntryTexts) (q : List ℕ) → is_container entry_type ≡ false
-    → offered_among (inheritable entry_type) s q ≡ offered_field entry_type s q
+    → offer_among (inheritable entry_type) s q ≡ offered_field entry_type s q
 given_other entry_type s q is =
     same (not (is_one_of never_inherited q)) (is_one_of (inheritable entry_type) q) (offer s q)
     ∙ ap
@@ -218,7 +220,7 @@ given_other entry_type s q is =
     same false h o = refl
 
 -- the fields collected after one more reference from the end
-pub given_more : (entry_type : EntryType) (refs : List Reference) (done : ℕ) (r : Reference) (old new : Gathered)
+pub given_more : (entry_type : EntryType) (refs : List Reference) (done : ℕ) (r : Reference) (old new : GatheredFields)
     → done < length refs → r ≡ get_or refs (length refs - 1 - done) r
     →
     ((q : List ℕ)
@@ -244,16 +246,16 @@ given_more entry_type refs done r old new within at adds h q =
 
 -- the fields collected after one more group of names
 pub groups_more : (groups : List (Bor (List (Bor (List ℕ))))) (i : ℕ) (d : Bor (List (Bor (List ℕ)))) (s : EntryTexts)
-    (old mid new : Gathered) → i < length groups
-    → ((q : List ℕ) → gathered_text new q ≡ first_some (offered_among (texts (get_or groups i d).now) s q) (gathered_text mid q))
+    (old mid new : GatheredFields) → i < length groups
+    → ((q : List ℕ) → gathered_text new q ≡ first_some (offer_among (texts (get_or groups i d).now) s q) (gathered_text mid q))
     →
     ((q : List ℕ)
     → gathered_text mid q
-    ≡ first_some (offered_among (flat_map (λ group. texts group.now) (take i groups)) s q)
+    ≡ first_some (offer_among (flat_map (λ group. texts group.now) (take i groups)) s q)
     (gathered_text old q))
     → (q : List ℕ)
     → gathered_text new q
-    ≡ first_some (offered_among (flat_map (λ group. texts group.now) (take (i + 1) groups)) s q)
+    ≡ first_some (offer_among (flat_map (λ group. texts group.now) (take (i + 1) groups)) s q)
     (gathered_text old q)
 groups_more groups i d s old mid new within adds h q =
     let g : Bor (List (Bor (List ℕ))) = get_or groups i d in
@@ -263,23 +265,23 @@ groups_more groups i d s old mid new within adds h q =
     ∙ flat_map-append (λ (group : Bor (List (Bor (List ℕ)))). texts group.now) (take i groups) (g ∷ [])
     ∙ ap (λ l. before ++ l) (append-nil (texts g.now))
     in
-    adds q ∙ ap (first_some (offered_among (texts g.now) s q)) (h q) ∙ offered_both before (texts g.now) s q (gathered_text old q)
-    ∙ ap (λ l. first_some (offered_among l s q) (gathered_text old q)) (sym all)
+    adds q ∙ ap (first_some (offer_among (texts g.now) s q)) (h q) ∙ offered_both before (texts g.now) s q (gathered_text old q)
+    ∙ ap (λ l. first_some (offer_among l s q) (gathered_text old q)) (sym all)
 
 -- the fields collected for the names of a type, in four steps
 pub inheritable_gathered : (entry_type : EntryType) (s : EntryTexts) (required optional pages author : Names)
     (q : List ℕ) (x : Option (List Atom))
     → required ≡ (rules_of entry_type).required → optional ≡ (rules_of entry_type).optional
     → pages ≡ page_names (rules_of entry_type).pages → author ≡ author_names (rules_of entry_type).author
-    → first_some (offered_among author s q)
-    (first_some (offered_among pages s q)
-    (first_some (offered_among optional s q) (first_some (offered_among required s q) x)))
-    ≡ first_some (offered_among (inheritable entry_type) s q) x
+    → first_some (offer_among author s q)
+    (first_some (offer_among pages s q)
+    (first_some (offer_among optional s q) (first_some (offer_among required s q) x)))
+    ≡ first_some (offer_among (inheritable entry_type) s q) x
 inheritable_gathered entry_type s required optional pages author q x a b c d =
-    ap (λ o. first_some (offered_among author s q) (first_some (offered_among pages s q) o)) (offered_both required optional s q x)
-    ∙ ap (first_some (offered_among author s q)) (offered_both (required ++ optional) pages s q x)
+    ap (λ o. first_some (offer_among author s q) (first_some (offer_among pages s q) o)) (offered_both required optional s q x)
+    ∙ ap (first_some (offer_among author s q)) (offered_both (required ++ optional) pages s q x)
     ∙ offered_both ((required ++ optional) ++ pages) author s q x
-    ∙ ap (λ l. first_some (offered_among l s q) x) same
+    ∙ ap (λ l. first_some (offer_among l s q) x) same
   where
     same : ((required ++ optional) ++ pages) ++ author ≡ inheritable entry_type
     same =
@@ -291,8 +293,8 @@ inheritable_gathered entry_type s required optional pages author q x a b c d =
 -- Copies
 
 -- the copied field of a name: the collected one, if the entry lacks it
-abbrev pub copied : ByText Value → List Loan → List ℕ → Option (List Atom)
-copied own gathered q = cond (is_some (fields_of own q)) None (gathered_text_in gathered q)
+abbrev pub copied_text : ByText Value → List Loan → List ℕ → Option (List Atom)
+copied_text own gathered q = cond (is_some (fields_of own q)) None (gathered_text_in gathered q)
 
 -- the styled text of a name in a list of collected fields
 gathered_next : (n : Bor (List ℕ)) (c : Bor Value) (rest : List Loan) (q : List ℕ)
@@ -301,6 +303,7 @@ gathered_next n c rest q =
     ap (λ b. option_map text_of_loan (cond b (Some c) (lookup (tree.is_at (λ key. slice_cmp nat_cmp q key.now)) rest))) (flipped q n.now)
     ∙ mapped_if text_of_loan (bytes_eq n.now q) (Some c) (lookup (tree.is_at (λ key. slice_cmp nat_cmp q key.now)) rest)
 
+-- the first value of a name in a concatenation
 found-following : (q : List ℕ) (xs ys : List (List ℕ × Value))
     → find by_bytes q (xs ++ ys) ≡ first_some (find by_bytes q xs) (find by_bytes q ys)
 found-following q [] ys = refl
@@ -320,13 +323,15 @@ pub styled_first : (a b : Option Value) → option_map styled (first_some a b) �
 styled_first None b = refl
 styled_first (Some x) b = refl
 
+-- `first_some` is associative
 first_last : {A : Type 0} (a b c : Option A) → first_some a (first_some b c) ≡ first_some (first_some a b) c
 first_last None b c = refl
 first_last (Some x) b c = refl
 
 -- the copies so far, together with those of the remaining fields, are all copies
 abbrev pub AreCopied : ByText Value → List Loan → List Loan → List (List ℕ × Value) → Type 0
-AreCopied own all left copies = (q : List ℕ) → copied own all q ≡ first_some (option_map styled (first_named copies q)) (copied own left q)
+AreCopied own all left copies =
+    (q : List ℕ) → copied_text own all q ≡ first_some (option_map styled (first_named copies q)) (copied_text own left q)
 
 -- before the first collected field, nothing is copied
 pub copied_none : (own : ByText Value) (all : List Loan) → AreCopied own all all []
@@ -337,7 +342,7 @@ pub copied_skip : (own : ByText Value) (all rest left : List Loan) (n : Bor (Lis
     (copies : List (List ℕ × Value)) → left ≡ (n, c) ∷ rest → is_some (get own n.now) ≡ true
     → AreCopied own all left copies → AreCopied own all rest copies
 copied_skip own all rest left n c copies is had h q =
-    h q ∙ ap (first_some (option_map styled (first_named copies q))) (ap (λ l. copied own l q) is
+    h q ∙ ap (first_some (option_map styled (first_named copies q))) (ap (λ l. copied_text own l q) is
     ∙ ap (cond (is_some (fields_of own q)) None) (gathered_next n c rest q)
     ∙ elim (bytes_decides n.now q) [
       | inl t ↦
@@ -364,23 +369,23 @@ copied_more own all rest left n c v copies is lacks same h q =
     ∙ styled_first (first_named copies q) (first_named ((n.now, v) ∷ []) q)
     ∙ ap (first_some (option_map styled (first_named copies q))) one
     in
-    let here : copied own left q ≡ first_some (cond (bytes_eq n.now q) (Some (styled c.now)) None) (copied own rest q) =
-    ap (λ l. copied own l q) is ∙ ap (cond (is_some (fields_of own q)) None) (gathered_next n c rest q)
+    let here : copied_text own left q ≡ first_some (cond (bytes_eq n.now q) (Some (styled c.now)) None) (copied_text own rest q) =
+    ap (λ l. copied_text own l q) is ∙ ap (cond (is_some (fields_of own q)) None) (gathered_next n c rest q)
     ∙ elim (bytes_decides n.now q) [
       | inl t ↦
           let own_lacks : is_some (fields_of own q) ≡ false =
           sym (same_some styled (get own q)) ∙ subst (λ x. is_some (get own x) ≡ false) t.1 lacks in
           ap (λ b. cond b None (cond (bytes_eq n.now q) (Some (styled c.now)) (gathered_text_in rest q))) own_lacks
           ∙ ap (λ b. cond b (Some (styled c.now)) (gathered_text_in rest q)) t.0
-          ∙ sym (ap (λ b. first_some (cond b (Some (styled c.now)) None) (copied own rest q)) t.0)
+          ∙ sym (ap (λ b. first_some (cond b (Some (styled c.now)) None) (copied_text own rest q)) t.0)
       | inr t ↦
           ap (λ b. cond (is_some (fields_of own q)) None (cond b (Some (styled c.now)) (gathered_text_in rest q))) t.0
-          ∙ sym (ap (λ b. first_some (cond b (Some (styled c.now)) None) (copied own rest q)) t.0)
+          ∙ sym (ap (λ b. first_some (cond b (Some (styled c.now)) None) (copied_text own rest q)) t.0)
     ]
     in
     h q ∙ ap (first_some (option_map styled (first_named copies q))) here
-    ∙ first_last (option_map styled (first_named copies q)) (cond (bytes_eq n.now q) (Some (styled c.now)) None) (copied own rest q)
-    ∙ ap (λ o. first_some o (copied own rest q)) (sym before)
+    ∙ first_last (option_map styled (first_named copies q)) (cond (bytes_eq n.now q) (Some (styled c.now)) None) (copied_text own rest q)
+    ∙ ap (λ o. first_some o (copied_text own rest q)) (sym before)
 
 pub copied_some : {A : Type 0} (o : Option (Bor A)) → is_some (option_copied o) ≡ is_some o
 copied_some None = refl
@@ -388,10 +393,10 @@ copied_some (Some x) = refl
 
 -- no collected field remains
 pub copied_all : (own : ByText Value) (all left : List Loan) (copies : List (List ℕ × Value)) → left ≡ []
-    → AreCopied own all left copies → (q : List ℕ) → option_map styled (first_named copies q) ≡ copied own all q
+    → AreCopied own all left copies → (q : List ℕ) → option_map styled (first_named copies q) ≡ copied_text own all q
 copied_all own all left copies none h q =
     sym
-    (h q ∙ ap (λ l. first_some (option_map styled (first_named copies q)) (copied own l q)) none
+    (h q ∙ ap (λ l. first_some (option_map styled (first_named copies q)) (copied_text own l q)) none
     ∙ ap (first_some (option_map styled (first_named copies q))) (nothing (is_some (fields_of own q)))
     ∙ alone (option_map styled (first_named copies q)))
   where

@@ -6,7 +6,7 @@ use Rattle.std.proofs.lemmas.List.{length-map}
 use Rattle.std.proofs.lemmas.List.Elements.{All-cons, All-nil}
 use Rattle.bib_entry.specs.declared.entry.Entry.{Entry}
 use Rattle.bib_collections.specs.Graph.{IsInRange}
-use Rattle.bib_inheritance.specs.References.{references, referred}
+use Rattle.bib_inheritance.specs.References.{reference_names, references}
 use Rattle.bib_inheritance.specs.EntryTexts.{fields_of}
 use Rattle.bib_collections.specs.Names.{AreIndicesBelow}
 use Rattle.bib_collections.specs.Sorted.{ByText}
@@ -29,7 +29,7 @@ rows_below : (n : ℕ) (names : ByText ℕ) → AreIndicesBelow n names → (own
 rows_below n names below [] = All-nil (λ refs. All (λ r. r < n) refs)
 rows_below n names below (e ∷ own) =
     All-cons (λ refs. All (λ r. r < n) refs) (references names (fields_of e.fields)) (graph_by names own)
-    (indices_below n names below (referred (fields_of e.fields))) (rows_below n names below own)
+    (indices_below n names below (reference_names (fields_of e.fields))) (rows_below n names below own)
 
 -- the graph of entries is in range if each name points to an entry
 pub graph_in_range : (names : ByText ℕ) (own : List Entry) → AreIndicesBelow (length own) names → IsInRange (graph_by names own)

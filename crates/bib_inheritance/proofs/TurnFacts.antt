@@ -18,7 +18,7 @@ use Rattle.bib_collections.specs.Solving.{IsSolvedTo}
 use Rattle.bib_collections.proofs.Solving.{new_turn, solved_none, solved_more}
 use Rattle.bib_collections.proofs.Work.{as_one, times_from_contains}
 use Rattle.bib_inheritance.specs.InheritableDate.{date_for, last_date, looks_for_date}
-use Rattle.bib_inheritance.specs.Inherited.{date_parts, field_by, offered_field, inherited, plain_field, inherited_field}
+use Rattle.bib_inheritance.specs.Inherited.{date_parts, field_by, offered_field, plain_field, inherited_field, with_inherited_fields}
 use Rattle.bib_inheritance.specs.EntryTexts.{EntryTexts, fields_of, first_named, first_some, has, no_entry, texts_of_fields, texts_of_reference, texts_of_references}
 use Rattle.bib_inheritance.specs.declared.offers.Reference.{Reference}
 use Rattle.bib_inheritance.proofs.FieldFacts.{inherits}
@@ -260,7 +260,7 @@ date_alone own = go (looks_for_date own) where
   go false = refl
 
 -- inheriting from nothing leaves the texts of an entry without `xdata` unchanged
-pub inherited_alone : (own : EntryTexts) → own.fields (codes "xdata") ≡ None → inherited own [] ≡ own
+pub inherited_alone : (own : EntryTexts) → own.fields (codes "xdata") ≡ None → with_inherited_fields own [] ≡ own
 inherited_alone own none =
     let same : (name : List ℕ) → field_by (date_for own []) own.fields (λ n. inherited_field own.entry_type n []) name ≡ own.fields name =
     λ name. ap (λ d. field_by d own.fields (λ n. inherited_field own.entry_type n []) name) (date_alone own) ∙ alone_by own name none
@@ -353,8 +353,8 @@ turned_more refs turns own entries after i new indices order within as_long row 
     let kept : at_index (texts_of_entries entries) p ≡ at_index (texts_of_entries own) p = h.solved.kept p fresh in
     let value : EntryTexts = texts_of_entry new in
     let by_rule : value ≡ rule_by (texts_of_entries own) p (map (at_index (texts_of_entries entries)) (refs_of refs p)) =
-    turn.inherits ∙ ap (λ l. inherited (texts_of_entry old) (map (at_index (texts_of_entries entries)) l)) row
-    ∙ ap (λ s. inherited s (map (at_index (texts_of_entries entries)) (refs_of refs p))) (sym here ∙ kept)
+    turn.inherits ∙ ap (λ l. with_inherited_fields (texts_of_entry old) (map (at_index (texts_of_entries entries)) l)) row
+    ∙ ap (λ s. with_inherited_fields s (map (at_index (texts_of_entries entries)) (refs_of refs p))) (sym here ∙ kept)
     in
     let all : texts_of_entries (set entries p new) ≡ set (texts_of_entries entries) p value = map-set texts_of_entry entries p new in
     let later : (q : ℕ) → (Contains (take (i + 1) turns) q → ⊥) → (Contains (take i turns) q → ⊥) × (q ≢ p) = λ q none.

@@ -24,5 +24,5 @@ abbrev pub gathered_text : BTreeMap (Bor (List ℕ)) (Bor (List (Spanned Chunk))
 gathered_text gathered name = gathered_text_in gathered.entries name
 
 -- the field that an entry offers for a name, if the name is one of these and may be inherited at all
-abbrev pub offered_among : Names → EntryTexts → List ℕ → Option (List Atom)
-offered_among names reference name = if not (is_one_of never_inherited name) && is_one_of names name then offer reference name else None
+abbrev pub offer_among : Names → EntryTexts → List ℕ → Option (List Atom)
+offer_among names reference name = if not (is_one_of never_inherited name) && is_one_of names name then offer reference name else None

@@ -48,8 +48,8 @@ title_for entry_type name =
     (if is_multi_volume entry_type then value_named main_titles name else None))
 
 -- the names of the fields that an entry of a type offers for a name, in order of preference
-abbrev pub offered_from : EntryType → List ℕ → Names
-offered_from entry_type name = unwrap_or (first_some (title_for entry_type name) (value_named same_meaning name)) (name ∷ [])
+abbrev pub offer_names : EntryType → List ℕ → Names
+offer_names entry_type name = unwrap_or (first_some (title_for entry_type name) (value_named same_meaning name)) (name ∷ [])
 
 -- the first of these fields that exists
 abbrev pub first_offer : FieldTexts → Names → Option (List Atom)
@@ -58,7 +58,7 @@ first_offer fields (name ∷ names) = first_some (fields name) (first_offer fiel
 
 -- the field that an entry offers for a name
 abbrev pub offer : EntryTexts → List ℕ → Option (List Atom)
-offer reference name = first_offer reference.fields (offered_from reference.entry_type name)
+offer reference name = first_offer reference.fields (offer_names reference.entry_type name)
 
 -- whether an entry of a type inherits a field of this name from another entry; a container inherits it only if the other
 -- entry has a field of exactly this name
@@ -93,8 +93,8 @@ field_by (Some date) own offered_field name =
     else plain_field own offered_field name
 
 -- an entry after inheriting from its references, which have inherited before
-abbrev pub inherited : EntryTexts → List EntryTexts → EntryTexts
-inherited own references = record {
+abbrev pub with_inherited_fields : EntryTexts → List EntryTexts → EntryTexts
+with_inherited_fields own references = record {
   entry_type = own.entry_type;
   fields = λ name. field_by (date_for own references) own.fields (λ name. inherited_field own.entry_type name references) name;
 }

@@ -16,12 +16,12 @@ plain atoms = encode_utf8_all (formatted_atoms false atoms)
 
 -- the names that an entry refers to: the text of `crossref`, with white space at its ends, and then the items of the
 -- comma-separated list `xdata`
-abbrev pub referred : FieldTexts → List (List ℕ)
-referred fields =
+abbrev pub reference_names : FieldTexts → List (List ℕ)
+reference_names fields =
     option_map_or (λ atoms. plain atoms ∷ []) (fields (codes "crossref")) []
     ++ option_map_or comma_texts (fields (codes "xdata")) []
 
 -- the indices that an entry refers to. A name that points to no entry is skipped, and an index that two names point to occurs
 -- twice
 abbrev pub references : ByText ℕ → FieldTexts → List ℕ
-references names fields = filter_map (by_name.get names) (referred fields)
+references names fields = filter_map (by_name.get names) (reference_names fields)

@@ -10,7 +10,7 @@ use Rattle.bib_entry.specs.declared.entry.Entry.{Entry}
 use Rattle.bib_tables.specs.declared.type_error.TypeErrorKind.{TypeErrorKind}
 use Rattle.bib_collections.specs.Graph.{Graph, HasNoCycle, IsFirstOnCycle, refs_of, Solves}
 use Rattle.bib_inheritance.specs.InheritableDate.{DateMayFail, IsPlaceOfDate, inheritable_date, is_unreadable, looks_for_date}
-use Rattle.bib_inheritance.specs.Inherited.{inherited}
+use Rattle.bib_inheritance.specs.Inherited.{with_inherited_fields}
 use Rattle.bib_inheritance.specs.References.{references}
 use Rattle.bib_inheritance.specs.EntryTexts.{EntryTexts, fields_of, no_entry, texts_of_fields}
 use Rattle.bib_collections.specs.Sorted.{ByText}
@@ -36,7 +36,7 @@ at_index values index = slice_index_or values index no_entry
 
 -- the entry at an index after inheriting, given the own entries and its references
 abbrev pub rule_by : List EntryTexts → ℕ → List EntryTexts → EntryTexts
-rule_by own index references = inherited (at_index own index) references
+rule_by own index references = with_inherited_fields (at_index own index) references
 
 -- the inheritance equation: each entry is its own entry after inheriting from the solutions for its references
 abbrev pub Inherits : List EntryTexts → Graph → List EntryTexts → Type 0

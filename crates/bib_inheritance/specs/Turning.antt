@@ -8,7 +8,7 @@ use Rattle.bib_entry.specs.declared.entry.Entry.{Entry}
 use Rattle.bib_tables.specs.declared.type_error.TypeError.{TypeError}
 use Rattle.bib_collections.specs.Graph.{Graph, refs_of}
 use Rattle.bib_inheritance.specs.InheritableDate.{DateMayFail, IsInheritableDate, IsPlaceOfDate, LiesAtDate}
-use Rattle.bib_inheritance.specs.Inherited.{inherited}
+use Rattle.bib_inheritance.specs.Inherited.{with_inherited_fields}
 use Rattle.bib_inheritance.specs.EntryTexts.{EntryTexts}
 use Rattle.bib_inheritance.specs.declared.inheritable_date.InheritableDate.{InheritableDate as Kept}
 use Rattle.bib_inheritance.specs.declared.inheritable_date.InheritableDate.TheVariants.{Undated, Unreadable, Dated}
@@ -18,7 +18,7 @@ use Rattle.bib_inheritance.specs.Resolving.{KeepsChunks, at_index, is_bad_date, 
 -- `new` is `old` after inheriting from its references
 pub record IsTurned (old : Entry) (references : List EntryTexts) (new : Entry) : Type 0 where
   pub key : new.key ≡ old.key
-  pub inherits : texts_of_entry new ≡ inherited (texts_of_entry old) references
+  pub inherits : texts_of_entry new ≡ with_inherited_fields (texts_of_entry old) references
   pub chunks : KeepsChunks old new
 
 -- cached dates of entries; `None` for a date that was not computed
@@ -30,11 +30,11 @@ abbrev pub date_at : Dates → ℕ → Option Kept
 date_at dates index = slice_index_or dates index None
 
 -- the date if it was computed and can be inherited
-abbrev pub dated_in : Option Kept → Option (List (Spanned Chunk))
-dated_in (Some (Dated chunks)) = Some chunks
-dated_in (Some Undated) = None
-dated_in (Some (Unreadable error)) = None
-dated_in None = None
+abbrev pub inheritable_chunks : Option Kept → Option (List (Spanned Chunk))
+inheritable_chunks (Some (Dated chunks)) = Some chunks
+inheritable_chunks (Some Undated) = None
+inheritable_chunks (Some (Unreadable error)) = None
+inheritable_chunks None = None
 
 -- the error of a date that was computed and can't be parsed
 abbrev pub error_in : Option Kept → Option TypeError

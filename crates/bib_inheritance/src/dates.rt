@@ -6,7 +6,7 @@ ghost use Rattle.std.specs.Option.{option_copied};
 ghost use Rattle.bib_chunks.specs.Styled.{styled};
 ghost use Rattle.bib_inheritance.specs.InheritableDate.{last_date};
 ghost use Rattle.bib_inheritance.specs.Resolving.{at_index, texts_of_entries};
-ghost use Rattle.bib_inheritance.specs.Turning.{AddsAmong, AreDates, date_at, dated_in, error_in};
+ghost use Rattle.bib_inheritance.specs.Turning.{AddsAmong, AreDates, date_at, error_in, inheritable_chunks};
 
 use crate::inheritable_date::InheritableDate;
 use bib_chunks::chunk::Chunks;
@@ -30,8 +30,8 @@ pub(crate) fn unread_dates(
 }
 
 // Returns the date if it was computed and the entry has one that can be inherited.
-fn dated(date: &Option<InheritableDate>) -> Option<&Chunks>
-    ensures { option_copied result ≡ dated_in date.now }
+fn inheritable_chunks(date: &Option<InheritableDate>) -> Option<&Chunks>
+    ensures { option_copied result ≡ inheritable_chunks date.now }
 {
     match date {
         Some(InheritableDate::Dated(chunks)) => Some(chunks),
@@ -94,7 +94,7 @@ pub(crate) fn last_date(
     'indices: for done in 0..count {
         let index = indices[count - 1 - done];
         read_date(alloc, entries, dates, index)?;
-        if let Some(date) = dated(&dates[index]) {
+        if let Some(date) = inheritable_chunks(&dates[index]) {
             return Ok(Some(date.clone()?));
         }
     }

@@ -6,7 +6,7 @@ ghost use Rattle.std.specs.List.{flat_map};
 ghost use Rattle.bib_chunks.specs.Styled.{styled};
 ghost use Rattle.bib_tables.specs.Requirements.{texts, inheritable, is_container, is_one_of, never_inherited};
 ghost use Rattle.bib_inheritance.specs.Inherited.{offered_field, inherited_field};
-ghost use Rattle.bib_inheritance.specs.Gathering.{gathered_text, offered_among};
+ghost use Rattle.bib_inheritance.specs.Gathering.{gathered_text, offer_among};
 ghost use Rattle.bib_inheritance.specs.EntryTexts.{fields_of, first_named, first_some, texts_of_reference, texts_of_references};
 
 use crate::offers::{Reference, offer};
@@ -18,7 +18,7 @@ use std::alloc::{AllocError, Global};
 use std::collections::BTreeMap;
 
 // Offered fields by name. A field that is inserted later replaces an earlier one of the same name.
-type Gathered<'a> = BTreeMap<&'a str, &'a Chunks>;
+type GatheredFields<'a> = BTreeMap<&'a str, &'a Chunks>;
 
 fn is_kept_back(name: &str) -> bool
     ensures { result ≡ is_one_of never_inherited name.now }
@@ -36,10 +36,10 @@ fn is_container(entry_type: &EntryType) -> bool
 fn gather_offers<'a>(
     reference: &Reference<'a>,
     names: &[&'a str],
-    gathered: &mut Gathered<'a>,
+    gathered: &mut GatheredFields<'a>,
 ) -> Result<(), AllocError>
     ensures { OnOk result ((name : List ℕ) → gathered_text gathered.new name ≡
-        first_some (offered_among (texts names.now) (texts_of_reference reference.now) name)
+        first_some (offer_among (texts names.now) (texts_of_reference reference.now) name)
         (gathered_text gathered.old name)) }
 {
     'names: for name in names {
@@ -57,10 +57,10 @@ fn gather_offers<'a>(
 fn gather_groups<'a>(
     reference: &Reference<'a>,
     groups: &[&'static [&'static str]],
-    gathered: &mut Gathered<'a>,
+    gathered: &mut GatheredFields<'a>,
 ) -> Result<(), AllocError>
     ensures { OnOk result ((name : List ℕ) → gathered_text gathered.new name ≡
-        first_some (offered_among (flat_map (λ group. texts group.now) groups.now)
+        first_some (offer_among (flat_map (λ group. texts group.now) groups.now)
         (texts_of_reference reference.now) name) (gathered_text gathered.old name)) }
 {
     'groups: for group in groups {
@@ -73,10 +73,10 @@ fn gather_groups<'a>(
 fn gather_inheritable<'a>(
     entry_type: &EntryType,
     reference: &Reference<'a>,
-    gathered: &mut Gathered<'a>,
+    gathered: &mut GatheredFields<'a>,
 ) -> Result<(), AllocError>
     ensures { OnOk result ((name : List ℕ) → gathered_text gathered.new name ≡
-        first_some (offered_among (inheritable entry_type.now) (texts_of_reference reference.now) name)
+        first_some (offer_among (inheritable entry_type.now) (texts_of_reference reference.now) name)
         (gathered_text gathered.old name)) }
 {
     let row = entry_type.row();
@@ -104,7 +104,7 @@ fn gather_reference<'a>(
     alloc: Global,
     entry_type: &EntryType,
     reference: &Reference<'a>,
-    gathered: &mut Gathered<'a>,
+    gathered: &mut GatheredFields<'a>,
 ) -> Result<(), AllocError>
     ensures { OnOk result ((name : List ℕ) → gathered_text gathered.new name ≡
         first_some (offered_field entry_type.now (texts_of_reference reference.now) name) (gathered_text gathered.old name)) }
@@ -120,11 +120,11 @@ fn gather_reference<'a>(
 
 // Returns the fields that an entry of type `entry_type` inherits from its references. For each name the first reference that
 // offers a field counts, so it is inserted last.
-fn gathered<'a>(
+fn gather_references<'a>(
     alloc: Global,
     entry_type: &EntryType,
     references: &[Reference<'a>],
-) -> Result<Gathered<'a>, AllocError>
+) -> Result<GatheredFields<'a>, AllocError>
     ensures { IfOk result (λ gathered. (name : List ℕ) →
         gathered_text gathered name ≡ inherited_field entry_type.now name (texts_of_references references.now)) }
 {
@@ -145,7 +145,7 @@ fn gathered<'a>(
 fn copies(
     alloc: Global,
     own: &TextMap<Chunks>,
-    gathered: Gathered<'_>,
+    gathered: GatheredFields<'_>,
 ) -> Result<Vec<(Text, Chunks)>, AllocError>
     ensures { IfOk result (λ copies. (name : List ℕ) → option_map styled (first_named copies.items name) ≡
         (if is_some (fields_of own.now name) then None else gathered_text gathered.entry name)) }
@@ -162,7 +162,7 @@ fn copies(
 
 /// Copies the fields that an entry of type `entry_type` with the fields `own` lacks and inherits from `references`. For each
 /// name the first reference that offers a field counts.
-pub fn gathered_fields(
+pub fn gather_fields(
     alloc: Global,
     entry_type: &EntryType,
     own: &TextMap<Chunks>,
@@ -172,6 +172,6 @@ pub fn gathered_fields(
         (if is_some (fields_of own.now name) then None
         else inherited_field entry_type.now name (texts_of_references references.now))) }
 {
-    let gathered = gathered(alloc, entry_type, references)?;
+    let gathered = gather_references(alloc, entry_type, references)?;
     copies(alloc, own, gathered)
 }

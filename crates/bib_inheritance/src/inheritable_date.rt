@@ -84,7 +84,7 @@ fn three_fields(alloc: Global, year: &Chunks, fields: &TextMap<Chunks>) -> Resul
 }
 
 // Returns the chunks of a parsed date, or `None` if it couldn't be parsed.
-fn rewritten(alloc: Global, read: Result<Date, TypeError>) -> Result<Option<Chunks>, AllocError>
+fn rewrite_date(alloc: Global, read: Result<Date, TypeError>) -> Result<Option<Chunks>, AllocError>
     ensures { IfOk result (λ date. (reading : Reading ADate) → AnswersReading reading read →
         option_map styled date ≡ option_map (λ d. written_date (date_text d)) (readable_value reading)) }
 {
@@ -104,7 +104,7 @@ fn from_one_field(alloc: Global, date: &Chunks) -> Result<Chunks, AllocError>
 {
     let one = as_text(alloc, date)?;
     let read = Date::parse(alloc, one.as_slice());
-    match rewritten(alloc, read)? {
+    match rewrite_date(alloc, read)? {
         Some(rewritten) => Ok(rewritten),
         None => date.clone(),
     }

@@ -11,8 +11,8 @@ ghost use Rattle.bib_inheritance.specs.Turning.{AreDates, is_unread_at};
 
 use crate::dates::unread_dates;
 use crate::inheritable_date::InheritableDate;
-use crate::reference_indices::{graph, looks, reference_flags};
-use crate::resolving::{cycle, unread};
+use crate::reference_indices::{date_flags, graph, reference_flags};
+use crate::resolving::{cycle, resolution_error};
 use crate::turning::take_turns;
 use crate::unread::first_unread;
 use bib_chunks::chunk::Span;
@@ -121,7 +121,7 @@ fn date_errors(
             continue 'entries;
         }
         if let Some(error) = first_unread(alloc, &refs[index], entries, dates)? {
-            errors.push(unread(error))?;
+            errors.push(resolution_error(error))?;
         }
     }
     Ok(errors)
@@ -146,7 +146,7 @@ pub fn resolve_readable(
 {
     let mut refs = graph(alloc, entries, names)?;
     let (order, mut errors) = order_and_cycles(alloc, spans, entries, &mut refs)?;
-    let looks = looks(alloc, entries)?;
+    let looks = date_flags(alloc, entries)?;
     let flags = reference_flags(alloc, entries)?;
     let mut dates = unread_dates(alloc, entries.len())?;
     take_turns(alloc, &order, &refs, &flags, entries, &mut dates)?;

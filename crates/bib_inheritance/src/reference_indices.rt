@@ -70,7 +70,7 @@ pub(crate) fn flagged_graph(
 }
 
 // Returns for each entry whether it lacks a required date.
-pub(crate) fn looks(alloc: Global, entries: &[Entry]) -> Result<Vec<bool>, AllocError>
+pub(crate) fn date_flags(alloc: Global, entries: &[Entry]) -> Result<Vec<bool>, AllocError>
     ensures { IfOk result (λ looks. looks.items ≡
         map (λ e. looks_for_date (texts_of_entry e)) entries.now) }
 {

@@ -3,7 +3,7 @@
 ghost use Rattle.std.specs.Prelude.{◌≡◌, ◌++◌, IfOk, OnOk};
 ghost use Rattle.std.specs.List.{filter_map};
 ghost use Rattle.std.specs.FinMap as by_name;
-ghost use Rattle.bib_inheritance.specs.References.{referred, references};
+ghost use Rattle.bib_inheritance.specs.References.{reference_names, references};
 ghost use Rattle.bib_inheritance.specs.EntryTexts.{fields_of};
 
 use bib_chunks::chunk::{Chunks, format_styled};
@@ -14,8 +14,8 @@ use bib_text::text::Text;
 use std::alloc::{AllocError, Global};
 
 // Returns the names that an entry with these fields refers to.
-fn referred(alloc: Global, fields: &TextMap<Chunks>) -> Result<Vec<Text>, AllocError>
-    ensures { IfOk result (λ names. names.items ≡ referred (fields_of fields.now)) }
+fn reference_names(alloc: Global, fields: &TextMap<Chunks>) -> Result<Vec<Text>, AllocError>
+    ensures { IfOk result (λ names. names.items ≡ reference_names (fields_of fields.now)) }
 {
     let mut names = match fields.get("xdata") {
         Some(chunks) => comma_texts(alloc, chunks.as_slice())?,
@@ -38,7 +38,7 @@ pub fn references(
 ) -> Result<Vec<usize>, AllocError>
     ensures { IfOk result (λ indices. indices.items ≡ references names.now (fields_of fields.now)) }
 {
-    let written = referred(alloc, fields)?;
+    let written = reference_names(alloc, fields)?;
     written
         .iter()
         .filter_map(|name| names.get(name.as_str()))

@@ -62,7 +62,7 @@ fn order(
 }
 
 // Returns the error of resolving a date that can't be parsed.
-pub(crate) fn unread(error: TypeError) -> ParseError
+pub(crate) fn resolution_error(error: TypeError) -> ParseError
     ensures { result ≡ record { span = error.span; kind = ADate error.kind } }
 {
     ParseError {
@@ -99,7 +99,7 @@ pub fn resolve(
     let mut dates = unread_dates(alloc, entries.len())?;
     let turns = take_turns(alloc, &order, &refs, &flags, entries, &mut dates)?;
     match unread_date(alloc, &refs, &looks, entries, &mut dates)? {
-        Some(error) => Err(unread(error)),
+        Some(error) => Err(resolution_error(error)),
         None => Ok(turns),
     }
 }

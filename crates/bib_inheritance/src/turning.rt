@@ -9,14 +9,14 @@ ghost use Rattle.bib_entry.specs.Parents.{has_references};
 ghost use Rattle.bib_collections.specs.Graph.{IsInRange, HasNoCycle, IsTopologicalOrder};
 ghost use Rattle.bib_collections.specs.Rows.{rows};
 ghost use Rattle.bib_inheritance.specs.InheritableDate.{date_for};
-ghost use Rattle.bib_inheritance.specs.Inherited.{field_by, inherited, inherited_field};
+ghost use Rattle.bib_inheritance.specs.Inherited.{field_by, inherited_field, with_inherited_fields};
 ghost use Rattle.bib_inheritance.specs.EntryTexts.{EntryTexts, first_named, texts_of_references};
 ghost use Rattle.bib_tables.specs.declared.mechanics.EntryType.{EntryType};
 ghost use Rattle.bib_inheritance.specs.Resolving.{AllKeepChunks, Inherits, KeepsChunks, at_index, texts_of_entries, texts_of_entry};
 ghost use Rattle.bib_inheritance.specs.Turning.{AddsAmong, AreDates, IsTurned, date_at};
 
 use crate::dates::last_date;
-use crate::gathering::gathered_fields;
+use crate::gathering::gather_fields;
 use crate::inheritable_date::{InheritableDate, looks_for_date};
 use crate::inheriting::inherit;
 use crate::offers::Reference;
@@ -86,7 +86,7 @@ fn fields_at(
     let first = distinct(alloc, indices)?;
     let references = references_of(alloc, &first, entries)?;
     let entry = &entries[index];
-    let fields = gathered_fields(alloc, &entry.entry_type, &entry.fields, &references)?;
+    let fields = gather_fields(alloc, &entry.entry_type, &entry.fields, &references)?;
     Ok(fields)
 }
 

@@ -5,7 +5,7 @@ ghost use Rattle.bib_tables.specs.declared.type_error.TypeErrorKind.TheVariants.
 ghost use Rattle.bib_values.specs.Enumerations.{pagination_read, pagination_written, gender_read, gender_written, editor_type_read, editor_type_written, language_read, language_written, IsNamed};
 ghost use Rattle.bib_values.proofs.EnumFacts.{pagination_survives, gender_survives, editor_type_survives, language_survives};
 
-use crate::typed::{Type, found};
+use crate::typed::{Type, value_or_error};
 use bib_chunks::chunk::{Chunks, ChunksRef};
 use bib_tables::type_error::{TypeError, TypeErrorKind};
 use bib_tables::types::lang::Language;
@@ -36,7 +36,7 @@ impl Type for Pagination {
 
     fn from_chunks(alloc: Global, chunks: ChunksRef<'_>) -> Result<Pagination, TypeError> {
         let read = read_pagination(alloc, chunks)?;
-        found(read, chunks, TypeErrorKind::UnknownPagination)
+        value_or_error(read, chunks, TypeErrorKind::UnknownPagination)
     }
 
     fn to_chunks(&self, alloc: Global) -> Result<Chunks, AllocError> {
@@ -65,7 +65,7 @@ impl Type for Gender {
 
     fn from_chunks(alloc: Global, chunks: ChunksRef<'_>) -> Result<Gender, TypeError> {
         let read = read_gender(alloc, chunks)?;
-        found(read, chunks, TypeErrorKind::UnknownGender)
+        value_or_error(read, chunks, TypeErrorKind::UnknownGender)
     }
 
     fn to_chunks(&self, alloc: Global) -> Result<Chunks, AllocError> {
@@ -94,7 +94,7 @@ impl Type for Language {
 
     fn from_chunks(alloc: Global, chunks: ChunksRef<'_>) -> Result<Language, TypeError> {
         let read = read_language(alloc, chunks)?;
-        found(read, chunks, TypeErrorKind::UnknownLangId)
+        value_or_error(read, chunks, TypeErrorKind::UnknownLangId)
     }
 
     fn to_chunks(&self, alloc: Global) -> Result<Chunks, AllocError> {

@@ -6,7 +6,7 @@ ghost use Rattle.bib_values.specs.Numbers.{number_read, number_written};
 ghost use Rattle.bib_values.proofs.NumberFacts.{number_survives};
 ghost use Rattle.bib_typed.specs.Typed.{number_error};
 
-use crate::typed::{Type, found};
+use crate::typed::{Type, value_or_error};
 use bib_chunks::chunk::{Chunks, ChunksRef, whole_span};
 use bib_tables::type_error::{TypeError, TypeErrorKind};
 use bib_values::numbers::{read_number, write_number};
@@ -43,7 +43,7 @@ impl Type for i64 {
 
     fn from_chunks(alloc: Global, chunks: ChunksRef<'_>) -> Result<i64, TypeError> {
         let number = read_number(alloc, chunks)?;
-        found(number, chunks, number_error(chunks))
+        value_or_error(number, chunks, number_error(chunks))
     }
 
     fn to_chunks(&self, alloc: Global) -> Result<Chunks, AllocError> {

@@ -6,7 +6,7 @@ ghost use Rattle.bib_tables.specs.declared.type_error.TypeErrorKind.TheVariants.
 ghost use Rattle.bib_values.specs.Ranges.{range_read, range_written, RangeKept, ranges_read, ranges_written, RangesKept};
 ghost use Rattle.bib_values.proofs.RangeLaws.{range_survives, ranges_survive};
 
-use crate::typed::{Type, found};
+use crate::typed::{Type, value_or_error};
 use bib_chunks::chunk::{Chunks, ChunksRef};
 use bib_tables::type_error::{TypeError, TypeErrorKind};
 use bib_values::ranges::{read_range, read_ranges, write_range, write_ranges};
@@ -32,7 +32,7 @@ impl Type for Range<u32> {
 
     fn from_chunks(alloc: Global, chunks: ChunksRef<'_>) -> Result<Range<u32>, TypeError> {
         let range = read_range(alloc, chunks)?;
-        found(range, chunks, TypeErrorKind::InvalidNumber)
+        value_or_error(range, chunks, TypeErrorKind::InvalidNumber)
     }
 
     fn to_chunks(&self, alloc: Global) -> Result<Chunks, AllocError> {
@@ -59,7 +59,7 @@ impl Type for Vec<Range<u32>> {
 
     fn from_chunks(alloc: Global, chunks: ChunksRef<'_>) -> Result<Vec<Range<u32>>, TypeError> {
         let ranges = read_ranges(alloc, chunks)?;
-        found(ranges, chunks, TypeErrorKind::InvalidNumber)
+        value_or_error(ranges, chunks, TypeErrorKind::InvalidNumber)
     }
 
     fn to_chunks(&self, alloc: Global) -> Result<Chunks, AllocError> {

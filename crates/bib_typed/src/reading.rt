@@ -53,7 +53,7 @@ pub fn chunks_of_field<'f>(
 ) -> Result<ChunksRef<'f>, RetrievalError>
     ensures { AreChunksOf (by_name.get fields.now name.now) name.now result }
 {
-    found(alloc, name, get(fields, name))
+    require_chunks(alloc, name, get(fields, name))
 }
 
 /// Returns the chunks of the field `name`, or else of the field `other`. If both are missing, the error contains `name`, or
@@ -66,7 +66,7 @@ pub fn chunks_of_either<'f>(
 ) -> Result<ChunksRef<'f>, RetrievalError>
     ensures { AreChunksOf (one_or_other fields.now name.now other.now) name.now result }
 {
-    found(alloc, name, get_or(fields, name, other))
+    require_chunks(alloc, name, get_or(fields, name, other))
 }
 
 // Returns the chunks of the field `name`, or else of the field `other`.
@@ -97,7 +97,7 @@ fn read<T: Type>(
 }
 
 // Returns the chunks of a field. If there is no field, the error contains `name`.
-fn found<'a>(
+fn require_chunks<'a>(
     alloc: Global,
     name: &str,
     field: Option<ChunksRef<'a>>,

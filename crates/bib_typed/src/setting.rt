@@ -50,7 +50,7 @@ impl From<SetError> for AllocError {
 
 impl SetError {
     // Returns the error for chunks, when memory ran out before the field was searched for.
-    fn handing_back(_error: AllocError, chunks: Chunks) -> SetError
+    fn for_chunks(_error: AllocError, chunks: Chunks) -> SetError
         ensures { result.chunks ≡ chunks }
     {
         SetError { chunks }
@@ -72,7 +72,7 @@ pub fn set(
 {
     let lowered = match name.to_ascii_lowercase(fields.allocator()) {
         Ok(lowered) => lowered,
-        Err(error) => return Err(SetError::handing_back(error, chunks)),
+        Err(error) => return Err(SetError::for_chunks(error, chunks)),
     };
     Ok(fields.insert(Text::from_string(lowered), chunks)?)
 }

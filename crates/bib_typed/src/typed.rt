@@ -54,7 +54,7 @@ pub trait Type: Sized {
 }
 
 // Returns the parsed value, or an error of this kind at the span of all chunks.
-pub(crate) fn found<T: Drop>(
+pub(crate) fn value_or_error<T: Drop>(
     read: Option<T>,
     chunks: ChunksRef<'_>,
     kind: TypeErrorKind,

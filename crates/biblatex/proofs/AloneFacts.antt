@@ -10,7 +10,7 @@ use Rattle.bib_collections.specs.Sorted.{ByText}
 use Rattle.bib_entry.specs.declared.entry.Entry.{Entry}
 use Rattle.bib_collections.specs.Graph.{refs_of, Leads, HasNoCycle}
 use Rattle.bib_inheritance.specs.InheritableDate.{date_for, last_date, looks_for_date}
-use Rattle.bib_inheritance.specs.Inherited.{inherited, plain_field, field_by}
+use Rattle.bib_inheritance.specs.Inherited.{plain_field, field_by, with_inherited_fields}
 use Rattle.bib_inheritance.specs.References.{references}
 use Rattle.bib_inheritance.specs.EntryTexts.{EntryTexts, fields_of, first_some, no_entry}
 use Rattle.bib_inheritance.specs.Resolving.{graph_by, texts_of_entry, texts_of_entries, at_index, Inherits, AreDatesRead}
@@ -55,10 +55,10 @@ rows_length names (e ∷ own) = ap suc (rows_length names own)
 -- the value at an index is the own entry after inheriting from nothing
 own_value : (own : List Entry) (values : List EntryTexts) (index : ℕ) → AllByRecursion RefersToNothing own
     → Inherits (texts_of_entries own) (graph_of own) values → index < length own
-    → at_index values index ≡ inherited (at_index (texts_of_entries own) index) []
+    → at_index values index ≡ with_inherited_fields (at_index (texts_of_entries own) index) []
 own_value own values index all inherits within =
     inherits.each index (subst (λ n. index < n) (sym (rows_length (names_of own) own)) within)
-    ∙ ap (λ refs. inherited (at_index (texts_of_entries own) index) (map (λ r. slice_index_or values r no_entry) refs))
+    ∙ ap (λ refs. with_inherited_fields (at_index (texts_of_entries own) index) (map (λ r. slice_index_or values r no_entry) refs))
     (no_row (names_of own) own index all)
 
 bytes_same : (one two : List ℕ) → bytes_eq one two ≡ true → one ≡ two
@@ -85,7 +85,8 @@ no_date own = go (looks_for_date own)
     go false = refl
 
 -- inheriting from nothing leaves each field of an entry without `xdata` unchanged
-rule_alone : (own : EntryTexts) (name : List ℕ) → own.fields (codes "xdata") ≡ None → (inherited own []).fields name ≡ own.fields name
+rule_alone : (own : EntryTexts) (name : List ℕ) → own.fields (codes "xdata") ≡ None
+    → (with_inherited_fields own []).fields name ≡ own.fields name
 rule_alone own name none = ap (λ date. field_by date own.fields (λ name. None) name) (no_date own) ∙ plain_alone own.fields name none
 
 -- an entry has the type and the styled texts of the own entry
@@ -94,7 +95,8 @@ pub record IsAsWritten (own entry : Entry) : Type 0 where
   pub fields : (name : List ℕ) → option_map styled (by_name.get entry.fields name) ≡ option_map styled (by_name.get own.fields name)
 
 -- an entry with the value of an own entry that refers to nothing has its type and styled texts
-as_written : (own entry : Entry) → RefersToNothing own → texts_of_entry entry ≡ inherited (texts_of_entry own) [] → IsAsWritten own entry
+as_written : (own entry : Entry) → RefersToNothing own
+    → texts_of_entry entry ≡ with_inherited_fields (texts_of_entry own) [] → IsAsWritten own entry
 as_written own entry none same = record {
   entry_type = ap (λ s. s.entry_type) same;
   fields = λ name. ap (λ s. s.fields name) same ∙ rule_alone (texts_of_entry own) name (rw none.xdata refl);
@@ -104,7 +106,7 @@ as_written own entry none same = record {
 all_as_written : (own entries : List Entry) → AllByRecursion RefersToNothing own → length entries ≡ length own
     →
     ((index : ℕ) → index < length own
-    → at_index (texts_of_entries entries) index ≡ inherited (at_index (texts_of_entries own) index) [])
+    → at_index (texts_of_entries entries) index ≡ with_inherited_fields (at_index (texts_of_entries own) index) [])
     → AllZip IsAsWritten own entries
 all_as_written [] [] all size each = tt
 all_as_written [] (e ∷ entries) all size each = absurd (omega (arith, size))

@@ -128,23 +128,24 @@ fields_read (l ∷ ls) {u} {w} all utf8 stands closes =
     )
 
 -- the parts of an entry in the output: the name of its type, its key and its lines
-pub record Written : Type 0 where
+pub record WrittenEntry : Type 0 where
   pub kind : List ℕ
   pub key : List ℕ
   pub lines : List Line
 
-abbrev pub entry_bytes : Written → List ℕ
+-- the bytes of an entry
+abbrev pub entry_bytes : WrittenEntry → List ℕ
 entry_bytes e = 64 ∷ (e.kind ++ (123 ∷ (e.key ++ (44 ∷ 10 ∷ (flat_map line_text e.lines ++ 125 ∷ [])))))
 
 -- the parts of an entry are valid: a type that begins an entry, key characters and valid lines
-pub record IsWritten (e : Written) : Type 0 where
+pub record IsWritten (e : WrittenEntry) : Type 0 where
   pub kind : IsIdentifier e.kind
   pub entry : block_kind e.kind ≡ block_kind (codes "misc")
   pub key : Run is_key (place e.key 0) (place e.key (length e.key))
   pub lines : AllByRecursion IsLine e.lines
 
 -- a raw entry has the type, the key and the lines of these parts
-pub record SaysEntry (e : Written) (said : EntryReading) : Type 0 where
+pub record SaysEntry (e : WrittenEntry) (said : EntryReading) : Type 0 where
   pub kind : said.kind.text ≡ e.kind
   pub key : said.key.text ≡ e.key
   pub lines : SayLines e.lines said.fields
@@ -163,14 +164,15 @@ key_stands {key} {u} {v} stands run =
     subst (λ p. Run is_key p v) first (subst (λ p. Run is_key (moved u (place key 0)) p) last (run_moved stands refl run))
 
 -- the result of parsing an entry as a block
-pub record BlockRead (e : Written) (u v : Place) : Type 0 where
+pub record BlockRead (e : WrittenEntry) (u v : Place) : Type 0 where
   pub said : EntryReading
   pub block : Block longest u (record { preamble = []; entries = said ∷ []; abbreviations = [] }) v
   pub says : SaysEntry e said
   pub utf8 : IsUtf8 (drop v.at v.text)
 
 -- the bytes of an entry are parsed as a block with one raw entry
-pub block_read : (e : Written) {u w : Place} → IsWritten e → IsUtf8 (drop u.at u.text) → Stands u (entry_bytes e) w → BlockRead e u w
+pub block_read : (e : WrittenEntry) {u w : Place} → IsWritten e → IsUtf8 (drop u.at u.text)
+    → Stands u (entry_bytes e) w → BlockRead e u w
 unfolding encode
 block_read e {u} {w} right utf8 stands =
     let rest_key : List ℕ = 44 ∷ 10 ∷ (flat_map line_text e.lines ++ 125 ∷ []) in
@@ -224,26 +226,26 @@ block_read e {u} {w} right utf8 stands =
     }
 
 -- the bytes of entries with an empty line between two
-abbrev pub file_bytes : List Written → List ℕ
+abbrev pub file_bytes : List WrittenEntry → List ℕ
 file_bytes [] = []
 file_bytes (e ∷ []) = entry_bytes e ++ 10 ∷ []
 file_bytes (e ∷ next ∷ rest) = entry_bytes e ++ (10 ∷ 10 ∷ file_bytes (next ∷ rest))
 
 -- raw entries have the parts of these entries, in order
-abbrev pub SayEntries : List Written → List EntryReading → Type 0
+abbrev pub SayEntries : List WrittenEntry → List EntryReading → Type 0
 SayEntries [] [] = Unit {0}
 SayEntries [] (s ∷ ss) = ⊥
 SayEntries (e ∷ es) [] = ⊥
 SayEntries (e ∷ es) (s ∷ ss) = SaysEntry e s × SayEntries es ss
 
 -- the result of parsing a file of entries
-pub record FileAgain (es : List Written) (u : Place) : Type 0 where
+pub record FileAgain (es : List WrittenEntry) (u : Place) : Type 0 where
   pub said : List EntryReading
   pub file : File longest u (record { preamble = []; entries = said; abbreviations = [] })
   pub says : SayEntries es said
 
 -- the bytes of entries are parsed as a file with one raw entry for each
-pub file_again : (es : List Written) {u w : Place} → AllByRecursion IsWritten es → IsUtf8 (drop u.at u.text)
+pub file_again : (es : List WrittenEntry) {u w : Place} → AllByRecursion IsWritten es → IsUtf8 (drop u.at u.text)
     → Stands u (file_bytes es) w → AtEnd w → FileAgain es u
 unfolding encode
 file_again [] {u} {w} all utf8 stands end = record { said = []; file = File.end (subst (λ p. AtEnd p) (stands_none stands) end); says = tt }

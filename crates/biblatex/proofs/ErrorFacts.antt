@@ -20,6 +20,7 @@ first_same graph a b one other = elim (cases_lt a b) [
   ]
 ]
 
+-- `e` is the error of a cycle at this raw entry
 error_at_index : ParseError → EntryReading → Type 0
 error_at_index e said = e ≡ record { span = record { start = said.start; end = said.end }; kind = ReferenceCycle said.key.text }
 

@@ -5,7 +5,7 @@ use Rattle.std.proofs.lemmas.List.{drop_more, map-append, take-append-drop, take
 use Rattle.std.proofs.lemmas.Fn.{FoldsTo-push}
 use Rattle.bib_entry.specs.declared.entry.Entry.{Entry}
 use Rattle.biblatex.specs.HandedOver.{AreCutShort, AreSomeTaken, AreTaken, IsOneRefused, entry_texts}
-use Rattle.biblatex.specs.Writing.{parting}
+use Rattle.biblatex.specs.Writing.{empty_line_unless}
 use Rattle.biblatex.specs.declared.write.WriteError.{WriteError}
 use Rattle.biblatex.specs.declared.write.WriteError.TheVariants.{Refused, OutOfMemory}
 use Rattle.biblatex.proofs.WritingFacts.{first_taken, is_empty}
@@ -14,7 +14,7 @@ use Rattle.biblatex.proofs.WritingFacts.{first_taken, is_empty}
 
 -- the text of an entry, given whether it is the first
 abbrev pub text_of : (Entry → List ℕ) → Bool → Entry → List ℕ
-text_of written is_first e = parting is_first ++ (written e ++ codes "\n")
+text_of written is_first e = empty_line_unless is_first ++ (written e ++ codes "\n")
 
 -- the texts of entries, split at one entry
 texts_around : (written : Entry → List ℕ) (before : List Entry) (e : Entry) (after : List Entry)
@@ -66,9 +66,11 @@ module _ {K : Type 0} (hands_over : K → List ℕ → Bool → K → Type 0) wh
 
   -- ---- a text that the sink did not take
 
+  -- before its first text, a sink took none of the texts
   pub none_taken : (old : K) (text : List ℕ) → AreSomeTaken hands_over old (text ∷ []) old
   none_taken old text = record { before = []; text = text; after = []; parts = refl; taken = refl }
 
+  -- a sink that refused the only text refused one of the texts
   pub one_refused : (old new : K) (text t : List ℕ) → t ≡ text → hands_over old t false new → IsOneRefused hands_over old (text ∷ []) new
   one_refused old new text t is refused = record {
     before = [];

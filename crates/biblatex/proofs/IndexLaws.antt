@@ -15,7 +15,7 @@ use Rattle.bib_syntax.specs.declared.raw.ParseError.{ParseError}
 use Rattle.bib_collections.specs.Names.{with_claims, claims_for}
 use Rattle.bib_collections.specs.Sorted.{ByText, by_bytes}
 use Rattle.bib_entry.specs.declared.entry.Entry.{Entry}
-use Rattle.bib_file_entries.specs.Bibliography.{Bibliography, claims, appended, empty_bibliography, index_of}
+use Rattle.bib_file_entries.specs.Bibliography.{Bibliography, claims, empty_bibliography, index_of, with_last_entry}
 use Rattle.bib_file_entries.specs.Loaded.{AreEntries, IsFirstErrorOfEntries, IsFirstErrorOfFields, is_claimed, loaded_after}
 use Rattle.biblatex.specs.Places.{ClaimsAt, IsLastClaim, PointsToLastClaims, HasFreshKeys}
 use Rattle.bib_file_entries.proofs.LoadedFacts.{claims_same, fields_unread}
@@ -119,7 +119,7 @@ points_next entries entry name before points = elim (cases_Bool (is_claimed (cla
 
 -- adding an entry keeps each name pointing to its last claim
 points_appended : (bibliography : Bibliography) (entry : Entry) → PointsToLastClaims bibliography
-    → PointsToLastClaims (appended bibliography entry)
+    → PointsToLastClaims (with_last_entry bibliography entry)
 points_appended bibliography entry points name =
     rw (get_claimed (length bibliography.entries) (claims entry) bibliography.names name)
     (points_next bibliography.entries entry name (index_of bibliography name) (points name))
@@ -129,7 +129,7 @@ points_after : (bibliography : Bibliography) (entries : List Entry) → PointsTo
     → PointsToLastClaims (loaded_after bibliography entries)
 points_after bibliography [] points = points
 points_after bibliography (entry ∷ entries) points =
-    points_after (appended bibliography entry) entries (points_appended bibliography entry points)
+    points_after (with_last_entry bibliography entry) entries (points_appended bibliography entry points)
 
 -- in the empty bibliography no name points to an index, and no entry claims one
 points_nothing : PointsToLastClaims empty_bibliography

@@ -75,6 +75,7 @@ grouped_says : (atoms : List Atom) → flat_map run_atoms (grouped atoms) ≡ at
 grouped_says [] = refl
 grouped_says (a ∷ atoms) = put_says a (grouped atoms) ∙ ap (λ rest. a ∷ rest) (grouped_says atoms)
 
+-- the characters of each run are valid
 abbrev AreRuns : List Run' → Type 0
 AreRuns = AllByRecursion (λ r. scalars (run_text r) ≡ true)
 

@@ -7,7 +7,7 @@ use Rattle.bib_abbreviations.proofs.LawFacts.{error_is_one}
 use Rattle.bib_abbreviations.specs.Abbreviations.{AreOneError, Definitions, HoldsName, IsKnown, Reaches, error_at, is_known, month}
 use Rattle.bib_entry.specs.declared.entry.Entry.{Entry}
 use Rattle.bib_file_entries.specs.Bibliography.{claims}
-use Rattle.bib_file_entries.specs.Kept.{EntriesKept, FieldsKept, mended, mended_piece, unknown_names, with_fields}
+use Rattle.bib_file_entries.specs.Kept.{EntriesKept, FieldsKept, mended_field, mended_piece, unknown_names, with_fields}
 use Rattle.bib_file_entries.specs.Loaded.{AllCanBeRead, AreEntries, CanBeRead, IsEntry}
 use Rattle.bib_file_entries.proofs.LoadedFacts.{claims_same}
 use Rattle.bib_syntax.specs.Reading.{EntryReading, FieldReading, Part, Piece}
@@ -53,7 +53,7 @@ mended_known d (literal p ∷ rest) e = ap (λ l. literal p ∷ l) (mended_known
 mended_known d (abbreviation p ∷ rest) e = mended_by d p rest (is_known d p.text) e (mended_known d rest)
 
 -- a field without undefined abbreviations is not changed
-pub mended_same : (d : Definitions) (f : FieldReading) → unknown_names d f.value.pieces ≡ [] → mended d f ≡ f
+pub mended_same : (d : Definitions) (f : FieldReading) → unknown_names d f.value.pieces ≡ [] → mended_field d f ≡ f
 mended_same d f e =
     ap
     (λ (pieces : List Piece).
@@ -144,7 +144,7 @@ fields_once : {d : Definitions} {said fields others : List FieldReading} {errors
 fields_once FieldsKept.none FieldsKept.none = (refl, tt)
 fields_once {d} (FieldsKept.kept {f = f} {errors = es} can rest) (FieldsKept.kept {errors = fs} can' rest') =
     let more = fields_once rest rest' in (
-      ap (λ gs. mended d f ∷ gs) more.0,
+      ap (λ gs. mended_field d f ∷ gs) more.0,
       AllZip-append AreOneError (unknown_names d f.value.pieces) es (unknown_names d f.value.pieces) fs
           (each_is_one (unknown_names d f.value.pieces)) more.1,
     )

@@ -52,26 +52,33 @@ dates_everywhere own graph values fine index = elim (cases_lt index (length grap
 rows_count : (names : ByText ℕ) (own : List Entry) → length (graph_by names own) ≡ length own
 rows_count names own = length-map own _
 
--- if a recovery has no errors, inheriting is as without recovery
+-- ---- without errors, inheriting is as without recovery
+
 module _ {places : List (Range ℕ)} {own entries : List Entry} {errors : List ParseError}
     (found : AreRecovered places (names_of own) own entries errors) where
+  -- without errors, no entry leads to itself
   no_cycle_told : errors ≡ [] → (index : ℕ) → index < length own → Leads (graph_of own) index index → ⊥
   no_cycle_told none = none_fails found.each_cycle (none_before found.cycles found.dates (sym found.are ∙ none))
 
+  -- if no entry leads to itself, no entry loses its references
   pub all_stay : ((index : ℕ) → index < length own → Leads (graph_of own) index index → ⊥) → found.cut ≡ own
   all_stay fine = nothing_cut (graph_of own) own found.cut fine found.are_cut
 
+  -- without errors, the graph has no cycle
   pub without_cycle : errors ≡ [] → HasNoCycle (graph_of own)
   without_cycle none index less = no_cycle_told none index (omega (arith, less, rows_count (names_of own) own))
 
+  -- if no entry loses its references, the entries solve the equation of the own entries
   pub inherits_all : found.cut ≡ own → Inherits (texts_of_entries own) (graph_of own) (texts_of_entries entries)
   inherits_all stays =
       subst (λ c. Inherits (texts_of_entries c) (graph_by (names_of own) c) (texts_of_entries entries)) stays
       found.inherits
 
+  -- and each own field that isn't removed keeps its chunks
   pub chunks_kept : found.cut ≡ own → AllKeepChunks own entries
   chunks_kept stays = subst (λ c. AllKeepChunks c entries) stays found.chunks
 
+  -- and the errors of dates are those of the own entries
   pub dates_told : found.cut ≡ own
       → EachReported
       (λ index. has_bad_date (texts_of_entries own) (graph_of own) (texts_of_entries entries) index ≡ true)
@@ -84,6 +91,7 @@ module _ {places : List (Range ℕ)} {own entries : List Entry} {errors : List P
       (IsDateError c (graph_by (names_of own) c) (texts_of_entries entries)) (length own) found.dates)
       stays found.each_date
 
+  -- without errors, the dates that entries require can be parsed
   pub read_all : errors ≡ [] → AreDatesRead (texts_of_entries own) (graph_of own) (texts_of_entries entries)
   read_all none =
       let told = dates_told (all_stay (no_cycle_told none)) in
@@ -92,6 +100,7 @@ module _ {places : List (Range ℕ)} {own entries : List Entry} {errors : List P
       none_fails told (none_after found.cycles found.dates (sym found.are ∙ none)) index
       (omega (arith, less, rows_count (names_of own) own)))
 
+  -- without errors, no entry loses its references
   pub stays_all : errors ≡ [] → found.cut ≡ own
   stays_all none = all_stay (no_cycle_told none)
 
@@ -226,6 +235,7 @@ module _ {places : List (Range ℕ)} {own others entries found : List Entry} {er
   long : length own ≡ length others
   long = sym (length-map own _) ∙ ap length all_texts ∙ length-map others _
 
+  -- the entries without the references on cycles have the same texts
   cuts : texts_of_entries one.cut ≡ texts_of_entries other.cut
   cuts =
       cut_alike (graph_of own) own others one.cut other.cut all_texts (decided one.each_cycle) one.are_cut
@@ -234,6 +244,7 @@ module _ {places : List (Range ℕ)} {own others entries found : List Entry} {er
   cut_graph : graph_by (names_of own) one.cut ≡ graph_by (names_of others) other.cut
   cut_graph = graphs_by (names_of own) (names_of others) one.cut other.cut names cuts
 
+  -- the resolved entries have the same texts
   pub fields_once : texts_of_entries entries ≡ texts_of_entries found
   fields_once =
       solutions_by (names_of own) one.cut (texts_of_entries entries) (texts_of_entries found)
@@ -252,6 +263,7 @@ module _ {places : List (Range ℕ)} {own others entries found : List Entry} {er
       ∙ ap (λ g. has_bad_date (texts_of_entries other.cut) g (texts_of_entries entries) index) cut_graph
       ∙ ap (λ v. has_bad_date (texts_of_entries other.cut) (graph_by (names_of others) other.cut) v index) fields_once
 
+  -- the errors agree
   pub errors_once : AllZip AreOneErrorOf errors faults
   errors_once =
       let cycles : AllZip AreOneErrorOf one.cycles other.cycles =
@@ -271,6 +283,7 @@ module _ {places : List (Range ℕ)} {own others entries found : List Entry} {er
       (subst (λ fs. AllZip AreOneErrorOf (one.cycles ++ one.dates) fs) (sym other.are)
       (AllZip-append AreOneErrorOf one.cycles one.dates other.cycles other.dates cycles dates))
 
+-- two recoveries of one raw bibliography agree
 once_of : (says : FileReading) {kept left : List EntryReading} {own others : List Entry} (one other : Bibliography)
     {skipped passed : List SkippedBlock} {of_entries of_others of_references of_fields : List ParseError}
     → skipped ≡ passed

@@ -37,7 +37,7 @@ use Rattle.bib_collections.specs.Sorted.{by_bytes}
 use Rattle.bib_entry.specs.WrittenEntries.{biblatex_name, biblatex_entry, entries_text}
 use Rattle.bib_entry.specs.declared.entry.Entry.{Entry}
 use Rattle.biblatex.specs.Mapped.{IsMapped}
-use Rattle.biblatex.specs.Settled.{linking, IsSettledField, IsSettledEntry, AreSettled}
+use Rattle.biblatex.specs.Settled.{link_names, IsSettledField, IsSettledEntry, AreSettled}
 use Rattle.biblatex.proofs.JoinedAgain.{Again, joined_again, written_texts}
 use Rattle.biblatex.proofs.ValueReread.{reread}
 use Rattle.biblatex.proofs.StandsFacts.{stands_between}
@@ -79,7 +79,7 @@ module _ (definitions : Definitions) where
     name : name_of r ≡ biblatex_name f.0
     says : FieldSays definitions r chunks
     readable : CanBeRead definitions r
-    apart : list_any (bytes_eq (name_of r)) linking ≡ false
+    apart : list_any (bytes_eq (name_of r)) link_names ≡ false
 
   one_piece : {p q : Part} → literal p ∷ [] ≡ literal q ∷ [] → p ≡ q
   one_piece same = cc
@@ -137,8 +137,8 @@ module _ (definitions : Definitions) where
             subst (λ b. IsReadable definitions b r.value.pieces) (sym rule)
             (subst (IsReadable definitions v) (sym said.pieces) readable);
         apart =
-            ap (λ n. list_any (bytes_eq n) linking) small
-            ∙ by_written_name (λ n. list_any (bytes_eq n) linking ≡ false) f.0 settled.name.apart refl refl refl;
+            ap (λ n. list_any (bytes_eq n) link_names) small
+            ∙ by_written_name (λ n. list_any (bytes_eq n) link_names ≡ false) f.0 settled.name.apart refl refl refl;
       }
 
   -- a parsed field: it has the name and the contents of its raw field
@@ -146,7 +146,7 @@ module _ (definitions : Definitions) where
     name : name_of r ≡ w.0
     says : FieldSays definitions r w.1
     readable : CanBeRead definitions r
-    apart : list_any (bytes_eq (name_of r)) linking ≡ false
+    apart : list_any (bytes_eq (name_of r)) link_names ≡ false
 
   -- the parsed fields of the output for these fields
   record AreAgain (fs : List (List ℕ × Value')) (rs : List FieldReading) : Type 0 where
@@ -218,14 +218,14 @@ module _ (definitions : Definitions) where
 
   -- a name that differs from the name of each settled field
   abbrev IsLink : List ℕ → Type 0
-  IsLink word = (name : List ℕ) → list_any (bytes_eq name) linking ≡ false → bytes_eq word name ≡ false
+  IsLink word = (name : List ℕ) → list_any (bytes_eq name) link_names ≡ false → bytes_eq word name ≡ false
 
-  linking_word : (word : List ℕ) → list_any (bytes_eq word) linking ≡ true → IsLink word
+  linking_word : (word : List ℕ) → list_any (bytes_eq word) link_names ≡ true → IsLink word
   linking_word word links name apart =
       elim (cases_Bool (bytes_eq word name)) [
         | inl same ↦ absurd
             (both_ways _
-            (subst (λ n. list_any (bytes_eq n) linking ≡ false) (sym ((bytes_eq-Decides word name).0 same)) apart)
+            (subst (λ n. list_any (bytes_eq n) link_names ≡ false) (sym ((bytes_eq-Decides word name).0 same)) apart)
             links)
         | inr other ↦ other
       ]

@@ -21,7 +21,7 @@ use Rattle.bib_syntax.specs.Reading.{EntryReading, FieldReading, FileReading}
 use Rattle.bib_syntax.specs.declared.raw.ParseError.{ParseError}
 use Rattle.bib_tables.specs.declared.mechanics.EntryType.{EntryType}
 use Rattle.bib_text.specs.declared.spanned.Spanned.{Spanned}
-use Rattle.bib_file_entries.specs.Bibliography.{Bibliography, appended, claims, empty_bibliography}
+use Rattle.bib_file_entries.specs.Bibliography.{Bibliography, claims, empty_bibliography, with_last_entry}
 use Rattle.bib_file_entries.specs.Loaded.{AreEntries, IsEntry, FieldSays, field_in, loaded_after}
 use Rattle.bib_inheritance.specs.Resolving.{AreDatesRead, Inherits, at_index, graph_by, is_bad_date, rule_by, texts_of_entries, texts_of_entry}
 use Rattle.biblatex.specs.Resolved.{AreOwn, IsAccepted, IsFirstErrorOf, IsLoaded, graph_of, names_of}
@@ -102,14 +102,14 @@ names_go l m [] (y ∷ b) n e c = cc
 names_go l m (x ∷ a) [] n e c = cc
 names_go l m (x ∷ a) (y ∷ b) n e c =
     let head : claims x ≡ claims y = ap (λ cs. get_or cs 0 []) c in
-    names_go (appended l x) (appended m y) a b
+    names_go (with_last_entry l x) (with_last_entry m y) a b
     (length-append l.entries (x ∷ []) ∙ ap (λ k. k + 1) n ∙ sym (length-append m.entries (y ∷ [])))
     (ap (λ names. with_claims names (claims_for (claims x) (length l.entries))) e
     ∙ ap (λ cs. with_claims m.names (claims_for cs (length l.entries))) head
     ∙ ap (λ k. with_claims m.names (claims_for (claims y) k)) n)
     (ap (drop 1) c)
 
--- the graph of entries depends only on their names and texts
+-- the graph of entries, from the names and the texts of the entries
 by_all_texts : (names : ByText ℕ) (own : List Entry)
     → graph_by names own ≡ map (λ (s : EntryTexts). references names s.fields) (texts_of_entries own)
 by_all_texts names [] = refl
@@ -144,7 +144,7 @@ names_below_go : (l : Bibliography) (own : List Entry) → AreIndicesBelow (leng
 names_below_go l [] below = below
 names_below_go l (e ∷ own) below =
     let longer = length-append l.entries (e ∷ []) in
-    names_below_go (appended l e) own
+    names_below_go (with_last_entry l e) own
     (below_claimed (length (l.entries ++ e ∷ [])) (claims e) l.names (length l.entries)
     (below_more (length l.entries) (length (l.entries ++ e ∷ [])) l.names below (omega (arith, longer)))
     (omega (arith, longer)))
@@ -152,7 +152,9 @@ names_below_go l (e ∷ own) below =
 -- adding entries adds their number to the length
 entries_after : (l : Bibliography) (own : List Entry) → length (loaded_after l own).entries ≡ length l.entries + length own
 entries_after l [] = omega arith
-entries_after l (e ∷ own) = let longer = length-append l.entries (e ∷ []) in omega (arith, entries_after (appended l e) own, longer)
+entries_after l (e ∷ own) =
+    let longer = length-append l.entries (e ∷ []) in
+    omega (arith, entries_after (with_last_entry l e) own, longer)
 
 -- each name of own entries points to an entry
 pub names_below : (own : List Entry) → AreIndicesBelow (length own) (names_of own)
@@ -209,6 +211,7 @@ bibliography_of accepted =
 
 -- ---- an accepted file has no error
 
+-- if the dates that entries require can be parsed, no entry that lacks a required date refers to a bad date
 pub bad_apart : (own : List EntryTexts) (graph : Graph) (values : List EntryTexts) (index : ℕ)
     → looks_for_date (at_index own index) ≡ true → list_any (is_bad_date values) (refs_of graph index) ≡ true
     → AreDatesRead own graph values → ⊥
@@ -240,7 +243,7 @@ with_names own names = record { entries = own; names = names }
 -- adding entries appends them to the list
 entries_go : (l : Bibliography) (own : List Entry) → (loaded_after l own).entries ≡ l.entries ++ own
 entries_go l [] = sym (append-nil l.entries)
-entries_go l (e ∷ own) = entries_go (appended l e) own ∙ append_assoc l.entries (e ∷ []) own
+entries_go l (e ∷ own) = entries_go (with_last_entry l e) own ∙ append_assoc l.entries (e ∷ []) own
 
 -- adding own entries to the empty bibliography gives these entries and their names
 pub all_after : (own : List Entry) {names : ByText ℕ} → names ≡ names_of own → loaded_after empty_bibliography own ≡ with_names own names

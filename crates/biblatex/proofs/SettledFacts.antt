@@ -10,7 +10,7 @@ use Rattle.bib_syntax.specs.Characters.{is_id_start, is_id_continue}
 use Rattle.bib_syntax.specs.Reading.{part}
 use Rattle.bib_chunks.specs.declared.chunk.Chunk.{Chunk}
 use Rattle.bib_text.specs.declared.spanned.Spanned.{Spanned}
-use Rattle.biblatex.specs.Settled.{IsIdentifier, IsSettledField, IsSettledName, linking}
+use Rattle.biblatex.specs.Settled.{IsIdentifier, IsSettledField, IsSettledName, link_names}
 
 -- a run stays in its text
 pub run_text : {test : ℕ → Bool} {u v : Place} → Run test u v → v.text ≡ u.text
@@ -30,7 +30,7 @@ whole_run {test} {u} {v} text b is longest done = (
       done.1 (subst AtEnd (sym here) refl)),
 )
 
--- a text is an identifier exactly if its first character begins one and the rest is a run of its other characters
+-- a text whose first character begins an identifier is one exactly if its other characters continue it
 pub identifier_whole : {second : Place} {c : ℕ} (text : List ℕ) (b : Bool) → CharAt (place text 0) c second
     → is_id_start c ≡ true → IsTrue b ↔ Run is_id_continue second (place text (length text))
     → IsTrue b ↔ IsIdentifier text
@@ -78,9 +78,9 @@ small_text (b ∷ bytes) = (
 pub never : {P : Type 0} → (P → ⊥) → IsTrue false ↔ P
 never none = ((λ yes. absurd (both_ways false refl yes)), (λ holds. absurd (none holds)))
 
--- an identifier without uppercase ASCII letters is a settled name exactly if it isn't one of `linking`
+-- an identifier without uppercase ASCII letters is a settled name exactly if it isn't one of `link_names`
 pub settled_name : (name : List ℕ) (linked : Bool) → IsIdentifier name
-    → list_all (λ b. not (is_ascii_uppercase b)) name ≡ true → linked ≡ list_any (bytes_eq name) linking
+    → list_all (λ b. not (is_ascii_uppercase b)) name ≡ true → linked ≡ list_any (bytes_eq name) link_names
     → IsTrue (not linked) ↔ IsSettledName name
 settled_name name linked identifier small is = (
   (λ yes. record { identifier = identifier; small = (small_text name).0 small; apart = sym is ∙ not-true linked yes }),

@@ -33,7 +33,7 @@ stands_whole text = record {
 pub stands_none : {u v : Place} → Stands u [] v → v ≡ u
 stands_none {u} {v} stands = same_place stands.same (omega (arith, stands.next))
 
--- they are the text between the places
+-- the bytes from one place to the other are the text between them
 pub stands_between : {u v : Place} {bs : List ℕ} → Stands u bs v → between u v ≡ bs
 stands_between {u} {v} {bs} stands =
     let size : length bs ≡ v.at - u.at = omega (arith, stands.next) in
@@ -149,13 +149,13 @@ parts_plain (c ∷ cs) all stands =
     let parts = and_parts (is_plain c) (list_all is_plain cs) all in
     plain first.1 parts.0 (parts_plain cs parts.1 first.2)
 
--- the text after a character is valid UTF-8 if the text before it is
+-- the text after a character is valid UTF-8 if the text that begins with it is
 pub utf8_char : {u v : Place} {c : ℕ} → CharAt u c v → IsUtf8 (drop u.at u.text) → IsUtf8 (drop v.at v.text)
 utf8_char {u} {v} {c} char utf8 =
     IsUtf8-past_char (drop u.at u.text) (drop v.at v.text) c utf8
     (char.here ∙ ap (λ t. encode_utf8 c ++ drop v.at t) (sym char.same))
 
--- the text after a run is valid UTF-8 if the text before it is
+-- the text after a run is valid UTF-8 if the text that begins with it is
 pub utf8_run : {test : ℕ → Bool} {u v : Place} → Run test u v → IsUtf8 (drop u.at u.text) → IsUtf8 (drop v.at v.text)
 utf8_run stop utf8 = utf8
 utf8_run (step char passes rest) utf8 = utf8_run rest (utf8_char char utf8)

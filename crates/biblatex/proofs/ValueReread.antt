@@ -216,6 +216,7 @@ begins_spelled : (test : ℕ → Bool) (v : Bool) (c : ℕ) (rest : List ℕ) �
 unfolding char_spelling
 begins_spelled test v c rest slash fails = begins_by test v (is_grouping c) (is_reserved c) (c == 126) (c == 94) c rest slash fails
 
+-- the same for the output of several characters, if the next atom fails the test
 begins_text : (test : ℕ → Bool) → IsOfCharacters test → (v o : Bool) (cs : List ℕ) (atoms : List Atom) (rest : List ℕ)
     → (NextFails test o atoms → begins test rest ≡ false)
     → NextFails test o (map (character (depth_of o)) cs ++ atoms) → begins test (spelling v cs ++ rest) ≡ false
@@ -227,6 +228,7 @@ begins_text test of v false (c ∷ cs) atoms rest following fails =
     rw (append_assoc (char_spelling v c) (spelling v cs) rest)
     (begins_spelled test v c (spelling v cs ++ rest) of.slash fails)
 
+-- the same for the output of a chunk before others
 begins_chunk : (test : ℕ → Bool) → IsOfCharacters test → (v o : Bool) (chunk : Chunk) (rest : List (Spanned Chunk))
     → ((b : Bool) → NextFails test b (styled rest) → begins test (written_chunks v b rest) ≡ false)
     → NextFails test o (atoms_of chunk ++ styled rest)
@@ -243,7 +245,7 @@ begins_chunk test of v true (Verbatim text) rest following fails =
     (begins_text test of v true (chars text) (styled rest) (written_chunks v true rest) (following true) fails)
 begins_chunk test of v o (Math text) rest following fails = of.dollar
 
--- the output for the following chunks doesn't begin with a character that passes the test
+-- the output for chunks doesn't begin with a character that passes the test, if the next atom fails it
 begins_written : (test : ℕ → Bool) → IsOfCharacters test → (v o : Bool) (chunks : List (Spanned Chunk))
     → NextFails test o (styled chunks) → begins test (written_chunks v o chunks) ≡ false
 begins_written test of v true [] fails = of.closes
@@ -330,7 +332,7 @@ read_text v o (c ∷ cs) chunks each apart read =
     in
     rw (append_assoc (char_spelling v c) (spelling v cs) (written_chunks v o chunks)) (put (depth_of o) one following)
 
--- a brace before parsed text
+-- a closing brace before parsed text
 read_closing : {v : Bool} {rest : List ℕ} {atoms : List Atom} → Reads v 0 rest atoms → Reads v 1 (125 ∷ rest) atoms
 read_closing {v} {rest} read =
     next {u = ContentUnit.closing} {inner = []} (record { fits = refl; spells = refl }) refl

@@ -6,7 +6,7 @@ use Rattle.std.proofs.lemmas.List.{append-nil}
 use Rattle.std.proofs.Math.Seq.{take-suc}
 use Rattle.bib_entry.specs.WrittenEntries.{entries_text}
 use Rattle.bib_entry.specs.declared.entry.Entry.{Entry}
-use Rattle.biblatex.specs.Writing.{parting}
+use Rattle.biblatex.specs.Writing.{empty_line_unless}
 
 -- whether a list of entries is empty
 abbrev pub is_empty : List Entry → Bool
@@ -16,7 +16,7 @@ is_empty (e ∷ es) = false
 -- the text of entries with one more entry at the end
 one_more : (written : Entry → List ℕ) (es : List Entry) (e : Entry)
     → entries_text written (es ++ e ∷ [])
-    ≡ entries_text written es ++ (parting (is_empty es) ++ (written e ++ codes "\n"))
+    ≡ entries_text written es ++ (empty_line_unless (is_empty es) ++ (written e ++ codes "\n"))
 one_more written [] e = refl
 one_more written (d ∷ []) e = sym (append_assoc (written d) (codes "\n") (codes "\n" ++ (written e ++ codes "\n")))
 one_more written (d ∷ next ∷ es) e =
@@ -36,15 +36,17 @@ first_taken (e ∷ es) (suc i) within = not_suc i
 -- the text of the entries up to and including an index
 pub next_written : (written : Entry → List ℕ) (es : List Entry) (i : ℕ) (e : Entry) (first : Bool) → i < length es
     → e ≡ get_or es i e → first ≡ (i == 0)
-    → entries_text written (take (i + 1) es) ≡ entries_text written (take i es) ++ (parting first ++ (written e ++ codes "\n"))
+    → entries_text written (take (i + 1) es)
+    ≡ entries_text written (take i es) ++ (empty_line_unless first ++ (written e ++ codes "\n"))
 next_written written es i e first within is flag =
     let count : i + 1 ≡ suc i = omega arith in
     let taken : take (i + 1) es ≡ take i es ++ e ∷ [] =
     ap (λ n. take n es) count ∙ take-suc es i e within ∙ ap (λ x. take i es ++ x ∷ []) (sym is) in
     ap (entries_text written) taken ∙ one_more written (take i es) e
-    ∙ ap (λ b. entries_text written (take i es) ++ (parting b ++ (written e ++ codes "\n")))
+    ∙ ap (λ b. entries_text written (take i es) ++ (empty_line_unless b ++ (written e ++ codes "\n")))
     (first_taken es i within ∙ sym flag)
 
+-- an index that follows another is not 0
 pub not_first : (i : ℕ) → false ≡ (i + 1 == 0)
 not_first i = grind arith
 

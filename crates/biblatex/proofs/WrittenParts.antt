@@ -21,6 +21,7 @@ use Rattle.biblatex.proofs.StandsFacts.{Stands, stands_none, stands_split, stand
 abbrev pub Spells : Place → List ℕ → Place → Type 0
 Spells u cs v = Stands u (encode_utf8_all cs) v
 
+-- a concatenation of characters can be split at a place
 pub spells_split : (xs ys : List ℕ) {u w : Place} → Spells u (xs ++ ys) w → (v : Place) × Spells u xs v × Spells v ys w
 spells_split xs ys {u} {w} spells =
     stands_split (encode_utf8_all xs) (encode_utf8_all ys) (subst (λ bs. Stands u bs w) (encodes-append xs ys) spells)
@@ -95,6 +96,7 @@ settled_rest : (v : Bool) (f : ℕ → Atom) (cs : List ℕ) (atoms : List Atom)
 settled_rest v f [] atoms each = each
 settled_rest v f (c ∷ cs) atoms each = settled_rest v f cs atoms each.1
 
+-- the output for a chunk and then for others is balanced if that for the others is
 parts_chunk : (v o : Bool) (chunk : Chunk) (rest : List (Spanned Chunk)) {u w : Place}
     → AllByRecursion (IsSettledAtom v) (atoms_of chunk ++ styled rest)
     → ((b : Bool) (x : Place) → AllByRecursion (IsSettledAtom v) (styled rest) → Spells x (written_chunks v b rest) w → PartsOf b x w)

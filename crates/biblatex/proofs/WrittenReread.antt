@@ -23,7 +23,7 @@ use Rattle.bib_entry.specs.declared.entry.Entry.{Entry}
 use Rattle.biblatex.specs.Settled.{IsIdentifier, IsSettledField, IsSettledEntry}
 use Rattle.biblatex.proofs.StandsFacts.{Stands, stands_whole, stands_run, stands_chars}
 use Rattle.biblatex.proofs.WrittenParts.{parts_of_value}
-use Rattle.biblatex.proofs.EntryReread.{Line, IsLine, Written, IsWritten, line_text, entry_bytes, file_bytes, FileAgain, file_again}
+use Rattle.biblatex.proofs.EntryReread.{Line, IsLine, WrittenEntry, IsWritten, line_text, entry_bytes, file_bytes, FileAgain, file_again}
 
 abbrev pub Value' : Type 0
 Value' = List (Spanned Chunk)
@@ -38,6 +38,7 @@ pub record IsKind (t : EntryType) : Type 0 where
   pub starts : is_id_start first ≡ true
   pub goes : list_all is_id_continue rest ≡ true
 
+-- each type has such a name
 pub kind : (t : EntryType) → IsKind t
 unfolding entry_type_of entry_type_by_name_or_alias encode
 kind Article = record { again = refl; entry = refl; first = 97; rest = codes "rticle"; spelt = refl; starts = refl; goes = refl }
@@ -170,7 +171,7 @@ abbrev pub line_of : List ℕ × Value' → Line
 line_of f = (biblatex_name f.0, written_chunks (is_verbatim_field f.0) false f.1)
 
 -- the parts of an entry in the output
-abbrev pub written_of : Entry → Written
+abbrev pub written_of : Entry → WrittenEntry
 written_of e = record { kind = entry_type_name (biblatex_type e.entry_type); key = e.key; lines = map line_of (by_name.entries e.fields) }
 
 -- the line of a settled field is valid

@@ -38,8 +38,8 @@ abbrev pub IsSettledBibliography : Bibliography → Type 0
 IsSettledBibliography bibliography = AreSettled bibliography.entries
 
 -- the text of a bibliography in BibLaTeX's types and fields
-abbrev pub written : Bibliography → List ℕ
-written bibliography = entries_text biblatex_entry bibliography.entries
+abbrev pub biblatex_text : Bibliography → List ℕ
+biblatex_text bibliography = entries_text biblatex_entry bibliography.entries
 
 -- a text parses back to these entries: it is accepted, and its bibliography has them in order, each with its type and field
 -- names mapped to BibLaTeX's and with equal styled texts

@@ -5,13 +5,13 @@ use Rattle.std.specs.Borrow.{LendsIf, MutBor, Fml, Array, follows}
 use Rattle.std.specs.declared.slice.IterMut.{IterMut}
 use Rattle.std.specs.Slice.Iter.{iter_mut_name}
 use Rattle.bib_entry.specs.declared.entry.Entry.{Entry}
-use Rattle.bib_file_entries.specs.Bibliography.{Bibliography, index_of, exchanged}
+use Rattle.bib_file_entries.specs.Bibliography.{Bibliography, index_of, with_other_entry}
 use Rattle.bib_entry.specs.contracts.entry.Entry.{the_row as entry_row}
 use Rattle.biblatex.specs.contracts.bibliography.Bibliography.{the_row as bibliography_row}
 
 -- a bibliography with the entry at an index replaced; unchanged if there is no index
 abbrev pub with_entry : Bibliography → Option ℕ → Entry → Bibliography
-with_entry bibliography (Some index) entry = exchanged bibliography index entry
+with_entry bibliography (Some index) entry = with_other_entry bibliography index entry
 with_entry bibliography None entry = bibliography
 
 -- when the borrow ends, the entry at the index that the name points to has the last value of the reference, and the names are

@@ -27,15 +27,15 @@ abbrev pub IsIdentifier : List ℕ → Type 0
 IsIdentifier text = (p : Part) × Identifier any (place text 0) p (place text (length text))
 
 -- the names of fields that claim names for their entry, or refer to other entries
-abbrev pub linking : List (List ℕ)
-linking = words (codes "ids crossref xdata")
+abbrev pub link_names : List (List ℕ)
+link_names = words (codes "ids crossref xdata")
 
 -- a settled field name: an identifier without uppercase ASCII letters, of a field that neither claims names nor refers to
 -- entries
 pub record IsSettledName (name : List ℕ) : Type 0 where
   pub identifier : IsIdentifier name
   pub small : map to_ascii_lowercase name ≡ name
-  pub apart : list_any (bytes_eq name) linking ≡ false
+  pub apart : list_any (bytes_eq name) link_names ≡ false
 
 -- a settled field: its name is settled, and so is its styled text, by the rules for fields with this name (verbatim or not)
 pub record IsSettledField (f : List ℕ × List (Spanned Chunk)) : Type 0 where

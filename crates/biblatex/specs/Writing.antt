@@ -6,9 +6,9 @@ use Rattle.std.specs.declared.io.Error.{Error}
 use Rattle.std.specs.declared.io.ErrorKind.TheVariants.{Interrupted}
 
 -- the text before an entry: empty for the first entry, and a line feed for any other
-abbrev pub parting : Bool → List ℕ
-parting true = []
-parting false = codes "\n"
+abbrev pub empty_line_unless : Bool → List ℕ
+empty_line_unless true = []
+empty_line_unless false = codes "\n"
 
 -- a write refused its bytes: it wrote none of them, or failed with an error other than an interruption
 abbrev pub IsRefusedWrite : Result ℕ Error → Type 0

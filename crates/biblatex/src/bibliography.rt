@@ -16,7 +16,7 @@ ghost use Rattle.biblatex.specs.Keys.{keys_left};
 ghost use Rattle.biblatex.specs.Resolved.{AreOwn, IsAccepted, IsFirstErrorOf, IsLoaded, IsOfDate, graph_of};
 ghost use Rattle.biblatex.specs.Lending.{LendsEntry, LendsEntries};
 ghost use Rattle.bib_collections.specs.Names.{AreIndicesBelow, with_claims, claims_for};
-ghost use Rattle.bib_file_entries.specs.Bibliography.{aliased, aliases, claims, entry_of, inserted, empty_bibliography, index_of, removed};
+ghost use Rattle.bib_file_entries.specs.Bibliography.{aliases, claims, entry_of, empty_bibliography, index_of, with_alias, with_entry_by_key, without_entry_by_name};
 ghost use Rattle.biblatex.specs.SameBibliography.{same_bibliography, same_bibliography_per, same_bibliography_equiv};
 
 use bib_collections::names::Names;
@@ -73,7 +73,7 @@ impl Error for InsertError {}
 
 impl InsertError {
     // Returns the error for an entry that was not added.
-    fn handing_back(_error: AllocError, entry: Entry) -> InsertError
+    fn for_entry(_error: AllocError, entry: Entry) -> InsertError
         ensures { result.entry ≡ entry }
     {
         InsertError { entry }
@@ -225,7 +225,7 @@ impl Bibliography {
     /// `ids` then point to it. If memory runs out, the bibliography stays unchanged, and the error contains the entry.
     pub fn insert(&mut self, entry: Entry) -> Result<Option<Entry>, InsertError>
         ensures had { IfOk result (λ had. had ≡ entry_of self.old entry.key) }
-        ensures inserted { OnOk result (self.new ≡ inserted self.old entry) }
+        ensures inserted { OnOk result (self.new ≡ with_entry_by_key self.old entry) }
         ensures refused { OnErr result (self.new ≡ self.old) }
         ensures returned { IfErr result (λ e. e.entry ≡ entry) }
         ensures present { IsSome (index_of self.old entry.key) → IsOk result }
@@ -235,7 +235,7 @@ impl Bibliography {
             return Ok(Some(had));
         }
         if let Err(error) = claim_next(&mut self.entries, &mut self.names, &entry) {
-            return Err(InsertError::handing_back(error, entry));
+            return Err(InsertError::for_entry(error, entry));
         }
         self.entries.push_reserved(entry);
         Ok(None)
@@ -245,7 +245,7 @@ impl Bibliography {
     /// the entries after it decrease by one. Does not allocate.
     pub fn remove(&mut self, key: &str) -> Option<Entry>
         ensures had { result ≡ entry_of self.old key.now }
-        ensures removed { self.new ≡ removed self.old key.now }
+        ensures removed { self.new ≡ without_entry_by_name self.old key.now }
     {
         let index = self.names.get(key)?;
         self.names.close_gap(index);
@@ -255,7 +255,7 @@ impl Bibliography {
     /// Makes the name `alias` point to the entry that the name `key` points to. Does nothing if `key` points to no entry. If
     /// memory runs out, the bibliography stays unchanged.
     pub fn alias(&mut self, key: &str, alias: &str) -> Result<(), AllocError>
-        ensures aliased { OnOk result (self.new ≡ aliased self.old key.now alias.now) }
+        ensures aliased { OnOk result (self.new ≡ with_alias self.old key.now alias.now) }
         ensures refused { OnErr result (self.new ≡ self.old) }
         ensures unknown { IsNone (index_of self.old key.now) → IsOk result }
     {

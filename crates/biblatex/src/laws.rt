@@ -18,7 +18,7 @@ ghost use Rattle.bib_file_entries.specs.Bibliography.{Bibliography};
 ghost use Rattle.bib_syntax.specs.declared.raw.recovery.SkippedBlock.{SkippedBlock};
 ghost use Rattle.bib_text.specs.declared.spanned.Spanned.{Spanned};
 ghost use Rattle.biblatex.specs.BibliographyRecovery.{IsRecoveredBibliography, IsSameRecovery};
-ghost use Rattle.biblatex.specs.Headline.{IsAcceptedText, IsBibliographyOf, IsErrorOf, IsReadAgain, IsSettledBibliography, written};
+ghost use Rattle.biblatex.specs.Headline.{IsAcceptedText, IsBibliographyOf, IsErrorOf, IsReadAgain, IsSettledBibliography, biblatex_text};
 ghost use Rattle.biblatex.specs.Places.{HasFreshKeys, PointsToLastClaims};
 ghost use Rattle.bib_inheritance.specs.Resolving.{rule_by, texts_of_entries};
 ghost use Rattle.biblatex.specs.Resolved.{AreOneErrorOf, AreOwn, IsAccepted, IsFirstErrorOf, IsLoaded, graph_of};
@@ -26,8 +26,8 @@ ghost use Rattle.biblatex.specs.Resolved.{AreOneErrorOf, AreOwn, IsAccepted, IsF
 /// The output for a settled bibliography, in BibLaTeX's types and fields, is accepted. Its bibliography has the same entries
 /// in order, with types and field names mapped to BibLaTeX's and with equal styled texts.
 pub fn settled_is_read_again()
-    ensures { (bibliography : Bibliography) → IsSettledBibliography bibliography → IsUtf8 (written bibliography) →
-        IsReadAgain bibliography.entries (written bibliography) }
+    ensures { (bibliography : Bibliography) → IsSettledBibliography bibliography → IsUtf8 (biblatex_text bibliography) →
+        IsReadAgain bibliography.entries (biblatex_text bibliography) }
 {}
 
 /// The inheritance equation has exactly one solution if no entry refers to itself, directly or through others. This holds for

@@ -3,7 +3,7 @@
 ghost use Rattle.std.specs.Prelude.{◌≡◌, ◌↔◌, IsTrue, bytes_eq, not};
 ghost use Rattle.std.specs.Char.{is_ascii_uppercase};
 ghost use Rattle.std.specs.List.{list_all, list_any};
-ghost use Rattle.biblatex.specs.Settled.{IsIdentifier, IsKey, IsSettledEntry, IsSettledField, IsSettledName, linking};
+ghost use Rattle.biblatex.specs.Settled.{IsIdentifier, IsKey, IsSettledEntry, IsSettledField, IsSettledName, link_names};
 
 use bib_chunks::chunk::ChunksRef;
 use bib_chunks::settling::is_settled;
@@ -47,7 +47,7 @@ fn is_small(text: &str) -> bool
 
 // Returns whether a field of this name claims names for its entry, or refers to other entries.
 fn is_linking(name: &str) -> bool
-    ensures { result ≡ list_any (bytes_eq name.now) linking }
+    ensures { result ≡ list_any (bytes_eq name.now) link_names }
 {
     matches!(name, "ids" | "crossref" | "xdata")
 }

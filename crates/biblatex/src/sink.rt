@@ -1,4 +1,4 @@
-//! Sinks: what takes the texts that are written, and a writer as a sink.
+//! Sinks, which receive the text of a bibliography, and writers as sinks.
 
 ghost use Rattle.std.specs.Prelude.{◌≡◌, ℕ, Bool, ◌+◌, ◌-◌, ◌^◌, ◌<◌, List, min, IsTrue, MatchBool, ◌↔◌};
 ghost use Rattle.std.specs.Bool.{OnTrue, OnFalse};
@@ -11,19 +11,19 @@ ghost use Rattle.biblatex.specs.Writing.{IsRefusedWrite};
 use std::io;
 use std::io::{ErrorKind, Write};
 
-/// Takes text, or refuses it.
+/// Takes or refuses texts.
 pub trait Sink {
-    // The text taken so far, where the type says it.
+    // The text taken so far, if the type specifies it.
     ghost taken: { Self → Option (List ℕ) };
 
-    // How many texts were refused so far. The count may stop at its greatest value.
+    // The number of texts refused so far. The count may stop at its greatest value.
     ghost refusals: { Self → ℕ };
 
-    // Whether one call with this text, answered so, may lead from the first state to the second. A user's code is generic in
-    // the sink, so it has no such fact but by that call.
+    // Whether a call with this text and this result may lead from the first state to the second. Code that is generic in the
+    // sink can obtain this fact only by making the call.
     ghost hands_over: { Self → List ℕ → Bool → Self → Type 0 };
 
-    /// Takes a text, and says whether it did.
+    /// Takes or refuses a text. Returns whether the text was taken.
     fn write_str(&mut self, text: &str) -> bool
         ensures took { OnTrue result (Appends (taken self.old) (taken self.new) text.now) }
         ensures same { OnTrue result (refusals self.new ≡ refusals self.old) }
@@ -32,7 +32,7 @@ pub trait Sink {
         ensures handed { hands_over self.old text.now result self.new };
 }
 
-// Whether a write refused its bytes.
+// Returns whether a write refused its bytes.
 fn is_refusal(written: &io::Result<usize>) -> bool
     ensures { IsTrue result ↔ IsRefusedWrite written.now }
 {
@@ -42,8 +42,8 @@ fn is_refusal(written: &io::Result<usize>) -> bool
     }
 }
 
-/// A writer as a sink. A text that is taken is written once. If a text is refused, the writer has a first part of it, at most
-/// once. The contract says so of a writer whose contents are known; of any other it says that a refusal is counted.
+/// A writer as a sink. A text that is taken is written once. If a text is refused, a prefix of it may have been written, once.
+/// The contract states this for a writer whose contents are known. For any writer, it states that a refusal is counted.
 #[derive(Drop)]
 pub struct Output<W> {
     writer: W,
@@ -98,8 +98,8 @@ impl<W: Write> Output<W> {
         written
     }
 
-    // Writes the bytes, each once. Returns false if the writer refuses, and counts that: the writer has then taken a first part
-    // of the bytes, at most. A write that was interrupted took nothing, and is made again.
+    // Writes the bytes, each once. If the writer refuses them, counts the refusal and returns `false`; a prefix of the bytes
+    // may then have been written. A write that was interrupted wrote nothing, and is repeated.
     fn write_once(&mut self, bytes: &[u8]) -> bool
         ensures whole { OnTrue result (Appends (W.contents self.old.writer) (W.contents self.new.writer) bytes.now) }
         ensures same { OnTrue result (self.new.refusals ≡ self.old.refusals) }
@@ -130,7 +130,7 @@ impl<W: Write> Sink for Output<W> {
 
     ghost refusals = { λ output. output.refusals };
 
-    // A text that is taken is appended whole, once. If a text is refused, a first part of it may be appended, once, and the
+    // A text that is taken is appended whole, once. If a text is refused, a prefix of it may be appended, once, and the
     // refusal is counted.
     ghost hands_over = { λ old text is_taken new. MatchBool is_taken
         (Appends (W.contents old.writer) (W.contents new.writer) text × (new.refusals ≡ old.refusals))

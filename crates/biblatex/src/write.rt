@@ -7,7 +7,7 @@ ghost use Rattle.bib_entry.specs.WrittenEntries.{biblatex_entry, bibtex_entry, e
 ghost use Rattle.biblatex.specs.Settled.{AreSettled};
 ghost use Rattle.biblatex.specs.HandedOver.{AreHandedOver, entry_texts};
 ghost use Rattle.biblatex.specs.Headline.{IsReadAgain};
-ghost use Rattle.biblatex.specs.Writing.{parting};
+ghost use Rattle.biblatex.specs.Writing.{empty_line_unless};
 
 use crate::bibliography::Bibliography;
 use crate::sink::Sink;
@@ -46,7 +46,7 @@ fn write_next(
     dialect: Dialect,
 ) -> Result<(), AllocError>
     ensures { OnOk result (string_bytes out.new ≡ string_bytes out.old ++
-        (parting is_first ++ (entry_in dialect entry.now ++ codes "\n"))) }
+        (empty_line_unless is_first ++ (entry_in dialect entry.now ++ codes "\n"))) }
 {
     if !is_first {
         out.push('\n')?;
@@ -78,12 +78,12 @@ fn hand_next<K: Sink>(
     dialect: Dialect,
 ) -> Result<(), WriteError>
     ensures written { OnOk result (Appends (K.taken sink.old) (K.taken sink.new)
-        (parting is_first ++ (entry_in dialect entry.now ++ codes "\n"))) }
+        (empty_line_unless is_first ++ (entry_in dialect entry.now ++ codes "\n"))) }
     ensures same { result ≢ Err WriteError.Refused → K.refusals sink.new ≡ K.refusals sink.old }
     ensures refused { result ≡ Err WriteError.Refused → K.refusals sink.old < 2 ^ 64 - 1 →
         K.refusals sink.old < K.refusals sink.new }
     ensures handed { AreHandedOver K.hands_over sink.old
-        ((parting is_first ++ (entry_in dialect entry.now ++ codes "\n")) ∷ []) sink.new result }
+        ((empty_line_unless is_first ++ (entry_in dialect entry.now ++ codes "\n")) ∷ []) sink.new result }
 {
     let mut text = String::new(alloc);
     write_next(alloc, &mut text, entry, is_first, dialect)?;

@@ -120,7 +120,10 @@ impl Entry {
     }
 
     // Returns the fields that can't be parsed, each with its error.
-    pub(crate) fn malformed(&self, alloc: Global) -> Result<Vec<(Text, TypeError)>, AllocError>
+    pub(crate) fn malformed_fields(
+        &self,
+        alloc: Global,
+    ) -> Result<Vec<(Text, TypeError)>, AllocError>
         ensures { IfOk result (λ reported. AreMalformed self.now reported.items) }
     {
         let mut reported = Vec::new(alloc);

@@ -72,7 +72,7 @@ impl Entry {
 
     // Returns the names of required fields that the entry lacks.
     #[tactic(auto, using(crate::proofs::ReportFacts::only_if_first))]
-    fn lacking(
+    fn lacked_names(
         &self,
         alloc: Global,
         names: &[&'static str],
@@ -88,7 +88,11 @@ impl Entry {
 
     // Returns the names whose fields have chunks.
     #[tactic(auto, using(crate::proofs::ReportFacts::only_if_first))]
-    fn filled(&self, alloc: Global, names: &[&'static str]) -> Result<Vec<&'static str>, AllocError>
+    fn filled_names(
+        &self,
+        alloc: Global,
+        names: &[&'static str],
+    ) -> Result<Vec<&'static str>, AllocError>
         ensures { IfOk result (λ found. texts found.items ≡ filter (has_chunks self.now) (texts names.now)) }
     {
         let mut found = Vec::new(alloc);
@@ -146,7 +150,7 @@ impl Entry {
     }
 
     // Returns the fields that `asked` requires and the entry lacks.
-    pub(crate) fn missing(
+    pub(crate) fn missing_fields(
         &self,
         alloc: Global,
         asked: &Requirements,
@@ -157,7 +161,7 @@ impl Entry {
             ++ missing_pages asked.now.page_chapter_field (has_field self.now (codes "pages")) (has_field self.now (codes "chapter")))
             ++ missing_date asked.now.needs_date self.now) }
     {
-        let mut missing = self.lacking(alloc, asked.required.as_slice())?;
+        let mut missing = self.lacked_names(alloc, asked.required.as_slice())?;
         self.add_people(asked.author_eds_field, &mut missing)?;
         self.add_pages(asked.page_chapter_field, &mut missing)?;
         let is_dated = self.has_field("date") || self.has_field("year");
@@ -201,7 +205,7 @@ impl Entry {
     }
 
     // Returns the fields that `asked` forbids and the entry has.
-    pub(crate) fn superfluous(
+    pub(crate) fn superfluous_fields(
         &self,
         alloc: Global,
         asked: &Requirements,
@@ -211,7 +215,7 @@ impl Entry {
             ++ superfluous_people asked.now.author_eds_field self.now)
             ++ superfluous_pages asked.now.page_chapter_field self.now) }
     {
-        let mut superfluous = self.filled(alloc, asked.forbidden.as_slice())?;
+        let mut superfluous = self.filled_names(alloc, asked.forbidden.as_slice())?;
         self.add_forbidden_people(asked.author_eds_field, &mut superfluous)?;
         self.add_forbidden_pages(asked.page_chapter_field, &mut superfluous)?;
         Ok(superfluous)

@@ -13,4 +13,4 @@ pub returns-in-Check : goal.returns-in-Check
 returns-in-Check c = rw c.in-Check.is c.check.ensures
 
 pub returns-in-Settled : goal.returns-in-Settled
-returns-in-Settled c = rw c.in-Settled.is c.settled.ensures
+returns-in-Settled c = rw c.in-Settled.is c.settled_answer.ensures

@@ -27,6 +27,6 @@ returns-clause-tried c =
       | inl lost ↦ absurd (c.in_ok-unless_out_of_memory-in-Err.ensures.ok (ap (λ (e : ParseError). e.kind) lost))
       | inr error ↦
           left_out (given_by c.args.reader.now) c.args.field.now c.unwrap_or.result.now c.args.errors.now.items
-          c.mended.new.errors.items c.push.new.self.items c.in-Err.e
+          c.mend_field.new.errors.items c.push.new.self.items c.in-Err.e
           (ap field_of same ∙ c.in_ok-copy.ensures.mended) error c.in_ok-copy.ensures.errors c.in_ok-push-in-Err.ensures.items
     ]

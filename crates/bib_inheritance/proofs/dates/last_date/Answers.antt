@@ -3,7 +3,7 @@ use Rattle.std.specs.Option.{option_copied}
 use Rattle.std.proofs.lemmas.List.Elements.{same_from_all_zip}
 use Rattle.bib_chunks.specs.Styled.{styled}
 use Rattle.bib_inheritance.specs.Resolving.{at_index, texts_of_entries}
-use Rattle.bib_inheritance.specs.Turning.{dated_in}
+use Rattle.bib_inheritance.specs.Turning.{inheritable_chunks}
 use Rattle.bib_inheritance.proofs.DateFacts.{adds_more, date_found, date_none, dated_here, read_at, undated_here}
 use Rattle.bib_inheritance.proofs.dates.last_date.Goals as goal
 
@@ -42,7 +42,7 @@ returns-in-Some-clause-last c =
     same_from_all_zip _ chunks c.in_ok-clone.field-0 c.in_ok-clone.ensures.cases (λ s t r. search rules) in
     let here =
     dated_here c.args.entries.now dates index c.in_ok-read_date.ensures.dates chunks
-    (read_at dated_in dates index c.index-dates-index.result below ∙ sym c.dated.ensures
+    (read_at inheritable_chunks dates index c.index-dates-index.result below ∙ sym c.inheritable_chunks.ensures
     ∙ ap option_copied c.in-Some.is) in
     ap (λ chunks. Some (styled chunks)) copy
     ∙ sym
@@ -63,7 +63,7 @@ indices-preserved c =
     ) in
     let none =
     undated_here c.args.entries.now dates index c.in_ok-read_date.ensures.dates c.in_ok-read_date.ensures.read
-    (read_at dated_in dates index c.index-dates-index.result below ∙ sym c.dated.ensures
+    (read_at inheritable_chunks dates index c.index-dates-index.result below ∙ sym c.inheritable_chunks.ensures
     ∙ ap option_copied c.in_default.is) in
     record {
       none = date_none (at_index values) indices c.indices.done c.indices-test.true none c.indices.invariant.none;

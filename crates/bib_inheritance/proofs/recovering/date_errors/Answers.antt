@@ -55,8 +55,9 @@ entries-preserved c =
             in
             rw (ap (λ v. v.items) w.errors-is ∙ w.in_ok-push.ensures.items)
             (finds_one c.args.looks.now graph c.args.entries.now index c.entries.errors.items w.in-Some.error
-            w.unread.result c.if-not-looks-index.false
-            (subst (λ l. IsUnreadDate c.args.entries.now l w.in-Some.error) row found) w.unread.ensures c.entries.invariant.reported)
+            w.resolution_error.result c.if-not-looks-index.false
+            (subst (λ l. IsUnreadDate c.args.entries.now l w.in-Some.error) row found) w.resolution_error.ensures
+            c.entries.invariant.reported)
         | in_default w ↦
             let found : list_any (is_bad_date values) c.deref.result.now ≡ false =
             subst

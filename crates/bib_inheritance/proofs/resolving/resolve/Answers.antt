@@ -69,12 +69,12 @@ returns-in-Some-clause-refused c =
     c.in_ok-error.ensures in
     let are = c.deref-7.ensures.value ∙ c.in_ok-refs.ensures.looks in
     inr (date_unread c.args.spans.now own c.deref-7.result.now (graph_by names own) entries c.in-Some.error
-    c.unread.result (λ index. bad_flagged names own c.deref-7.result.now values index are)
+    c.resolution_error.result (λ index. bad_flagged names own c.deref-7.result.now values index are)
     (looking own c.deref-7.result.now are)
     (subst HasNoCycle one c.in_ok-order.ensures.no_cycle)
     (subst (λ g. Inherits (texts_of_entries own) g values) three c.in_ok-turns.ensures.inherits)
     c.in_ok-turns.ensures.keys c.in_ok-turns.ensures.chunks
-    (subst (λ g. IsFirstUnread c.deref-7.result.now g entries c.in-Some.error) four first) c.unread.ensures)
+    (subst (λ g. IsFirstUnread c.deref-7.result.now g entries c.in-Some.error) four first) c.resolution_error.ensures)
 
 pub returns-clause-resolved : goal.returns-clause-resolved
 returns-clause-resolved c =

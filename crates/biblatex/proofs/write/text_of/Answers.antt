@@ -1,7 +1,7 @@
 use Rattle.std.proofs.Common.{◌++◌, ap, sym, ◌∙◌}
 use Rattle.std.specs.Prelude.{codes}
 use Rattle.bib_entry.specs.Dialect.{entry_in}
-use Rattle.biblatex.specs.Writing.{parting}
+use Rattle.biblatex.specs.Writing.{empty_line_unless}
 use Rattle.biblatex.proofs.WritingFacts.{next_written, not_first}
 use Rattle.biblatex.proofs.write.text_of.Goals as goal
 
@@ -12,7 +12,7 @@ entries-preserved c =
     c.entries.is_first c.entries-test.true c.entry-item.is c.entries.invariant.1 in (
       c.in_ok-write_next.ensures
           ∙ ap
-          (λ bs. bs ++ (parting c.entries.is_first ++ (entry_in c.args.dialect c.entry-item.result ++ codes "\n")))
+          (λ bs. bs ++ (empty_line_unless c.entries.is_first ++ (entry_in c.args.dialect c.entry-item.result ++ codes "\n")))
           c.entries.invariant.0 ∙ sym written,
       not_first c.entries.entry-index,
     )

@@ -9,7 +9,7 @@ use Rattle.biblatex.specs.PartlyWritten.{AppendsPart}
 use Rattle.biblatex.proofs.sink.Output.write_once.Goals as goal
 use Rattle.biblatex.proofs.sink.Output.write_once.Goals.{in-Ok, in-Err}
 
--- a first part of a text is its first bytes
+-- if the first bytes of a text were appended, a prefix of it was
 part_of : (a b : Option (List ℕ)) (all done rest : List ℕ) → all ≡ done ++ rest → Appends a b done → AppendsPart a b all
 part_of a b all done rest split appended =
     (length done, subst (Appends a b) (sym (ap (take (length done)) split ∙ take-append_seam done rest)) appended)
@@ -21,7 +21,7 @@ split_more all done rest n split =
 moves_front : (all done rest : List ℕ) (n : ℕ) → all ≡ done ++ rest → all ≡ (done ++ take n rest) ++ take (length rest - n) (drop n rest)
 moves_front all done rest n split = split_more all done rest n split ∙ ap (λ l. (done ++ take n rest) ++ l) (sym (take_rest rest n))
 
--- whatever a write answers, a first part of the text was appended after it
+-- after a write with any result, a prefix of the text was appended
 part_after : {E : Type 0} (a b c : Option (List ℕ)) (all done rest : List ℕ) (r : Result ℕ E) → all ≡ done ++ rest
     → Appends a b done → WriteAppends b c r rest → AppendsPart a c all
 part_after a b c all done rest (Ok n) split appended more =

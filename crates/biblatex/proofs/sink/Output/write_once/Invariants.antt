@@ -1,4 +1,4 @@
--- What is gone from `rest` was appended, and nothing was refused.
+-- the bytes before `rest` were appended, and nothing was refused
 use Rattle.std.proofs.Common.{◌≡◌, ℕ, List, ◌++◌}
 use Rattle.std.specs.Io.KnownBytes.{Appends}
 use Rattle.biblatex.proofs.sink.Output.write_once.Given as goal

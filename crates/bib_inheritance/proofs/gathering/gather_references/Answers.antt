@@ -1,5 +1,5 @@
 use Rattle.bib_inheritance.proofs.GatheredFacts.{given_more}
-use Rattle.bib_inheritance.proofs.gathering.gathered.Goals as goal
+use Rattle.bib_inheritance.proofs.gathering.gather_references.Goals as goal
 
 pub references-preserved : goal.references-preserved
 references-preserved c =

@@ -1,6 +1,6 @@
 use Rattle.bib_abbreviations.specs.Abbreviations.{given_by}
 use Rattle.bib_file_entries.proofs.MendingFacts.{field_stays}
-use Rattle.bib_file_entries.proofs.keeping.mended.Goals as goal
+use Rattle.bib_file_entries.proofs.keeping.mend_field.Goals as goal
 
 pub returns-then-not-has_unknown-clause-mended : goal.returns-then-not-has_unknown-clause-mended
 returns-then-not-has_unknown-clause-mended c =

@@ -1,7 +1,7 @@
 use Rattle.std.proofs.Common.{◌≡◌, map, take}
 use Rattle.bib_inheritance.specs.InheritableDate.{looks_for_date}
 use Rattle.bib_inheritance.specs.Resolving.{texts_of_entry}
-use Rattle.bib_inheritance.proofs.reference_indices.looks.Given as goal
+use Rattle.bib_inheritance.proofs.reference_indices.date_flags.Given as goal
 
 -- the flags of the entries so far that lack a required date
 abbrev pub invariant-entries : goal.invariant-entries

@@ -1,5 +1,5 @@
 use Rattle.bib.proofs.Answers.{no_bibliography}
-use Rattle.bib.proofs.run.parsed.Goals as goal
+use Rattle.bib.proofs.run.parse_bibliography.Goals as goal
 
 pub returns-in_ok-error_answer-in-Err : goal.returns-in_ok-error_answer-in-Err
 returns-in_ok-error_answer-in-Err c =

@@ -2,7 +2,7 @@ use Rattle.std.proofs.Common.{sym, ◌∙◌}
 use Rattle.std.proofs.lemmas.Bool.{false≢true}
 use Rattle.bib.specs.Output.{ShowsSettled}
 use Rattle.bib.proofs.Answers.{no_bibliography_shown, bibliography_shown}
-use Rattle.bib.proofs.run.settled.Goals as goal
+use Rattle.bib.proofs.run.settled_answer.Goals as goal
 
 pub returns-in-Err : goal.returns-in-Err
 returns-in-Err c =
