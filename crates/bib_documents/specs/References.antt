@@ -6,7 +6,7 @@ use Rattle.std.specs.Str.{trim, trim_end, trim_start}
 use Rattle.bib_text.specs.Characters as char
 use Rattle.bib_syntax.specs.Reading.{Part, Piece, FieldReading, EntryReading}
 use Rattle.bib_syntax.specs.Reading.Piece.{literal, abbreviation}
-use Rattle.bib_excerpts.specs.Names.{is_reference_field}
+use Rattle.bib_tables.specs.ReferenceFields.{is_reference_field}
 use Rattle.bib_documents.specs.Documents.{CanBeKey, CanStandInBraces, Document, HasEntry, entry_renamed, first_position, is_keyed, value_changed, value_edit}
 use Rattle.bib_documents.specs.Edits.{Edit}
 use Rattle.bib_documents.specs.declared.errors.EditError.{EditError}

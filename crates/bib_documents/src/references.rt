@@ -4,26 +4,14 @@ ghost use Rattle.std.specs.Prelude.{◌≡◌, IfOk, length, map};
 ghost use Rattle.std.specs.List.{list_any};
 ghost use Rattle.std.specs.Option.{option_map};
 ghost use Rattle.std.specs.String.{string_bytes};
-ghost use Rattle.bib_excerpts.specs.Names as names;
 ghost use Rattle.bib_syntax.specs.Views.{field_of, piece_of};
 ghost use Rattle.bib_documents.specs.References as references;
 ghost use Rattle.bib_documents.specs.References.{elements_of};
 
-use bib_syntax::raw::{Pair, RawChunk, is_word};
+use bib_syntax::raw::{Pair, RawChunk};
+use bib_tables::fields::is_reference_field;
 use bib_text::spanned::Spanned;
 use std::alloc::{AllocError, Global};
-
-// Whether a field's value lists keys of entries that its entry refers to.
-fn is_reference_field(name: &str) -> bool
-    ensures { result ≡ names.is_reference_field name.now }
-{
-    is_word(name, "crossref")
-        || is_word(name, "xdata")
-        || is_word(name, "xref")
-        || is_word(name, "related")
-        || is_word(name, "entryset")
-        || is_word(name, "set")
-}
 
 // Whether an element of a comma list is this key, but for the white space round it.
 fn is_element(element: &str, key: &str) -> bool

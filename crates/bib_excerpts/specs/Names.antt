@@ -4,6 +4,7 @@ use Rattle.std.specs.Prelude.{ℕ, Bool, ◌||◌, ◌==◌, if◌then◌else◌
 use Rattle.std.specs.List.{flat_map, slice_split}
 use Rattle.std.specs.Str.{trim}
 use Rattle.bib_text.specs.Characters as char
+use Rattle.bib_tables.specs.ReferenceFields.{is_reference_field}
 use Rattle.bib_syntax.specs.Grammar.{is_word}
 use Rattle.bib_syntax.specs.Reading.{EntryReading, FieldReading, Piece}
 use Rattle.bib_syntax.specs.Reading.Piece.{abbreviation, literal}
@@ -25,12 +26,6 @@ piece_parts (abbreviation p) = []
 -- the parts of the comma lists that the literal elements of a value are
 abbrev pub literal_parts : List Piece → List (List ℕ)
 literal_parts pieces = flat_map piece_parts pieces
-
--- whether a field's value lists names of entries that its entry refers to
-abbrev pub is_reference_field : List ℕ → Bool
-is_reference_field name =
-    is_word name (codes "crossref") || is_word name (codes "xdata") || is_word name (codes "xref") || is_word name (codes "related")
-    || is_word name (codes "entryset") || is_word name (codes "set")
 
 -- the names that a field lists, where it is one of references
 abbrev pub references_in : FieldReading → List (List ℕ)

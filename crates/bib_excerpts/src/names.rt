@@ -8,6 +8,7 @@ ghost use Rattle.bib_excerpts.specs.Names.{comma_parts, literal_parts, aliases_o
 ghost use Rattle.bib_excerpts.specs.Texts.{text_list, node_of};
 
 use bib_syntax::raw::{Pair, RawChunk, RawEntry};
+use bib_tables::fields::is_reference_field;
 use bib_text::spanned::Spanned;
 use std::alloc::{AllocError, Global};
 
@@ -25,18 +26,6 @@ pub(crate) fn is_name(name: &str, word: &str) -> bool
     ensures { result ≡ grammar.is_word name.now word.now }
 {
     name.eq_ignore_ascii_case(word)
-}
-
-// Whether a field's value lists names of entries that its entry refers to.
-fn is_reference_field(name: &str) -> bool
-    ensures { result ≡ spec.is_reference_field name.now }
-{
-    is_name(name, "crossref")
-        || is_name(name, "xdata")
-        || is_name(name, "xref")
-        || is_name(name, "related")
-        || is_name(name, "entryset")
-        || is_name(name, "set")
 }
 
 // Adds the parts of a comma list, without the white space around them; what is empty is no part.

@@ -26,7 +26,7 @@ use bib_text::text::Text;
 use file::blocks;
 pub use file::is_word;
 use reader::Reader;
-use recovery::recovered;
+use recovery::recover;
 pub use recovery::{RawRecovery, SkippedBlock};
 use std::alloc::{AllocError, AllocFailed, Global};
 use std::error::Error;
@@ -68,7 +68,7 @@ impl<'s> RawBibliography<'s> {
     pub fn recover(alloc: Global, src: &'s str) -> Result<RawRecovery<'s>, AllocError>
         ensures { IfOk result (λ found. IsRecovery src.now (file_of found.raw) found.skipped.items) }
     {
-        recovered(alloc, src)
+        recover(alloc, src)
     }
 }
 

@@ -4,6 +4,7 @@ pub mod Language
 pub mod LanguageRows
 pub mod Pagination
 pub mod ReadAs
+pub mod ReferenceFields
 pub mod TypeError
 pub mod EntryType
 pub mod Requirements

@@ -107,7 +107,8 @@ chunk_stays space (Verbatim t) all = no_verbatim (chars t) all
 chunk_stays space (Math t) all = absurd (false≢true all)
 
 -- the formatted text of such a part has only such characters
-part_stays : (space : Bool) (part : Value) → list_all is_letter (styled part) ≡ true → list_all stays (formatted_chars_after space part) ≡ true
+part_stays : (space : Bool) (part : Value) → list_all is_letter (styled part) ≡ true
+    → list_all stays (formatted_chars_after space part) ≡ true
 part_stays space [] all = refl
 part_stays space (c ∷ part) all =
     let both = all-parts is_letter (atoms_of c.v) (styled part) all in

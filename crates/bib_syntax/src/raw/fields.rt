@@ -72,7 +72,7 @@ fn field<'s>(s: &mut Reader<'s, '_>, alloc: Global) -> Result<Pair<'s>, ParseErr
 }
 
 // Moves past white space to the closing brace after fields. No name may begin here.
-fn closed(s: &mut Reader<'_, '_>) -> Result<(), ParseError>
+fn closing_brace(s: &mut Reader<'_, '_>) -> Result<(), ParseError>
     requires { Stops is_id_start s.old }
     ensures found { OnOk result (Longest is_whitespace s.old s.new ×
         ((v : Place) × CharAt s.new char.close_brace v)) }
@@ -119,6 +119,6 @@ pub(crate) fn fields<'s>(
         }
         gap(s);
     }
-    closed(s)?;
+    closing_brace(s)?;
     Ok(pairs)
 }

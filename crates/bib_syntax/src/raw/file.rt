@@ -15,7 +15,7 @@ ghost use Rattle.bib_syntax.specs.Views.{part_of, file_of};
 
 use crate::raw::fields::{fields, gap, line_comment};
 use crate::raw::reader::Reader;
-use crate::raw::words::{brace, expect, identifier, key, quoted};
+use crate::raw::words::{brace, expect, identifier, key, quoted_text};
 use crate::raw::{Pair, ParseError, RawBibliography, RawEntry, Token};
 use bib_text::spanned::Spanned;
 use std::alloc::{AllocError, Global};
@@ -93,7 +93,7 @@ fn preamble<'s>(s: &mut Reader<'s, '_>) -> Result<&'s str, ParseError>
     ensures error { IfErr result (IsSyntaxError s.old.text) }
 {
     let start = s.cursor();
-    quoted(s)?;
+    quoted_text(s)?;
     let text = s.from(start);
     s.eat_whitespace();
     brace(s, '}', Token::ClosingBrace)?;

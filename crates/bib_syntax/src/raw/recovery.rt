@@ -198,7 +198,7 @@ impl<'s> RawRecovery<'s> {
 }
 
 // Parses the blocks of a file, and skips those that can't be parsed.
-pub(crate) fn recovered(alloc: Global, src: &str) -> Result<RawRecovery<'_>, AllocError>
+pub(crate) fn recover(alloc: Global, src: &str) -> Result<RawRecovery<'_>, AllocError>
     ensures { IfOk result (λ found. Recovered (place src.now 0) (file_of found.raw) found.skipped.items) }
 {
     let mut found = RawRecovery {

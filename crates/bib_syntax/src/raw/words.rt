@@ -154,7 +154,7 @@ fn quoted_parts<'s>(s: &mut Reader<'s, '_>) -> Result<Spanned<&'s str>, ParseErr
 }
 
 // Parses a quoted text with its quotes, and returns the text between them.
-pub(crate) fn quoted<'s>(s: &mut Reader<'s, '_>) -> Result<Spanned<&'s str>, ParseError>
+pub(crate) fn quoted_text<'s>(s: &mut Reader<'s, '_>) -> Result<Spanned<&'s str>, ParseError>
     ensures found { IfOk result (λ text. Quoted s.old (part_of text) s.new) }
     ensures fails { IfErr result (Reports (QuotedFails s.old)) }
     ensures error { IfErr result (IsSyntaxError s.old.text) }
@@ -250,7 +250,7 @@ pub(crate) fn element<'s>(s: &mut Reader<'s, '_>) -> Result<Spanned<RawChunk<'s>
         return Ok(braced_text(s)?.map(RawChunk::Normal));
     }
     if s.at('"') {
-        return Ok(quoted(s)?.map(RawChunk::Normal));
+        return Ok(quoted_text(s)?.map(RawChunk::Normal));
     }
     if begins_number(s) {
         return Ok(number(s)?.map(RawChunk::Normal));

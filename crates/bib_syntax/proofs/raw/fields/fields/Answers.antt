@@ -93,21 +93,21 @@ returns-then-not-eat_if-clause-found c =
     rw (c.if-not-eat_if.ensures.0, c.in_ok-push-2.ensures.items, map-append field_of c.fields.pairs.items _)
     (fields_last _ c.fields.invariant.1 c.in_ok-pair.ensures.found c.gap.ensures)
 
-pub returns-in_err-closed-clause-fails : goal.returns-in_err-closed-clause-fails
-returns-in_err-closed-clause-fails c =
-    let p = err_from_is_err_and c.from_residual-in_err-closed.result c.from_residual-in_err-closed.ensures.1 in
+pub returns-in_err-closing_brace-clause-fails : goal.returns-in_err-closing_brace-clause-fails
+returns-in_err-closing_brace-clause-fails c =
+    let p = err_from_is_err_and c.from_residual-in_err-closing_brace.result c.from_residual-in_err-closing_brace.ensures.1 in
     rw (p.1, p.2)
     (inr (
-      error_back c.fields.invariant.0 c.in_err-closed.ensures.error,
-      reports_as c.fields.invariant.1.fails c.in_err-closed.ensures.fails,
+      error_back c.fields.invariant.0 c.in_err-closing_brace.ensures.error,
+      reports_as c.fields.invariant.1.fails c.in_err-closing_brace.ensures.fails,
     ))
 
-pub returns-in_err-closed-clause-from_each : goal.returns-in_err-closed-clause-from_each
-returns-in_err-closed-clause-from_each c =
-    let p = err_from_is_err_and c.from_residual-in_err-closed.result c.from_residual-in_err-closed.ensures.1 in
+pub returns-in_err-closing_brace-clause-from_each : goal.returns-in_err-closing_brace-clause-from_each
+returns-in_err-closing_brace-clause-from_each c =
+    let p = err_from_is_err_and c.from_residual-in_err-closing_brace.result c.from_residual-in_err-closing_brace.ensures.1 in
     rw (p.1, p.2)
     (each_fails _ c.fields.invariant.2 c.fields.invariant.0.text (λ r. r)
-    (inr (c.in_err-closed.ensures.error, c.in_err-closed.ensures.fails)))
+    (inr (c.in_err-closing_brace.ensures.error, c.in_err-closing_brace.ensures.fails)))
 
 pub returns-clause-found : goal.returns-clause-found
-returns-clause-found c = fields_end c.fields.invariant.1 c.in_ok-closed.ensures.found.0
+returns-clause-found c = fields_end c.fields.invariant.1 c.in_ok-closing_brace.ensures.found.0

@@ -9,10 +9,10 @@ returns-in_err-braced_text-clause-fails c =
     let p = err_from_is_err_and c.from_residual.result c.from_residual.ensures.1 in
     rw (p.1, p.2) (reports_as (λ kind v f. fails.braced f) c.in_err-braced_text.ensures.fails)
 
-pub returns-in_err-quoted-clause-fails : goal.returns-in_err-quoted-clause-fails
-returns-in_err-quoted-clause-fails c =
-    let p = err_from_is_err_and c.from_residual-in_err-quoted.result c.from_residual-in_err-quoted.ensures.1 in
-    rw (p.1, p.2) (reports_as (λ kind v f. fails.quoted c.if-at-2.ensures.1 f) c.in_err-quoted.ensures.fails)
+pub returns-in_err-quoted_text-clause-fails : goal.returns-in_err-quoted_text-clause-fails
+returns-in_err-quoted_text-clause-fails c =
+    let p = err_from_is_err_and c.from_residual-in_err-quoted_text.result c.from_residual-in_err-quoted_text.ensures.1 in
+    rw (p.1, p.2) (reports_as (λ kind v f. fails.quoted c.if-at-2.ensures.1 f) c.in_err-quoted_text.ensures.fails)
 
 pub returns-in_err-number-clause-fails : goal.returns-in_err-number-clause-fails
 returns-in_err-number-clause-fails c =
@@ -36,7 +36,7 @@ returns-then-at-clause-found c = braced_element _ _ c.map.ensures.value c.map.en
 
 pub returns-then-at-2-clause-found : goal.returns-then-at-2-clause-found
 returns-then-at-2-clause-found c =
-    quoted_element _ _ c.map-then-at-2.ensures.value c.map-then-at-2.ensures.span c.in_ok-quoted.ensures.found
+    quoted_element _ _ c.map-then-at-2.ensures.value c.map-then-at-2.ensures.span c.in_ok-quoted_text.ensures.found
 
 pub returns-then-begins_number-clause-found : goal.returns-then-begins_number-clause-found
 returns-then-begins_number-clause-found c =

@@ -3,7 +3,7 @@ use Rattle.bib_text.proofs.PlaceFacts.{ahead_run, stops_without, test_clash}
 use Rattle.bib_syntax.specs.SyntaxErrors.{FieldsFails as fails}
 use Rattle.bib_syntax.proofs.ErrorFacts.{reports_at}
 use Rattle.bib_syntax.proofs.ReadingFacts.{error_back}
-use Rattle.bib_syntax.proofs.raw.fields.closed.Goals as goal
+use Rattle.bib_syntax.proofs.raw.fields.closing_brace.Goals as goal
 
 pub returns-then-done-clause-fails : goal.returns-then-done-clause-fails
 returns-then-done-clause-fails c =

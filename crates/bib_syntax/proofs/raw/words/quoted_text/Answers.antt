@@ -2,7 +2,7 @@ use Rattle.std.proofs.lemmas.Result.{err_from_is_err_and}
 use Rattle.bib_text.proofs.PlaceFacts.{stops_without, ahead_char}
 use Rattle.bib_syntax.specs.SyntaxErrors.{QuotedFails as fails}
 use Rattle.bib_syntax.proofs.ErrorFacts.{reports_at, reports_end}
-use Rattle.bib_syntax.proofs.raw.words.quoted.Goals as goal
+use Rattle.bib_syntax.proofs.raw.words.quoted_text.Goals as goal
 
 pub returns-in_err-expect-clause-fails : goal.returns-in_err-expect-clause-fails
 returns-in_err-expect-clause-fails c =

@@ -1,6 +1,6 @@
 use Rattle.bib_text.specs.Places.{place}
 use Rattle.bib_syntax.proofs.RecoveryFacts.{all_recovered, nothing_recovered}
-use Rattle.bib_syntax.proofs.raw.recovery.recovered.Goals as goal
+use Rattle.bib_syntax.proofs.raw.recovery.recover.Goals as goal
 
 pub returns : goal.returns
 returns c =
