@@ -88,14 +88,18 @@ AllKeepChunks own entries =
     (index : ℕ) (written entry : Entry) → slice_get own index ≡ Some written → slice_get entries index ≡ Some entry
     → KeepsChunks written entry
 
--- the entries after inheriting: keys are unchanged, own chunks are kept, the fields solve the inheritance equation, and there
--- are no errors
-pub record AreResolved (own : List Entry) (graph : Graph) (entries : List Entry) : Type 0 where
-  pub no_cycle : HasNoCycle graph
+-- the entries after inheriting along `graph`: keys are unchanged, own chunks are kept, and the fields solve the inheritance
+-- equation
+pub record HaveInherited (own : List Entry) (graph : Graph) (entries : List Entry) : Type 0 where
   pub keys : map (λ e. e.key) entries ≡ map (λ e. e.key) own
   pub inherits : Inherits (texts_of_entries own) graph (texts_of_entries entries)
-  pub dates : AreDatesRead (texts_of_entries own) graph (texts_of_entries entries)
   pub chunks : AllKeepChunks own entries
+
+-- the entries after inheriting, without errors
+pub record AreResolved (own : List Entry) (graph : Graph) (entries : List Entry) : Type 0 where
+  pub no_cycle : HasNoCycle graph
+  pub inherited : HaveInherited own graph entries
+  pub dates : AreDatesRead (texts_of_entries own) graph (texts_of_entries entries)
 
 -- the error of an entry at an index that is on a cycle: at the span of the entry, with its key
 pub record IsCycleAt (spans : List (Range ℕ)) (own : List Entry) (index : ℕ) (e : ParseError) : Type 0 where

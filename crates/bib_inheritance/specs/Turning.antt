@@ -1,6 +1,6 @@
 -- Machinery: words of private contracts.
 -- Resolving one entry, cached dates, and the first date that can't be parsed.
-use Rattle.std.specs.Prelude.{◌≡◌, ℕ, ◌<◌, ◌⊎◌, Bool, true, false, ◌&&◌, List, slice_get, slice_index_or, find, Option, IsSome, Some, None}
+use Rattle.std.specs.Prelude.{◌≡◌, ℕ, ◌<◌, ◌⊎◌, Bool, true, false, ◌&&◌, List, slice_get, slice_index_or, find, length, Option, IsNone, IsSome, Some, None}
 use Rattle.std.specs.List.{Contains, list_any}
 use Rattle.std.specs.FinMap as by_name
 use Rattle.bib_chunks.specs.declared.chunk.Chunk.{Chunk}
@@ -53,6 +53,16 @@ pub record IsDateAt (entries : List Entry) (index : ℕ) (date : Kept) : Type 0 
 -- each cached date is that of the entry at its index
 abbrev pub AreDates : List Entry → Dates → Type 0
 AreDates entries dates = (index : ℕ) (date : Kept) → date_at dates index ≡ Some date → IsDateAt entries index date
+
+-- a cache of the dates of entries: a place for each entry, and each cached date is that of the entry at its index
+pub record IsCacheOf (entries : List Entry) (dates : Dates) : Type 0 where
+  pub as_many : length dates ≡ length entries
+  pub right : AreDates entries dates
+
+-- a cache with `count` places, none of whose dates is computed yet
+pub record IsEmptyCache (count : ℕ) (dates : Dates) : Type 0 where
+  pub as_many : length dates ≡ count
+  pub none : (index : ℕ) → IsNone (date_at dates index)
 
 -- the cache has no new dates, except at these indices
 abbrev pub AddsAmong : List ℕ → Dates → Dates → Type 0

@@ -6,7 +6,7 @@ ghost use Rattle.std.specs.Option.{option_copied};
 ghost use Rattle.bib_chunks.specs.Styled.{styled};
 ghost use Rattle.bib_inheritance.specs.InheritableDate.{last_date};
 ghost use Rattle.bib_inheritance.specs.Resolving.{at_index, texts_of_entries};
-ghost use Rattle.bib_inheritance.specs.Turning.{AddsAmong, AreDates, date_at, error_in, inheritable_chunks};
+ghost use Rattle.bib_inheritance.specs.Turning.{AddsAmong, IsCacheOf, IsEmptyCache, date_at, error_in, inheritable_chunks};
 
 use crate::inheritable_date::InheritableDate;
 use bib_chunks::chunk::Chunks;
@@ -14,13 +14,12 @@ use bib_entry::entry::Entry;
 use bib_tables::type_error::TypeError;
 use std::alloc::{AllocError, Global};
 
-// Returns a vector of `count` dates, none of them computed yet.
+// Returns a cache with `count` places, none of whose dates is computed yet.
 pub(crate) fn unread_dates(
     alloc: Global,
     count: usize,
 ) -> Result<Vec<Option<InheritableDate>>, AllocError>
-    ensures as_long { IfOk result (λ dates. length dates.items ≡ count) }
-    ensures unread { IfOk result (λ dates. (index : ℕ) → IsNone (date_at dates.items index)) }
+    ensures { IfOk result (λ dates. IsEmptyCache count dates.items) }
 {
     let mut dates = Vec::with_capacity(alloc, count)?;
     'indices: for _index in 0..count {
@@ -57,10 +56,8 @@ pub(crate) fn read_date(
     index: usize,
 ) -> Result<(), AllocError>
     requires index { index < length entries.now }
-    requires as_long { length dates.old ≡ length entries.now }
-    requires dates { AreDates entries.now dates.old }
-    ensures as_long { length dates.new ≡ length entries.now }
-    ensures dates { AreDates entries.now dates.new }
+    requires dates { IsCacheOf entries.now dates.old }
+    ensures dates { IsCacheOf entries.now dates.new }
     ensures read { OnOk result (IsSome (date_at dates.new index)) }
     ensures added { (other : ℕ) → IsSome (date_at dates.new other) →
         IsSome (date_at dates.old other) ⊎ (other ≡ index) }
@@ -82,12 +79,10 @@ pub(crate) fn last_date(
     dates: &mut [Option<InheritableDate>],
 ) -> Result<Option<Chunks>, AllocError>
     requires indices { All (λ r. r < length entries.now) indices.now }
-    requires as_long { length dates.old ≡ length entries.now }
-    requires dates { AreDates entries.now dates.old }
+    requires dates { IsCacheOf entries.now dates.old }
     ensures last { IfOk result (λ date. option_map styled date ≡
         last_date (map (at_index (texts_of_entries entries.now)) indices.now)) }
-    ensures as_long { length dates.new ≡ length entries.now }
-    ensures dates { AreDates entries.now dates.new }
+    ensures dates { IsCacheOf entries.now dates.new }
     ensures added { AddsAmong indices.now dates.old dates.new }
 {
     let count = indices.len();

@@ -7,7 +7,7 @@ ghost use Rattle.bib_collections.specs.Names.{AreIndicesBelow};
 ghost use Rattle.bib_inheritance.specs.Cutting.{IsCut, IsUnreadError};
 ghost use Rattle.bib_inheritance.specs.Recovered.{AreRecovered, EachReported, without_references};
 ghost use Rattle.bib_inheritance.specs.Resolving.{texts_of_entries};
-ghost use Rattle.bib_inheritance.specs.Turning.{AreDates, is_unread_at};
+ghost use Rattle.bib_inheritance.specs.Turning.{IsCacheOf, is_unread_at};
 
 use crate::dates::unread_dates;
 use crate::inheritable_date::InheritableDate;
@@ -109,8 +109,7 @@ fn date_errors(
     requires in_range { IsInRange (rows refs.now) }
     requires as_long { length entries.now ≡ length refs.now }
     requires flags { length looks.now ≡ length refs.now }
-    requires as_many { length dates.old ≡ length entries.now }
-    requires dates { AreDates entries.now dates.old }
+    requires dates { IsCacheOf entries.now dates.old }
     ensures { IfOk result (λ errors. EachReported
         (λ index. is_unread_at looks.now (rows refs.now) (texts_of_entries entries.now) index ≡ true)
         (IsUnreadError (rows refs.now) entries.now) (length refs.now) errors.items) }

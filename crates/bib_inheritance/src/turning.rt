@@ -12,8 +12,8 @@ ghost use Rattle.bib_inheritance.specs.InheritableDate.{date_for};
 ghost use Rattle.bib_inheritance.specs.Inherited.{field_by, inherited_field, with_inherited_fields};
 ghost use Rattle.bib_inheritance.specs.EntryTexts.{EntryTexts, first_named, texts_of_references};
 ghost use Rattle.bib_tables.specs.declared.mechanics.EntryType.{EntryType};
-ghost use Rattle.bib_inheritance.specs.Resolving.{AllKeepChunks, Inherits, KeepsChunks, at_index, texts_of_entries, texts_of_entry};
-ghost use Rattle.bib_inheritance.specs.Turning.{AddsAmong, AreDates, IsTurned, date_at};
+ghost use Rattle.bib_inheritance.specs.Resolving.{HaveInherited, at_index, texts_of_entries};
+ghost use Rattle.bib_inheritance.specs.Turning.{AddsAmong, IsCacheOf, IsEmptyCache, IsTurned};
 
 use crate::dates::last_date;
 use crate::gathering::gather_fields;
@@ -29,7 +29,7 @@ use std::collections::BTreeSet;
 use std::mem;
 
 // Removes repeated indices, and keeps the first of each. An entry inherits the same fields without the repetitions.
-fn distinct(alloc: Global, indices: &[usize]) -> Result<Vec<usize>, AllocError>
+fn without_repetitions(alloc: Global, indices: &[usize]) -> Result<Vec<usize>, AllocError>
     ensures among { IfOk result (λ first. All (Contains indices.now) first.items) }
     ensures same { IfOk result (λ first. (at : ℕ → EntryTexts) (entry_type : EntryType) (name : List ℕ) →
         inherited_field entry_type name (map at first.items) ≡ inherited_field entry_type name (map at indices.now)) }
@@ -83,7 +83,7 @@ fn fields_at(
         else inherited_field (at_index (texts_of_entries entries.now) index).entry_type name
         (map (at_index (texts_of_entries entries.now)) indices.now))) }
 {
-    let first = distinct(alloc, indices)?;
+    let first = without_repetitions(alloc, indices)?;
     let references = references_of(alloc, &first, entries)?;
     let entry = &entries[index];
     let fields = gather_fields(alloc, &entry.entry_type, &entry.fields, &references)?;
@@ -101,13 +101,11 @@ fn date_at(
 ) -> Result<Option<Chunks>, AllocError>
     requires references { All (λ r. r < length entries.now) indices.now }
     requires index { index < length entries.now }
-    requires as_long { length dates.old ≡ length entries.now }
-    requires dates { AreDates entries.now dates.old }
+    requires dates { IsCacheOf entries.now dates.old }
     ensures date { IfOk result (λ date. option_map styled date ≡
         date_for (at_index (texts_of_entries entries.now) index)
         (map (at_index (texts_of_entries entries.now)) indices.now)) }
-    ensures as_long { length dates.new ≡ length entries.now }
-    ensures dates { AreDates entries.now dates.new }
+    ensures dates { IsCacheOf entries.now dates.new }
     ensures added { AddsAmong indices.now dates.old dates.new }
 {
     let entry = &entries[index];
@@ -147,15 +145,13 @@ fn take_turn(
 ) -> Result<(), AllocError>
     requires references { All (λ r. r < length entries.old) indices.now }
     requires index { index < length entries.old }
-    requires as_long { length dates.old ≡ length entries.old }
-    requires dates { AreDates entries.old dates.old }
+    requires dates { IsCacheOf entries.old dates.old }
     ensures length { length entries.new ≡ length entries.old }
     ensures turns { OnOk result (turns.new.items ≡ turns.old.items ++ index ∷ []) }
     ensures turned { OnOk result ((entry : AnEntry) × (entries.new ≡ slice_set entries.old index entry) ×
         IsTurned (slice_index_or entries.old index entry)
         (map (at_index (texts_of_entries entries.old)) indices.now) entry) }
-    ensures as_long { length dates.new ≡ length entries.old }
-    ensures dates { AreDates entries.old dates.new }
+    ensures dates { IsCacheOf entries.old dates.new }
     ensures added { AddsAmong indices.now dates.old dates.new }
 {
     turns.push(index)?;
@@ -183,15 +179,11 @@ pub(crate) fn take_turns(
     requires order { IsTopologicalOrder (rows refs.now) order.now }
     requires in_range { IsInRange (rows refs.now) }
     requires as_long { length entries.old ≡ length refs.now }
-    requires as_many { length dates.old ≡ length entries.old }
-    requires unread { (index : ℕ) → IsNone (date_at dates.old index) }
+    requires dates { IsEmptyCache (length entries.old) dates.old }
     ensures turns { IfOk result (λ turns. turns.items ≡ order.now) }
     ensures length { length entries.new ≡ length entries.old }
-    ensures keys { OnOk result (map (λ e. e.key) entries.new ≡ map (λ e. e.key) entries.old) }
-    ensures inherits { OnOk result (Inherits (texts_of_entries entries.old) (rows refs.now) (texts_of_entries entries.new)) }
-    ensures chunks { OnOk result (AllKeepChunks entries.old entries.new) }
-    ensures dates { OnOk result (AreDates entries.new dates.new) }
-    ensures as_many { OnOk result (length dates.new ≡ length entries.new) }
+    ensures inherited { OnOk result (HaveInherited entries.old (rows refs.now) entries.new) }
+    ensures dates { OnOk result (IsCacheOf entries.new dates.new) }
 {
     let mut turns = Vec::with_capacity(alloc, order.len())?;
     'order: for index in order {

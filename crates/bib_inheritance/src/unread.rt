@@ -5,7 +5,7 @@ ghost use Rattle.std.specs.List.{All, list_any};
 ghost use Rattle.bib_collections.specs.Graph.{IsInRange};
 ghost use Rattle.bib_collections.specs.Rows.{rows};
 ghost use Rattle.bib_inheritance.specs.Resolving.{is_bad_date, texts_of_entries};
-ghost use Rattle.bib_inheritance.specs.Turning.{AreDates, IsFirstUnread, IsUnreadDate, is_unread_at};
+ghost use Rattle.bib_inheritance.specs.Turning.{IsCacheOf, IsFirstUnread, IsUnreadDate, is_unread_at};
 
 use crate::dates::{error, read_date};
 use crate::inheritable_date::InheritableDate;
@@ -21,13 +21,11 @@ pub(crate) fn first_unread(
     dates: &mut [Option<InheritableDate>],
 ) -> Result<Option<TypeError>, AllocError>
     requires indices { All (λ r. r < length entries.now) indices.now }
-    requires as_many { length dates.old ≡ length entries.now }
-    requires dates { AreDates entries.now dates.old }
+    requires dates { IsCacheOf entries.now dates.old }
     ensures unread { IfOk result (λ error. MatchOption error
         (list_any (is_bad_date (texts_of_entries entries.now)) indices.now ≡ false)
         (IsUnreadDate entries.now indices.now)) }
-    ensures as_many { length dates.new ≡ length entries.now }
-    ensures dates { AreDates entries.now dates.new }
+    ensures dates { IsCacheOf entries.now dates.new }
 {
     'indices: for r in indices {
         read_date(alloc, entries, dates, *r)?;
@@ -49,8 +47,7 @@ pub(crate) fn unread_date(
     requires in_range { IsInRange (rows refs.now) }
     requires as_long { length entries.now ≡ length refs.now }
     requires flags { length looks.now ≡ length refs.now }
-    requires as_many { length dates.old ≡ length entries.now }
-    requires dates { AreDates entries.now dates.old }
+    requires dates { IsCacheOf entries.now dates.old }
     ensures { IfOk result (λ error. MatchOption error
         ((index : ℕ) → is_unread_at looks.now (rows refs.now) (texts_of_entries entries.now) index ≡ false)
         (IsFirstUnread looks.now (rows refs.now) entries.now)) }

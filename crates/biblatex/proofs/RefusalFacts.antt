@@ -136,7 +136,7 @@ loaded own entries names are named resolved =
     let graph : graph_by names own ≡ graph_of own = ap (λ n. graph_by n own) (sym named) in
     let none : HasNoCycle (graph_of own) = subst HasNoCycle graph resolved.no_cycle in
     let inherits : Inherits (texts_of_entries own) (graph_of own) (texts_of_entries entries) =
-    subst (λ g. Inherits (texts_of_entries own) g (texts_of_entries entries)) graph resolved.inherits in
+    subst (λ g. Inherits (texts_of_entries own) g (texts_of_entries entries)) graph resolved.inherited.inherits in
     record {
       accepted = record {
         own = own;
@@ -146,9 +146,9 @@ loaded own entries names are named resolved =
             dates_of_each own (texts_of_entries entries) none inherits
             (subst (λ g. AreDatesRead (texts_of_entries own) g (texts_of_entries entries)) graph resolved.dates);
       };
-      keys = resolved.keys;
+      keys = resolved.inherited.keys;
       inherits = inherits;
-      chunks = resolved.chunks;
+      chunks = resolved.inherited.chunks;
       names = sym named;
     }
 

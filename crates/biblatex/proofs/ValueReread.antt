@@ -178,7 +178,7 @@ put {v} {c} {rest} {atoms} depth one read =
     λ text holds. subst (λ t. Reads false 0 t []) (one.holds text holds) end in
     let following : Reads v (depth_after depth one.unit) rest atoms = subst (λ d. Reads v d rest atoms) (sym (one.stays depth)) read in
     subst (λ xs. Reads v depth (char_spelling v c ++ rest) (xs ++ atoms)) (one.means depth)
-        (next first (one.closable depth) inside following)
+    (next first (one.closable depth) inside following)
 
 -- the next atom is no character of this kind, or fails the test
 abbrev pub NextFails : (ℕ → Bool) → Bool → List Atom → Type 0

@@ -36,12 +36,12 @@ returns-in-Some-clause-last c =
     omega (
       arith,
       c.requires.indices (length indices - 1 - c.indices.done) 0 (omega (arith, c.indices-test.true)),
-      c.in_ok-read_date.ensures.as_long,
+      c.in_ok-read_date.ensures.dates.as_many,
     ) in
     let copy : c.in_ok-clone.field-0 ≡ chunks =
     same_from_all_zip _ chunks c.in_ok-clone.field-0 c.in_ok-clone.ensures.cases (λ s t r. search rules) in
     let here =
-    dated_here c.args.entries.now dates index c.in_ok-read_date.ensures.dates chunks
+    dated_here c.args.entries.now dates index c.in_ok-read_date.ensures.dates.right chunks
     (read_at inheritable_chunks dates index c.index-dates-index.result below ∙ sym c.inheritable_chunks.ensures
     ∙ ap option_copied c.in-Some.is) in
     ap (λ chunks. Some (styled chunks)) copy
@@ -59,15 +59,14 @@ indices-preserved c =
     omega (
       arith,
       c.requires.indices (length indices - 1 - c.indices.done) 0 (omega (arith, c.indices-test.true)),
-      c.in_ok-read_date.ensures.as_long,
+      c.in_ok-read_date.ensures.dates.as_many,
     ) in
     let none =
-    undated_here c.args.entries.now dates index c.in_ok-read_date.ensures.dates c.in_ok-read_date.ensures.read
+    undated_here c.args.entries.now dates index c.in_ok-read_date.ensures.dates.right c.in_ok-read_date.ensures.read
     (read_at inheritable_chunks dates index c.index-dates-index.result below ∙ sym c.inheritable_chunks.ensures
     ∙ ap option_copied c.in_default.is) in
     record {
       none = date_none (at_index values) indices c.indices.done c.indices-test.true none c.indices.invariant.none;
-      as_many = c.in_ok-read_date.ensures.as_long;
       dates = c.in_ok-read_date.ensures.dates;
       added =
           adds_more indices (length indices - 1 - c.indices.done) c.args.dates.now c.indices.dates dates

@@ -16,7 +16,6 @@ use Rattle.bib_inheritance.proofs.recovering.date_errors.Goals.{in-Some+in_ok-pu
 pub entries-init : goal.entries-init
 entries-init c = record {
   reported = rw c.new-errors.ensures.items none;
-  as_many = c.requires.as_many;
   dates = c.requires.dates;
 }
 
@@ -32,7 +31,6 @@ entries-preserved-then-not-looks-index c = record {
   reported =
       looks_for_none c.args.looks.now (rows c.args.refs.now) c.args.entries.now c.entries.index c.entries.errors.items
       c.if-not-looks-index.true c.entries.invariant.reported;
-  as_many = c.entries.invariant.as_many;
   dates = c.entries.invariant.dates;
 }
 
@@ -69,7 +67,6 @@ entries-preserved c =
             (finds_none c.args.looks.now graph c.args.entries.now index c.entries.errors.items
             (subst (λ l. list_any (is_bad_date values) l ≡ false) row found) c.entries.invariant.reported)
       ];
-      as_many = c.in_ok-error.ensures.as_many;
       dates = c.in_ok-error.ensures.dates;
     }
 

@@ -9,7 +9,7 @@ use Rattle.bib_inheritance.specs.EntryTexts.{fields_of}
 use Rattle.bib_inheritance.specs.Cutting.{IsUnreadError}
 use Rattle.bib_inheritance.specs.Recovered.{EachReported}
 use Rattle.bib_inheritance.specs.Resolving.{Inherits, graph_by, texts_of_entries}
-use Rattle.bib_inheritance.specs.Turning.{AreDates, is_unread_at}
+use Rattle.bib_inheritance.specs.Turning.{IsCacheOf, is_unread_at}
 use Rattle.bib_inheritance.proofs.DatesRead.{all_taken}
 use Rattle.bib_inheritance.proofs.RangeFacts.{graph_in_range}
 use Rattle.bib_inheritance.proofs.RecoveredFacts.{recovered}
@@ -48,7 +48,7 @@ date_errors-requires-clause-dates c =
     let new = c.take_turns.new.dates in
     let same : c.deref_mut-3.result.now ≡ new =
     c.deref_mut-3.ensures.value ∙ all_taken c.in_ok-dates.dates.len new c.in_ok-dates.dates.items (omega arith) in
-    subst (AreDates c.take_turns.new.entries) (sym same) c.in_ok-take_turns.ensures.dates
+    subst (IsCacheOf c.take_turns.new.entries) (sym same) c.in_ok-take_turns.ensures.dates
 
 pub returns-clause-recovered : goal.returns-clause-recovered
 returns-clause-recovered c =
@@ -73,9 +73,9 @@ returns-clause-recovered c =
     recovered c.args.spans.now names own cut c.take_turns.new.entries (rows c.deref_mut.result.now) (rows new)
     c.deref-5.result.now (length c.deref-4.result.now)
     c.in_ok-order.errors.items c.in_ok-unread.unread.items c.append.new.self.items graph_is c.in_ok-order.ensures.cut
-    c.in_ok-take_turns.ensures.keys
-    (subst (λ l. Inherits (texts_of_entries cut) (rows l) values) (c.deref-2.ensures.value ∙ items) c.in_ok-take_turns.ensures.inherits)
-    c.in_ok-take_turns.ensures.chunks
+    c.in_ok-take_turns.ensures.inherited.keys
+    (subst (λ l. Inherits (texts_of_entries cut) (rows l) values) (c.deref-2.ensures.value ∙ items) c.in_ok-take_turns.ensures.inherited.inherits)
+    c.in_ok-take_turns.ensures.inherited.chunks
     (c.deref-5.ensures.value ∙ c.in_ok-looks.ensures) n
     (subst
     (λ l.

@@ -3,8 +3,8 @@ use Rattle.std.specs.Prelude.{MatchOption}
 use Rattle.std.proofs.lemmas.Result.{err_from_is_err_and}
 use Rattle.bib_collections.specs.Graph.{HasNoCycle, IsFirstOnCycle, IsInRange}
 use Rattle.bib_collections.specs.Rows.{rows}
-use Rattle.bib_inheritance.specs.Resolving.{Inherits, IsResolvingError, graph_by, texts_of_entries}
-use Rattle.bib_inheritance.specs.Turning.{AreDates, IsFirstUnread, is_unread_at}
+use Rattle.bib_inheritance.specs.Resolving.{HaveInherited, Inherits, IsResolvingError, graph_by, texts_of_entries}
+use Rattle.bib_inheritance.specs.Turning.{IsCacheOf, IsFirstUnread, is_unread_at}
 use Rattle.bib_inheritance.proofs.DatesRead.{all_taken, date_unread}
 use Rattle.bib_inheritance.proofs.FlagFacts.{bad_flagged, dates_read, looking}
 use Rattle.bib_inheritance.proofs.RangeFacts.{graph_in_range}
@@ -39,7 +39,7 @@ unread_date-requires-clause-dates c =
     let new = c.take_turns.new.dates in
     let same : c.deref_mut-2.result.now ≡ new =
     c.deref_mut-2.ensures.value ∙ all_taken c.in_ok-dates.dates.len new c.in_ok-dates.dates.items (omega arith) in
-    subst (AreDates c.take_turns.new.entries) (sym same) c.in_ok-turns.ensures.dates
+    subst (IsCacheOf c.take_turns.new.entries) (sym same) c.in_ok-turns.ensures.dates
 
 pub returns-in_err-order-clause-refused : goal.returns-in_err-order-clause-refused
 returns-in_err-order-clause-refused c =
@@ -72,8 +72,8 @@ returns-in-Some-clause-refused c =
     c.resolution_error.result (λ index. bad_flagged names own c.deref-7.result.now values index are)
     (looking own c.deref-7.result.now are)
     (subst HasNoCycle one c.in_ok-order.ensures.no_cycle)
-    (subst (λ g. Inherits (texts_of_entries own) g values) three c.in_ok-turns.ensures.inherits)
-    c.in_ok-turns.ensures.keys c.in_ok-turns.ensures.chunks
+    (subst (λ g. Inherits (texts_of_entries own) g values) three c.in_ok-turns.ensures.inherited.inherits)
+    c.in_ok-turns.ensures.inherited.keys c.in_ok-turns.ensures.inherited.chunks
     (subst (λ g. IsFirstUnread c.deref-7.result.now g entries c.in-Some.error) four first) c.resolution_error.ensures)
 
 pub returns-clause-resolved : goal.returns-clause-resolved
@@ -93,9 +93,7 @@ returns-clause-resolved c =
     c.in-None.is c.in_ok-error.ensures in
     record {
       no_cycle = subst HasNoCycle one c.in_ok-order.ensures.no_cycle;
-      keys = c.in_ok-turns.ensures.keys;
-      inherits = subst (λ g. Inherits (texts_of_entries own) g values) three c.in_ok-turns.ensures.inherits;
+      inherited = subst (λ g. HaveInherited own g c.take_turns.new.entries) three c.in_ok-turns.ensures.inherited;
       dates = dates_read names own c.deref-7.result.now values (c.deref-7.ensures.value ∙ c.in_ok-refs.ensures.looks)
           (subst (λ g. (index : ℕ) → is_unread_at c.deref-7.result.now g values index ≡ false) four read);
-      chunks = c.in_ok-turns.ensures.chunks;
     }

@@ -19,9 +19,11 @@ pub order-init : goal.order-init
 order-init c = record {
   turns = c.in_ok-turns.ensures.items;
   turned = turned_none (rows c.args.refs.now) c.args.order.now c.args.entries.now;
-  dates = none_read c.args.entries.now c.args.dates.now c.requires.unread;
-  following = λ index there. absurd (false≢true (sym (c.requires.unread index) ∙ there));
-  as_many = c.requires.as_many;
+  dates = record {
+    as_many = c.requires.dates.as_many;
+    right = none_read c.args.entries.now c.args.dates.now c.requires.dates.none;
+  };
+  following = λ index there. absurd (false≢true (sym (c.requires.dates.none index) ∙ there));
 }
 
 pub offset_bounds-refs-index : goal.offset_bounds-refs-index
@@ -96,15 +98,17 @@ order-preserved c =
           turned_more (rows refs) c.args.order.now c.args.entries.now c.order.entries c.take_turn.new.entries i turn.0
           c.deref.result.now c.requires.order c.order-test.true
           (c.requires.as_long ∙ sym (length-rows refs)) row turn.1 turn.2 c.order.invariant.turned;
-      dates = subst (λ l. AreDates l c.take_turn.new.dates) (sym turn.1)
-          (dates_kept c.order.entries index turn.0 c.take_turn.new.dates
-          (turn_unread (rows refs) c.args.order.now c.deref.result.now i c.requires.order c.order-test.true row
-          c.order.dates c.take_turn.new.dates c.in_ok-take_turn.ensures.added c.order.invariant.following)
-          c.in_ok-take_turn.ensures.dates);
+      dates = record {
+        as_many = c.in_ok-take_turn.ensures.dates.as_many ∙ sym c.in_ok-take_turn.ensures.length;
+        right = subst (λ l. AreDates l c.take_turn.new.dates) (sym turn.1)
+            (dates_kept c.order.entries index turn.0 c.take_turn.new.dates
+            (turn_unread (rows refs) c.args.order.now c.deref.result.now i c.requires.order c.order-test.true row
+            c.order.dates c.take_turn.new.dates c.in_ok-take_turn.ensures.added c.order.invariant.following)
+            c.in_ok-take_turn.ensures.dates.right);
+      };
       following =
           after_more (rows refs) c.args.order.now c.deref.result.now i c.requires.order c.order-test.true row
           c.order.dates c.take_turn.new.dates c.in_ok-take_turn.ensures.added c.order.invariant.following;
-      as_many = c.in_ok-take_turn.ensures.as_long ∙ sym c.in_ok-take_turn.ensures.length;
     }
 
 pub order-preserved-then-is_empty : goal.order-preserved-then-is_empty
@@ -129,23 +133,21 @@ order-preserved-then-is_empty c =
       following =
           after_more (rows refs) c.args.order.now c.index-refs-index.result.items i c.requires.order c.order-test.true
           (sym row) c.order.dates c.order.dates (λ other there. inl there) c.order.invariant.following;
-      as_many = c.order.invariant.as_many;
     }
 
-pub returns-clause-inherits : goal.returns-clause-inherits
-returns-clause-inherits c =
+pub returns-clause-inherited : goal.returns-clause-inherited
+returns-clause-inherited c =
     let refs = c.args.refs.now in
     let own = c.args.entries.now in
     let at_end : c.order.index-index ≡ length c.args.order.now = omega arith in
-    solved_all no_entry (rule_by (texts_of_entries own)) (rows refs) c.args.order.now (texts_of_entries own)
-    (texts_of_entries c.order.entries) c.requires.order
-    (length-map own texts_of_entry ∙ c.requires.as_long ∙ sym (length-rows refs))
-    (subst
-    (λ n.
-    IsSolvedTo no_entry (rule_by (texts_of_entries own)) (rows refs) c.args.order.now (texts_of_entries own) n
-    (texts_of_entries c.order.entries)) at_end c.order.invariant.turned.solved)
-
-pub returns-clause-chunks : goal.returns-clause-chunks
-returns-clause-chunks c =
-    turned_chunks (rows c.args.refs.now) c.args.order.now c.args.entries.now c.order.entries c.order.index-index
-    c.order.invariant.turned
+    record {
+      keys = c.order.invariant.turned.keys;
+      inherits = solved_all no_entry (rule_by (texts_of_entries own)) (rows refs) c.args.order.now (texts_of_entries own)
+          (texts_of_entries c.order.entries) c.requires.order
+          (length-map own texts_of_entry ∙ c.requires.as_long ∙ sym (length-rows refs))
+          (subst
+          (λ n.
+          IsSolvedTo no_entry (rule_by (texts_of_entries own)) (rows refs) c.args.order.now (texts_of_entries own) n
+          (texts_of_entries c.order.entries)) at_end c.order.invariant.turned.solved);
+      chunks = turned_chunks (rows refs) c.args.order.now own c.order.entries c.order.index-index c.order.invariant.turned;
+    }

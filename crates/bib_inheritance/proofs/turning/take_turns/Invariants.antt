@@ -1,6 +1,6 @@
-use Rattle.std.proofs.Common.{◌≡◌, length, take}
+use Rattle.std.proofs.Common.{◌≡◌, take}
 use Rattle.bib_collections.specs.Rows.{rows}
-use Rattle.bib_inheritance.specs.Turning.{AreDates}
+use Rattle.bib_inheritance.specs.Turning.{IsCacheOf}
 use Rattle.bib_inheritance.proofs.DateFacts.{AreAfter}
 use Rattle.bib_inheritance.proofs.TurnFacts.{HaveTurned}
 use Rattle.bib_inheritance.proofs.turning.take_turns.Given as goal
@@ -10,7 +10,6 @@ abbrev pub invariant-order : goal.invariant-order
 invariant-order l = record {
   turns : l.turns.items ≡ take l.index-index l.order;
   turned : HaveTurned (rows l.refs) l.order l.initial.entries l.entries l.index-index;
-  dates : AreDates l.entries l.dates;
+  dates : IsCacheOf l.entries l.dates;
   following : AreAfter (take l.index-index l.order) l.dates;
-  as_many : length l.dates ≡ length l.entries;
 }

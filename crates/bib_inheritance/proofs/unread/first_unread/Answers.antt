@@ -11,10 +11,10 @@ returns-in-Some-clause-unread c =
     let dates = c.read_date.new.dates in
     let index : ℕ = get_or indices c.indices.r-index 0 in
     let below : index < length dates =
-    omega (arith, c.requires.indices c.indices.r-index 0 c.indices-test.true, c.in_ok-read_date.ensures.as_long) in
+    omega (arith, c.requires.indices c.indices.r-index 0 c.indices-test.true, c.in_ok-read_date.ensures.dates.as_many) in
     let copy : c.in_ok-clone.field-0 ≡ c.in-Some.error.now = search rules in
     subst (IsUnreadDate c.args.entries.now indices) (sym copy)
-    (unread_here c.args.entries.now dates indices c.indices.r-index c.indices-test.true c.in_ok-read_date.ensures.dates
+    (unread_here c.args.entries.now dates indices c.indices.r-index c.indices-test.true c.in_ok-read_date.ensures.dates.right
     c.indices.invariant.read c.in-Some.error.now
     (read_at error_in dates index c.index-dates-r.result below ∙ sym c.error.ensures ∙ ap option_copied c.in-Some.is))
 
@@ -24,12 +24,11 @@ indices-preserved c =
     let dates = c.read_date.new.dates in
     let index : ℕ = get_or indices c.indices.r-index 0 in
     let below : index < length dates =
-    omega (arith, c.requires.indices c.indices.r-index 0 c.indices-test.true, c.in_ok-read_date.ensures.as_long) in
+    omega (arith, c.requires.indices c.indices.r-index 0 c.indices-test.true, c.in_ok-read_date.ensures.dates.as_many) in
     record {
       read =
           read_here c.args.entries.now dates indices c.indices.r-index c.indices-test.true
-          c.in_ok-read_date.ensures.dates c.indices.invariant.read c.in_ok-read_date.ensures.read
+          c.in_ok-read_date.ensures.dates.right c.indices.invariant.read c.in_ok-read_date.ensures.read
           (read_at error_in dates index c.index-dates-r.result below ∙ sym c.error.ensures ∙ ap option_copied c.in_default.is);
-      as_many = c.in_ok-read_date.ensures.as_long;
       dates = c.in_ok-read_date.ensures.dates;
     }

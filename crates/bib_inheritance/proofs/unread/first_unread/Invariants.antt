@@ -1,13 +1,12 @@
 use Rattle.std.proofs.Common.{◌≡◌, length, false, take}
 use Rattle.std.specs.List.{list_any}
 use Rattle.bib_inheritance.specs.Resolving.{is_bad_date, texts_of_entries}
-use Rattle.bib_inheritance.specs.Turning.{AreDates}
+use Rattle.bib_inheritance.specs.Turning.{IsCacheOf}
 use Rattle.bib_inheritance.proofs.unread.first_unread.Given as goal
 
 -- the dates of the entries so far can be parsed
 abbrev pub invariant-indices : goal.invariant-indices
 invariant-indices l = record {
   read : list_any (is_bad_date (texts_of_entries l.entries)) (take l.r-index l.indices) ≡ false;
-  as_many : length l.dates ≡ length l.entries;
-  dates : AreDates l.entries l.dates;
+  dates : IsCacheOf l.entries l.dates;
 }

@@ -5,8 +5,8 @@ use Rattle.std.specs.Ordering.{nat_cmp}
 use Rattle.std.proofs.lemmas.List.Elements.{All-append, All-cons, All-contains_itself, All-nil, Contains-get_or}
 use Rattle.bib_inheritance.specs.Inherited.{inherited_field}
 use Rattle.bib_inheritance.proofs.TurnFacts.{GivesSame, gives_again, gives_more, seen_more}
-use Rattle.bib_inheritance.proofs.turning.distinct.Goals as goal
-use Rattle.bib_inheritance.proofs.turning.distinct.Goals.{then-branch+in_ok-push, else-branch}
+use Rattle.bib_inheritance.proofs.turning.without_repetitions.Goals as goal
+use Rattle.bib_inheritance.proofs.turning.without_repetitions.Goals.{then-branch+in_ok-push, else-branch}
 
 not_false : (b : Bool) → false ≡ not b → b ≡ true
 not_false true e = refl

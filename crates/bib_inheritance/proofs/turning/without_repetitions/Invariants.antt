@@ -3,7 +3,7 @@ use Rattle.std.specs.BTreeSet.{contains}
 use Rattle.std.specs.List.{All, Contains, list_any}
 use Rattle.std.specs.Ordering.{nat_cmp}
 use Rattle.bib_inheritance.proofs.TurnFacts.{GivesSame}
-use Rattle.bib_inheritance.proofs.turning.distinct.Given as goal
+use Rattle.bib_inheritance.proofs.turning.without_repetitions.Given as goal
 
 -- the indices so far, without repetitions
 abbrev pub invariant-indices : goal.invariant-indices
