@@ -10,6 +10,7 @@ use Rattle.std.specs.Str.{chars}
 use Rattle.bib_text.specs.declared.spanned.Spanned.{Spanned}
 use Rattle.bib_syntax.specs.declared.raw.RawChunk.{RawChunk}
 use Rattle.bib_syntax.specs.Views.{piece_of}
+use Rattle.bib_chunks.specs.declared.chunk.Chunk.{Chunk}
 use Rattle.bib_chunks.specs.Styled.{Atom}
 use Rattle.bib_syntax.specs.declared.raw.ParseError.{ParseError}
 use Rattle.bib_contents.specs.Contents.{IsContent}
@@ -17,7 +18,7 @@ use Rattle.bib_contents.proofs.FailFacts.{fails_stuck}
 use Rattle.bib_syntax.specs.Errors.{out_of_memory}
 use Rattle.bib_syntax.specs.Reading.{Part, Piece}
 use Rattle.bib_syntax.specs.Reading.Piece.{literal, abbreviation}
-use Rattle.bib_abbreviations.specs.Abbreviations.{Definitions, month, HoldsName, Reaches, IsKnown, AreRead, IsReadable, Evaluates, IsOnPath, IsFirstError, definition_among, given_by, pairs_in, sorted_in}
+use Rattle.bib_abbreviations.specs.Abbreviations.{AreContents, Definitions, month, HoldsName, Reaches, IsContentsError, IsKnown, AreRead, IsReadable, Evaluates, IsOnPath, IsFirstError, definition_among, given_by, pairs_in, sorted_in}
 use Rattle.bib_abbreviations.specs.Abbreviations.{Reaches as reaches, Evaluates as evaluates, IsFirstError as first_error}
 
 -- the number of steps of an evaluation
@@ -220,18 +221,18 @@ module _ {definitions : Definitions} {is_verbatim : Bool} {field : List Piece} w
       (record { names = λ name held. reaches.held held; texts = can.texts; on_path = λ name on. absurd on }) error
 
 -- a field whose parsing returned a value can be parsed
-pub read_is_readable : {T E : Type 0} (definitions : Definitions) (is_verbatim same_rule : Bool) (field : List Piece)
-    (said : T → List Atom) (r : Result T E) → is_verbatim ≡ same_rule
-    → IfOk r (λ x. Evaluates definitions is_verbatim field (said x)) → OnOk r (IsReadable definitions same_rule field)
-read_is_readable definitions is_verbatim same_rule field said (Ok x) same read =
-    subst (λ v. IsReadable definitions v field) same (readable read)
-read_is_readable definitions is_verbatim same_rule field said (Err e) same read = tt
+pub contents_readable : {E : Type 0} (definitions : Definitions) (is_verbatim same_rule : Bool) (field : List Piece)
+    (r : Result (List (Spanned Chunk)) E) → is_verbatim ≡ same_rule
+    → IfOk r (AreContents definitions is_verbatim field) → OnOk r (IsReadable definitions same_rule field)
+contents_readable definitions is_verbatim same_rule field (Ok x) same are =
+    subst (λ v. IsReadable definitions v field) same (readable are.says)
+contents_readable definitions is_verbatim same_rule field (Err e) same are = tt
 
 -- a field whose parsing returned another error than out of memory can't be parsed
 pub refused_not_readable : {T : Type 0} (definitions : Definitions) (is_verbatim same_rule : Bool) (field : List Piece)
     (r : Result T ParseError) → is_verbatim ≡ same_rule
     → IfErr r (λ e. (e ≡ out_of_memory) ⊎ IsFirstError definitions is_verbatim [] field e)
-    → IfErr r (λ e. (e ≡ out_of_memory) ⊎ (IsFirstError definitions same_rule [] field e × (IsReadable definitions same_rule field → ⊥)))
+    → IfErr r (λ e. (e ≡ out_of_memory) ⊎ IsContentsError definitions same_rule field e)
 refused_not_readable definitions is_verbatim same_rule field (Ok x) same refused = tt
 refused_not_readable definitions is_verbatim same_rule field (Err e) same (inl memory) = inl memory
 refused_not_readable definitions is_verbatim same_rule field (Err e) same (inr error) =
@@ -258,13 +259,13 @@ pub sorted_given : (m : BTreeMap (Bor (List ℕ)) (Bor (Vec (Spanned RawChunk)))
 sorted_given m = definitions_same (given_among m.entries)
 
 -- a result with equal definitions and an equal flag is the same
-pub read_same_rule : {T E : Type 0} (definitions same_definitions : Definitions) (is_verbatim same_rule : Bool)
-    (field : List Piece) (said : T → List Atom) (r : Result T E)
+pub contents_same_rule : {E : Type 0} (definitions same_definitions : Definitions) (is_verbatim same_rule : Bool)
+    (field : List Piece) (r : Result (List (Spanned Chunk)) E)
     → definitions ≡ same_definitions → is_verbatim ≡ same_rule
-    → IfOk r (λ x. Evaluates definitions is_verbatim field (said x)) → IfOk r (λ x. Evaluates same_definitions same_rule field (said x))
-read_same_rule definitions same_definitions is_verbatim same_rule field said r same rule read =
-    subst (λ v. IfOk r (λ x. Evaluates same_definitions v field (said x))) rule
-    (subst (λ d. IfOk r (λ x. Evaluates d is_verbatim field (said x))) same read)
+    → IfOk r (AreContents definitions is_verbatim field) → IfOk r (AreContents same_definitions same_rule field)
+contents_same_rule definitions same_definitions is_verbatim same_rule field r same rule are =
+    subst (λ v. IfOk r (AreContents same_definitions v field)) rule
+    (subst (λ d. IfOk r (AreContents d is_verbatim field)) same are)
 
 -- an error with equal definitions is the same
 pub refused_same_rule : {T : Type 0} (definitions same_definitions : Definitions) (is_verbatim : Bool)

@@ -34,7 +34,7 @@ use Rattle.bib_syntax.specs.Errors.{out_of_memory}
 use Rattle.bib_chunks.specs.Joined.{AreJoined, ArePlaced}
 use Rattle.bib_syntax.specs.Reading.{Part, Piece}
 use Rattle.bib_syntax.specs.Reading.Piece.{literal, abbreviation}
-use Rattle.bib_abbreviations.specs.Abbreviations.{Definitions, month, Evaluates, IsOnPath, IsFirstError, LiesInPart, definition_among}
+use Rattle.bib_abbreviations.specs.Abbreviations.{AreContents, Definitions, month, Evaluates, IsOnPath, IsFirstError, LiesInPart, definition_among}
 use Rattle.bib_abbreviations.specs.Abbreviations.{Evaluates as evaluates, IsFirstError as first_error}
 use Rattle.bib_abbreviations.specs.Expanding.{found_in, progress, with_progress, chunks_between, AreWithin, IsValue, IsSound, Expands, Opens}
 use Rattle.bib_syntax.specs.Views.{piece_of, piece_at}
@@ -880,6 +880,15 @@ module _ {definitions : Definitions} {is_verbatim : Bool} where
       let piece = piece_of (get_or shown i d) in
       let more = ap (λ one. map piece_of (take i items) ++ piece_of one ∷ []) is ∙ sym (pieces_more items i d before) in
       subst (λ pieces. IsRead definitions is_verbatim pieces new) more (read_more piece x says styles joins places)
+
+  -- once all pieces were parsed, the chunks are the contents of the field
+  pub read_all : {out : List (Spanned Chunk)} (items shown : List (Spanned RawChunk)) (i : ℕ) → shown ≡ items
+      → length shown ≤ i → IsRead definitions is_verbatim (map piece_of (take i items)) out
+      → AreContents definitions is_verbatim (map piece_of items) out
+  read_all {out} items shown i same past x =
+      let all : take i items ≡ items = take_all i items (omega (arith, ap length same, past)) in
+      let whole = subst (λ xs. IsRead definitions is_verbatim (map piece_of xs) out) all x in
+      record { says = whole.said; joined = whole.joined; placed = whole.placed }
 
   pub read_stop : {old : List (Spanned Chunk)} (items shown : List (Spanned RawChunk)) (i : ℕ) (d : Spanned RawChunk)
       (e : ParseError) → shown ≡ items

@@ -10,7 +10,9 @@ use Rattle.std.specs.BTreeMap.{BTreeMap}
 use Rattle.std.specs.HashMap.{HashMap}
 use Rattle.std.specs.Map.{lookup}
 use Rattle.bib_text.specs.declared.spanned.Spanned.{Spanned}
-use Rattle.bib_chunks.specs.Styled.{Atom}
+use Rattle.bib_chunks.specs.declared.chunk.Chunk.{Chunk}
+use Rattle.bib_chunks.specs.Joined.{AreJoined, ArePlaced}
+use Rattle.bib_chunks.specs.Styled.{Atom, styled}
 use Rattle.bib_syntax.specs.declared.raw.RawChunk.{RawChunk}
 use Rattle.bib_syntax.specs.declared.raw.ParseErrorKind.{ParseErrorKind}
 use Rattle.bib_syntax.specs.declared.raw.ParseErrorKind.TheVariants.{UnknownAbbreviation, AbbreviationCycle}
@@ -129,6 +131,18 @@ pub data IsFirstError (definitions : Definitions) (is_verbatim : Bool) : List (L
   following : {path : List (List ℕ)} {piece : Piece} {rest : List Piece} {atoms : List Atom} {e : ParseError}
       → Evaluates definitions is_verbatim (piece ∷ []) atoms → IsFirstError definitions is_verbatim path rest e
       → IsFirstError definitions is_verbatim path (piece ∷ rest) e
+
+-- chunks are the contents of a field: they have the styled text of its pieces, and no two neighbours are both normal or both
+-- verbatim. If the field is one literal whose span is as long as its text, the chunks lie in that span, in order
+pub record AreContents (definitions : Definitions) (is_verbatim : Bool) (pieces : List Piece) (chunks : List (Spanned Chunk)) : Type 0 where
+  pub says : Evaluates definitions is_verbatim pieces (styled chunks)
+  pub joined : AreJoined chunks
+  pub placed : (p : Part) → pieces ≡ literal p ∷ [] → p.end ≡ p.start + length p.text → ArePlaced p.start p.end chunks
+
+-- a field can't be parsed, and this is its first error
+abbrev pub IsContentsError : Definitions → Bool → List Piece → ParseError → Type 0
+IsContentsError definitions is_verbatim pieces e =
+    IsFirstError definitions is_verbatim [] pieces e × (IsReadable definitions is_verbatim pieces → ⊥)
 
 -- two errors agree: they are equal, or both are of a literal that can't be parsed and have the same kind
 abbrev pub AreOneError : ParseError → ParseError → Type 0

@@ -16,7 +16,7 @@ use Rattle.bib_abbreviations.specs.declared.abbreviations.Progress.{Progress}
 use Rattle.bib_abbreviations.specs.declared.abbreviations.Progress.TheVariants.{Begun, Done}
 use Rattle.bib_abbreviations.specs.declared.definitions.Lookup.{Lookup}
 use Rattle.bib_abbreviations.specs.declared.definitions.Lookup.TheVariants.{Hashed, Sorted}
-use Rattle.bib_abbreviations.specs.Abbreviations.{Definitions, Evaluates, IsFirstError, IsOnPath, defined_in, sorted_in}
+use Rattle.bib_abbreviations.specs.Abbreviations.{AreContents, Definitions, Evaluates, IsFirstError, IsOnPath, defined_in, sorted_in}
 use Rattle.bib_syntax.specs.Errors.{out_of_memory}
 use Rattle.bib_syntax.specs.Reading.{Part, Piece}
 use Rattle.bib_syntax.specs.Reading.Piece.{abbreviation}
@@ -96,6 +96,10 @@ Takes definitions is_verbatim old new piece (Some frame) = (p : Part) × (piece 
 -- the memo is right
 abbrev pub IsSoundFor : Expansion → Memo → List (List ℕ) → Type 0
 IsSoundFor expansion memo path = IsSound (known_to expansion) expansion.is_verbatim memo path
+
+-- chunks are the contents of a field
+abbrev pub HasContents : Expansion → List Piece → List (Spanned Chunk) → Type 0
+HasContents expansion pieces chunks = AreContents (known_to expansion) expansion.is_verbatim pieces chunks
 
 -- pieces have these atoms as their styled text
 abbrev pub PiecesSay : Expansion → List Piece → List Atom → Type 0

@@ -4,8 +4,8 @@ ghost use Rattle.std.specs.Prelude.{◌≡◌, ℕ, ◌+◌, ◌≤◌, ◌⊎�
 ghost use Rattle.std.specs.Option.{option_map};
 ghost use Rattle.bib_chunks.specs.Styled.{Atom, styled};
 ghost use Rattle.bib_abbreviations.specs.Abbreviations as abbreviations;
-ghost use Rattle.bib_abbreviations.specs.Abbreviations.{Definitions, Evaluates, IsFirstError, defined_in};
-ghost use Rattle.bib_abbreviations.specs.Expanding.{known_to, progress, with_progress, part_at, chunks_between, AddsPieces, AreWithin, IsSoundFor, IsTaken, Opens, PiecesSay, FailsWith, StopsAt};
+ghost use Rattle.bib_abbreviations.specs.Abbreviations.{AreContents, Definitions, IsFirstError, defined_in};
+ghost use Rattle.bib_abbreviations.specs.Expanding.{known_to, progress, with_progress, part_at, chunks_between, AddsPieces, AreWithin, HasContents, IsSoundFor, IsTaken, Opens, PiecesSay, FailsWith, StopsAt};
 ghost use Rattle.bib_syntax.specs.Errors.{out_of_memory};
 ghost use Rattle.bib_chunks.specs.Joined.{AreJoined, ArePlaced};
 ghost use Rattle.bib_syntax.specs.Reading.{Part, Piece};
@@ -30,13 +30,10 @@ pub(crate) fn field_contents<'a>(
     field: &Field<'a>,
     definitions: &'a HashMap<&'a str, &'a Field<'a>>,
 ) -> Result<Chunks, ParseError>
-    ensures read { IfOk result (λ chunks. Evaluates (defined_in definitions.now) is_verbatim
-        (map piece_of field.now.items) (styled chunks)) }
+    ensures contents { IfOk result (AreContents (defined_in definitions.now) is_verbatim
+        (map piece_of field.now.items)) }
     ensures refused { IfErr result (λ e. (e ≡ out_of_memory) ⊎
         IsFirstError (defined_in definitions.now) is_verbatim [] (map piece_of field.now.items) e) }
-    ensures joined { IfOk result AreJoined }
-    ensures placed { (p : Part) → map piece_of field.now.items ≡ literal p ∷ [] →
-        p.end ≡ p.start + length p.text → IfOk result (ArePlaced p.start p.end) }
 {
     let expansion = Expansion {
         alloc,
@@ -149,13 +146,9 @@ impl<'m, 'f, 's> Expansion<'m, 'f, 's> {
     // Parses the contents of a field.
     pub(crate) fn field(self, memo: &mut Memo<'s>, field: &Field<'s>) -> Result<Chunks, ParseError>
         requires sound { IsSoundFor self memo.old [] }
-        ensures read { IfOk result (λ chunks. PiecesSay self.entry (map piece_of field.now.items)
-            (styled chunks)) }
+        ensures contents { IfOk result (HasContents self.entry (map piece_of field.now.items)) }
         ensures sound { OnOk result (IsSoundFor self.entry memo.new []) }
         ensures refused { IfErr result (λ e. FailsWith self.entry [] (map piece_of field.now.items) e) }
-        ensures joined { IfOk result AreJoined }
-        ensures placed { (p : Part) → map piece_of field.now.items ≡ literal p ∷ [] →
-            p.end ≡ p.start + length p.text → IfOk result (ArePlaced p.start p.end) }
     {
         // most fields have one chunk
         let mut out = Items::from_vec(Vec::with_capacity(self.alloc, 1)?);
@@ -169,12 +162,8 @@ impl<'m, 'f, 's> Expansion<'m, 'f, 's> {
     pub(crate) fn read(self, memo: &mut Memo<'s>, field: &Field<'s>) -> Result<Chunks, ParseError>
         requires sound { IsSoundFor self memo.old [] }
         ensures sound { IsSoundFor self.entry memo.new [] }
-        ensures read { IfOk result (λ chunks. PiecesSay self.entry (map piece_of field.now.items)
-            (styled chunks)) }
+        ensures contents { IfOk result (HasContents self.entry (map piece_of field.now.items)) }
         ensures refused { IfErr result (λ e. FailsWith self.entry [] (map piece_of field.now.items) e) }
-        ensures joined { IfOk result AreJoined }
-        ensures placed { (p : Part) → map piece_of field.now.items ≡ literal p ∷ [] →
-            p.end ≡ p.start + length p.text → IfOk result (ArePlaced p.start p.end) }
     {
         let read = self.field(memo, field);
         if read.is_err() {

@@ -1,12 +1,8 @@
 //! Parses the contents of fields and expands the abbreviations in them.
 
-ghost use Rattle.std.specs.Prelude.{◌≡◌, ◌+◌, ◌⊎◌, [], ◌∷◌, map, length, OnOk, IfOk, IfErr};
-ghost use Rattle.bib_chunks.specs.Styled.{styled};
-ghost use Rattle.bib_abbreviations.specs.Abbreviations.{Evaluates, IsFirstError, IsReadable, defined_in};
+ghost use Rattle.std.specs.Prelude.{◌≡◌, ◌⊎◌, map, OnOk, IfOk, IfErr};
+ghost use Rattle.bib_abbreviations.specs.Abbreviations.{AreContents, IsContentsError, IsReadable, defined_in};
 ghost use Rattle.bib_syntax.specs.Errors.{out_of_memory};
-ghost use Rattle.bib_chunks.specs.Joined.{AreJoined, ArePlaced};
-ghost use Rattle.bib_syntax.specs.Reading.{Part};
-ghost use Rattle.bib_syntax.specs.Reading.Piece.{literal};
 ghost use Rattle.bib_syntax.specs.Views.{piece_of};
 ghost use Rattle.bib_tables.specs.VerbatimFields as names;
 
@@ -31,18 +27,13 @@ pub fn parse_field(
     field: &Field<'_>,
     abbreviations: &HashMap<&str, &Field<'_>>,
 ) -> Result<Chunks, ParseError>
-    ensures read { IfOk result (λ chunks. Evaluates (defined_in abbreviations.now)
-        (names.is_verbatim_field key.now) (map piece_of field.now.items) (styled chunks)) }
+    ensures contents { IfOk result (AreContents (defined_in abbreviations.now)
+        (names.is_verbatim_field key.now) (map piece_of field.now.items)) }
     ensures readable { OnOk result (IsReadable (defined_in abbreviations.now)
         (names.is_verbatim_field key.now) (map piece_of field.now.items)) }
     ensures refused { IfErr result (λ e. (e ≡ out_of_memory) ⊎
-        (IsFirstError (defined_in abbreviations.now) (names.is_verbatim_field key.now) []
-        (map piece_of field.now.items) e ×
-        (IsReadable (defined_in abbreviations.now) (names.is_verbatim_field key.now)
-        (map piece_of field.now.items) → ⊥))) }
-    ensures joined { IfOk result AreJoined }
-    ensures placed { (p : Part) → map piece_of field.now.items ≡ literal p ∷ [] →
-        p.end ≡ p.start + length p.text → IfOk result (ArePlaced p.start p.end) }
+        IsContentsError (defined_in abbreviations.now) (names.is_verbatim_field key.now)
+        (map piece_of field.now.items) e) }
 {
     field_contents(alloc, is_verbatim_field(key), field, abbreviations)
 }

@@ -1,12 +1,8 @@
 //! Parses fields one after another, with the same definitions of abbreviations.
 
-ghost use Rattle.std.specs.Prelude.{◌≡◌, ◌+◌, ◌⊎◌, [], ◌∷◌, map, length, OnOk, IfOk, IfErr};
-ghost use Rattle.bib_chunks.specs.Styled.{styled};
-ghost use Rattle.bib_abbreviations.specs.Abbreviations.{Evaluates, IsFirstError, IsReadable, given_by, is_known, pairs_in};
+ghost use Rattle.std.specs.Prelude.{◌≡◌, ◌⊎◌, map, OnOk, IfOk, IfErr};
+ghost use Rattle.bib_abbreviations.specs.Abbreviations.{AreContents, IsContentsError, IsReadable, given_by, is_known, pairs_in};
 ghost use Rattle.bib_syntax.specs.Errors.{out_of_memory};
-ghost use Rattle.bib_chunks.specs.Joined.{AreJoined, ArePlaced};
-ghost use Rattle.bib_syntax.specs.Reading.{Part};
-ghost use Rattle.bib_syntax.specs.Reading.Piece.{literal};
 ghost use Rattle.bib_syntax.specs.Views.{piece_of};
 ghost use Rattle.bib_tables.specs.VerbatimFields as names;
 
@@ -66,19 +62,13 @@ impl<'f, 's> FieldReader<'f, 's> {
     /// Parses the contents of a field with the name `key`, with the results and errors of `parse_field`.
     pub fn read(&mut self, key: &str, field: &Field<'s>) -> Result<Chunks, ParseError>
         ensures same { self.new ≡ self.old }
-        ensures read { IfOk result (λ chunks. Evaluates (given_by self.old)
-            (names.is_verbatim_field key.now) (map piece_of field.now.items)
-            (styled chunks)) }
+        ensures contents { IfOk result (AreContents (given_by self.old)
+            (names.is_verbatim_field key.now) (map piece_of field.now.items)) }
         ensures readable { OnOk result (IsReadable (given_by self.old)
             (names.is_verbatim_field key.now) (map piece_of field.now.items)) }
         ensures refused { IfErr result (λ e. (e ≡ out_of_memory) ⊎
-            (IsFirstError (given_by self.old) (names.is_verbatim_field key.now) []
-            (map piece_of field.now.items) e ×
-            (IsReadable (given_by self.old) (names.is_verbatim_field key.now)
-            (map piece_of field.now.items) → ⊥))) }
-        ensures joined { IfOk result AreJoined }
-        ensures placed { (p : Part) → map piece_of field.now.items ≡ literal p ∷ [] →
-            p.end ≡ p.start + length p.text → IfOk result (ArePlaced p.start p.end) }
+            IsContentsError (given_by self.old) (names.is_verbatim_field key.now)
+            (map piece_of field.now.items) e) }
     {
         let is_verbatim = is_verbatim_field(key);
         let expansion = Expansion {

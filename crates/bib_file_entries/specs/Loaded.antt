@@ -1,18 +1,15 @@
 -- Meaning: words of public contracts.
 -- The entries of a file, each with its own fields, and the first error if a field can't be parsed or a key was claimed
 -- before.
-use Rattle.std.specs.Prelude.{◌≡◌, ◌+◌, length, ℕ, Bool, true, false, List, [], ◌∷◌, ◌++◌, map, reverse, find, bytes_eq, option_map, Option, Some, None, MatchOption}
+use Rattle.std.specs.Prelude.{◌≡◌, ℕ, Bool, true, false, List, [], ◌∷◌, ◌++◌, map, reverse, find, bytes_eq, option_map, Option, Some, None, MatchOption}
 use Rattle.std.specs.Char.{to_ascii_lowercase}
 use Rattle.std.specs.FinMap as by_name
 use Rattle.std.specs.List.{list_any}
-use Rattle.bib_chunks.specs.Styled.{styled}
 use Rattle.bib_chunks.specs.declared.chunk.Chunk.{Chunk}
 use Rattle.bib_text.specs.declared.spanned.Spanned.{Spanned}
-use Rattle.bib_abbreviations.specs.Abbreviations.{Definitions, Evaluates, IsFirstError, IsReadable}
+use Rattle.bib_abbreviations.specs.Abbreviations.{AreContents, Definitions, IsFirstError, IsReadable}
 use Rattle.bib_tables.specs.VerbatimFields.{is_verbatim_field}
-use Rattle.bib_chunks.specs.Joined.{AreJoined, ArePlaced}
-use Rattle.bib_syntax.specs.Reading.{Part, Piece, FieldReading, EntryReading}
-use Rattle.bib_syntax.specs.Reading.Piece.{literal}
+use Rattle.bib_syntax.specs.Reading.{FieldReading, EntryReading}
 use Rattle.bib_syntax.specs.declared.raw.ParseError.{ParseError}
 use Rattle.bib_syntax.specs.declared.raw.ParseErrorKind.TheVariants.{DuplicateKey}
 use Rattle.bib_tables.specs.EntryType.{entry_type_of}
@@ -30,13 +27,6 @@ name_of f = map to_ascii_lowercase f.name.text
 -- the field of a name: the last one with the name
 abbrev pub field_in : List FieldReading → List ℕ → Option FieldReading
 field_in fields name = find (λ f. bytes_eq name (name_of f)) (reverse fields)
-
--- chunks are the contents of a field: they have the styled text of its pieces, and no two neighbours are both normal or both
--- verbatim. If the field is one literal whose span is as long as its text, the chunks lie in that span, in order
-pub record AreContents (definitions : Definitions) (is_verbatim : Bool) (pieces : List Piece) (chunks : List (Spanned Chunk)) : Type 0 where
-  pub says : Evaluates definitions is_verbatim pieces (styled chunks)
-  pub joined : AreJoined chunks
-  pub placed : (p : Part) → pieces ≡ literal p ∷ [] → p.end ≡ p.start + length p.text → ArePlaced p.start p.end chunks
 
 -- chunks are the contents of a raw field
 abbrev pub FieldSays : Definitions → FieldReading → List (Spanned Chunk) → Type 0

@@ -48,7 +48,7 @@ entries-preserved c =
     ap is_some (sym c.get.ensures) ∙ sym c.is_some.ensures ∙ c.if-is_some.false in
     let count : c.len.result ≡ length c.entries.entries.items = search rules in
     let more : c.claim_all.new.self
-        ≡ with_claims c.entries.names (claims_for (claims c.in_ok-entry.entry) (length c.entries.entries.items)) =
+    ≡ with_claims c.entries.names (claims_for (claims c.in_ok-entry.entry) (length c.entries.entries.items)) =
     c.in_ok-claim_all.ensures.claimed
     ∙ ap (λ n. with_claims c.entries.names (claims_for c.in_ok-claims.field-0.items n)) count
     ∙ ap (λ l. with_claims c.entries.names (claims_for l (length c.entries.entries.items))) c.in_ok-claims.ensures in

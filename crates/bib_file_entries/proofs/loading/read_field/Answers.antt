@@ -5,4 +5,4 @@ pub returns-clause-value : goal.returns-clause-value
 returns-clause-value c =
     let read = c.in_ok-chunks.ensures in
     let named = c.as_str.ensures.value ∙ c.in_ok-name.ensures.ok in
-    rw c.shrink_chunks.ensures (record { says = rw named at read.read; joined = read.joined; placed = read.placed })
+    rw c.shrink_chunks.ensures (rw named at read.contents)

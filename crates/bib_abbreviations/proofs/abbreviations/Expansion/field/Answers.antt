@@ -1,6 +1,6 @@
-use Rattle.std.proofs.Common.{◌∙◌}
+use Rattle.std.proofs.Common.{◌∙◌, arith}
 use Rattle.std.proofs.lemmas.Result.{err_from_is_err_and}
-use Rattle.bib_abbreviations.proofs.ExpansionFacts.{read_none, read_step, read_stop}
+use Rattle.bib_abbreviations.proofs.ExpansionFacts.{read_all, read_none, read_step, read_stop}
 use Rattle.bib_abbreviations.proofs.abbreviations.Expansion.field.Goals as goal
 
 pub pieces-init : goal.pieces-init
@@ -14,6 +14,11 @@ pieces-preserved c = let x = c.in_ok-expand.ensures in record {
       c.deref-piece-items.ensures.value c.pieces-test.true
       c.pieces.invariant.read x.said.1 x.said.2 x.joined x.placed;
 }
+
+pub returns-clause-contents : goal.returns-clause-contents
+returns-clause-contents c =
+    read_all c.args.field.now.items c.deref-piece-items.result.now c.pieces.piece-index
+    c.deref-piece-items.ensures.value (omega arith) c.pieces.invariant.read
 
 pub returns-in_err-expand-clause-refused : goal.returns-in_err-expand-clause-refused
 returns-in_err-expand-clause-refused c =
