@@ -74,7 +74,8 @@ returns-clause-recovered c =
     c.deref-5.result.now (length c.deref-4.result.now)
     c.in_ok-order.errors.items c.in_ok-unread.unread.items c.append.new.self.items graph_is c.in_ok-order.ensures.cut
     c.in_ok-take_turns.ensures.inherited.keys
-    (subst (λ l. Inherits (texts_of_entries cut) (rows l) values) (c.deref-2.ensures.value ∙ items) c.in_ok-take_turns.ensures.inherited.inherits)
+    (subst (λ l. Inherits (texts_of_entries cut) (rows l) values) (c.deref-2.ensures.value ∙ items)
+    c.in_ok-take_turns.ensures.inherited.inherits)
     c.in_ok-take_turns.ensures.inherited.chunks
     (c.deref-5.ensures.value ∙ c.in_ok-looks.ensures) n
     (subst
