@@ -61,17 +61,17 @@ pub each_of_none : {u v : Place} {e : ParseError} (before starts : List ℕ) →
 each_of_none {u} {e = e} before starts none ahead each some =
     each_back before starts ahead each some (All-same (FailsAt u.text e) before [] none (All-nil (FailsAt u.text e)))
 
--- a noted error is reported for fields from here
-pub noted_here : {here : Place} {e : ParseError} → FailsAt here.text e here.at → Reports (FieldsFails here) e
-noted_here {here} {e} noted =
-    subst (λ u. Reports (FieldsFails u) e) (same_place {u = place here.text here.at} {v = here} refl refl) noted.fails
+-- if parsing fields fails from the offset of a place, it fails with the same error from the place
+pub reports_here : {here : Place} {e : ParseError} → FailsAt here.text e here.at → Reports (FieldsFails here) e
+reports_here {here} {e} failure =
+    subst (λ u. Reports (FieldsFails u) e) (same_place {u = place here.text here.at} {v = here} refl refl) failure.fails
 
--- all notes stay true after the error of one more offset is noted
-pub failure_noted : (text : List ℕ) (m n : BTreeMap ℕ ParseError) (start : ℕ) (e : ParseError)
+-- all known failures stay true after the error of one more offset is added
+pub failure_remembered : (text : List ℕ) (m n : BTreeMap ℕ ParseError) (start : ℕ) (e : ParseError)
     → tree.Updates nat_cmp m n start (Some e) → FailsAt text e start
     → ((at : ℕ) → IfSome (tree.get nat_cmp m at) (λ x. FailsAt text x at)) → (at : ℕ)
     → IfSome (tree.get nat_cmp n at) (λ x. FailsAt text x at)
-failure_noted text m n start e updates fails before at =
+failure_remembered text m n start e updates fails before at =
     subst (λ found. IfSome found (λ x. FailsAt text x at)) (sym (updates.0 at))
     (either (tree.is_at (nat_cmp start) at) refl) where
       either : (b : Bool) → tree.is_at (nat_cmp start) at ≡ b → IfSome (cond b (Some e) (tree.get nat_cmp m at)) (λ x. FailsAt text x at)

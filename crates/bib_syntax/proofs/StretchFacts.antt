@@ -96,14 +96,14 @@ to_sign sign text (c ∷ cs) at end ascii left to within others ends = ⊎_elim
     (order at end)
 
 -- a stretch continues from each place in it to its end
-pub from_inside : (sign : ℕ) (u : Place) (noted : Stretch) → sign < 128 → IsStretch sign u.text noted
-    → noted.start ≤ u.at → u.at ≤ noted.end → IsCharBoundary u.text u.at → IsStretchFrom sign u noted.end
-from_inside sign u noted ascii is from to may =
+pub from_inside : (sign : ℕ) (u : Place) (stretch : Stretch) → sign < 128 → IsStretch sign u.text stretch
+    → stretch.start ≤ u.at → u.at ≤ stretch.end → IsCharBoundary u.text u.at → IsStretchFrom sign u stretch.end
+from_inside sign u stretch ascii is from to may =
     let rest : IsUtf8 (drop u.at u.text) = IsUtf8-drop u.text u.at is.utf8 may in
     let run =
-    to_sign sign u.text rest.0 u.at noted.end ascii rest.1.1 to is.may_end.0
+    to_sign sign u.text rest.0 u.at stretch.end ascii rest.1.1 to is.may_end.0
     (λ k before inside. no_sign sign k ascii is.longest.run (omega (arith, from, before)) inside)
-    (ends_at sign u.text noted.end ascii is.stopped) in
+    (ends_at sign u.text stretch.end ascii is.stopped) in
     record { longest = record { run = run; stops = is.longest.stops }; stopped = is.stopped; may_end = is.may_end }
 
 -- the longest run without `sign` from one place to another is a stretch

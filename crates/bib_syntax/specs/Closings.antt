@@ -1,5 +1,5 @@
 -- Machinery: words of private contracts.
--- Where braces close, noted for a text whose parts are parsed more than once.
+-- Where braces close, kept because parts of a text are parsed more than once.
 use Rattle.std.specs.Prelude.{ℕ, List, Option, MatchOption}
 use Rattle.std.specs.List.{All}
 use Rattle.bib_text.specs.Places.{Place, place, CharAt}
@@ -15,14 +15,14 @@ NeverCloses u = (v w : Place) → Parts u v → CharAt v char.close_brace w → 
 abbrev pub ClosesAt : Place → Place → Type 0
 ClosesAt u v = Parts u v × ((w : Place) × CharAt v char.close_brace w)
 
--- the note `close` about `u` is true: a brace at this offset closes the text from `u`, or none does if it is `None`
-abbrev pub IsNoted : Place → Option ℕ → Type 0
-IsNoted u close = MatchOption close (NeverCloses u) (λ at. ClosesAt u (place u.text at))
+-- `close` is where the text from `u` closes: a brace at this offset closes it, or no brace does if it is `None`
+abbrev pub IsCloseOf : Place → Option ℕ → Type 0
+IsCloseOf u close = MatchOption close (NeverCloses u) (λ at. ClosesAt u (place u.text at))
 
--- the note about the place after an opening brace of `text` is true
+-- `closing` tells where `text` closes from an offset
 abbrev pub IsClosing : List ℕ → Closing → Type 0
-IsClosing text noted = IsNoted (place text noted.start) noted.close
+IsClosing text closing = IsCloseOf (place text closing.start) closing.close
 
--- all notes about the closing braces of `text` are true
+-- each of `closings` is a closing of `text`
 abbrev pub AreClosings : List ℕ → List Closing → Type 0
 AreClosings text closings = All (IsClosing text) closings

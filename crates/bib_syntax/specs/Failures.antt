@@ -1,5 +1,5 @@
 -- Machinery: words of private contracts.
--- The offsets from which parsing fields fails, noted for a text whose parts are parsed more than once.
+-- The offsets from which parsing fields fails, kept because parts of a text are parsed more than once.
 use Rattle.std.specs.Prelude.{ℕ, List, IfSome}
 use Rattle.std.specs.BTreeMap as tree
 use Rattle.std.specs.List.{All}
@@ -19,6 +19,6 @@ pub record FailsAt (text : List ℕ) (e : ParseError) (at : ℕ) : Type 0 where
 abbrev pub AllFail : List ℕ → ParseError → List ℕ → Type 0
 AllFail text e starts = All (FailsAt text e) starts
 
--- from each offset with a noted error, parsing fields of `text` fails with this error
+-- from each offset in `failures`, parsing fields of `text` fails with the error of this offset
 abbrev pub AreFailures : List ℕ → Failures → Type 0
 AreFailures text failures = (at : ℕ) → IfSome (tree.get nat_cmp failures.errors at) (λ e. FailsAt text e at)

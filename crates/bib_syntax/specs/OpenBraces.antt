@@ -1,5 +1,5 @@
 -- Machinery: words of private contracts.
--- The braces of a text that are open at a place, and notes about the closed ones.
+-- The braces of a text that are open at a place, and where closed ones close.
 use Rattle.std.specs.Prelude.{◌≡◌, ℕ, zero, suc, List, [], ◌∷◌, ◌++◌, reverse, ⊤, ◌⊎◌, Some}
 use Rattle.bib_text.specs.Places.{Place, place, CharAt}
 use Rattle.bib_text.specs.Braces.{Parts}
@@ -23,13 +23,13 @@ abbrev pub AreOpen : List ℕ → ℕ → List ℕ → Place → Type 0
 AreOpen text n [] here = ⊤
 AreOpen text n (start ∷ more) here = SameBraced zero (place text start) n here × AreOpen text (suc n) more here
 
--- at the place `here` of `text`, the braces before the offsets `opened` are open, and the notes `found` are true
-pub record AreNoted (text opened : List ℕ) (found : List Closing) (here : Place) : Type 0 where
+-- at the place `here` of `text`, the braces before the offsets `opened` are open, and `found` are closings of `text`
+pub record AreBracesAt (text opened : List ℕ) (found : List Closing) (here : Place) : Type 0 where
   pub same : here.text ≡ text
   pub closings : AreClosings text found
   pub opens : AreOpen text zero (reverse opened) here
 
--- A brace at the offset `at` closes the last open brace: this one is removed from `opened` and noted in `found`. If no
+-- A brace at the offset `at` closes the last open brace: this one is removed from `opened` and added to `found`. If no
 -- brace is open, nothing changes.
 abbrev pub ClosesLast : List ℕ → List Closing → ℕ → List ℕ → List Closing → Type 0
 ClosesLast opened found at opened' found' =

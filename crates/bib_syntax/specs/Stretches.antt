@@ -1,5 +1,5 @@
 -- Machinery: words of private contracts.
--- Stretches of a text without some character, noted for a text whose parts are parsed more than once.
+-- Stretches of a text without some character, kept because parts of the text are parsed more than once.
 use Rattle.std.specs.Prelude.{◌≡◌, ℕ, ◌==◌, not, true, List, length}
 use Rattle.std.specs.List.{All}
 use Rattle.std.specs.Str.{IsUtf8, IsCharBoundary}
@@ -7,15 +7,15 @@ use Rattle.bib_text.specs.Places.{Place, place, Longest, EndsOr}
 use Rattle.bib_text.specs.Characters as char
 use Rattle.bib_syntax.specs.Closings.{AreClosings}
 use Rattle.bib_syntax.specs.Failures.{AreFailures}
-use Rattle.bib_syntax.specs.declared.raw.notes.Notes.{Notes}
+use Rattle.bib_syntax.specs.declared.raw.memo.Memo.{Memo}
 use Rattle.bib_syntax.specs.declared.raw.stretches.Stretch.{Stretch}
 
 -- a stretch of a UTF-8 text without the character `sign`; at its end `sign` occurs, or the text ends
-pub record IsStretch (sign : ℕ) (text : List ℕ) (noted : Stretch) : Type 0 where
+pub record IsStretch (sign : ℕ) (text : List ℕ) (stretch : Stretch) : Type 0 where
   pub utf8 : IsUtf8 text
-  pub longest : Longest (λ c. not (c == sign)) (place text noted.start) (place text noted.end)
-  pub stopped : EndsOr (λ c. c == sign ≡ true) (place text noted.end)
-  pub may_end : IsCharBoundary text noted.end
+  pub longest : Longest (λ c. not (c == sign)) (place text stretch.start) (place text stretch.end)
+  pub stopped : EndsOr (λ c. c == sign ≡ true) (place text stretch.end)
+  pub may_end : IsCharBoundary text stretch.end
 
 -- from `u` to the offset `end`, `sign` doesn't occur; at `end` it occurs, or the text ends
 pub record IsStretchFrom (sign : ℕ) (u : Place) (end : ℕ) : Type 0 where
@@ -31,9 +31,9 @@ AreLines text lines = All (IsStretch char.line_feed text) lines
 abbrev pub IsTail : List ℕ → Stretch → Type 0
 IsTail text tail = IsStretch char.close_brace text tail × (tail.end ≡ length text)
 
--- all notes about `text` are true
-pub record AreNotes (text : List ℕ) (notes : Notes) : Type 0 where
-  pub closings : AreClosings text notes.closings.items
-  pub lines : AreLines text notes.lines.items
-  pub tail : IsTail text notes.tail
-  pub failures : AreFailures text notes.failures
+-- each fact in `memo` is true of `text`
+pub record IsMemoOf (text : List ℕ) (memo : Memo) : Type 0 where
+  pub closings : AreClosings text memo.closings.items
+  pub lines : AreLines text memo.lines.items
+  pub tail : IsTail text memo.tail
+  pub failures : AreFailures text memo.failures

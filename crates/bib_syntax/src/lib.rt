@@ -12,10 +12,10 @@
 //!
 //! `recovery` parses a file even if some of its blocks can't be parsed. If a block fails, its error is kept, and parsing
 //! continues at the next at sign that begins a line. The text of a failed block may therefore be parsed again. To avoid
-//! scanning it many times, `notes` notes where the braces of the text close and where its lines end. It also notes from
-//! where no closing brace follows. `reader`, the scanner of all these functions, jumps to these offsets. `notes` also has
+//! scanning it many times, `memo` contains where the braces of the text close, where its lines end, and from where no
+//! closing brace follows. `reader`, the scanner of all these functions, jumps to these offsets. `memo` also has
 //! the error of each field that a failed block began to parse. Whether and how parsing fields fails depends only on the
-//! offset. A later block that reaches such a field therefore returns the noted error without parsing it.
+//! offset. A later block that reaches such a field therefore returns the known error without parsing it.
 //!
 //! The grammar is written once and has two modes. In the mode `any`, a run of characters may end anywhere. This is the file
 //! grammar, which accepts or rejects a text. In the mode `longest`, each run is as long as possible. This is the raw reading,

@@ -13,7 +13,7 @@ mod closings;
 mod failures;
 mod fields;
 mod file;
-mod notes;
+mod memo;
 mod reader;
 mod recovery;
 mod stretches;

@@ -1,9 +1,9 @@
-//! Notes where the braces of a text close, for a text whose parts are parsed more than once.
+//! Finds where the braces of a text close, for a text whose parts are parsed more than once.
 
 ghost use Rattle.std.specs.Prelude.{◌≡◌, ◌<◌, ◌-◌, ◌++◌, ◌∷◌, [], ℕ, List, length, MatchBool, IfOk, OnOk};
 ghost use Rattle.bib_text.specs.Places.{Place, AtEnd, CharAt};
 ghost use Rattle.bib_syntax.specs.Closings.{AreClosings};
-ghost use Rattle.bib_syntax.specs.OpenBraces.{AreNoted, ClosesLast};
+ghost use Rattle.bib_syntax.specs.OpenBraces.{AreBracesAt, ClosesLast};
 
 use bib_text::scanner::Scanner;
 use std::alloc::{AllocError, Global};
@@ -15,7 +15,7 @@ pub(crate) struct Closing {
     pub(crate) close: Option<usize>,
 }
 
-// The braces of a text up to a place: the offsets after those that are open, and notes about the closed ones.
+// The braces of a text up to a place: the offsets after those that are open, and where closed ones close.
 #[derive(Drop)]
 struct Braces {
     opened: Vec<usize>,
@@ -23,7 +23,7 @@ struct Braces {
 }
 
 impl Braces {
-    // Notes that the last open brace, if there is one, is closed at the offset `at`.
+    // Moves the last open brace, if there is one, to `found`, as closed at the offset `at`.
     fn close(&mut self, at: usize) -> Result<(), AllocError>
         ensures { OnOk result (ClosesLast self.old.opened.items self.old.found.items at
             self.new.opened.items self.new.found.items) }
@@ -38,9 +38,9 @@ impl Braces {
     // Moves past a run of plain characters, and past the brace, or the backslash and a character, after it. Returns false at
     // the end of the text.
     fn pass(&mut self, s: &mut Scanner<'_>) -> Result<bool, AllocError>
-        ensures noted { OnOk result ((text : List ℕ) →
-            AreNoted text self.old.opened.items self.old.found.items s.old →
-            AreNoted text self.new.opened.items self.new.found.items s.new) }
+        ensures braces { OnOk result ((text : List ℕ) →
+            AreBracesAt text self.old.opened.items self.old.found.items s.old →
+            AreBracesAt text self.new.opened.items self.new.found.items s.new) }
         ensures goes_on { IfOk result (λ goes_on. MatchBool goes_on
             (length s.new.text - s.new.at < length s.old.text - s.old.at) (AtEnd s.new)) }
     {
@@ -63,19 +63,19 @@ impl Braces {
 
     // Moves to the end of the text.
     fn pass_all(&mut self, s: &mut Scanner<'_>) -> Result<(), AllocError>
-        ensures noted { OnOk result ((text : List ℕ) →
-            AreNoted text self.old.opened.items self.old.found.items s.old →
-            AreNoted text self.new.opened.items self.new.found.items s.new) }
+        ensures braces { OnOk result ((text : List ℕ) →
+            AreBracesAt text self.old.opened.items self.old.found.items s.old →
+            AreBracesAt text self.new.opened.items self.new.found.items s.new) }
         ensures end { OnOk result (AtEnd s.new) }
     {
         'text: while self.pass(s)? {}
         Ok(())
     }
 
-    // Notes that the braces that are open at the end of the text never close.
+    // Moves the braces that are open at the end of the text to `found`, as never closed.
     fn end(&mut self) -> Result<(), AllocError>
         ensures { OnOk result ((text : List ℕ) (here : Place) → AtEnd here →
-            AreNoted text self.old.opened.items self.old.found.items here →
+            AreBracesAt text self.old.opened.items self.old.found.items here →
             AreClosings text self.new.found.items) }
     {
         'opened: while let Some(start) = self.opened.pop() {

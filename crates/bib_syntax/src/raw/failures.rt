@@ -1,4 +1,4 @@
-//! The offsets from which parsing fields fails, noted for a text whose parts are parsed more than once.
+//! The offsets from which parsing fields fails, kept because parts of a text are parsed more than once.
 
 ghost use Rattle.std.specs.Prelude.{◌≡◌, ℕ, List, OnOk};
 ghost use Rattle.std.specs.BTreeMap as tree;
@@ -26,15 +26,19 @@ impl Failures {
         }
     }
 
-    // Returns the error that is noted for the offset `at`, if there is one.
+    // Returns the known error for the offset `at`, if there is one.
     pub(crate) fn get(&self, at: usize) -> Option<&ParseError>
         ensures { option_copied result ≡ tree.get nat_cmp self.now.errors at }
     {
         self.errors.get(&at)
     }
 
-    // Notes `error` for each of the offsets `starts`.
-    pub(crate) fn note(&mut self, starts: &[usize], error: &ParseError) -> Result<(), AllocError>
+    // Keeps `error` for each of the offsets `starts`.
+    pub(crate) fn remember(
+        &mut self,
+        starts: &[usize],
+        error: &ParseError,
+    ) -> Result<(), AllocError>
         ensures { OnOk result ((text : List ℕ) → AllFail text error.now starts.now →
             AreFailures text self.old → AreFailures text self.new) }
     {

@@ -104,7 +104,7 @@ pub(crate) fn fields<'s>(
 {
     let mut pairs = Vec::new(alloc);
     'fields: while begins_identifier(s) {
-        if let Some(error) = s.noted_error()? {
+        if let Some(error) = s.known_error()? {
             return Err(error);
         }
         starts.push(s.cursor())?;

@@ -1,59 +1,59 @@
-//! A scanner that may have notes about its text.
+//! A scanner that may have a memo of its text.
 
 ghost use Rattle.std.specs.Prelude.{◌≡◌, ◌==◌, ◌&&◌, ℕ, ◌≤◌, ◌<◌, ◌^◌, Bool, true, false, not, length, take, MatchOption, MatchBool, IsTrue, IfOk, IfSome, ◌↔◌};
 ghost use Rattle.std.specs.Char.{is_whitespace};
 ghost use Rattle.std.specs.Str.{IsCharBoundary};
 ghost use Rattle.bib_text.specs.Characters as char;
 ghost use Rattle.bib_text.specs.Places.{Place, place, CharAt, Longest, AllBetween, AtEnd, EndsOr, Answers, between};
-ghost use Rattle.bib_syntax.specs.Closings.{IsNoted};
+ghost use Rattle.bib_syntax.specs.Closings.{IsCloseOf};
 ghost use Rattle.bib_syntax.specs.Failures.{FailsAt};
-ghost use Rattle.bib_syntax.specs.Stretches.{AreNotes, IsStretchFrom};
+ghost use Rattle.bib_syntax.specs.Stretches.{IsMemoOf, IsStretchFrom};
 ghost use Rattle.bib_syntax.specs.SyntaxErrors.{text_end};
 
 use crate::raw::ParseError;
-use crate::raw::notes::Notes;
+use crate::raw::memo::Memo;
 use bib_text::scanner::Scanner;
 use std::alloc::AllocError;
 use std::marker::Model;
 
-// A scanner, and the notes about its text if there are any.
+// A scanner, and the memo of its text if there is one.
 #[derive(Drop)]
-pub(crate) struct Reader<'s, 'n> {
+pub(crate) struct Reader<'s, 'm> {
     scanner: Scanner<'s>,
-    notes: Option<&'n Notes>,
+    memo: Option<&'m Memo>,
 }
 
-impl<'s, 'n> Model for Reader<'s, 'n> {
+impl<'s, 'm> Model for Reader<'s, 'm> {
     ghost use Rattle.std.specs.Prelude.{IfSome};
     ghost use Rattle.bib_text.specs.Places.{Place};
-    ghost use Rattle.bib_syntax.specs.Stretches.{AreNotes};
+    ghost use Rattle.bib_syntax.specs.Stretches.{IsMemoOf};
 
     ghost Value = { Place };
 
     ghost view = { λ r. r.scanner };
 
-    ghost invariant = { λ r. IfSome r.notes (λ notes. AreNotes r.scanner.text notes.now) };
+    ghost invariant = { λ r. IfSome r.memo (λ memo. IsMemoOf r.scanner.text memo.now) };
 }
 
-impl<'s, 'n> Reader<'s, 'n> {
-    // Returns a reader at the place of `scanner`, without notes.
+impl<'s, 'm> Reader<'s, 'm> {
+    // Returns a reader at the place of `scanner`, without a memo.
     pub(crate) fn new(scanner: Scanner<'s>) -> Self
         ensures { result ≡ scanner.entry }
     {
         Reader {
             scanner,
-            notes: None,
+            memo: None,
         }
     }
 
-    // Returns a reader at the same place, with `notes` about the text.
-    pub(crate) fn with_notes<'m>(&self, notes: Option<&'m Notes>) -> Reader<'s, 'm>
-        requires { IfSome notes (λ notes. AreNotes self.now.text notes.now) }
+    // Returns a reader at the same place, with the `memo` of the text, if there is one.
+    pub(crate) fn with_memo<'n>(&self, memo: Option<&'n Memo>) -> Reader<'s, 'n>
+        requires { IfSome memo (λ memo. IsMemoOf self.now.text memo.now) }
         ensures { result ≡ self.now }
     {
         Reader {
             scanner: self.scanner.copy(),
-            notes,
+            memo,
         }
     }
 
@@ -136,7 +136,7 @@ impl<'s, 'n> Reader<'s, 'n> {
         ensures longest { Longest (λ c. not (c == char.close_brace)) self.old self.new }
         ensures stopped { EndsOr (λ c. c == char.close_brace ≡ true) self.new }
     {
-        match self.noted_tail() {
+        match self.known_tail() {
             Some(end) => self.jump(end),
             None => {
                 self.scanner.eat_until_byte(b'}');
@@ -148,7 +148,7 @@ impl<'s, 'n> Reader<'s, 'n> {
     pub(crate) fn eat_line(&mut self)
         ensures { Longest (λ c. not (c == char.line_feed)) self.old self.new }
     {
-        match self.noted_line() {
+        match self.known_line() {
             Some(end) => self.jump(end),
             None => {
                 self.scanner.eat_until_byte(b'\n');
@@ -190,65 +190,62 @@ impl<'s, 'n> Reader<'s, 'n> {
     pub(crate) fn jump_to_end(&mut self)
         ensures { self.new ≡ text_end self.old }
     {
-        match self.notes {
-            Some(notes) => self.scanner.jump(notes.tail.end),
+        match self.memo {
+            Some(memo) => self.scanner.jump(memo.tail.end),
             None => {
                 self.scanner.eat_while(|_| true);
             }
         }
     }
 
-    // Returns the offset of the brace that closes the text from here, if it is noted. Returns `Some(None)` if no brace closes
-    // the text, and `None` if nothing is noted. Only places after an opening brace have a note.
-    pub(crate) fn noted_close(&self) -> Option<Option<usize>>
-        ensures { IfSome result (IsNoted self.now) }
+    // Returns the offset of the brace that closes the text from here, if it is known. Returns `Some(None)` if no brace closes
+    // the text, and `None` if this isn't known. It is known only for places after an opening brace.
+    pub(crate) fn known_close(&self) -> Option<Option<usize>>
+        ensures { IfSome result (IsCloseOf self.now) }
     {
-        let notes = self.notes?;
+        let memo = self.memo?;
         let at = self.scanner.cursor();
-        let index = notes
-            .closings
-            .binary_search_by_key(&at, |it| it.start)
-            .ok()?;
-        let noted = notes.closings[index];
-        if noted.start != at {
+        let index = memo.closings.binary_search_by_key(&at, |it| it.start).ok()?;
+        let closing = memo.closings[index];
+        if closing.start != at {
             return None;
         }
-        Some(noted.close)
+        Some(closing.close)
     }
 
-    // Returns the error with which parsing fields from here fails, if one is noted. Fails only if out of memory.
-    pub(crate) fn noted_error(&self) -> Result<Option<ParseError>, AllocError>
+    // Returns the error with which parsing fields from here fails, if it is known. Fails only if out of memory.
+    pub(crate) fn known_error(&self) -> Result<Option<ParseError>, AllocError>
         ensures { IfOk result (λ found. IfSome found (λ e. FailsAt self.now.text e self.now.at)) }
     {
-        let Some(notes) = self.notes else {
+        let Some(memo) = self.memo else {
             return Ok(None);
         };
-        match notes.failures.get(self.scanner.cursor()) {
+        match memo.failures.get(self.scanner.cursor()) {
             Some(error) => Ok(Some(error.clone()?)),
             None => Ok(None),
         }
     }
 
-    // Returns the end of the text if it is noted that no closing brace occurs from here on.
-    fn noted_tail(&self) -> Option<usize>
+    // Returns the end of the text if it is known that no closing brace occurs from here on.
+    fn known_tail(&self) -> Option<usize>
         ensures { IfSome result (IsStretchFrom char.close_brace self.now) }
     {
-        let notes = self.notes?;
-        if !notes.tail.holds(self.scanner.cursor()) {
+        let memo = self.memo?;
+        if !memo.tail.holds(self.scanner.cursor()) {
             return None;
         }
-        Some(notes.tail.end)
+        Some(memo.tail.end)
     }
 
-    // Returns the end of the line, before its line feed, if it is noted.
-    fn noted_line(&self) -> Option<usize>
+    // Returns the end of the line, before its line feed, if it is known.
+    fn known_line(&self) -> Option<usize>
         ensures { IfSome result (IsStretchFrom char.line_feed self.now) }
     {
-        let notes = self.notes?;
+        let memo = self.memo?;
         let at = self.scanner.cursor();
-        let following = notes.lines.partition_point(|it| it.start <= at);
+        let following = memo.lines.partition_point(|it| it.start <= at);
         let index = following.checked_sub(1)?;
-        let line = notes.lines[index];
+        let line = memo.lines[index];
         if !line.holds(at) {
             return None;
         }

@@ -10,13 +10,13 @@ ghost use Rattle.bib_syntax.specs.Grammar.{Block, longest};
 ghost use Rattle.bib_syntax.specs.Recovery as Spec;
 ghost use Rattle.bib_syntax.specs.Recovering.{RecoveredTo};
 ghost use Rattle.bib_syntax.specs.Recovery.{Recovered, GoesOnAt, skipped_block};
-ghost use Rattle.bib_syntax.specs.Stretches.{AreNotes};
+ghost use Rattle.bib_syntax.specs.Stretches.{IsMemoOf};
 ghost use Rattle.bib_syntax.specs.SyntaxErrors.{BlockFails, Reports};
 ghost use Rattle.bib_syntax.specs.Views.{file_of};
 
 use crate::raw::fields::line_comment;
 use crate::raw::file::{Item, add, block};
-use crate::raw::notes::Notes;
+use crate::raw::memo::Memo;
 use crate::raw::reader::Reader;
 use crate::raw::{ParseError, RawBibliography};
 use bib_text::scanner::Scanner;
@@ -83,37 +83,37 @@ fn go_on(s: &mut Reader<'_, '_>)
     }
 }
 
-// Parses the block at this at sign, with the notes about the text if there are any. Doesn't move if that fails.
+// Parses the block at this at sign, with the memo of the text if there is one. Doesn't move if that fails.
 fn read_block<'s>(
     s: &mut Reader<'s, '_>,
     alloc: Global,
-    notes: Option<&Notes>,
+    memo: Option<&Memo>,
     starts: &mut Vec<usize>,
 ) -> Result<Item<'s>, ParseError>
     requires sign { (v : Place) × CharAt s.old char.at v }
-    requires noted { IfSome notes (λ notes. AreNotes s.old.text notes.now) }
+    requires memo { IfSome memo (λ memo. IsMemoOf s.old.text memo.now) }
     ensures found { IfOk result (λ item. Block longest s.old (item_of item) s.new) }
     ensures fails { IfErr result (λ e. Refuses s.old.text e (Reports (BlockFails s.old) e)) }
     ensures from_each { IfErr result (λ e. e ≢ out_of_memory → AllFail s.old.text e starts.new.items) }
     ensures stays { OnErr result (s.new ≡ s.old) }
 {
-    let mut reader = s.with_notes(notes);
+    let mut reader = s.with_memo(memo);
     let item = block(&mut reader, alloc, starts)?;
     s.jump(reader.cursor());
     Ok(item)
 }
 
-// If there are notes, notes that parsing fields from each of `starts` fails with `error`.
-fn note_failures(
-    notes: &mut Option<Notes>,
+// If there is a memo, adds to it that parsing fields from each of `starts` fails with `error`.
+fn remember_failures(
+    memo: &mut Option<Memo>,
     starts: &[usize],
     error: &ParseError,
 ) -> Result<(), AllocError>
     ensures { OnOk result ((text : List ℕ) → AllFail text error.now starts.now →
-        IfSome notes.old (AreNotes text) → IfSome notes.new (AreNotes text)) }
+        IfSome memo.old (IsMemoOf text) → IfSome memo.new (IsMemoOf text)) }
 {
-    match notes {
-        Some(notes) => notes.failures.note(starts, error),
+    match memo {
+        Some(memo) => memo.failures.remember(starts, error),
         None => Ok(()),
     }
 }
@@ -135,29 +135,29 @@ impl<'s> RawRecovery<'s> {
         Ok(())
     }
 
-    // Parses the block at this at sign. If that fails, skips the block, and adds its failed fields to the notes if there are
-    // any.
+    // Parses the block at this at sign. If that fails, skips the block, and adds its failed fields to the memo if there is
+    // one.
     fn add_block(
         &mut self,
         s: &mut Reader<'s, '_>,
         alloc: Global,
-        notes: &mut Option<Notes>,
+        memo: &mut Option<Memo>,
         starts: &mut Vec<usize>,
     ) -> Result<(), AllocError>
         requires sign { (v : Place) × CharAt s.old char.at v }
-        requires noted { IfSome notes.old (AreNotes s.old.text) }
+        requires memo { IfSome memo.old (IsMemoOf s.old.text) }
         ensures found { OnOk result ((start : Place) →
             RecoveredTo start (file_of self.old.raw) self.old.skipped.items s.old →
             RecoveredTo start (file_of self.new.raw) self.new.skipped.items s.new) }
         ensures same { OnOk result (s.new.text ≡ s.old.text) }
         ensures smaller { OnOk result (length s.new.text - s.new.at < length s.old.text - s.old.at) }
-        ensures noted { OnOk result (IfSome notes.new (AreNotes s.old.text)) }
+        ensures memo { OnOk result (IfSome memo.new (IsMemoOf s.old.text)) }
     {
-        match read_block(s, alloc, notes.as_ref(), starts) {
+        match read_block(s, alloc, memo.as_ref(), starts) {
             Ok(item) => add(&mut self.raw, item),
             Err(error) => {
                 error.unless_out_of_memory()?;
-                note_failures(notes, starts, &error)?;
+                remember_failures(memo, starts, &error)?;
                 self.skip(s, error)
             }
         }
@@ -165,7 +165,7 @@ impl<'s> RawRecovery<'s> {
 }
 
 impl<'s> RawRecovery<'s> {
-    // Parses the blocks of a file, up to its end. The text of a skipped block may be parsed again, so the notes are made
+    // Parses the blocks of a file, up to its end. The text of a skipped block may be parsed again, so the memo is made
     // before the first block after a skipped one.
     fn add_blocks(
         &mut self,
@@ -179,14 +179,14 @@ impl<'s> RawRecovery<'s> {
             RecoveredTo start (file_of self.new.raw) self.new.skipped.items s.new) }
         ensures end { OnOk result (AtEnd s.new) }
     {
-        let mut notes = None;
+        let mut memo = None;
         let mut starts = Vec::new(alloc);
         'file: while let Some(c) = s.peek() {
             if c == '@' {
-                if notes.is_none() && !self.skipped.is_empty() {
-                    notes = Some(Notes::new(alloc, text)?);
+                if memo.is_none() && !self.skipped.is_empty() {
+                    memo = Some(Memo::new(alloc, text)?);
                 }
-                self.add_block(s, alloc, &mut notes, &mut starts)?;
+                self.add_block(s, alloc, &mut memo, &mut starts)?;
             } else if c == '%' {
                 line_comment(s);
             } else {

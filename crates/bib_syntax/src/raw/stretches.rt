@@ -1,4 +1,4 @@
-//! Notes stretches of a text without some character, for a text whose parts are parsed more than once.
+//! Finds stretches of a text without some character, for a text whose parts are parsed more than once.
 
 ghost use Rattle.std.specs.Prelude.{◌≤◌, IfOk, IsTrue, ◌↔◌};
 ghost use Rattle.bib_syntax.specs.Stretches.{AreLines, IsTail};

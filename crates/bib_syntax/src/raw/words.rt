@@ -166,7 +166,7 @@ pub(crate) fn quoted_text<'s>(s: &mut Reader<'s, '_>) -> Result<Spanned<&'s str>
 }
 
 // Parses a braced text from after its opening brace up to the brace that closes it, without moving past that brace. Doesn't
-// use notes.
+// use the memo.
 fn scanned_parts<'s>(s: &mut Reader<'s, '_>) -> Result<Spanned<&'s str>, ParseError>
     ensures found { OnOk result (Parts s.old s.new × ((v : Place) × CharAt s.new char.close_brace v)) }
     ensures reading { IfOk result (λ text. part_of text ≡ part s.old s.new) }
@@ -195,7 +195,7 @@ fn scanned_parts<'s>(s: &mut Reader<'s, '_>) -> Result<Spanned<&'s str>, ParseEr
 }
 
 // Parses a braced text from after its opening brace up to the brace that closes it, without moving past that brace. Uses the
-// notes if there are any.
+// memo if there is one.
 fn braced_parts<'s>(s: &mut Reader<'s, '_>) -> Result<Spanned<&'s str>, ParseError>
     ensures found { OnOk result (Parts s.old s.new × ((v : Place) × CharAt s.new char.close_brace v)) }
     ensures reading { IfOk result (λ text. part_of text ≡ part s.old s.new) }
@@ -203,7 +203,7 @@ fn braced_parts<'s>(s: &mut Reader<'s, '_>) -> Result<Spanned<&'s str>, ParseErr
     ensures error { IfErr result (IsSyntaxError s.old.text) }
     ensures end { IfErr result (λ e. e ≡ error_at_place UnexpectedEof (text_end s.old)) }
 {
-    let Some(close) = s.noted_close() else {
+    let Some(close) = s.known_close() else {
         return scanned_parts(s);
     };
     let start = s.cursor();

@@ -1,12 +1,12 @@
 use Rattle.std.proofs.lemmas.List.Sorted.{All-permutation}
 use Rattle.bib_syntax.specs.Closings.{IsClosing}
-use Rattle.bib_syntax.proofs.ClosingFacts.{nothing_noted}
+use Rattle.bib_syntax.proofs.ClosingFacts.{no_braces}
 use Rattle.bib_syntax.proofs.raw.closings.closings.Goals as goal
 
 pub returns : goal.returns
 returns c =
-    let noted =
-    c.in_ok-pass_all.ensures.noted c.args.text.now
-    (rw (c.new.ensures.items, c.new-2.ensures.items, c.new-3.ensures) (nothing_noted c.args.text.now)) in
+    let braces =
+    c.in_ok-pass_all.ensures.braces c.args.text.now
+    (rw (c.new.ensures.items, c.new-2.ensures.items, c.new-3.ensures) (no_braces c.args.text.now)) in
     All-permutation (IsClosing c.args.text.now) _ _ c.sort_unstable_by_key.ensures.permutation
-    (c.in_ok-end.ensures c.args.text.now _ c.in_ok-pass_all.ensures.end noted)
+    (c.in_ok-end.ensures c.args.text.now _ c.in_ok-pass_all.ensures.end braces)

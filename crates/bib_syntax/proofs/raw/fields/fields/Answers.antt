@@ -5,7 +5,7 @@ use Rattle.std.proofs.lemmas.Result.{err_from_is_err_and}
 use Rattle.bib_text.proofs.PlaceFacts.{ahead_here, ahead_then, ahead_char, ahead_same, left_smaller, stops_without}
 use Rattle.bib_syntax.specs.Failures.{FailsAt}
 use Rattle.bib_syntax.specs.Views.{field_of}
-use Rattle.bib_syntax.proofs.FailingFacts.{FailBefore, none_more, here_fails, further_fails, each_fails, noted_here}
+use Rattle.bib_syntax.proofs.FailingFacts.{FailBefore, none_more, here_fails, further_fails, each_fails, reports_here}
 use Rattle.bib_syntax.proofs.FieldFacts.{no_fields_read, field_read, fields_last, fields_end, ahead_field, ahead_gap, refuses_from}
 use Rattle.bib_syntax.specs.SyntaxErrors.{FieldsFails as fails}
 use Rattle.bib_syntax.proofs.ErrorFacts.{reports_at, reports_as, reported_same, stops_either}
@@ -44,13 +44,13 @@ fields-preserved c =
 
 pub returns-in-Some-clause-fails : goal.returns-in-Some-clause-fails
 returns-in-Some-clause-fails c =
-    let noted : FailsAt c.fields.s.text c.in-Some.error c.fields.s.at = search rules in
-    inr (error_back c.fields.invariant.0 noted.error, reports_as c.fields.invariant.1.fails (noted_here noted))
+    let failure : FailsAt c.fields.s.text c.in-Some.error c.fields.s.at = search rules in
+    inr (error_back c.fields.invariant.0 failure.error, reports_as c.fields.invariant.1.fails (reports_here failure))
 
 pub returns-in-Some-clause-from_each : goal.returns-in-Some-clause-from_each
 returns-in-Some-clause-from_each c some all =
-    let noted : FailsAt c.fields.s.text c.in-Some.error c.fields.s.at = search rules in
-    c.fields.invariant.2.each _ (error_back c.fields.invariant.0 noted.error) (noted_here noted) all
+    let failure : FailsAt c.fields.s.text c.in-Some.error c.fields.s.at = search rules in
+    c.fields.invariant.2.each _ (error_back c.fields.invariant.0 failure.error) (reports_here failure) all
 
 pub returns-in_err-pair-clause-fails : goal.returns-in_err-pair-clause-fails
 returns-in_err-pair-clause-fails c =

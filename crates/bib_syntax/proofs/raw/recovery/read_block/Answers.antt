@@ -8,7 +8,7 @@ use Rattle.bib_syntax.proofs.raw.recovery.read_block.Goals as goal
 use Rattle.bib_syntax.proofs.raw.recovery.read_block.Goals.{In_ok-item}
 
 read : (c : In_ok-item) → Block longest c.args.s.now (item_of c.in_ok-item.item) c.block.new.s
-read c = subst (λ u. Block longest u (item_of c.in_ok-item.item) c.block.new.s) c.with_notes-reader.ensures c.in_ok-item.ensures.found
+read c = subst (λ u. Block longest u (item_of c.in_ok-item.item) c.block.new.s) c.with_memo-reader.ensures c.in_ok-item.ensures.found
 
 pub jump-requires : goal.jump-requires
 jump-requires c =

@@ -1,5 +1,5 @@
 use Rattle.std.proofs.Common.{arith, ap, subst}
-use Rattle.bib_syntax.specs.Closings.{ClosesAt, IsNoted}
+use Rattle.bib_syntax.specs.Closings.{ClosesAt, IsCloseOf}
 use Rattle.bib_text.specs.Places.{place}
 use Rattle.bib_syntax.proofs.FieldFacts.{ahead_parts}
 use Rattle.bib_syntax.proofs.raw.words.braced_parts.Goals as goal
@@ -7,6 +7,6 @@ use Rattle.bib_syntax.proofs.raw.words.braced_parts.Goals as goal
 pub from-requires-clause-following : goal.from-requires-clause-following
 from-requires-clause-following c =
     let closes : ClosesAt c.args.s.now (place c.args.s.now.text c.in-Some-close.at) =
-    subst (IsNoted c.args.s.now) c.in-Some-close.is c.in-Some.ensures in
+    subst (IsCloseOf c.args.s.now) c.in-Some-close.is c.in-Some.ensures in
     let ahead = (ahead_parts closes.0).at in
     omega (arith, ahead, c.cursor-start.ensures.place, ap (λ p. p.at) c.jump.ensures)

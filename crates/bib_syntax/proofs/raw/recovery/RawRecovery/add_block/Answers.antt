@@ -16,8 +16,8 @@ returns-in-Ok-clause-same c = on_ok c.add.result c.add.ensures (λ same. (ahead_
 pub returns-in-Ok-clause-smaller : goal.returns-in-Ok-clause-smaller
 returns-in-Ok-clause-smaller c = on_ok c.add.result c.add.ensures (λ same. block_smaller c.in-Ok.ensures.found)
 
-pub returns-in_ok-note_failures-in-Err-clause-found : goal.returns-in_ok-note_failures-in-Err-clause-found
-returns-in_ok-note_failures-in-Err-clause-found c =
+pub returns-in_ok-remember_failures-in-Err-clause-found : goal.returns-in_ok-remember_failures-in-Err-clause-found
+returns-in_ok-remember_failures-in-Err-clause-found c =
     let here = c.in-Err.ensures.stays in
     let unread : IsUnreadBlock c.read_block.new.s c.in-Err.error =
     subst (λ u. IsUnreadBlock u c.in-Err.error) (sym here)
@@ -26,23 +26,23 @@ returns-in_ok-note_failures-in-Err-clause-found c =
     unread_found _ _ _ _ unread on (ap file_of kept) more start
     (subst (λ u. RecoveredTo start (file_of c.args.self.now.raw) c.args.self.now.skipped.items u) (sym here) before))
 
-pub returns-in_ok-note_failures-in-Err-clause-same : goal.returns-in_ok-note_failures-in-Err-clause-same
-returns-in_ok-note_failures-in-Err-clause-same c =
+pub returns-in_ok-remember_failures-in-Err-clause-same : goal.returns-in_ok-remember_failures-in-Err-clause-same
+returns-in_ok-remember_failures-in-Err-clause-same c =
     on_ok c.skip.result c.skip.ensures.passed
     (λ on. (ahead_passed on.2.passed).text ∙ (on.1.same ∙ ap (λ u. u.text) c.in-Err.ensures.stays))
 
-pub returns-in_ok-note_failures-in-Err-clause-smaller : goal.returns-in_ok-note_failures-in-Err-clause-smaller
-returns-in_ok-note_failures-in-Err-clause-smaller c =
+pub returns-in_ok-remember_failures-in-Err-clause-smaller : goal.returns-in_ok-remember_failures-in-Err-clause-smaller
+returns-in_ok-remember_failures-in-Err-clause-smaller c =
     on_ok c.skip.result c.skip.ensures.passed
     (λ on.
     subst (λ u. length c.skip.new.s.text - c.skip.new.s.at < length u.text - u.at) c.in-Err.ensures.stays
     (unread_smaller on.1 on.2))
 
-pub returns-in_ok-note_failures-in-Err-clause-noted : goal.returns-in_ok-note_failures-in-Err-clause-noted
-returns-in_ok-note_failures-in-Err-clause-noted c =
+pub returns-in_ok-remember_failures-in-Err-clause-memo : goal.returns-in_ok-remember_failures-in-Err-clause-memo
+returns-in_ok-remember_failures-in-Err-clause-memo c =
     let some : c.in-Err.error ≢ out_of_memory = (λ memory. c.in_ok-unless_out_of_memory-in-Err.ensures.ok (ap (λ e. e.kind) memory)) in
     let seen : c.deref.result.now ≡ c.read_block.new.starts.items = search rules in
     on_ok c.skip.result c.skip.ensures.passed
     (λ on.
-    c.in_ok-note_failures-in-Err.ensures c.args.s.now.text (rw seen (c.in-Err.ensures.from_each some))
-    c.requires.noted)
+    c.in_ok-remember_failures-in-Err.ensures c.args.s.now.text (rw seen (c.in-Err.ensures.from_each some))
+    c.requires.memo)

@@ -1,7 +1,7 @@
-//! Notes about a text whose parts are parsed more than once.
+//! Known facts about a text, kept because parts of the text are parsed more than once.
 
 ghost use Rattle.std.specs.Prelude.{IfOk};
-ghost use Rattle.bib_syntax.specs.Stretches.{AreNotes};
+ghost use Rattle.bib_syntax.specs.Stretches.{IsMemoOf};
 
 use crate::raw::closings::{Closing, closings};
 use crate::raw::failures::Failures;
@@ -10,19 +10,19 @@ use std::alloc::{AllocError, Global};
 
 // Where the braces of a text close, its lines, the stretch after its last closing brace, and fields that can't be parsed.
 #[derive(Drop)]
-pub(crate) struct Notes {
+pub(crate) struct Memo {
     pub(crate) closings: Vec<Closing>,
     pub(crate) lines: Vec<Stretch>,
     pub(crate) tail: Stretch,
     pub(crate) failures: Failures,
 }
 
-impl Notes {
-    // Returns the notes about `text`, without failures of fields.
+impl Memo {
+    // Returns the memo of `text`, without failures of fields.
     pub(crate) fn new(alloc: Global, text: &str) -> Result<Self, AllocError>
-        ensures { IfOk result (AreNotes text.now) }
+        ensures { IfOk result (IsMemoOf text.now) }
     {
-        Ok(Notes {
+        Ok(Memo {
             closings: closings(alloc, text)?,
             lines: lines(alloc, text)?,
             tail: tail(text),
