@@ -1,8 +1,7 @@
 #!/usr/bin/env python3
-"""Checks in a few seconds what the prover doesn't read: check.py, check.py --definitions [CRATE ..], or check.py --crates
+"""Checks in a few seconds what the prover doesn't read: check.py, or check.py --crates
 
-With --definitions it prints each definition of specs/ with its comment, by crate and file. With --crates it prints the table of
-crates for docs/CONTRIBUTING.md.
+With --crates it prints the table of crates for docs/CONTRIBUTING.md.
 
 - Each wrong body, crates/NAME/must-fail/*.edit and crates/NAME/wrong/*.edit, fits its file: each of its `old:` texts
   stands there exactly once. Its name is words in lowercase with hyphens between them, and no other has it.
@@ -223,15 +222,6 @@ def check_definitions():
         for word in sorted(set(cited(file)) - commented - within):
             error(file, f"it cites {word}, which has no comment in specs/")
             commented.add(word)
-
-
-def print_definitions(crates):
-    for file in sorted(CRATES.glob("*/specs/*.antt")):
-        words = list(definitions(file))
-        if words and (not crates or file.parent.parent.name in crates):
-            print(f"\n{file.relative_to(CRATES)}")
-            for word, said in words:
-                print(f"  {word}: {said}" if said else f"  {word}")
 
 
 def check_specs():
@@ -484,8 +474,6 @@ def main():
 
 
 if __name__ == "__main__":
-    if sys.argv[1:2] == ["--definitions"]:
-        sys.exit(print_definitions(sys.argv[2:]))
     if sys.argv[1:2] == ["--crates"]:
         print("\n".join(crates_table()))
         sys.exit()

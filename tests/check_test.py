@@ -424,6 +424,14 @@ RULES = {
     "definitions name characters": (check.check_characters, CHARACTERS, [
         ({"crates/a/specs/Lists.antt": CHARACTERS["crates/a/specs/Lists.antt"].replace("char.comma", "44")}, "line 5 says 44 where it means char.comma"),
         ({"crates/a/specs/Lists.antt": "-- Meaning: lists.\n\nquoted s = 34 ∷ s\n"}, "line 3 says 34 where it means char.quote"),
+        ({"crates/a/src/lib.rt": "fn f(s: &mut S)\n    ensures { OnOk result (x : ℕ) ×\n        CharAt s.old 44 s.new }\n{\n    g(34);\n}\n"}, "line 3 says 44 where it means char.comma"),
+    ]),
+    "clauses are read, and not the code": (check.check_characters, {**CHARACTERS, "crates/a/src/lib.rt": "fn f(c: u8) -> bool\n    ensures { result ≡ is_comma c }\n{\n    c == 44 // 34 ∷ []\n}\n"}, [
+        ({"crates/a/src/lib.rt": "fn f(c: u8) -> bool\n    requires known { c ≡ 44 }\n{\n    true\n}\n"}, "line 2 says 44 where it means char.comma"),
+    ]),
+    "lines of proofs are narrow": (check.check_widths, {"crates/a/proofs/Facts.antt": "use Rattle." + "x" * 150 + "\none : ℕ\none = " + "1" * 134 + "\n"}, [
+        ({"crates/a/proofs/f/Answers.antt": "two = " + "2" * 135 + "\n"}, "line 1 has 141 characters"),
+        ({"crates/a/specs/Lists.antt": "-- " + "x" * 138 + "\n"}, "line 1 has 141 characters"),
     ]),
     "calls that may be refused memory are in a test": (check.check_calls, CALLED, [
         ({"tests/src/calls.rs": "fn f() {\n    let kept = made(alloc)?;\n}\n"}, "no test calls Kept::copied"),
