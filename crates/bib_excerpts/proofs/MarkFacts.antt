@@ -7,8 +7,8 @@ use Rattle.std.proofs.lemmas.List.Concat.{flat_map-append}
 use Rattle.std.proofs.lemmas.List.Sums.{sum_by-set}
 use Rattle.std.proofs.lemmas.Bool.{false≢true, cases_lt}
 use Rattle.std.proofs.lemmas.Bool.Decides.{eqb_tells}
-use Rattle.bib_excerpts.specs.Needed.{marked}
-use Rattle.bib_excerpts.specs.Searching.{IsMarked, unmarked}
+use Rattle.bib_excerpts.specs.Needed.{with_marks}
+use Rattle.bib_excerpts.specs.Searching.{IsMarked, unmarked_count}
 use Rattle.std.proofs.Math.Bool.{or-true}
 
 -- what is made of a thing where it has a mark
@@ -18,8 +18,8 @@ made_if f false y = []
 
 made_more : {X Y A : Type 0} (v : X → Y) (f : Y → List A) (marks : List Bool) (xs : List X) (n : ℕ) (m : Bool) (x : X)
     → n < length marks → n < length xs → get_or marks n m ≡ m → get_or xs n x ≡ x
-    → flat_map f (marked (take (suc n) marks) (map v (take (suc n) xs)))
-    ≡ flat_map f (marked (take n marks) (map v (take n xs))) ++ cond m (f (v x)) []
+    → flat_map f (with_marks (take (suc n) marks) (map v (take (suc n) xs)))
+    ≡ flat_map f (with_marks (take n marks) (map v (take n xs))) ++ cond m (f (v x)) []
 made_more v f [] xs n m x short within mark is = absurd (omega (arith, short))
 made_more v f (b ∷ marks) [] n m x within short mark is = absurd (omega (arith, short))
 made_more v f (true ∷ marks) (y ∷ xs) zero true x short within mark is = ap (λ z. f (v z) ++ []) is ∙ append-nil (f (v x))
@@ -28,25 +28,25 @@ made_more v f (false ∷ marks) (y ∷ xs) zero true x short within mark is = ab
 made_more v f (false ∷ marks) (y ∷ xs) zero false x short within mark is = refl
 made_more v f (true ∷ marks) (y ∷ xs) (suc n) m x short within mark is =
     ap (λ l. f (v y) ++ l) (made_more v f marks xs n m x (omega (arith, short)) (omega (arith, within)) mark is)
-    ∙ sym (append_assoc (f (v y)) (flat_map f (marked (take n marks) (map v (take n xs)))) (cond m (f (v x)) []))
+    ∙ sym (append_assoc (f (v y)) (flat_map f (with_marks (take n marks) (map v (take n xs)))) (cond m (f (v x)) []))
 made_more v f (false ∷ marks) (y ∷ xs) (suc n) m x short within mark is =
     made_more v f marks xs n m x (omega (arith, short)) (omega (arith, within)) mark is
 
 -- what is made of marked things grows by what is made of one more
 pub marked_made : {X Y A : Type 0} (v : X → Y) (f : Y → List A) (marks : List Bool) (xs : List X) (n : ℕ) (m : Bool)
     (x : X) (start old new : List A) → n < length marks → n < length xs → get_or marks n m ≡ m → get_or xs n x ≡ x
-    → old ≡ start ++ flat_map f (marked (take n marks) (map v (take n xs))) → new ≡ old ++ cond m (f (v x)) []
-    → new ≡ start ++ flat_map f (marked (take (n + 1) marks) (map v (take (n + 1) xs)))
+    → old ≡ start ++ flat_map f (with_marks (take n marks) (map v (take n xs))) → new ≡ old ++ cond m (f (v x)) []
+    → new ≡ start ++ flat_map f (with_marks (take (n + 1) marks) (map v (take (n + 1) xs)))
 marked_made v f marks xs n m x start old new short within mark is before after =
     let more = made_more v f marks xs n m x short within mark is in
     let one : n + 1 ≡ suc n = omega arith in
     after ∙ ap (λ l. l ++ cond m (f (v x)) []) before
-    ∙ append_assoc start (flat_map f (marked (take n marks) (map v (take n xs)))) (cond m (f (v x)) [])
-    ∙ ap (λ l. start ++ l) (sym more ∙ ap (λ k. flat_map f (marked (take k marks) (map v (take k xs)))) (sym one))
+    ∙ append_assoc start (flat_map f (with_marks (take n marks) (map v (take n xs)))) (cond m (f (v x)) [])
+    ∙ ap (λ l. start ++ l) (sym more ∙ ap (λ k. flat_map f (with_marks (take k marks) (map v (take k xs)))) (sym one))
 
 -- where the shorter list ends, all that are marked were made
 pub marked_all : {X Y : Type 0} (v : X → Y) (marks : List Bool) (xs : List X) (n : ℕ)
-    → n ≡ min (length xs) (length marks) → marked (take n marks) (map v (take n xs)) ≡ marked marks (map v xs)
+    → n ≡ min (length xs) (length marks) → with_marks (take n marks) (map v (take n xs)) ≡ with_marks marks (map v xs)
 marked_all v [] xs zero is = refl
 marked_all v [] [] (suc n) is = refl
 marked_all v [] (x ∷ xs) (suc n) is = refl
@@ -103,7 +103,7 @@ made_of_more v f xs i x within is =
 -- ---- marks
 
 pub unmarked_less : (marks : List Bool) (r : ℕ) → r < length marks → get_or marks r false ≡ false
-    → unmarked (set marks r true) + 1 ≡ unmarked marks
+    → unmarked_count (set marks r true) + 1 ≡ unmarked_count marks
 unmarked_less marks r within h =
     let e = sum_by-set (λ b. cond (not b) 1 0) marks r true false within in omega (arith, e, ap (λ (b : Bool). cond {A = ℕ} (not b) 1 0) h)
 

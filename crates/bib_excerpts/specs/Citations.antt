@@ -5,7 +5,7 @@ use Rattle.std.specs.List.{after_first, before_first, flat_map, list_any, positi
 use Rattle.std.specs.Option.{option_and_then, option_map_or, option_or}
 use Rattle.std.specs.Str.{trim}
 use Rattle.bib_text.specs.Characters as char
-use Rattle.bib_excerpts.specs.Names.{comma_parts, filled}
+use Rattle.bib_excerpts.specs.Names.{comma_parts, name_if_filled}
 use Rattle.bib_excerpts.specs.declared.citations.Citation.{Citation}
 use Rattle.bib_excerpts.specs.declared.citations.Citations.{Citations}
 
@@ -78,15 +78,15 @@ abbrev pub unescaped_rest : List ℕ → List ℕ
 unescaped_rest text = flat_map unescaped_piece (slice_split (λ b. b == char.ampersand) text)
 
 -- what a text stands for in XML
-abbrev pub unescaped : List ℕ → List ℕ
-unescaped text =
+abbrev pub unescaped_text : List ℕ → List ℕ
+unescaped_text text =
     if nat_lt (position_or_len (λ b. b == char.ampersand) text) (length text)
     then before_first (λ b. b == char.ampersand) text
     ++ unescaped_rest (after_first (λ b. b == char.ampersand) text) else text
 
 -- the key that an element of a control file cites, given what stands after its `<`
 abbrev pub bcf_cited : List ℕ → List (List ℕ)
-bcf_cited piece = option_map_or (λ text. filled (trim (unescaped text))) (citekey_text piece) []
+bcf_cited piece = option_map_or (λ text. name_if_filled (trim (unescaped_text text))) (citekey_text piece) []
 
 -- the citations of these keys at a place
 abbrev pub cites_at : ℕ → List (List ℕ) → List Citation

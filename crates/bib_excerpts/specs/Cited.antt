@@ -6,7 +6,7 @@ use Rattle.std.specs.List.{flat_map}
 use Rattle.std.specs.Str.{trim_end}
 use Rattle.bib_syntax.specs.Reading.{EntryReading, FieldReading, FileReading}
 use Rattle.bib_excerpts.specs.Names.{definition_node, entry_node, used_in_fields}
-use Rattle.bib_excerpts.specs.Needed.{AreMarks, IsNeeded, Node, marked}
+use Rattle.bib_excerpts.specs.Needed.{AreMarks, IsNeeded, Node, with_marks}
 
 -- a text and a line feed
 abbrev pub with_line_feed : List ℕ → List ℕ
@@ -47,7 +47,7 @@ pub record IsExcerpt (names : List (List ℕ)) (all : Bool) (text : List ℕ) (s
   pub definition_marks : List Bool
   pub entries : AreMarks (IsCited names all (map entry_node says.entries)) (length says.entries) entry_marks
   pub definitions : AreMarks
-      (IsNeeded (used_in_entries (marked entry_marks says.entries)) (map definition_node says.abbreviations))
+      (IsNeeded (used_in_entries (with_marks entry_marks says.entries)) (map definition_node says.abbreviations))
       (length says.abbreviations) definition_marks
-  pub is : printed ≡ flat_map (definition_line text) (marked definition_marks says.abbreviations)
-      ++ flat_map (entry_line text) (marked entry_marks says.entries)
+  pub is : printed ≡ flat_map (definition_line text) (with_marks definition_marks says.abbreviations)
+      ++ flat_map (entry_line text) (with_marks entry_marks says.entries)

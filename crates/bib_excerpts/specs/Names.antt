@@ -11,12 +11,12 @@ use Rattle.bib_syntax.specs.Reading.Piece.{abbreviation, literal}
 use Rattle.bib_excerpts.specs.Needed.{Node}
 
 -- a name that isn't empty, and else none
-abbrev pub filled : List ℕ → List (List ℕ)
-filled name = if length name == 0 then [] else name ∷ []
+abbrev pub name_if_filled : List ℕ → List (List ℕ)
+name_if_filled name = if length name == 0 then [] else name ∷ []
 
 -- the parts of a comma list, without the white space around them; what is empty is no part
 abbrev pub comma_parts : List ℕ → List (List ℕ)
-comma_parts list = flat_map (λ part. filled (trim part)) (slice_split (λ c. c == char.comma) list)
+comma_parts list = flat_map (λ part. name_if_filled (trim part)) (slice_split (λ c. c == char.comma) list)
 
 -- the parts of the comma list that a literal element is
 abbrev pub piece_parts : Piece → List (List ℕ)

@@ -37,8 +37,8 @@ pub record AreMarks (fact : ℕ → Type 0) (count : ℕ) (marks : List Bool) : 
   pub each : (index : ℕ) → index < count → IsTrue (slice_index_or marks index false) ↔ fact index
 
 -- the things with marks, in order
-abbrev pub marked : {A : Type 0} → List Bool → List A → List A
-marked [] things = []
-marked (mark ∷ marks) [] = []
-marked (true ∷ marks) (thing ∷ things) = thing ∷ marked marks things
-marked (false ∷ marks) (thing ∷ things) = marked marks things
+abbrev pub with_marks : {A : Type 0} → List Bool → List A → List A
+with_marks [] things = []
+with_marks (mark ∷ marks) [] = []
+with_marks (true ∷ marks) (thing ∷ things) = thing ∷ with_marks marks things
+with_marks (false ∷ marks) (thing ∷ things) = with_marks marks things

@@ -27,8 +27,8 @@ abbrev pub IsMarked : List Bool → ℕ → Type 0
 IsMarked marks index = slice_index_or marks index false ≡ true
 
 -- how many indices have no mark
-abbrev pub unmarked : List Bool → ℕ
-unmarked marks = count_by not marks
+abbrev pub unmarked_count : List Bool → ℕ
+unmarked_count marks = count_by not marks
 
 -- no mark is lost, new marks are on such indices alone, and what gets a mark waits
 pub record Marks (is_new : ℕ → Type 0) (old : List Bool) (before : List ℕ) (new : List Bool) (after : List ℕ) : Type 0 where
@@ -36,7 +36,7 @@ pub record Marks (is_new : ℕ → Type 0) (old : List Bool) (before : List ℕ)
   pub only : (index : ℕ) → IsMarked new index → IsMarked old index ⊎ (is_new index × Contains after index)
   pub waiting : (index : ℕ) → Contains before index → Contains after index
   pub waits : (index : ℕ) → Contains after index → Contains before index ⊎ IsMarked new index
-  pub as_many : unmarked new + length after ≡ unmarked old + length before
+  pub as_many : unmarked_count new + length after ≡ unmarked_count old + length before
 
 -- these names were looked up: what has one has a mark, and a name is left as it was or what has it has a mark
 pub record LooksUp (old : BTreeMap (Bor (List ℕ)) (Vec ℕ)) (names : List (List ℕ)) (marks : List Bool)

@@ -7,7 +7,7 @@ ghost use Rattle.bib_text.specs.Characters as char;
 ghost use Rattle.bib_excerpts.specs.Citations as spec;
 ghost use Rattle.bib_excerpts.specs.Citations.{AreCitations, aux_cited, bcf_cited, cites_at};
 ghost use Rattle.bib_excerpts.specs.Collecting.{IsCollected, IsSeen};
-ghost use Rattle.bib_excerpts.specs.Names.{filled};
+ghost use Rattle.bib_excerpts.specs.Names.{name_if_filled};
 ghost use Rattle.bib_excerpts.specs.Texts.{text_list};
 
 use crate::names::push_parts;
@@ -231,8 +231,8 @@ fn push_pieces(written: &mut String, text: &str) -> Result<(), AllocError>
 }
 
 // What a text stands for in XML.
-fn unescaped(alloc: Global, text: &str) -> Result<String, AllocError>
-    ensures { IfOk result (λ written. string_bytes written ≡ spec.unescaped text.now) }
+fn unescaped_text(alloc: Global, text: &str) -> Result<String, AllocError>
+    ensures { IfOk result (λ written. string_bytes written ≡ spec.unescaped_text text.now) }
 {
     let Some((first, rest)) = text.split_once('&') else {
         return String::from_str(alloc, text);
@@ -246,7 +246,7 @@ impl Collected {
     // Adds a key that isn't empty.
     fn add_filled(&mut self, alloc: Global, key: &str, at: usize) -> Result<(), AllocError>
         requires { IsSeen self.old }
-        ensures { OnOk result (IsCollected self.old (cites_at at (filled key.now)) self.new) }
+        ensures { OnOk result (IsCollected self.old (cites_at at (name_if_filled key.now)) self.new) }
     {
         if key.is_empty() {
             return Ok(());
@@ -263,7 +263,7 @@ impl Collected {
         let Some(text) = citekey_text(piece) else {
             return Ok(());
         };
-        let key = unescaped(alloc, text)?;
+        let key = unescaped_text(alloc, text)?;
         self.add_filled(alloc, key.as_str().trim(), at)?;
         Ok(())
     }

@@ -7,13 +7,13 @@ ghost use Rattle.bib_syntax.specs.Recovery.{IsBlockOf};
 ghost use Rattle.bib_syntax.specs.Views.{entry_reading_of, field_of, file_of};
 ghost use Rattle.bib_excerpts.specs.Cited.{IsCited, IsExcerpt, definition_line, definition_text, entry_line, used_in_entries, used_in_entry};
 ghost use Rattle.bib_excerpts.specs.Names.{definition_node, entry_node};
-ghost use Rattle.bib_excerpts.specs.Needed.{AreMarks, IsNeeded, marked};
+ghost use Rattle.bib_excerpts.specs.Needed.{AreMarks, IsNeeded, with_marks};
 ghost use Rattle.bib_excerpts.specs.Standing.{IsFieldIn};
 ghost use Rattle.bib_excerpts.specs.Texts.{text_list};
 
 use crate::excerpts::print_if;
 use crate::names::{links_of_definitions, links_of_entries, push_used_in_fields};
-use crate::needed::needed;
+use crate::needed::mark_needed;
 use crate::request::CitedKeys;
 use bib_syntax::raw::{Pair, RawBibliography, RawEntry};
 use bib_text::spanned::Spanned;
@@ -33,7 +33,7 @@ fn cited_entries(
         return Ok(marks);
     }
     let links = links_of_entries(alloc, entries)?;
-    let marks = needed(alloc, &cited.keys, &links)?;
+    let marks = mark_needed(alloc, &cited.keys, &links)?;
     Ok(marks)
 }
 
@@ -52,12 +52,12 @@ fn push_used_if<'s>(
 }
 
 // The abbreviations in the entries with marks.
-fn used<'s>(
+fn used_abbreviations<'s>(
     alloc: Global,
     entries: &[Spanned<RawEntry<'s>>],
     marks: &[bool],
 ) -> Result<Vec<&'s str>, AllocError>
-    ensures { IfOk result (λ names. text_list names ≡ used_in_entries (marked marks.now (map entry_reading_of entries.now))) }
+    ensures { IfOk result (λ names. text_list names ≡ used_in_entries (with_marks marks.now (map entry_reading_of entries.now))) }
 {
     let mut names = Vec::new(alloc);
     'entries: for (entry, mark) in entries.iter().zip(marks) {
@@ -73,12 +73,12 @@ fn used_definitions(
     marks: &[bool],
 ) -> Result<Vec<bool>, AllocError>
     ensures { IfOk result (λ found. AreMarks
-        (IsNeeded (used_in_entries (marked marks.now (file_of raw.now).entries)) (map definition_node (file_of raw.now).abbreviations))
+        (IsNeeded (used_in_entries (with_marks marks.now (file_of raw.now).entries)) (map definition_node (file_of raw.now).abbreviations))
         (length (file_of raw.now).abbreviations) found.items) }
 {
-    let names = used(alloc, &raw.entries, marks)?;
+    let names = used_abbreviations(alloc, &raw.entries, marks)?;
     let links = links_of_definitions(alloc, &raw.abbreviations)?;
-    let marks = needed(alloc, &names, &links)?;
+    let marks = mark_needed(alloc, &names, &links)?;
     Ok(marks)
 }
 
@@ -119,7 +119,7 @@ fn print_definitions(
 ) -> Result<(), AllocError>
     requires { AllByRecursion (IsFieldIn text.now) (map field_of pairs.now) }
     ensures { OnOk result (string_bytes printed.new ≡
-        string_bytes printed.old ++ flat_map (definition_line text.now) (marked marks.now (map field_of pairs.now))) }
+        string_bytes printed.old ++ flat_map (definition_line text.now) (with_marks marks.now (map field_of pairs.now))) }
 {
     'pairs: for (pair, mark) in pairs.iter().zip(marks) {
         print_definition(printed, text, pair, *mark)?;
@@ -136,7 +136,7 @@ fn print_entries(
 ) -> Result<(), AllocError>
     requires { AllByRecursion (IsBlockOf text.now) (map entry_reading_of entries.now) }
     ensures { OnOk result (string_bytes printed.new ≡
-        string_bytes printed.old ++ flat_map (entry_line text.now) (marked marks.now (map entry_reading_of entries.now))) }
+        string_bytes printed.old ++ flat_map (entry_line text.now) (with_marks marks.now (map entry_reading_of entries.now))) }
 {
     'entries: for (entry, mark) in entries.iter().zip(marks) {
         print_if(printed, text, entry, *mark)?;
@@ -145,7 +145,7 @@ fn print_entries(
 }
 
 // What is printed of a bibliography for what is cited.
-pub(crate) fn cited(
+pub(crate) fn cited_text(
     alloc: Global,
     cited: &CitedKeys<'_>,
     text: &str,

@@ -11,7 +11,7 @@ ghost use Rattle.bib_excerpts.specs.Cited.{entry_line};
 ghost use Rattle.bib_excerpts.specs.Cited as cited_spec;
 ghost use Rattle.bib_excerpts.specs.Standing.{IsFieldIn};
 
-use crate::cited::cited;
+use crate::cited::cited_text;
 use crate::names::is_name;
 use crate::request::{Request, Search};
 use crate::sets::name_set;
@@ -153,7 +153,7 @@ fn grep(
 }
 
 // What is printed of what can be read of a text.
-fn printed(
+fn answer_raw(
     alloc: Global,
     request: &Request<'_>,
     text: &str,
@@ -167,7 +167,7 @@ fn printed(
         Request::Keys => keys(alloc, &raw.entries),
         Request::Get(names) => get(alloc, names, text, &raw.entries),
         Request::Grep(search) => grep(alloc, search, text, &raw.entries),
-        Request::Cited(keys) => cited(alloc, keys, text, raw),
+        Request::Cited(keys) => cited_text(alloc, keys, text, raw),
     }
 }
 
@@ -176,5 +176,5 @@ pub fn answer(alloc: Global, request: &Request<'_>, text: &str) -> Result<String
     ensures { IfOk result (λ printed. IsTextAnswer request.now text.now (string_bytes printed)) }
 {
     let found = RawBibliography::recover(alloc, text)?;
-    printed(alloc, request, text, &found.raw)
+    answer_raw(alloc, request, text, &found.raw)
 }

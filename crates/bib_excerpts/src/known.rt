@@ -43,7 +43,7 @@ fn marks_among(alloc: Global, names: &[&str], keys: &[&str]) -> Result<Vec<bool>
 }
 
 /// Which keys are names of entries that can be read of a text: their keys, or names that their fields `ids` list.
-pub fn known(alloc: Global, text: &str, keys: &[&str]) -> Result<Vec<bool>, AllocError>
+pub fn mark_known(alloc: Global, text: &str, keys: &[&str]) -> Result<Vec<bool>, AllocError>
     ensures { IfOk result (λ marks. IsKnownIn text.now (map (λ k. k.now) keys.now) marks.items) }
 {
     let found = RawBibliography::recover(alloc, text)?;
@@ -100,7 +100,7 @@ fn uncited_among<'s>(
 }
 
 /// The keys, with their places, of the entries that can be read of a text and have no name among these keys.
-pub fn uncited<'s>(
+pub fn find_uncited<'s>(
     alloc: Global,
     text: &'s str,
     keys: &[&str],

@@ -5,7 +5,7 @@ ghost use Rattle.std.specs.Prelude.{◌≡◌, ℕ, Bool, true, List, map};
 ghost use Rattle.bib_syntax.specs.Reading.{FileReading};
 ghost use Rattle.bib_excerpts.specs.Cited.{IsExcerpt, used_in_entries};
 ghost use Rattle.bib_excerpts.specs.Names.{definition_node, entry_node};
-ghost use Rattle.bib_excerpts.specs.Needed.{HasName, RefersTo, is_listed, marked};
+ghost use Rattle.bib_excerpts.specs.Needed.{HasName, RefersTo, is_listed, with_marks};
 ghost use Rattle.bib_excerpts.specs.Searching.{IsMarked};
 
 /// Each entry of the file that an entry refers to that is printed is printed.
@@ -18,7 +18,7 @@ pub fn references_are_printed()
 /// Each definition of an abbreviation that an entry uses that is printed is printed.
 pub fn used_are_defined()
     ensures { (names : List (List ℕ)) (all : Bool) (text printed : List ℕ) (says : FileReading) (h : IsExcerpt names all text says printed) →
-        (index : ℕ) (name : List ℕ) → is_listed (used_in_entries (marked h.entry_marks says.entries)) name ≡ true →
+        (index : ℕ) (name : List ℕ) → is_listed (used_in_entries (with_marks h.entry_marks says.entries)) name ≡ true →
         HasName (map definition_node says.abbreviations) index name → IsMarked h.definition_marks index }
 {}
 

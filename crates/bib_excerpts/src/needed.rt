@@ -3,7 +3,7 @@
 ghost use Rattle.std.specs.Prelude.{◌≡◌, ◌↔◌, ◌⊎◌, ◌+◌, ◌<◌, ℕ, List, [], ◌∷◌, ◌++◌, true, false, length, map, bytes_eq, slice_index_or, if◌then◌else◌, IfOk, OnOk};
 ghost use Rattle.std.specs.List.{All, Contains};
 ghost use Rattle.bib_excerpts.specs.Needed.{AreMarks, HasName, IsNeeded, is_listed};
-ghost use Rattle.bib_excerpts.specs.Searching.{AreHolders, AreHoldersIn, IsMarked, Marks, LooksUp, holders_in, unmarked};
+ghost use Rattle.bib_excerpts.specs.Searching.{AreHolders, AreHoldersIn, IsMarked, Marks, LooksUp, holders_in, unmarked_count};
 ghost use Rattle.bib_excerpts.specs.Texts.{node_of, text_list};
 
 use crate::names::Links;
@@ -11,7 +11,7 @@ use std::alloc::{AllocError, Global};
 use std::collections::BTreeMap;
 
 // Takes the indices of a name out of a map.
-fn taken(alloc: Global, holders: &mut BTreeMap<&str, Vec<usize>>, name: &str) -> Vec<usize>
+fn take_indices(alloc: Global, holders: &mut BTreeMap<&str, Vec<usize>>, name: &str) -> Vec<usize>
     ensures items { result.items ≡ holders_in holders.old name.now }
     ensures left { (other : List ℕ) → holders_in holders.new other ≡
         (if bytes_eq name.now other then [] else holders_in holders.old other) }
@@ -32,7 +32,7 @@ fn add_holder<'s>(
     ensures { OnOk result ((other : List ℕ) → holders_in holders.new other ≡
         (if bytes_eq name.now other then holders_in holders.old other ++ index ∷ [] else holders_in holders.old other)) }
 {
-    let mut indices = taken(alloc, holders, name);
+    let mut indices = take_indices(alloc, holders, name);
     indices.push(index)?;
     holders.insert(name, indices)?;
     Ok(())
@@ -102,7 +102,7 @@ fn mark_name(
     ensures all { OnOk result (All (IsMarked marks.new) (holders_in holders.old name.now)) }
     ensures left { (other : List ℕ) → holders_in holders.new other ≡ (if bytes_eq name.now other then [] else holders_in holders.old other) }
 {
-    let indices = taken(alloc, holders, name);
+    let indices = take_indices(alloc, holders, name);
     mark_all(&indices, marks, pending)
 }
 
@@ -126,7 +126,7 @@ fn mark_names(
 }
 
 // Marks what is needed where these names are asked for.
-pub(crate) fn needed(
+pub(crate) fn mark_needed(
     alloc: Global,
     names: &[&str],
     links: &[Links<'_>],

@@ -67,13 +67,13 @@ module _ {K : Type 0} (refusals : K → ℕ) (text : List ℕ) (output : K) wher
 -- ---- texts that are converted
 
 -- what is answered of a bibliography whose entries are printed
-pub converted : {K E : Type 0} (taken : K → Option (List ℕ)) (target : Target) (is_first : Bool) (text : List ℕ)
+pub converted_text : {K E : Type 0} (taken : K → Option (List ℕ)) (target : Target) (is_first : Bool) (text : List ℕ)
     (old new : K) (b : Bibliography) (r : Result Bool E) → IsBibliographyOf text b
     → IfOk r (λ next. Appends (taken old) (taken new) (texts_after target is_first b.entries))
     → IfOk r (λ next. next ≡ is_first_after target is_first b.entries)
     → IfOk r (IsExported taken target is_first text old new)
-converted taken target is_first text old new b (Err e) of_text printed next = _
-converted taken target is_first text old new b (Ok first') of_text printed next = record {
+converted_text taken target is_first text old new b (Err e) of_text printed next = _
+converted_text taken target is_first text old new b (Ok first') of_text printed next = record {
   bibliography = b;
   of_text = of_text;
   printed = printed;

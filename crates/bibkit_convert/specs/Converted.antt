@@ -28,10 +28,10 @@ is_written Csl e = not (is_xdata e.entry_type)
 is_written Ris e = not (is_xdata e.entry_type)
 
 -- what an entry is in a format
-abbrev pub exported : Target → Entry → List ℕ
-exported Csl e = compact_text (item_json (item_of_entry e))
-exported Json e = json_text_of e
-exported Ris e = ris_of e
+abbrev pub exported_entry : Target → Entry → List ℕ
+exported_entry Csl e = compact_text (item_json (item_of_entry e))
+exported_entry Json e = json_text_of e
+exported_entry Ris e = ris_of e
 
 -- what stands before an entry, by whether it is the first
 abbrev pub before_next : Target → Bool → List ℕ
@@ -47,7 +47,7 @@ end Ris is_empty = []
 
 -- an entry after what stands before it, if it is written
 abbrev pub text_after : Target → Bool → Entry → List ℕ
-text_after target is_first e = if is_written target e then before_next target is_first ++ exported target e else []
+text_after target is_first e = if is_written target e then before_next target is_first ++ exported_entry target e else []
 
 -- whether none is written yet after an entry
 abbrev pub is_still_first : Target → Bool → Entry → Bool

@@ -34,7 +34,7 @@ impl Target {
 
     // What an entry is in the format.
     pub(crate) fn text_of(self, alloc: Global, entry: &Entry) -> Result<String, AllocError>
-        ensures { IfOk result (λ text. string_bytes text ≡ spec.exported self entry.now) }
+        ensures { IfOk result (λ text. string_bytes text ≡ spec.exported_entry self entry.now) }
     {
         match self {
             Target::Csl => item_text(alloc, entry),
