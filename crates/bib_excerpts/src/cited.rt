@@ -1,4 +1,4 @@
-//! The entries that are cited, with what they need, as they stand in a text.
+//! Prints the cited entries of a text with everything that they refer to, transitively.
 
 ghost use Rattle.std.specs.Prelude.{◌≡◌, [], ◌++◌, map, length, if◌then◌else◌, IfOk, OnOk};
 ghost use Rattle.std.specs.List.{AllByRecursion, flat_map};
@@ -19,7 +19,7 @@ use bib_syntax::raw::{Pair, RawBibliography, RawEntry};
 use bib_text::spanned::Spanned;
 use std::alloc::{AllocError, Global};
 
-// Marks the entries that are cited, and those that they need.
+// Marks the cited entries, and the entries that they refer to, transitively.
 fn cited_entries(
     alloc: Global,
     cited: &CitedKeys<'_>,
@@ -37,7 +37,7 @@ fn cited_entries(
     Ok(marks)
 }
 
-// Adds the abbreviations in an entry, if it has a mark.
+// Appends the abbreviations that an entry uses, if it has a mark.
 fn push_used_if<'s>(
     names: &mut Vec<&'s str>,
     entry: &Spanned<RawEntry<'s>>,
@@ -51,7 +51,7 @@ fn push_used_if<'s>(
     Ok(())
 }
 
-// The abbreviations in the entries with marks.
+// Returns the abbreviations that the entries with marks use.
 fn used_abbreviations<'s>(
     alloc: Global,
     entries: &[Spanned<RawEntry<'s>>],
@@ -66,7 +66,7 @@ fn used_abbreviations<'s>(
     Ok(names)
 }
 
-// Marks the definitions of the abbreviations that the entries with marks use, and of those that these use.
+// Marks the definitions of the abbreviations that the entries with marks use, transitively.
 fn used_definitions(
     alloc: Global,
     raw: &RawBibliography<'_>,
@@ -82,7 +82,7 @@ fn used_definitions(
     Ok(marks)
 }
 
-// The definition of an abbreviation, from its name to the end of its value.
+// Returns the source text of a definition, from its name to the end of its value.
 fn definition<'s>(text: &'s str, pair: &Pair<'_>) -> &'s str
     requires { IsFieldIn text.now (field_of pair.now) }
     ensures { result.now ≡ definition_text text.now (field_of pair.now) }
@@ -90,7 +90,7 @@ fn definition<'s>(text: &'s str, pair: &Pair<'_>) -> &'s str
     text[pair.key.span.start..pair.value.span.end].trim_end()
 }
 
-// Prints the definition of an abbreviation in a block of its own, if it has a mark.
+// Appends a block with a definition, if it has a mark.
 fn print_definition(
     printed: &mut String,
     text: &str,
@@ -110,7 +110,7 @@ fn print_definition(
     Ok(())
 }
 
-// Prints the definitions with marks.
+// Appends the definitions with marks.
 fn print_definitions(
     printed: &mut String,
     text: &str,
@@ -127,7 +127,7 @@ fn print_definitions(
     Ok(())
 }
 
-// Prints the entries with marks as they stand.
+// Appends the source text of the entries with marks.
 fn print_entries(
     printed: &mut String,
     text: &str,
@@ -144,7 +144,7 @@ fn print_entries(
     Ok(())
 }
 
-// What is printed of a bibliography for what is cited.
+// Returns the cited entries and everything that they refer to, transitively. Definitions come before entries.
 pub(crate) fn cited_text(
     alloc: Global,
     cited: &CitedKeys<'_>,

@@ -1,4 +1,4 @@
-//! What is needed, where things have names and refer to names.
+//! Marks the items that are needed, if items have names and refer to names.
 
 ghost use Rattle.std.specs.Prelude.{◌≡◌, ◌↔◌, ◌⊎◌, ◌+◌, ◌<◌, ℕ, List, [], ◌∷◌, ◌++◌, true, false, length, map, bytes_eq, slice_index_or, if◌then◌else◌, IfOk, OnOk};
 ghost use Rattle.std.specs.List.{All, Contains};
@@ -10,7 +10,7 @@ use crate::names::Links;
 use std::alloc::{AllocError, Global};
 use std::collections::BTreeMap;
 
-// Takes the indices of a name out of a map.
+// Removes the indices of a name from a map, and returns them. Returns no indices if the map doesn't contain the name.
 fn take_indices(alloc: Global, holders: &mut BTreeMap<&str, Vec<usize>>, name: &str) -> Vec<usize>
     ensures items { result.items ≡ holders_in holders.old name.now }
     ensures left { (other : List ℕ) → holders_in holders.new other ≡
@@ -54,7 +54,7 @@ fn add_holders<'s>(
     Ok(())
 }
 
-// For each name the indices of the things that have it.
+// Returns the indices of the items with each name.
 fn holders<'s>(
     alloc: Global,
     links: &[Links<'s>],
@@ -68,7 +68,7 @@ fn holders<'s>(
     Ok(holders)
 }
 
-// Marks indices, and keeps those that had no mark for later.
+// Marks indices, and appends those that had no mark to `pending`.
 fn mark_all(
     indices: &[usize],
     marks: &mut [bool],
@@ -88,7 +88,8 @@ fn mark_all(
     Ok(())
 }
 
-// Marks what has a name, and keeps for later what had no mark. A name that was looked up once isn't looked up again.
+// Marks the items with a name, and appends those that had no mark to `pending`. Removes the name from `holders`, so that no name is
+// looked up twice.
 fn mark_name(
     alloc: Global,
     holders: &mut BTreeMap<&str, Vec<usize>>,
@@ -106,7 +107,7 @@ fn mark_name(
     mark_all(&indices, marks, pending)
 }
 
-// Marks what has one of these names, and keeps for later what had no mark.
+// Marks the items with one of these names, and appends those that had no mark to `pending`.
 fn mark_names(
     alloc: Global,
     holders: &mut BTreeMap<&str, Vec<usize>>,
@@ -125,7 +126,7 @@ fn mark_names(
     Ok(())
 }
 
-// Marks what is needed where these names are asked for.
+// Marks the items with one of these names, and the items that they refer to, transitively.
 pub(crate) fn mark_needed(
     alloc: Global,
     names: &[&str],
