@@ -343,8 +343,8 @@ module _ (names : List (List ℕ)) (nodes : List Node) where
     held = λ name i h. (holders name i).0 h;
   }
 
-  pub bounded : (m : Map) (marks : List Bool) → IsBegun m marks → (name : List ℕ) → All (λ i. i < length marks) (holders_in m name)
-  bounded m marks h name =
+  pub holders_below : (m : Map) (marks : List Bool) → IsBegun m marks → (name : List ℕ) → All (λ i. i < length marks) (holders_in m name)
+  holders_below m marks h name =
       All-from_get_or (λ i. i < length marks) (holders_in m name) 0
       (λ k below.
       omega (
@@ -453,7 +453,7 @@ module _ (names : List (List ℕ)) (nodes : List Node) where
   pub start_bounded : (m : Map) (old : List Bool) → old ≡ replicate (length nodes) false → AreHolders nodes m
       → (name : List ℕ) → All (λ i. i < length old) (holders_in m name)
   start_bounded m old none holders =
-      bounded m old
+      holders_below m old
       (at_first m old (ap length none ∙ length-replicate (length nodes) false)
       (λ i h. none_marked (length nodes) i (subst (λ l. IsMarked l i) none h)) holders)
 

@@ -137,7 +137,8 @@ unmarked_all (c ∷ cs) (m ∷ marks) zero end = absurd (omega (arith, end))
 unmarked_all (c ∷ cs) (m ∷ marks) (suc n) end =
     unmarked_same c (take n cs) cs (take n marks) marks m (unmarked_all cs marks n (omega (arith, end)))
 
--- if uncited entries are requested and the document doesn't cite all, their findings are those of the keys that `uncited` finds
+-- if uncited entries are requested and the document doesn't cite all, the findings are those of the keys that `find_uncited`
+-- returns
 pub unused_asked : (document : Document) (text : List ℕ) (parts : List Part)
     → (document.has_unused && not document.citations.all) ≡ true → IsUncited text (cited_keys document.citations) parts
     → AreUnused document text (map unused_finding parts)

@@ -4,7 +4,7 @@ use Rattle.std.proofs.lemmas.List.{with_items_is, length-map}
 use Rattle.bib_excerpts.specs.Needed.{AreMarks, IsNeeded, Node}
 use Rattle.bib_excerpts.specs.Searching.{holders_in}
 use Rattle.bib_excerpts.specs.Texts.{node_of}
-use Rattle.bib_excerpts.proofs.SearchFacts.{IsSearch, bounded, empty, search_all, search_start, search_step, start_bounded, waiting_below}
+use Rattle.bib_excerpts.proofs.SearchFacts.{IsSearch, holders_below, empty, search_all, search_start, search_step, start_bounded, waiting_below}
 use Rattle.bib_excerpts.proofs.needed.mark_needed.Goals as goal
 
 pub mark_names-requires : goal.mark_names-requires
@@ -48,7 +48,7 @@ offset_bounds-links-index c =
 pub mark_names-requires-in-Some : goal.mark_names-requires-in-Some
 mark_names-requires-in-Some c = λ other.
     subst (λ l. All (λ i. i < length l) (holders_in c.search.holders other)) (sym c.deref_mut-in-Some.ensures.value)
-    (bounded (map (λ n. n.now) c.args.names.now) (map node_of c.args.links.now) c.search.holders c.search.marks.items
+    (holders_below (map (λ n. n.now) c.args.names.now) (map node_of c.args.links.now) c.search.holders c.search.marks.items
     c.search.invariant.begun other)
 
 pub search-preserved : goal.search-preserved
