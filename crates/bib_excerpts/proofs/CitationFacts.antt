@@ -7,7 +7,7 @@ use Rattle.std.specs.Option.{option_map}
 use Rattle.std.specs.Str.Pattern.{FindsTextPrefix}
 use Rattle.std.proofs.lemmas.List.Sums.{fold-append}
 use Rattle.std.proofs.lemmas.List.Folds.{list_any-append}
-use Rattle.bib_excerpts.specs.Citations.{add_citation, cites_all, cites_at, cites_from, rest_after}
+use Rattle.bib_excerpts.specs.Citations.{add_citation, cites_all, cites_at, cites_from, text_after_prefix}
 use Rattle.bib_excerpts.specs.Collecting.{IsCollected, IsSeen}
 use Rattle.bib_excerpts.specs.declared.citations.Citation.{Citation}
 use Rattle.bib_excerpts.specs.declared.citations.Collected.{Collected}
@@ -17,7 +17,7 @@ use Rattle.bib_text.proofs.ListFacts.{begins, begins_not}
 pub prefix_after : (prefix text : List ℕ) (r : Option (Bor (List ℕ)))
     → MatchOption r (FindsTextPrefix prefix text None)
     (λ x. (n : ℕ) × FindsTextPrefix prefix text (Some n) × (x.now ≡ drop n text) × (length x.now + n ≡ length text))
-    → option_map (λ x. x.now) r ≡ rest_after prefix text
+    → option_map (λ x. x.now) r ≡ text_after_prefix prefix text
 prefix_after prefix text None h = sym (ap (λ b. cond b (Some (drop (length prefix) text)) None) (begins_not prefix text h))
 prefix_after prefix text (Some x) h =
     ap Some (h.2 ∙ ap (λ k. drop k text) h.1.0)

@@ -1,4 +1,4 @@
--- Marks, the items with marks, and lists that are built item by item.
+-- Marks, the elements with marks, and lists that are built element by element.
 use Rattle.std.proofs.Common.{◌≡◌, ◌≢◌, ◌<◌, ◌+◌, ◌||◌, ℕ, zero, suc, Bool, true, false, not, cond, List, [], ◌∷◌, ◌++◌, take, map, length, get_or, set, replicate, refl, sym, ap, subst, ◌∙◌, arith, append_assoc, append-nil, get_or-set_same, get_or-set_other, ◌⊎◌, inl, inr}
 use Rattle.std.specs.Prelude.{min}
 use Rattle.std.specs.List.{flat_map, list_any, AllByRecursion, Contains}
@@ -11,7 +11,7 @@ use Rattle.bib_excerpts.specs.Needed.{with_marks}
 use Rattle.bib_excerpts.specs.Searching.{IsMarked, unmarked_count}
 use Rattle.std.proofs.Math.Bool.{or-true}
 
--- the output for an item if it has a mark, or nothing
+-- the output for an element if it has a mark, or nothing
 abbrev pub made_if : {Y A : Type 0} → (Y → List A) → Bool → Y → List A
 made_if f true y = f y
 made_if f false y = []
@@ -32,7 +32,7 @@ made_more v f (true ∷ marks) (y ∷ xs) (suc n) m x short within mark is =
 made_more v f (false ∷ marks) (y ∷ xs) (suc n) m x short within mark is =
     made_more v f marks xs n m x (omega (arith, short)) (omega (arith, within)) mark is
 
--- the output for the items with marks grows by that for the next item, if it has a mark
+-- the output for the elements with marks grows by that for the next element, if it has a mark
 pub marked_made : {X Y A : Type 0} (v : X → Y) (f : Y → List A) (marks : List Bool) (xs : List X) (n : ℕ) (m : Bool)
     (x : X) (start old new : List A) → n < length marks → n < length xs → get_or marks n m ≡ m → get_or xs n x ≡ x
     → old ≡ start ++ flat_map f (with_marks (take n marks) (map v (take n xs))) → new ≡ old ++ cond m (f (v x)) []
@@ -44,7 +44,7 @@ marked_made v f marks xs n m x start old new short within mark is before after =
     ∙ append_assoc start (flat_map f (with_marks (take n marks) (map v (take n xs)))) (cond m (f (v x)) [])
     ∙ ap (λ l. start ++ l) (sym more ∙ ap (λ k. flat_map f (with_marks (take k marks) (map v (take k xs)))) (sym one))
 
--- at the end of the shorter list, all items with marks are included
+-- at the end of the shorter list, all elements with marks are included
 pub marked_all : {X Y : Type 0} (v : X → Y) (marks : List Bool) (xs : List X) (n : ℕ)
     → n ≡ min (length xs) (length marks) → with_marks (take n marks) (map v (take n xs)) ≡ with_marks marks (map v xs)
 marked_all v [] xs zero is = refl

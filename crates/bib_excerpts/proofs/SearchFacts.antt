@@ -1,4 +1,4 @@
--- The search for needed items: its state after each step.
+-- The search for needed nodes: its state after each step.
 use Rattle.std.proofs.Common.{◌≡◌, ◌<◌, ◌+◌, ◌↔◌, ℕ, zero, suc, Bool, true, false, cond, ◌||◌, List, [], ◌∷◌, ◌++◌, take, map, length, get_or, set, replicate, refl, sym, ap, subst, ◌∙◌, arith, ◌⊎◌, inl, inr, ⊎_elim, Option, Some, None}
 use Rattle.std.specs.Prelude.{bytes_eq}
 use Rattle.std.specs.List.{All, Contains}
@@ -108,7 +108,7 @@ holder_added m mid new name index v items left other is = of (bytes_eq name othe
 abbrev nobody : Node
 nobody = record { names = []; references = [] }
 
--- an item has a name if one of the others does, or if it is the last one and has it
+-- a node has a name if one of the others does, or if it is the last one and has it
 pub node_push : (nodes : List Node) (node : Node) (index : ℕ) (name : List ℕ)
     → HasName (nodes ++ node ∷ []) index name ↔
     (HasName nodes index name ⊎ ((index ≡ length nodes) × (is_listed node.names name ≡ true)))
@@ -122,7 +122,7 @@ node_push (first ∷ nodes) node (suc index) name =
       λ h. so.1 (⊎_elim (λ x. inl x) (λ x. inr (omega (arith, x.0), x.1)) h),
     )
 
--- a map of the items with each name, extended by one more item
+-- a map of the nodes with each name, extended by one more node
 pub holders_push : (nodes : List Node) (node : Node) (m m' : Map) → AreHolders nodes m
     →
     ((name : List ℕ) (one : ℕ)
@@ -135,7 +135,7 @@ holders_push nodes node m m' so more name index =
     let both = node_push nodes node index name in
     (λ h. both.1 (⊎_elim (λ x. inl (was.0 x)) (λ x. inr x) (now.0 h)), λ h. now.1 (⊎_elim (λ x. inl (was.1 x)) (λ x. inr x) (both.0 h)))
 
--- a map of the first `i` items, extended by the names of the next item, is one of the first `i + 1`
+-- a map of the first `i` nodes, extended by the names of the next node, is one of the first `i + 1`
 pub holders_next : (links : List Links) (i : ℕ) (link : Links) (names : List (Bor (List ℕ))) (m m' : Map)
     → i < length links → link ≡ get_or links i link → names ≡ link.names.items
     → AreHolders (map node_of (take i links)) m
@@ -162,7 +162,7 @@ holders_next links i link names m m' within is named so more =
     (Contains (holders_in m name) one ⊎ ((one ≡ i) × (is_listed (map (λ n. n.now) l) name ≡ true)))) named
     (more name one))))
 
--- the index of an item with a name is within the list
+-- the index of a node with a name is within the list
 pub named_below : (nodes : List Node) (index : ℕ) (name : List ℕ) → HasName nodes index name → index < length nodes
 named_below nodes index name h = elim (cases_lt index (length nodes)) [
   | inl t ↦ omega arith
@@ -314,19 +314,19 @@ left_below m mid names marks n h below other =
 
 -- ---- the search
 
--- all items with a name have marks
+-- all nodes with a name have marks
 abbrev pub IsTaken : List Node → List Bool → List ℕ → Type 0
 IsTaken nodes marks name = (index : ℕ) → HasName nodes index name → IsMarked marks index
 
 module _ (names : List (List ℕ)) (nodes : List Node) where
-  -- the state of the map and the marks: each mark is on a needed item, and each item with a name is in the map or has a mark
+  -- the state of the map and the marks: each mark is on a needed node, and each node with a name is in the map or has a mark
   pub record IsBegun (m : Map) (marks : List Bool) : Type 0 where
     pub same_length : length marks ≡ length nodes
     pub sound : (i : ℕ) → IsMarked marks i → IsNeeded names nodes i
     pub left : (name : List ℕ) (i : ℕ) → HasName nodes i name → Contains (holders_in m name) i ⊎ IsMarked marks i
     pub held : (name : List ℕ) (i : ℕ) → Contains (holders_in m name) i → HasName nodes i name
 
-  -- the state of the search: pending items and items with a requested name have marks, and so has each item that a marked item
+  -- the state of the search: pending nodes and nodes with a requested name have marks, and so has each node that a marked node
   -- refers to, unless the latter is pending
   pub record IsSearch (m : Map) (marks : List Bool) (pending : List ℕ) : Type 0 where
     pub begun : IsBegun m marks
@@ -397,7 +397,7 @@ module _ (names : List (List ℕ)) (nodes : List Node) where
     closed = λ i now. ⊎_elim (λ was. absurd (none i was)) (λ x. inl x.1) (marked.only i now);
   }
 
-  -- the names that the last pending item refers to are looked up
+  -- the names that the last pending node refers to are looked up
   pub search_more : (m m' : Map) (marks marks' : List Bool) (before pending pending' : List ℕ) (index : ℕ)
       → before ≡ pending ++ index ∷ [] → length marks' ≡ length marks
       → Marks (AreHoldersIn m (node_at nodes index).references) marks pending marks' pending'
@@ -426,7 +426,7 @@ module _ (names : List (List ℕ)) (nodes : List Node) where
             (λ x. inl x.1) (marked.only i now);
       }
 
-  -- if nothing is pending, each needed item has a mark
+  -- if nothing is pending, each needed node has a mark
   complete : (m : Map) (marks : List Bool) (i : ℕ) → IsSearch m marks [] → IsNeeded names nodes i → IsMarked marks i
   complete m marks i h (asked name among named) = h.found name among i named
   complete m marks i h (reached {first = first} name needed refers named) =
@@ -457,7 +457,7 @@ module _ (names : List (List ℕ)) (nodes : List Node) where
       (at_first m old (ap length none ∙ length-replicate (length nodes) false)
       (λ i h. none_marked (length nodes) i (subst (λ l. IsMarked l i) none h)) holders)
 
-  -- the last pending index is within the list of items
+  -- the last pending index is within the list of nodes
   pub waiting_below : (m : Map) (marks : List Bool) (before pending : List ℕ) (index : ℕ)
       → before ≡ pending ++ index ∷ [] → IsSearch m marks before → index < length nodes
   waiting_below m marks before pending index popped h =

@@ -10,8 +10,8 @@ use Rattle.bib_excerpts.specs.declared.citations.Citation.{Citation}
 use Rattle.bib_excerpts.specs.declared.citations.Citations.{Citations}
 
 -- the text after a prefix, or `None` if the text doesn't begin with it
-abbrev pub rest_after : List ℕ → List ℕ → Option (List ℕ)
-rest_after prefix text = if starts_with eqb text prefix then Some (drop (length prefix) text) else None
+abbrev pub text_after_prefix : List ℕ → List ℕ → Option (List ℕ)
+text_after_prefix prefix text = if starts_with eqb text prefix then Some (drop (length prefix) text) else None
 
 -- whether a text contains a closing brace
 abbrev pub has_close : List ℕ → Bool
@@ -32,12 +32,12 @@ argument text = if has_close text then Some (before_close text) else None
 -- the text of the last of one or two arguments; the given text begins after the opening brace of the first
 abbrev pub last_argument : List ℕ → Option (List ℕ)
 last_argument text =
-    if has_close text then option_map_or argument (rest_after (codes "{") (after_close text)) (Some (before_close text))
+    if has_close text then option_map_or argument (text_after_prefix (codes "{") (after_close text)) (Some (before_close text))
     else None
 
 -- the text after the citation command at the start of a line: that of LaTeX, or that of BibLaTeX
 abbrev pub after_command : List ℕ → Option (List ℕ)
-after_command line = option_or (rest_after (codes "\\citation{") line) (rest_after (codes "\\abx@aux@cite{") line)
+after_command line = option_or (text_after_prefix (codes "\\citation{") line) (text_after_prefix (codes "\\abx@aux@cite{") line)
 
 -- the comma-separated keys that a line of an .aux file cites, or `None` if it cites none
 abbrev pub aux_list : List ℕ → Option (List ℕ)
@@ -55,15 +55,15 @@ after_tag text =
 
 -- the text after the tag of an element `bcf:citekey` with attributes; the given text begins after the `<` of a tag
 abbrev pub attributed_text : List ℕ → Option (List ℕ)
-attributed_text piece = option_and_then after_tag (rest_after (codes "bcf:citekey ") piece)
+attributed_text piece = option_and_then after_tag (text_after_prefix (codes "bcf:citekey ") piece)
 
 -- the same, with or without attributes
 abbrev pub citekey_text : List ℕ → Option (List ℕ)
-citekey_text piece = option_or (rest_after (codes "bcf:citekey>") piece) (attributed_text piece)
+citekey_text piece = option_or (text_after_prefix (codes "bcf:citekey>") piece) (attributed_text piece)
 
 -- a text that follows an ampersand, with the XML escape `name` at its start replaced by `character`, or else `other`
 abbrev pub escape_of : List ℕ → List ℕ → List ℕ → List ℕ → List ℕ
-escape_of name character other text = option_map_or (λ rest. character ++ rest) (rest_after name text) other
+escape_of name character other text = option_map_or (λ rest. character ++ rest) (text_after_prefix name text) other
 
 -- a text that follows an ampersand, with one of the five XML escapes at its start replaced by its character
 abbrev pub unescaped_piece : List ℕ → List ℕ

@@ -1,10 +1,10 @@
 -- Meaning: words of public contracts.
--- The needed items, if items have names and refer to names: those with a requested name, and those that a needed item refers to.
--- Several items may have the same name.
+-- The needed nodes: those with a requested name, and those that a needed node refers to. A node has names and refers to names.
+-- Several nodes may have the same name.
 use Rattle.std.specs.Prelude.{◌≡◌, ◌↔◌, ℕ, ◌<◌, Bool, true, false, IsTrue, List, [], ◌∷◌, length, slice_index_or, bytes_eq}
 use Rattle.std.specs.List.{list_any}
 
--- the names of an item, and the names that it refers to
+-- the names of a node, and the names that it refers to
 pub record Node : Type 0 where
   pub names : List (List ℕ)
   pub references : List (List ℕ)
@@ -13,19 +13,19 @@ pub record Node : Type 0 where
 abbrev pub is_listed : List (List ℕ) → List ℕ → Bool
 is_listed names name = list_any (λ one. bytes_eq one name) names
 
--- the item at an index, or an item without names beyond the list
+-- the node at an index, or a node without names beyond the list
 abbrev pub node_at : List Node → ℕ → Node
 node_at nodes index = slice_index_or nodes index (record { names = []; references = [] })
 
--- the item at an index has a name
+-- the node at an index has a name
 abbrev pub HasName : List Node → ℕ → List ℕ → Type 0
 HasName nodes index name = is_listed (node_at nodes index).names name ≡ true
 
--- the item at an index refers to a name
+-- the node at an index refers to a name
 abbrev pub RefersTo : List Node → ℕ → List ℕ → Type 0
 RefersTo nodes index name = is_listed (node_at nodes index).references name ≡ true
 
--- the item at an index has a requested name, or a name that a needed item refers to
+-- the node at an index has a requested name, or a name that a needed node refers to
 pub data IsNeeded (names : List (List ℕ)) (nodes : List Node) : ℕ → Type 0 where
   asked : {index : ℕ} (name : List ℕ) → is_listed names name ≡ true → HasName nodes index name → IsNeeded names nodes index
   reached : {first second : ℕ} (name : List ℕ) → IsNeeded names nodes first → RefersTo nodes first name
@@ -36,7 +36,7 @@ pub record AreMarks (fact : ℕ → Type 0) (count : ℕ) (marks : List Bool) : 
   pub same_length : length marks ≡ count
   pub each : (index : ℕ) → index < count → IsTrue (slice_index_or marks index false) ↔ fact index
 
--- the items with marks, in order
+-- the elements with marks, in order
 abbrev pub with_marks : {A : Type 0} → List Bool → List A → List A
 with_marks [] things = []
 with_marks (mark ∷ marks) [] = []

@@ -1,5 +1,5 @@
 -- Machinery: words of private contracts.
--- The search for needed items: the marks on the items found so far, and the names that are still to be looked up.
+-- The search for needed nodes: the marks on the nodes found so far, and the names that are still to be looked up.
 use Rattle.std.specs.Prelude.{◌≡◌, ◌↔◌, ◌⊎◌, ◌+◌, ℕ, Bool, true, false, not, List, [], length, slice_index_or, count_by}
 use Rattle.std.specs.List.{All, Contains}
 use Rattle.std.specs.Option.{option_map_or}
@@ -10,15 +10,15 @@ use Rattle.std.specs.Cmp.Lexicographic.{slice_cmp}
 use Rattle.std.specs.Ordering.{nat_cmp}
 use Rattle.bib_excerpts.specs.Needed.{Node, HasName, is_listed}
 
--- the indices of the items with a name in a map
+-- the indices of the nodes with a name in a map
 abbrev pub holders_in : BTreeMap (Bor (List ℕ)) (Vec ℕ) → List ℕ → List ℕ
 holders_in m name = option_map_or (λ indices. indices.items) (get_by (λ k. slice_cmp nat_cmp name k.now) m) []
 
--- a map contains for each name the indices of the items that have it
+-- a map contains for each name the indices of the nodes that have it
 abbrev pub AreHolders : List Node → BTreeMap (Bor (List ℕ)) (Vec ℕ) → Type 0
 AreHolders nodes m = (name : List ℕ) (index : ℕ) → Contains (holders_in m name) index ↔ HasName nodes index name
 
--- an index belongs to an item with one of these names
+-- an index belongs to a node with one of these names
 abbrev pub AreHoldersIn : BTreeMap (Bor (List ℕ)) (Vec ℕ) → List (List ℕ) → ℕ → Type 0
 AreHoldersIn m names index = (name : List ℕ) × (is_listed names name ≡ true) × Contains (holders_in m name) index
 
@@ -38,7 +38,7 @@ pub record Marks (is_new : ℕ → Type 0) (old : List Bool) (before : List ℕ)
   pub waits : (index : ℕ) → Contains after index → Contains before index ⊎ IsMarked new index
   pub as_many : unmarked_count new + length after ≡ unmarked_count old + length before
 
--- these names are looked up: all their items have marks, and each name of the map is kept, or is removed and all its items have
+-- these names are looked up: all their nodes have marks, and each name of the map is kept, or is removed and all its nodes have
 -- marks
 pub record LooksUp (old : BTreeMap (Bor (List ℕ)) (Vec ℕ)) (names : List (List ℕ)) (marks : List Bool)
     (new : BTreeMap (Bor (List ℕ)) (Vec ℕ)) : Type 0 where

@@ -10,6 +10,6 @@ use Rattle.bib_excerpts.specs.declared.names.Links.{Links}
 abbrev pub text_list : Vec (Bor (List ℕ)) → List (List ℕ)
 text_list names = map (λ name. name.now) names.items
 
--- the names of an item, and the names that it refers to
+-- the names of a node, and the names that it refers to
 abbrev pub node_of : Links → Node
 node_of links = record { names = text_list links.names; references = text_list links.references }

@@ -43,7 +43,7 @@ struct Collected {
 
 // Returns the text after a prefix, or `None` if the text doesn't begin with it.
 fn after_prefix<'s>(text: &'s str, prefix: &str) -> Option<&'s str>
-    ensures { option_map (λ rest. rest.now) result ≡ spec.rest_after prefix.now text.now }
+    ensures { option_map (λ rest. rest.now) result ≡ spec.text_after_prefix prefix.now text.now }
 {
     text.strip_prefix(prefix)
 }

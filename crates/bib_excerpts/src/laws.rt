@@ -1,5 +1,5 @@
-//! Laws of the output for the citations of a document: it contains everything that it refers to. These functions do nothing. Their
-//! clauses are proved of the definitions.
+//! Laws of the output for the citations of a document: it contains everything that it refers to. These functions do nothing; their
+//! clauses are facts about the definitions.
 
 ghost use Rattle.std.specs.Prelude.{◌≡◌, ℕ, Bool, true, List, map};
 ghost use Rattle.bib_syntax.specs.Reading.{FileReading};

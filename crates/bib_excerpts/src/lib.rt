@@ -3,8 +3,8 @@
 //! A file is parsed by `RawBibliography::recover`, so a file with errors has excerpts too. They are slices of its text: an entry is
 //! a block of the file grammar at its position, and a definition is a field (`DefinitionFacts`).
 //!
-//! Entries and abbreviations are items that have names and refer to names. `needed` marks the needed items. Its map contains the
-//! items with each name, and its stack the marked items whose references are not looked up yet. Looking up a name removes it from
+//! Entries and abbreviations are nodes: they have names and refer to names. `needed` marks the needed nodes. Its map contains the
+//! nodes with each name, and its stack the marked nodes whose references are not looked up yet. Looking up a name removes it from
 //! the map, so that no name is looked up twice.
 #![tactic(auto)]
 

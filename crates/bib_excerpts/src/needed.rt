@@ -1,4 +1,4 @@
-//! Marks the items that are needed, if items have names and refer to names.
+//! Marks the needed nodes: those with a requested name, and those that they refer to, transitively.
 
 ghost use Rattle.std.specs.Prelude.{◌≡◌, ◌↔◌, ◌⊎◌, ◌+◌, ◌<◌, ℕ, List, [], ◌∷◌, ◌++◌, true, false, length, map, bytes_eq, slice_index_or, if◌then◌else◌, IfOk, OnOk};
 ghost use Rattle.std.specs.List.{All, Contains};
@@ -54,7 +54,7 @@ fn add_holders<'s>(
     Ok(())
 }
 
-// Returns the indices of the items with each name.
+// Returns the indices of the nodes with each name.
 fn holders<'s>(
     alloc: Global,
     links: &[Links<'s>],
@@ -88,7 +88,7 @@ fn mark_all(
     Ok(())
 }
 
-// Marks the items with a name, and appends those that had no mark to `pending`. Removes the name from `holders`, so that no name is
+// Marks the nodes with a name, and appends those that had no mark to `pending`. Removes the name from `holders`, so that no name is
 // looked up twice.
 fn mark_name(
     alloc: Global,
@@ -107,7 +107,7 @@ fn mark_name(
     mark_all(&indices, marks, pending)
 }
 
-// Marks the items with one of these names, and appends those that had no mark to `pending`.
+// Marks the nodes with one of these names, and appends those that had no mark to `pending`.
 fn mark_names(
     alloc: Global,
     holders: &mut BTreeMap<&str, Vec<usize>>,
@@ -126,7 +126,7 @@ fn mark_names(
     Ok(())
 }
 
-// Marks the items with one of these names, and the items that they refer to, transitively.
+// Marks the nodes with one of these names, and the nodes that they refer to, transitively.
 pub(crate) fn mark_needed(
     alloc: Global,
     names: &[&str],
