@@ -326,8 +326,8 @@ module _ (names : List (List ℕ)) (nodes : List Node) where
     pub left : (name : List ℕ) (i : ℕ) → HasName nodes i name → Contains (holders_in m name) i ⊎ IsMarked marks i
     pub held : (name : List ℕ) (i : ℕ) → Contains (holders_in m name) i → HasName nodes i name
 
-  -- the state of the search: pending nodes and nodes with a requested name have marks, and so has each node that a marked node
-  -- refers to, unless the latter is pending
+  -- the state of the search: pending nodes and nodes with a requested name have marks; if a marked node isn't pending, all nodes
+  -- that it refers to have marks
   pub record IsSearch (m : Map) (marks : List Bool) (pending : List ℕ) : Type 0 where
     pub begun : IsBegun m marks
     pub waits : (i : ℕ) → Contains pending i → IsMarked marks i
