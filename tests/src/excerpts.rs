@@ -3,7 +3,7 @@
 
 use bib_excerpts::citations::{Citations, in_aux, in_bcf};
 use bib_excerpts::excerpts::answer;
-use bib_excerpts::known::{known, uncited};
+use bib_excerpts::known::{find_uncited, mark_known};
 use bib_excerpts::request::{CitedKeys, Request, Search};
 use std::alloc::{AllocError, Global};
 use crate::support::rows::Calls;
@@ -60,7 +60,7 @@ fn citations(alloc: Global, found: &Citations) -> Result<String, AllocError> {
 // The keys that a file knows.
 fn known_keys(alloc: Global, keys: &str, text: &str) -> Result<String, AllocError> {
     let keys = words(alloc, keys)?;
-    let marks = known(alloc, text, &keys)?;
+    let marks = mark_known(alloc, text, &keys)?;
     let mut out = String::new(alloc);
     for (key, mark) in keys.iter().zip(&marks) {
         if *mark {
@@ -75,7 +75,7 @@ fn known_keys(alloc: Global, keys: &str, text: &str) -> Result<String, AllocErro
 fn uncited_keys(alloc: Global, keys: &str, text: &str) -> Result<String, AllocError> {
     let keys = words(alloc, keys)?;
     let mut out = String::new(alloc);
-    for key in &uncited(alloc, text, &keys)? {
+    for key in &find_uncited(alloc, text, &keys)? {
         let line = format!(in alloc; "{}@{}-{} ", key.v, key.span.start, key.span.end)?;
         out.push_str(line.as_str())?;
     }

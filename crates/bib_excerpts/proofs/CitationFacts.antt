@@ -7,23 +7,23 @@ use Rattle.std.specs.Option.{option_map}
 use Rattle.std.specs.Str.Pattern.{FindsTextPrefix}
 use Rattle.std.proofs.lemmas.List.Sums.{fold-append}
 use Rattle.std.proofs.lemmas.List.Folds.{list_any-append}
-use Rattle.bib_excerpts.specs.Citations.{add_citation, left_after, cites_all, cites_at, cites_from}
+use Rattle.bib_excerpts.specs.Citations.{add_citation, cites_all, cites_at, cites_from, text_after_prefix}
 use Rattle.bib_excerpts.specs.Collecting.{IsCollected, IsSeen}
 use Rattle.bib_excerpts.specs.declared.citations.Citation.{Citation}
 use Rattle.bib_excerpts.specs.declared.citations.Collected.{Collected}
 use Rattle.bib_text.proofs.ListFacts.{begins, begins_not}
 
--- what is left after a prefix
+-- `strip_prefix` of std returns the text after the prefix
 pub prefix_after : (prefix text : List ℕ) (r : Option (Bor (List ℕ)))
     → MatchOption r (FindsTextPrefix prefix text None)
     (λ x. (n : ℕ) × FindsTextPrefix prefix text (Some n) × (x.now ≡ drop n text) × (length x.now + n ≡ length text))
-    → option_map (λ x. x.now) r ≡ left_after prefix text
+    → option_map (λ x. x.now) r ≡ text_after_prefix prefix text
 prefix_after prefix text None h = sym (ap (λ b. cond b (Some (drop (length prefix) text)) None) (begins_not prefix text h))
 prefix_after prefix text (Some x) h =
     ap Some (h.2 ∙ ap (λ k. drop k text) h.1.0)
     ∙ sym (ap (λ b. cond b (Some (drop (length prefix) text)) None) (begins prefix text (drop h.0 text) h.1.1))
 
--- a key that is among those that are cited
+-- a citation of a key that is cited already adds nothing
 pub known_keys : (keys : List Citation) (c : Citation) → list_any (λ k. bytes_eq k.key c.key) keys ≡ true
     → fold add_citation keys (c ∷ []) ≡ keys
 known_keys keys c known =
@@ -32,12 +32,12 @@ known_keys keys c known =
       of true = refl
       of false = refl
 
--- a key that isn't
+-- a citation of a new key is appended
 pub new_keys : (keys : List Citation) (c : Citation) → bytes_eq c.key (codes "*") ≡ false
     → list_any (λ k. bytes_eq k.key c.key) keys ≡ false → fold add_citation keys (c ∷ []) ≡ keys ++ c ∷ []
 new_keys keys c other new = ap₂ (λ a b. cond (a || b) keys (keys ++ c ∷ [])) other new
 
--- not all are cited by a key
+-- a citation of a key other than `*` doesn't cite all entries
 pub not_all : (all : Bool) (c : Citation) → bytes_eq c.key (codes "*") ≡ false → all ≡ (all || cites_all (c ∷ []))
 not_all all c other = of all ∙ sym (ap (λ b. all || (b || false)) other) where
   of : (b : Bool) → b ≡ b || false
@@ -48,7 +48,7 @@ or_assoc : (a b c : Bool) → (a || b) || c ≡ a || (b || c)
 or_assoc true b c = refl
 or_assoc false b c = refl
 
--- some and some more
+-- collecting citations and then further ones collects both
 pub collected_then : (old mid new : Collected) (xs ys : List Citation) → IsCollected old xs mid → IsCollected mid ys new
     → IsCollected old (xs ++ ys) new
 collected_then old mid new xs ys first second = record {
@@ -59,21 +59,21 @@ collected_then old mid new xs ys first second = record {
   seen = second.seen;
 }
 
--- nothing yet
+-- nothing is collected at first
 pub nothing_collected : (c : Collected) → IsSeen c → IsCollected c [] c
 nothing_collected c seen = record { keys = refl; all = of c.all; seen = seen } where
   of : (b : Bool) → b ≡ b || false
   of true = refl
   of false = refl
 
--- a key that is written down is seen
+-- a lookup after an insertion finds the inserted key and all earlier ones
 pub some_of : (b : Bool) {A : Type 0} (v : A) (o : Option A) → is_some (cond b (Some v) o) ≡ cond b true (is_some o)
 some_of true v o = refl
 some_of false v o = refl
 
 -- ---- pieces one after another
 
--- the bytes of pieces, and of what separates each from the next
+-- the number of bytes of pieces, with one separator after each
 abbrev pub past : List (List ℕ) → ℕ
 past [] = 0
 past (piece ∷ rest) = (length piece + 1) + past rest
@@ -82,6 +82,7 @@ pub past_push : (xs : List (List ℕ)) (x : List ℕ) → past (xs ++ x ∷ []) 
 past_push [] x = omega arith
 past_push (y ∷ xs) x = omega (arith, past_push xs x)
 
+-- the citations of pieces grow by those of one more piece, at the offset after the others
 pub cites_push : (cited : List ℕ → List (List ℕ)) (at : ℕ) (xs : List (List ℕ)) (x : List ℕ)
     → cites_from cited at (xs ++ x ∷ []) ≡ cites_from cited at xs ++ cites_at (at + past xs) (cited x)
 cites_push cited at [] x = append-nil (cites_at at (cited x)) ∙ ap (λ n. cites_at n (cited x)) (omega arith)
@@ -93,7 +94,7 @@ cites_push cited at (y ∷ xs) x =
     (append_assoc (cites_at at (cited y)) (cites_from cited (at + (length y + 1)) xs)
     (cites_at (at + ((length y + 1) + past xs)) (cited x)))
 
--- a cut text is as long as its parts
+-- the pieces of a text, with a separator after each, are one byte longer than the text
 onto : (x : ℕ) (parts : List (List ℕ)) → 0 < length parts → past (onto_first x parts) ≡ past parts + 1
 onto x [] some = absurd (omega (arith, some))
 onto x (part ∷ parts) some = omega arith
@@ -122,12 +123,12 @@ past_take [] (suc n) = omega arith
 past_take (x ∷ xs) zero = omega arith
 past_take (x ∷ xs) (suc n) = omega (arith, past_take xs n)
 
--- where a piece ends is within the text
+-- the end of a piece is within the text
 pub past_below : (p : ℕ → Bool) (text : List ℕ) (xs : List (List ℕ)) (x : List ℕ) (n : ℕ)
     → xs ++ x ∷ [] ≡ take n (slice_split p text) → past xs + length x ≤ length text
 past_below p text xs x n is = omega (arith, past_push xs x, ap past is, past_take (slice_split p text) n, past_split p text)
 
--- more is collected from one more piece
+-- collecting the citations of one more piece
 pub collected_next : (cited : List ℕ → List (List ℕ)) (old mid new : Collected) (xs : List (List ℕ)) (x : List ℕ)
     (at : ℕ) → at ≡ past xs → IsCollected old (cites_from cited 0 xs) mid
     → IsCollected mid (cites_at at (cited x)) new

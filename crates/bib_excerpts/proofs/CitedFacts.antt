@@ -1,4 +1,4 @@
--- Marks on what is cited.
+-- The marks on cited nodes.
 use Rattle.std.proofs.Common.{◌≡◌, ℕ, Bool, true, false, List, length, get_or, replicate, sym, ap, subst, ◌∙◌, arith, ◌<◌}
 use Rattle.std.proofs.lemmas.Bool.{false≢true}
 use Rattle.std.proofs.lemmas.List.{get_or-replicate, length-replicate}
@@ -15,7 +15,7 @@ not_all : (names : List (List ℕ)) (all : Bool) (nodes : List Node) (index : �
 not_all names all nodes index none (any is) = absurd (false≢true (sym none ∙ is))
 not_all names all nodes index none (needed h) = h
 
--- where not all are cited, what is needed is cited
+-- if not all nodes are cited, marks on the needed nodes are marks on the cited ones
 pub needed_marks : (names : List (List ℕ)) (all : Bool) (nodes : List Node) (n : ℕ) (marks : List Bool) → all ≡ false
     → AreMarks (IsNeeded names nodes) n marks → AreMarks (IsCited names all nodes) n marks
 needed_marks names all nodes n marks none h = record {
@@ -26,7 +26,7 @@ needed_marks names all nodes n marks none h = record {
   );
 }
 
--- where all are cited, all have marks
+-- if all nodes are cited, marks on all nodes are marks on the cited ones
 pub all_marks : (names : List (List ℕ)) (all : Bool) (nodes : List Node) (n : ℕ) (marks : List Bool) → all ≡ true
     → marks ≡ replicate n true → AreMarks (IsCited names all nodes) n marks
 all_marks names all nodes n marks is made = record {
@@ -34,7 +34,7 @@ all_marks names all nodes n marks is made = record {
   each = λ index below. (λ mark. any is, λ cited. ap (λ l. get_or l index false) made ∙ get_or-replicate n index true false below);
 }
 
--- the same marks for the same things
+-- marks on the needed nodes are those for equal names and nodes
 pub same_marks : (names names' : List (List ℕ)) (nodes nodes' : List Node) (n n' : ℕ) (marks : List Bool)
     → names ≡ names' → nodes ≡ nodes' → n ≡ n' → AreMarks (IsNeeded names nodes) n marks
     → AreMarks (IsNeeded names' nodes') n' marks
@@ -43,14 +43,14 @@ same_marks names names' nodes nodes' n n' marks alike things long h =
     (subst (λ l. AreMarks (IsNeeded names l) n' marks) things
     (subst (λ k. AreMarks (IsNeeded names nodes) k marks) long h))
 
--- what a cited entry refers to is cited
+-- a node that a cited node refers to is cited
 cited_more : (names : List (List ℕ)) (all : Bool) (nodes : List Node) (first second : ℕ) (name : List ℕ)
     → RefersTo nodes first name → HasName nodes second name → IsCited names all nodes first
     → IsCited names all nodes second
 cited_more names all nodes first second name refers named (any is) = any is
 cited_more names all nodes first second name refers named (needed h) = needed (reached name h refers named)
 
--- so where marks are on what is cited
+-- if marks are on the cited nodes, a node that a marked node refers to has a mark
 pub cited_marked : (names : List (List ℕ)) (all : Bool) (nodes : List Node) (n : ℕ) (marks : List Bool)
     (first second : ℕ) (name : List ℕ) → length nodes ≡ n → AreMarks (IsCited names all nodes) n marks
     → IsMarked marks first → RefersTo nodes first name → HasName nodes second name → IsMarked marks second
@@ -59,7 +59,7 @@ cited_marked names all nodes n marks first second name long h mark refers named 
     let there : second < n = omega (arith, named_below nodes second name named, long) in
     (h.each second there).1 (cited_more names all nodes first second name refers named ((h.each first here).0 mark))
 
--- and on what is needed
+-- the same for marks on the needed nodes
 pub needed_marked : (names : List (List ℕ)) (nodes : List Node) (n : ℕ) (marks : List Bool) (first second : ℕ)
     (name : List ℕ) → length nodes ≡ n → AreMarks (IsNeeded names nodes) n marks
     → IsMarked marks first → RefersTo nodes first name → HasName nodes second name → IsMarked marks second
@@ -68,6 +68,7 @@ needed_marked names nodes n marks first second name long h mark refers named =
     let there : second < n = omega (arith, named_below nodes second name named, long) in
     (h.each second there).1 (reached name ((h.each first here).0 mark) refers named)
 
+-- if marks are on the needed nodes, a node with a requested name has a mark
 pub asked_marked : (names : List (List ℕ)) (nodes : List Node) (n : ℕ) (marks : List Bool) (index : ℕ) (name : List ℕ)
     → length nodes ≡ n → AreMarks (IsNeeded names nodes) n marks
     → is_listed names name ≡ true → HasName nodes index name → IsMarked marks index

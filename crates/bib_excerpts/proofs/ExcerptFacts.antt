@@ -1,4 +1,4 @@
--- Where entries stand in a text, and what is printed of them one after another.
+-- The positions of entries in a text.
 use Rattle.std.proofs.Common.{◌≡◌, ◌≤◌, ◌<◌, ◌+◌, ◌||◌, ℕ, Bool, List, [], ◌∷◌, ◌++◌, map, drop, length, get_or, refl, sym, ap, subst, ◌∙◌, arith}
 use Rattle.std.specs.List.{list_any}
 use Rattle.std.specs.Char.{len_utf8}
@@ -13,7 +13,7 @@ use Rattle.bib_syntax.specs.Reading.{EntryReading, FileReading, Part}
 use Rattle.bib_syntax.specs.Recovery.{IsBlockOf}
 use Rattle.bib_syntax.proofs.FieldFacts.{ahead_fields, ahead_gap, ahead_identifier}
 
--- a test of what is made of each element
+-- a test of the images of elements is a test of the elements
 pub any_mapped : {A B : Type 0} (f : A → B) (test : B → Bool) (xs : List A) → list_any test (map f xs) ≡ list_any (λ x. test (f x)) xs
 any_mapped f test [] = refl
 any_mapped f test (x ∷ xs) = ap (λ rest. test (f x) || rest) (any_mapped f test xs)
@@ -57,13 +57,14 @@ byte_here {u} {v} c small char =
           ∙ ap (λ t. get_or t 0 0) (char.here ∙ ap (λ t. t ++ drop v.at u.text) (encode_ascii c small)),
     )
 
--- where an entry may be cut out of its text
+-- the source text of an entry may be cut out of its text
 pub record CanBeCut (text : List ℕ) (e : EntryReading) : Type 0 where
   pub ordered : e.start ≤ e.end
   pub within : e.end < length text
   pub start : IsCharBoundary text e.start
   pub end : IsCharBoundary text (e.end + 1)
 
+-- an entry that is a block of a UTF-8 text may be cut out of it
 pub can_be_cut : (text : List ℕ) (e : EntryReading) → IsUtf8 text → IsBlockOf text e → CanBeCut text e
 can_be_cut text e utf8 block =
     let sign = block.1.head.sign in

@@ -1,4 +1,4 @@
--- A search for what is needed: how far it has come.
+-- The search for needed nodes: its state after each step.
 use Rattle.std.proofs.Common.{◌≡◌, ◌<◌, ◌+◌, ◌↔◌, ℕ, zero, suc, Bool, true, false, cond, ◌||◌, List, [], ◌∷◌, ◌++◌, take, map, length, get_or, set, replicate, refl, sym, ap, subst, ◌∙◌, arith, ◌⊎◌, inl, inr, ⊎_elim, Option, Some, None}
 use Rattle.std.specs.Prelude.{bytes_eq}
 use Rattle.std.specs.List.{All, Contains}
@@ -29,12 +29,12 @@ empty (x ∷ l) is = absurd (omega (arith, is))
 
 -- ---- one more name, one more thing
 
--- whether a name is among these and one more
+-- a name is among names and one more if it is this one or among the others
 pub among_push : (names : List (List ℕ)) (one name : List ℕ)
     → is_listed (names ++ one ∷ []) name ≡ cond (bytes_eq one name) true (is_listed names name)
 among_push names one name = any_push (λ n. bytes_eq n name) names one
 
--- an index among some and one more, where that is of this name
+-- the indices of a name after one more index, which is added if `b`
 pub holder_more : (b : Bool) (old now after : List ℕ) (index one : ℕ) (among among' : Bool)
     → after ≡ cond b (now ++ index ∷ []) now → among' ≡ cond b true among
     → Contains now one ↔ (Contains old one ⊎ ((one ≡ index) × (among ≡ true)))
@@ -53,6 +53,7 @@ holder_more false old now after index one among among' is is' so = (
   λ h. subst (λ l. Contains l one) (sym is) (so.1 (⊎_elim (λ o. inl o) (λ x. inr (x.0, sym is' ∙ x.1)) h)),
 )
 
+-- a name is among the first `i + 1` names if it is the last of them or among the others
 pub among_more : (names : List (Bor (List ℕ))) (i : ℕ) (d : Bor (List ℕ)) (name : List ℕ) → i < length names
     → is_listed (map (λ n. n.now) (take (i + 1) names)) name
     ≡ cond (bytes_eq (get_or names i d).now name) true (is_listed (map (λ n. n.now) (take i names)) name)
@@ -69,11 +70,12 @@ among_at (n ∷ names) (suc i) d within =
     ap (λ b. bytes_eq n.now (get_or names i d).now || b) (among_at names i d (omega (arith, within)))
     ∙ or-true (bytes_eq n.now (get_or names i d).now)
 
--- ---- the map, where a name's indices are taken out, and where one is added
+-- ---- the map, if the indices of a name are removed, or one is added
 
 items_of : Option (Vec ℕ) → List ℕ
 items_of o = option_map_or (λ indices. indices.items) o []
 
+-- removing a name from the map leaves the indices of every other name
 pub taken_left : (m new : Map) (name other : List ℕ)
     → get_by (λ k. slice_cmp nat_cmp other k.now) new
     ≡ cond (bytes_eq name other) None (get_by (λ k. slice_cmp nat_cmp other k.now) m)
@@ -84,6 +86,7 @@ taken_left m new name other is = ap items_of is ∙ of (bytes_eq name other) (ge
   of true o = refl
   of false o = refl
 
+-- removing the indices of a name and inserting them with one more appends that one, and changes no other name
 pub holder_added : (m mid new : Map) (name : List ℕ) (index : ℕ) (v : Vec ℕ) → v.items ≡ holders_in m name ++ index ∷ []
     → ((other : List ℕ) → holders_in mid other ≡ cond (bytes_eq name other) [] (holders_in m other)) → (other : List ℕ)
     → get_by (λ k. slice_cmp nat_cmp other k.now) new
@@ -105,7 +108,7 @@ holder_added m mid new name index v items left other is = of (bytes_eq name othe
 abbrev nobody : Node
 nobody = record { names = []; references = [] }
 
--- the thing at an index, where there is one more
+-- a node has a name if one of the others does, or if it is the last one and has it
 pub node_push : (nodes : List Node) (node : Node) (index : ℕ) (name : List ℕ)
     → HasName (nodes ++ node ∷ []) index name ↔
     (HasName nodes index name ⊎ ((index ≡ length nodes) × (is_listed node.names name ≡ true)))
@@ -119,7 +122,7 @@ node_push (first ∷ nodes) node (suc index) name =
       λ h. so.1 (⊎_elim (λ x. inl x) (λ x. inr (omega (arith, x.0), x.1)) h),
     )
 
--- a map of what has each name, with one more thing
+-- a map of the nodes with each name, extended by one more node
 pub holders_push : (nodes : List Node) (node : Node) (m m' : Map) → AreHolders nodes m
     →
     ((name : List ℕ) (one : ℕ)
@@ -132,6 +135,7 @@ holders_push nodes node m m' so more name index =
     let both = node_push nodes node index name in
     (λ h. both.1 (⊎_elim (λ x. inl (was.0 x)) (λ x. inr x) (now.0 h)), λ h. now.1 (⊎_elim (λ x. inl (was.1 x)) (λ x. inr x) (both.0 h)))
 
+-- a map of the first `i` nodes, extended by the names of the next node, is one of the first `i + 1`
 pub holders_next : (links : List Links) (i : ℕ) (link : Links) (names : List (Bor (List ℕ))) (m m' : Map)
     → i < length links → link ≡ get_or links i link → names ≡ link.names.items
     → AreHolders (map node_of (take i links)) m
@@ -158,7 +162,7 @@ holders_next links i link names m m' within is named so more =
     (Contains (holders_in m name) one ⊎ ((one ≡ i) × (is_listed (map (λ n. n.now) l) name ≡ true)))) named
     (more name one))))
 
--- what has a name stands in the list
+-- the index of a node with a name is within the list
 pub named_below : (nodes : List Node) (index : ℕ) (name : List ℕ) → HasName nodes index name → index < length nodes
 named_below nodes index name h = elim (cases_lt index (length nodes)) [
   | inl t ↦ omega arith
@@ -167,7 +171,7 @@ named_below nodes index name h = elim (cases_lt index (length nodes)) [
 
 -- ---- marks on indices, one after another
 
--- nothing is marked yet
+-- no new marks and no new pending indices
 pub nothing_marked : (is_new : ℕ → Type 0) (marks : List Bool) (pending : List ℕ) → Marks is_new marks pending marks pending
 nothing_marked is_new marks pending = record {
   kept = λ i h. h;
@@ -177,7 +181,7 @@ nothing_marked is_new marks pending = record {
   as_many = refl;
 }
 
--- more may be marked
+-- marks on indices for which `P` holds are marks on indices for which `Q` holds, if `P` implies it
 pub marks_weaker : (P Q : ℕ → Type 0) → ((i : ℕ) → P i → Q i)
     → (old : List Bool) (before : List ℕ) (new : List Bool) (after : List ℕ) → Marks P old before new after
     → Marks Q old before new after
@@ -189,7 +193,7 @@ marks_weaker P Q weaker old before new after h = record {
   as_many = h.as_many;
 }
 
--- an index that has no mark gets one, and waits
+-- an index without a mark gets one, and is pending
 pub one_marked : (marks : List Bool) (pending : List ℕ) (index : ℕ) → index < length marks
     → get_or marks index false ≡ false
     → Marks (λ i. i ≡ index) marks pending (set marks index true) (pending ++ index ∷ [])
@@ -210,7 +214,7 @@ one_marked marks pending index within none = record {
   as_many = omega (arith, unmarked_less marks index within none, length_push pending index);
 }
 
--- marks after marks
+-- two extensions of marks in turn are one
 pub marks_then : (P : ℕ → Type 0) (old : List Bool) (before : List ℕ) (mid : List Bool) (between : List ℕ)
     (new : List Bool) (after : List ℕ) → Marks P old before mid between → Marks P mid between new after
     → Marks P old before new after
@@ -222,7 +226,7 @@ marks_then P old before mid between new after first second = record {
   as_many = omega (arith, first.as_many, second.as_many);
 }
 
--- the next of some indices gets a mark, where it has none
+-- the next of some indices gets a mark, if it has none
 pub mark_next : (indices : List ℕ) (k : ℕ) (old : List Bool) (before : List ℕ) (marks marks' : List Bool)
     (pending pending' : List ℕ) → k < length indices → get_or indices k 0 < length marks
     → get_or marks (get_or indices k 0) false ≡ false
@@ -236,7 +240,7 @@ mark_next indices k old before marks marks' pending pending' below within none s
     (set marks r true) (pending ++ r ∷ []) (one_marked marks pending r within none) in
     rw (s, p) (marks_then (Contains indices) old before marks pending (set marks r true) (pending ++ r ∷ []) h one)
 
--- marks on the first of some indices, and one more
+-- if the first `k` indices and the next one have marks, the first `k + 1` have marks
 pub all_next : (indices : List ℕ) (k : ℕ) (marks marks' : List Bool) → k < length indices
     → ((i : ℕ) → IsMarked marks i → IsMarked marks' i) → IsMarked marks' (get_or indices k 0)
     → All (IsMarked marks) (take k indices) → All (IsMarked marks') (take (k + 1) indices)
@@ -246,7 +250,7 @@ all_next indices k marks marks' below kept here all =
 
 -- ---- names that are looked up, one after another
 
--- nothing is looked up yet
+-- no name is looked up at first
 pub nothing_looked_up : (m : Map) (marks : List Bool) → LooksUp m [] marks m
 nothing_looked_up m marks = record { looked_up = λ name no. absurd (false≢true no); left = λ name. inl refl }
 
@@ -293,14 +297,14 @@ one_looked_up m mid new names one marks marks' h kept all left =
           let same : holders_in new name ≡ holders_in mid name = left name ∙ ap (λ b. cond b [] (holders_in mid name)) is in
           ⊎_elim (λ e. inl (same ∙ e)) (λ x. inr (same ∙ x.0, kept_all name x.1)) (h.left name)
 
--- a holder that is left by some lookups was one before
+-- an index that lookups leave in the map was in it before
 pub holder_before : (m mid : Map) (names : List (List ℕ)) (marks : List Bool) (name : List ℕ) (i : ℕ)
     → LooksUp m names marks mid → Contains (holders_in mid name) i → Contains (holders_in m name) i
 holder_before m mid names marks name i h c =
     ⊎_elim (λ e. subst (λ l. Contains l i) e c) (λ x. absurd (contains_none i (subst (λ l. Contains l i) x.0 c)))
     (h.left name)
 
--- what is left by some lookups lies below
+-- the indices that lookups leave in the map are below the same bound
 pub left_below : (m mid : Map) (names : List (List ℕ)) (marks : List Bool) (n : ℕ) → LooksUp m names marks mid
     → ((other : List ℕ) → All (λ i. i < n) (holders_in m other)) → (other : List ℕ)
     → All (λ i. i < n) (holders_in mid other)
@@ -310,19 +314,20 @@ left_below m mid names marks n h below other =
 
 -- ---- the search
 
--- what has a name has a mark
+-- all nodes with a name have marks
 abbrev pub IsTaken : List Node → List Bool → List ℕ → Type 0
 IsTaken nodes marks name = (index : ℕ) → HasName nodes index name → IsMarked marks index
 
 module _ (names : List (List ℕ)) (nodes : List Node) where
-  -- before a name was looked up
+  -- the state of the map and the marks: each mark is on a needed node, and each node with a name is in the map or has a mark
   pub record IsBegun (m : Map) (marks : List Bool) : Type 0 where
     pub same_length : length marks ≡ length nodes
     pub sound : (i : ℕ) → IsMarked marks i → IsNeeded names nodes i
     pub left : (name : List ℕ) (i : ℕ) → HasName nodes i name → Contains (holders_in m name) i ⊎ IsMarked marks i
     pub held : (name : List ℕ) (i : ℕ) → Contains (holders_in m name) i → HasName nodes i name
 
-  -- what waits has a mark, what is asked for has one, and so has what a thing with a mark refers to, if it doesn't wait
+  -- the state of the search: pending nodes and nodes with a requested name have marks; if a marked node isn't pending, all nodes
+  -- that it refers to have marks
   pub record IsSearch (m : Map) (marks : List Bool) (pending : List ℕ) : Type 0 where
     pub begun : IsBegun m marks
     pub waits : (i : ℕ) → Contains pending i → IsMarked marks i
@@ -338,8 +343,8 @@ module _ (names : List (List ℕ)) (nodes : List Node) where
     held = λ name i h. (holders name i).0 h;
   }
 
-  pub bounded : (m : Map) (marks : List Bool) → IsBegun m marks → (name : List ℕ) → All (λ i. i < length marks) (holders_in m name)
-  bounded m marks h name =
+  pub holders_below : (m : Map) (marks : List Bool) → IsBegun m marks → (name : List ℕ) → All (λ i. i < length marks) (holders_in m name)
+  holders_below m marks h name =
       All-from_get_or (λ i. i < length marks) (holders_in m name) 0
       (λ k below.
       omega (
@@ -349,7 +354,7 @@ module _ (names : List (List ℕ)) (nodes : List Node) where
             (h.held name _ (Contains-get_or (holders_in m name) k 0 below)),
       ))
 
-  -- more names were looked up
+  -- further names are looked up
   module _ (m m' : Map) (marks marks' : List Bool) (pending pending' : List ℕ) (asked_for : List (List ℕ))
       (len : length marks' ≡ length marks) (marked : Marks (AreHoldersIn m asked_for) marks pending marks' pending')
       (expands : LooksUp m asked_for marks' m') (h : IsBegun m marks) where
@@ -381,7 +386,7 @@ module _ (names : List (List ℕ)) (nodes : List Node) where
     pub kept_taken : (name : List ℕ) → IsTaken nodes marks name → IsTaken nodes marks' name
     kept_taken name t i named = marked.kept i (t i named)
 
-  -- the search begins with the names that are asked for
+  -- the search begins with the requested names
   pub search_first : (m m' : Map) (marks marks' : List Bool) (pending' : List ℕ) → length marks' ≡ length marks
       → ((i : ℕ) → IsMarked marks i → ⊥) → Marks (AreHoldersIn m names) marks [] marks' pending'
       → LooksUp m names marks' m' → IsBegun m marks → IsSearch m' marks' pending'
@@ -392,7 +397,7 @@ module _ (names : List (List ℕ)) (nodes : List Node) where
     closed = λ i now. ⊎_elim (λ was. absurd (none i was)) (λ x. inl x.1) (marked.only i now);
   }
 
-  -- what the last that waits refers to is looked up
+  -- the names that the last pending node refers to are looked up
   pub search_more : (m m' : Map) (marks marks' : List Bool) (before pending pending' : List ℕ) (index : ℕ)
       → before ≡ pending ++ index ∷ [] → length marks' ≡ length marks
       → Marks (AreHoldersIn m (node_at nodes index).references) marks pending marks' pending'
@@ -421,7 +426,7 @@ module _ (names : List (List ℕ)) (nodes : List Node) where
             (λ x. inl x.1) (marked.only i now);
       }
 
-  -- where nothing waits, all that is needed has a mark
+  -- if nothing is pending, each needed node has a mark
   complete : (m : Map) (marks : List Bool) (i : ℕ) → IsSearch m marks [] → IsNeeded names nodes i → IsMarked marks i
   complete m marks i h (asked name among named) = h.found name among i named
   complete m marks i h (reached {first = first} name needed refers named) =
@@ -444,15 +449,15 @@ module _ (names : List (List ℕ)) (nodes : List Node) where
       (subst (λ l. Marks (AreHoldersIn m names) old l marks' pending') empty marked) expands
       (at_first m old (ap length none ∙ length-replicate (length nodes) false) unmarked_yet holders)
 
-  -- before it begins, what has a name lies below
+  -- before the search, the indices in the map are within the marks
   pub start_bounded : (m : Map) (old : List Bool) → old ≡ replicate (length nodes) false → AreHolders nodes m
       → (name : List ℕ) → All (λ i. i < length old) (holders_in m name)
   start_bounded m old none holders =
-      bounded m old
+      holders_below m old
       (at_first m old (ap length none ∙ length-replicate (length nodes) false)
       (λ i h. none_marked (length nodes) i (subst (λ l. IsMarked l i) none h)) holders)
 
-  -- what waits lies below
+  -- the last pending index is within the list of nodes
   pub waiting_below : (m : Map) (marks : List Bool) (before pending : List ℕ) (index : ℕ)
       → before ≡ pending ++ index ∷ [] → IsSearch m marks before → index < length nodes
   waiting_below m marks before pending index popped h =

@@ -1,5 +1,5 @@
 -- Machinery: words of private contracts.
--- How citations are collected.
+-- Steps of collecting citations.
 use Rattle.std.specs.Prelude.{◌≡◌, ℕ, ◌||◌, List, bytes_eq, fold, is_some}
 use Rattle.std.specs.List.{list_any}
 use Rattle.std.specs.BTreeMap.{get_by_text}
@@ -7,11 +7,11 @@ use Rattle.bib_excerpts.specs.Citations.{add_citation, cites_all}
 use Rattle.bib_excerpts.specs.declared.citations.Citation.{Citation}
 use Rattle.bib_excerpts.specs.declared.citations.Collected.{Collected}
 
--- the keys that were seen are those of the citations
+-- the set of keys contains exactly the keys of the citations
 abbrev pub IsSeen : Collected → Type 0
 IsSeen c = (key : List ℕ) → is_some (get_by_text c.seen key) ≡ list_any (λ k. bytes_eq k.key key) c.keys.items
 
--- citations were added
+-- the collected citations are extended by `cites`
 pub record IsCollected (old : Collected) (cites : List Citation) (new : Collected) : Type 0 where
   pub keys : new.keys.items ≡ fold add_citation old.keys.items cites
   pub all : new.all ≡ (old.all || cites_all cites)

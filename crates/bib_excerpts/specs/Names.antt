@@ -1,5 +1,5 @@
 -- Meaning: words of public contracts.
--- Names in fields: those of entries and of abbreviations, and those that they refer to.
+-- The names of entries and abbreviations, and the names that they refer to.
 use Rattle.std.specs.Prelude.{ℕ, Bool, ◌||◌, ◌==◌, if◌then◌else◌, List, [], ◌∷◌, length, codes}
 use Rattle.std.specs.List.{flat_map, slice_split}
 use Rattle.std.specs.Str.{trim}
@@ -10,24 +10,24 @@ use Rattle.bib_syntax.specs.Reading.{EntryReading, FieldReading, Piece}
 use Rattle.bib_syntax.specs.Reading.Piece.{abbreviation, literal}
 use Rattle.bib_excerpts.specs.Needed.{Node}
 
--- a name that isn't empty, and else none
-abbrev pub filled : List ℕ → List (List ℕ)
-filled name = if length name == 0 then [] else name ∷ []
+-- a name, or no name if it is empty
+abbrev pub name_if_filled : List ℕ → List (List ℕ)
+name_if_filled name = if length name == 0 then [] else name ∷ []
 
--- the parts of a comma list, without the white space around them; what is empty is no part
+-- the parts of a comma-separated list, without the white space around them and without empty parts
 abbrev pub comma_parts : List ℕ → List (List ℕ)
-comma_parts list = flat_map (λ part. filled (trim part)) (slice_split (λ c. c == char.comma) list)
+comma_parts list = flat_map (λ part. name_if_filled (trim part)) (slice_split (λ c. c == char.comma) list)
 
--- the parts of the comma list that a literal element is
+-- the parts of a literal, which is a comma-separated list
 abbrev pub piece_parts : Piece → List (List ℕ)
 piece_parts (literal p) = comma_parts p.text
 piece_parts (abbreviation p) = []
 
--- the parts of the comma lists that the literal elements of a value are
+-- the parts of the literals of a value, which are comma-separated lists
 abbrev pub literal_parts : List Piece → List (List ℕ)
 literal_parts pieces = flat_map piece_parts pieces
 
--- the names that a field lists, where it is one of references
+-- the names that a field lists, if it is a reference
 abbrev pub references_in : FieldReading → List (List ℕ)
 references_in f = if is_reference_field f.name.text then literal_parts f.value.pieces else []
 
@@ -35,35 +35,35 @@ references_in f = if is_reference_field f.name.text then literal_parts f.value.p
 abbrev pub references_of : List FieldReading → List (List ℕ)
 references_of fields = flat_map references_in fields
 
--- the names that a field lists, where it is the field of an entry's further names
+-- the names that a field lists, if it is the field `ids`
 abbrev pub aliases_in : FieldReading → List (List ℕ)
 aliases_in f = if is_word f.name.text (codes "ids") then literal_parts f.value.pieces else []
 
--- the further names of an entry with these fields
+-- the names in the fields `ids` of an entry with these fields
 abbrev pub aliases_of : List FieldReading → List (List ℕ)
 aliases_of fields = flat_map aliases_in fields
 
--- the names of an entry: its key, and its further names
+-- the names of an entry: its key, and the names in its fields `ids`
 abbrev pub entry_names : EntryReading → List (List ℕ)
 entry_names e = e.key.text ∷ aliases_of e.fields
 
--- an entry's names, and those that it refers to
+-- the names of an entry, and the names that it refers to
 abbrev pub entry_node : EntryReading → Node
 entry_node e = record { names = entry_names e; references = references_of e.fields }
 
--- the abbreviation that an element is
+-- the name of a piece if it is an abbreviation
 abbrev pub used_as : Piece → List (List ℕ)
 used_as (literal p) = []
 used_as (abbreviation p) = p.text ∷ []
 
--- the abbreviations of a value
+-- the abbreviations that a value uses
 abbrev pub used_in_value : List Piece → List (List ℕ)
 used_in_value pieces = flat_map used_as pieces
 
--- the abbreviations of fields
+-- the abbreviations that fields use
 abbrev pub used_in_fields : List FieldReading → List (List ℕ)
 used_in_fields fields = flat_map (λ f. used_in_value f.value.pieces) fields
 
--- an abbreviation's name, and those that its definition uses
+-- the name of an abbreviation, and the abbreviations that its definition uses
 abbrev pub definition_node : FieldReading → Node
 definition_node f = record { names = f.name.text ∷ []; references = used_in_value f.value.pieces }

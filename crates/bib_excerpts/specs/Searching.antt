@@ -1,5 +1,5 @@
 -- Machinery: words of private contracts.
--- A search for what is needed: marks on what was found, and the names that are still to be looked up.
+-- The search for needed nodes: the marks on the nodes found so far, and the names that are still to be looked up.
 use Rattle.std.specs.Prelude.{◌≡◌, ◌↔◌, ◌⊎◌, ◌+◌, ℕ, Bool, true, false, not, List, [], length, slice_index_or, count_by}
 use Rattle.std.specs.List.{All, Contains}
 use Rattle.std.specs.Option.{option_map_or}
@@ -10,15 +10,15 @@ use Rattle.std.specs.Cmp.Lexicographic.{slice_cmp}
 use Rattle.std.specs.Ordering.{nat_cmp}
 use Rattle.bib_excerpts.specs.Needed.{Node, HasName, is_listed}
 
--- the indices of what has a name, by a map
+-- the indices of the nodes with a name in a map
 abbrev pub holders_in : BTreeMap (Bor (List ℕ)) (Vec ℕ) → List ℕ → List ℕ
 holders_in m name = option_map_or (λ indices. indices.items) (get_by (λ k. slice_cmp nat_cmp name k.now) m) []
 
--- a map has for each name the indices of the things that have it
+-- a map contains for each name the indices of the nodes that have it
 abbrev pub AreHolders : List Node → BTreeMap (Bor (List ℕ)) (Vec ℕ) → Type 0
 AreHolders nodes m = (name : List ℕ) (index : ℕ) → Contains (holders_in m name) index ↔ HasName nodes index name
 
--- an index is one of those of one of these names
+-- an index belongs to a node with one of these names
 abbrev pub AreHoldersIn : BTreeMap (Bor (List ℕ)) (Vec ℕ) → List (List ℕ) → ℕ → Type 0
 AreHoldersIn m names index = (name : List ℕ) × (is_listed names name ≡ true) × Contains (holders_in m name) index
 
@@ -26,19 +26,20 @@ AreHoldersIn m names index = (name : List ℕ) × (is_listed names name ≡ true
 abbrev pub IsMarked : List Bool → ℕ → Type 0
 IsMarked marks index = slice_index_or marks index false ≡ true
 
--- how many indices have no mark
-abbrev pub unmarked : List Bool → ℕ
-unmarked marks = count_by not marks
+-- the number of indices without a mark
+abbrev pub unmarked_count : List Bool → ℕ
+unmarked_count marks = count_by not marks
 
--- no mark is lost, new marks are on such indices alone, and what gets a mark waits
+-- marks and pending indices are extended: no mark is lost, only indices with `is_new` get a mark, and each of them is then pending
 pub record Marks (is_new : ℕ → Type 0) (old : List Bool) (before : List ℕ) (new : List Bool) (after : List ℕ) : Type 0 where
   pub kept : (index : ℕ) → IsMarked old index → IsMarked new index
   pub only : (index : ℕ) → IsMarked new index → IsMarked old index ⊎ (is_new index × Contains after index)
   pub waiting : (index : ℕ) → Contains before index → Contains after index
   pub waits : (index : ℕ) → Contains after index → Contains before index ⊎ IsMarked new index
-  pub as_many : unmarked new + length after ≡ unmarked old + length before
+  pub as_many : unmarked_count new + length after ≡ unmarked_count old + length before
 
--- these names were looked up: what has one has a mark, and a name is left as it was or what has it has a mark
+-- these names are looked up: all their nodes have marks, and each name of the map is kept, or is removed and all its nodes have
+-- marks
 pub record LooksUp (old : BTreeMap (Bor (List ℕ)) (Vec ℕ)) (names : List (List ℕ)) (marks : List Bool)
     (new : BTreeMap (Bor (List ℕ)) (Vec ℕ)) : Type 0 where
   pub looked_up : (name : List ℕ) → is_listed names name ≡ true → All (IsMarked marks) (holders_in old name)

@@ -1,4 +1,4 @@
-//! The keys that a document cites, by the files that LaTeX writes for BibTeX and BibLaTeX for biber.
+//! Reads the keys that a document cites from the .aux file that LaTeX writes, or the .bcf file that BibLaTeX writes for Biber.
 
 ghost use Rattle.std.specs.Prelude.{◌≡◌, ◌++◌, ◌==◌, [], ◌∷◌, false, length, map, IfOk, OnOk};
 ghost use Rattle.std.specs.Option.{option_map};
@@ -7,7 +7,7 @@ ghost use Rattle.bib_text.specs.Characters as char;
 ghost use Rattle.bib_excerpts.specs.Citations as spec;
 ghost use Rattle.bib_excerpts.specs.Citations.{AreCitations, aux_cited, bcf_cited, cites_at};
 ghost use Rattle.bib_excerpts.specs.Collecting.{IsCollected, IsSeen};
-ghost use Rattle.bib_excerpts.specs.Names.{filled};
+ghost use Rattle.bib_excerpts.specs.Names.{name_if_filled};
 ghost use Rattle.bib_excerpts.specs.Texts.{text_list};
 
 use crate::names::push_parts;
@@ -15,25 +15,25 @@ use bib_text::text::Text;
 use std::alloc::{AllocError, Global};
 use std::collections::BTreeMap;
 
-/// A key that is cited.
+/// A cited key.
 #[derive(Debug, Drop)]
 pub struct Citation {
     /// The key.
     pub key: Text,
-    /// Where the line, or the element, begins that cites it first, in bytes of the file.
+    /// The offset in bytes of the line, or of the text after the `<` of the element, that cites it first.
     pub at: usize,
 }
 
-/// What a document cites.
+/// The citations of a document.
 #[derive(Debug, Drop)]
 pub struct Citations {
-    /// Each key that is cited once, in the order of first citation.
+    /// Each cited key once, in the order of first citation.
     pub keys: Vec<Citation>,
-    /// Whether all entries are cited, as by LaTeX's `\nocite{*}`.
+    /// Whether all entries are cited, as by `\nocite{*}`.
     pub all: bool,
 }
 
-// Citations, and the keys that are among them.
+// The citations so far, and the set of their keys.
 #[derive(Drop)]
 struct Collected {
     keys: Vec<Citation>,
@@ -41,14 +41,14 @@ struct Collected {
     seen: BTreeMap<String, ()>,
 }
 
-// What stands after a prefix of a text.
+// Returns the text after a prefix, or `None` if the text doesn't begin with it.
 fn after_prefix<'s>(text: &'s str, prefix: &str) -> Option<&'s str>
-    ensures { option_map (λ rest. rest.now) result ≡ spec.left_after prefix.now text.now }
+    ensures { option_map (λ rest. rest.now) result ≡ spec.text_after_prefix prefix.now text.now }
 {
     text.strip_prefix(prefix)
 }
 
-// The text of an argument, up to its brace.
+// Returns the text of an argument up to its closing brace, or `None` without one.
 fn argument(text: &str) -> Option<&str>
     ensures { option_map (λ rest. rest.now) result ≡ spec.argument text.now }
 {
@@ -56,7 +56,7 @@ fn argument(text: &str) -> Option<&str>
     Some(inside)
 }
 
-// The text of the last of one or two arguments, of which the first begins here.
+// Returns the text of the last of one or two arguments. `text` begins after the opening brace of the first.
 fn last_argument(text: &str) -> Option<&str>
     ensures { option_map (λ rest. rest.now) result ≡ spec.last_argument text.now }
 {
@@ -67,7 +67,7 @@ fn last_argument(text: &str) -> Option<&str>
     }
 }
 
-// What stands after a command of citation that a line begins with.
+// Returns the text after the citation command at the start of a line, or `None` without one.
 fn after_command(line: &str) -> Option<&str>
     ensures { option_map (λ rest. rest.now) result ≡ spec.after_command line.now }
 {
@@ -77,7 +77,7 @@ fn after_command(line: &str) -> Option<&str>
     }
 }
 
-// The comma list of keys that a line of an .aux file cites.
+// Returns the comma-separated keys that a line of an .aux file cites, or `None` if it cites none.
 fn aux_list(line: &str) -> Option<&str>
     ensures { option_map (λ rest. rest.now) result ≡ spec.aux_list line.now }
 {
@@ -86,7 +86,7 @@ fn aux_list(line: &str) -> Option<&str>
 }
 
 impl Collected {
-    // Nothing is cited yet.
+    // Returns no citations.
     fn new(alloc: Global) -> Self
         ensures keys { result.keys.items ≡ [] }
         ensures all { result.all ≡ false }
@@ -99,7 +99,7 @@ impl Collected {
         }
     }
 
-    // Adds a key that isn't among those that are cited.
+    // Adds a key that isn't cited yet.
     fn push(&mut self, alloc: Global, key: &str, at: usize) -> Result<(), AllocError>
         requires { IsSeen self.old }
         ensures keys { OnOk result (self.new.keys.items ≡ self.old.keys.items ++ record { key = key.now; at = at } ∷ []) }
@@ -112,7 +112,7 @@ impl Collected {
         Ok(())
     }
 
-    // Adds a key, if it isn't among those that are cited.
+    // Adds a key unless it is cited already. The key `*` cites all entries.
     fn add(&mut self, alloc: Global, key: &str, at: usize) -> Result<(), AllocError>
         requires { IsSeen self.old }
         ensures { OnOk result (IsCollected self.old (record { key = key.now; at = at } ∷ []) self.new) }
@@ -128,7 +128,7 @@ impl Collected {
         Ok(())
     }
 
-    // Adds keys that are cited at a place.
+    // Adds keys that are cited at the offset `at`.
     fn add_all(&mut self, alloc: Global, keys: &[&str], at: usize) -> Result<(), AllocError>
         requires { IsSeen self.old }
         ensures { OnOk result (IsCollected self.old (cites_at at (map (λ k. k.now) keys.now)) self.new) }
@@ -152,7 +152,7 @@ impl Collected {
 }
 
 impl Collected {
-    // What was collected.
+    // Returns the collected citations.
     fn into_citations(self) -> Citations
         ensures keys { result.keys.items ≡ self.keys.items }
         ensures all { result.all ≡ self.all }
@@ -162,7 +162,7 @@ impl Collected {
     }
 }
 
-// What stands after the tag that ends first.
+// Returns the text after the first `>`, or `None` without one.
 fn after_tag(text: &str) -> Option<&str>
     ensures { option_map (λ rest. rest.now) result ≡ spec.after_tag text.now }
 {
@@ -170,7 +170,7 @@ fn after_tag(text: &str) -> Option<&str>
     Some(rest)
 }
 
-// What stands after the tag of an element `bcf:citekey`, where such a tag is what stands after a `<`.
+// Returns the text after the tag of an element `bcf:citekey`, or `None` for another tag. `piece` begins after the `<` of a tag.
 fn citekey_text(piece: &str) -> Option<&str>
     ensures { option_map (λ rest. rest.now) result ≡ spec.citekey_text piece.now }
 {
@@ -180,7 +180,7 @@ fn citekey_text(piece: &str) -> Option<&str>
     }
 }
 
-// The same, where the tag has attributes.
+// Returns the same for a tag with attributes.
 fn attributed_text(piece: &str) -> Option<&str>
     ensures { option_map (λ rest. rest.now) result ≡ spec.attributed_text piece.now }
 {
@@ -188,7 +188,8 @@ fn attributed_text(piece: &str) -> Option<&str>
     after_tag(rest)
 }
 
-// The character that a name in XML stands for, and what stands after the name; an ampersand, and the whole, where none does.
+// Returns the character of the XML escape whose name begins `text`, and the text after it, or an ampersand and all of `text` if
+// it begins with no such name.
 fn escape(text: &str) -> (&str, &str)
     ensures { result.0.now ++ result.1.now ≡ spec.unescaped_piece text.now }
 {
@@ -210,7 +211,7 @@ fn escape(text: &str) -> (&str, &str)
     ("&", text)
 }
 
-// Adds what a text after an ampersand stands for in XML.
+// Appends a text that follows an ampersand, with its XML escape replaced.
 fn push_piece(written: &mut String, piece: &str) -> Result<(), AllocError>
     ensures { OnOk result (string_bytes written.new ≡ string_bytes written.old ++ spec.unescaped_piece piece.now) }
 {
@@ -220,7 +221,7 @@ fn push_piece(written: &mut String, piece: &str) -> Result<(), AllocError>
     Ok(())
 }
 
-// Adds what texts after ampersands stand for in XML.
+// Appends the text after the first ampersand, with XML escapes replaced.
 fn push_pieces(written: &mut String, text: &str) -> Result<(), AllocError>
     ensures { OnOk result (string_bytes written.new ≡ string_bytes written.old ++ spec.unescaped_rest text.now) }
 {
@@ -230,9 +231,9 @@ fn push_pieces(written: &mut String, text: &str) -> Result<(), AllocError>
     Ok(())
 }
 
-// What a text stands for in XML.
-fn unescaped(alloc: Global, text: &str) -> Result<String, AllocError>
-    ensures { IfOk result (λ written. string_bytes written ≡ spec.unescaped text.now) }
+// Returns a text with its XML escapes replaced by characters.
+fn unescaped_text(alloc: Global, text: &str) -> Result<String, AllocError>
+    ensures { IfOk result (λ written. string_bytes written ≡ spec.unescaped_text text.now) }
 {
     let Some((first, rest)) = text.split_once('&') else {
         return String::from_str(alloc, text);
@@ -243,10 +244,10 @@ fn unescaped(alloc: Global, text: &str) -> Result<String, AllocError>
 }
 
 impl Collected {
-    // Adds a key that isn't empty.
+    // Adds a key unless it is empty.
     fn add_filled(&mut self, alloc: Global, key: &str, at: usize) -> Result<(), AllocError>
         requires { IsSeen self.old }
-        ensures { OnOk result (IsCollected self.old (cites_at at (filled key.now)) self.new) }
+        ensures { OnOk result (IsCollected self.old (cites_at at (name_if_filled key.now)) self.new) }
     {
         if key.is_empty() {
             return Ok(());
@@ -255,7 +256,7 @@ impl Collected {
         Ok(())
     }
 
-    // Adds the key that an element of a control file cites, given what stands after its `<`.
+    // Adds the key that an element of a control file cites. `piece` begins after the `<` of the element.
     fn add_element(&mut self, alloc: Global, piece: &str, at: usize) -> Result<(), AllocError>
         requires { IsSeen self.old }
         ensures { OnOk result (IsCollected self.old (cites_at at (bcf_cited piece.now)) self.new) }
@@ -263,13 +264,13 @@ impl Collected {
         let Some(text) = citekey_text(piece) else {
             return Ok(());
         };
-        let key = unescaped(alloc, text)?;
+        let key = unescaped_text(alloc, text)?;
         self.add_filled(alloc, key.as_str().trim(), at)?;
         Ok(())
     }
 }
 
-// Adds the keys that a line of an .aux file cites to these.
+// Appends the keys that a line of an .aux file cites.
 fn push_aux_keys<'s>(keys: &mut Vec<&'s str>, line: &'s str) -> Result<(), AllocError>
     ensures { OnOk result (text_list keys.new ≡ text_list keys.old ++ aux_cited line.now) }
 {
@@ -279,7 +280,8 @@ fn push_aux_keys<'s>(keys: &mut Vec<&'s str>, line: &'s str) -> Result<(), Alloc
     }
 }
 
-/// What the lines of an .aux file cite: `\citation`, as LaTeX and natbib write it, and `\abx@aux@cite`, as BibLaTeX does.
+/// Returns the citations of an .aux file: the arguments of `\citation`, which LaTeX and natbib write, and `\abx@aux@cite`, which
+/// BibLaTeX writes.
 pub fn in_aux(alloc: Global, text: &str) -> Result<Citations, AllocError>
     ensures { IfOk result (AreCitations aux_cited (λ b. b == char.line_feed) text.now) }
 {
@@ -292,7 +294,8 @@ pub fn in_aux(alloc: Global, text: &str) -> Result<Citations, AllocError>
     Ok(collected.into_citations())
 }
 
-/// What the elements `bcf:citekey` of a control file of biber cite. Places are those after the `<` of an element.
+/// Returns the citations of a control file of Biber, which are its elements `bcf:citekey`. The offset of a citation is that of the
+/// text after the `<` of its element.
 pub fn in_bcf(alloc: Global, text: &str) -> Result<Citations, AllocError>
     ensures { IfOk result (AreCitations bcf_cited (λ b. b == char.less) text.now) }
 {

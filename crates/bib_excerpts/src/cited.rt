@@ -1,4 +1,4 @@
-//! The entries that are cited, with what they need, as they stand in a text.
+//! Prints the cited entries of a text with everything that they refer to, transitively.
 
 ghost use Rattle.std.specs.Prelude.{◌≡◌, [], ◌++◌, map, length, if◌then◌else◌, IfOk, OnOk};
 ghost use Rattle.std.specs.List.{AllByRecursion, flat_map};
@@ -7,19 +7,19 @@ ghost use Rattle.bib_syntax.specs.Recovery.{IsBlockOf};
 ghost use Rattle.bib_syntax.specs.Views.{entry_reading_of, field_of, file_of};
 ghost use Rattle.bib_excerpts.specs.Cited.{IsCited, IsExcerpt, definition_line, definition_text, entry_line, used_in_entries, used_in_entry};
 ghost use Rattle.bib_excerpts.specs.Names.{definition_node, entry_node};
-ghost use Rattle.bib_excerpts.specs.Needed.{AreMarks, IsNeeded, marked};
+ghost use Rattle.bib_excerpts.specs.Needed.{AreMarks, IsNeeded, with_marks};
 ghost use Rattle.bib_excerpts.specs.Standing.{IsFieldIn};
 ghost use Rattle.bib_excerpts.specs.Texts.{text_list};
 
 use crate::excerpts::print_if;
 use crate::names::{links_of_definitions, links_of_entries, push_used_in_fields};
-use crate::needed::needed;
+use crate::needed::mark_needed;
 use crate::request::CitedKeys;
 use bib_syntax::raw::{Pair, RawBibliography, RawEntry};
 use bib_text::spanned::Spanned;
 use std::alloc::{AllocError, Global};
 
-// Marks the entries that are cited, and those that they need.
+// Marks the cited entries, and the entries that they refer to, transitively.
 fn cited_entries(
     alloc: Global,
     cited: &CitedKeys<'_>,
@@ -33,11 +33,11 @@ fn cited_entries(
         return Ok(marks);
     }
     let links = links_of_entries(alloc, entries)?;
-    let marks = needed(alloc, &cited.keys, &links)?;
+    let marks = mark_needed(alloc, &cited.keys, &links)?;
     Ok(marks)
 }
 
-// Adds the abbreviations in an entry, if it has a mark.
+// Appends the abbreviations that an entry uses, if it has a mark.
 fn push_used_if<'s>(
     names: &mut Vec<&'s str>,
     entry: &Spanned<RawEntry<'s>>,
@@ -51,13 +51,13 @@ fn push_used_if<'s>(
     Ok(())
 }
 
-// The abbreviations in the entries with marks.
-fn used<'s>(
+// Returns the abbreviations that the entries with marks use.
+fn used_abbreviations<'s>(
     alloc: Global,
     entries: &[Spanned<RawEntry<'s>>],
     marks: &[bool],
 ) -> Result<Vec<&'s str>, AllocError>
-    ensures { IfOk result (λ names. text_list names ≡ used_in_entries (marked marks.now (map entry_reading_of entries.now))) }
+    ensures { IfOk result (λ names. text_list names ≡ used_in_entries (with_marks marks.now (map entry_reading_of entries.now))) }
 {
     let mut names = Vec::new(alloc);
     'entries: for (entry, mark) in entries.iter().zip(marks) {
@@ -66,23 +66,23 @@ fn used<'s>(
     Ok(names)
 }
 
-// Marks the definitions of the abbreviations that the entries with marks use, and of those that these use.
+// Marks the definitions of the abbreviations that the entries with marks use, transitively.
 fn used_definitions(
     alloc: Global,
     raw: &RawBibliography<'_>,
     marks: &[bool],
 ) -> Result<Vec<bool>, AllocError>
     ensures { IfOk result (λ found. AreMarks
-        (IsNeeded (used_in_entries (marked marks.now (file_of raw.now).entries)) (map definition_node (file_of raw.now).abbreviations))
+        (IsNeeded (used_in_entries (with_marks marks.now (file_of raw.now).entries)) (map definition_node (file_of raw.now).abbreviations))
         (length (file_of raw.now).abbreviations) found.items) }
 {
-    let names = used(alloc, &raw.entries, marks)?;
+    let names = used_abbreviations(alloc, &raw.entries, marks)?;
     let links = links_of_definitions(alloc, &raw.abbreviations)?;
-    let marks = needed(alloc, &names, &links)?;
+    let marks = mark_needed(alloc, &names, &links)?;
     Ok(marks)
 }
 
-// The definition of an abbreviation, from its name to the end of its value.
+// Returns the source text of a definition, from its name to the end of its value.
 fn definition<'s>(text: &'s str, pair: &Pair<'_>) -> &'s str
     requires { IsFieldIn text.now (field_of pair.now) }
     ensures { result.now ≡ definition_text text.now (field_of pair.now) }
@@ -90,7 +90,7 @@ fn definition<'s>(text: &'s str, pair: &Pair<'_>) -> &'s str
     text[pair.key.span.start..pair.value.span.end].trim_end()
 }
 
-// Prints the definition of an abbreviation in a block of its own, if it has a mark.
+// Appends a block with a definition, if it has a mark.
 fn print_definition(
     printed: &mut String,
     text: &str,
@@ -110,7 +110,7 @@ fn print_definition(
     Ok(())
 }
 
-// Prints the definitions with marks.
+// Appends the definitions with marks.
 fn print_definitions(
     printed: &mut String,
     text: &str,
@@ -119,7 +119,7 @@ fn print_definitions(
 ) -> Result<(), AllocError>
     requires { AllByRecursion (IsFieldIn text.now) (map field_of pairs.now) }
     ensures { OnOk result (string_bytes printed.new ≡
-        string_bytes printed.old ++ flat_map (definition_line text.now) (marked marks.now (map field_of pairs.now))) }
+        string_bytes printed.old ++ flat_map (definition_line text.now) (with_marks marks.now (map field_of pairs.now))) }
 {
     'pairs: for (pair, mark) in pairs.iter().zip(marks) {
         print_definition(printed, text, pair, *mark)?;
@@ -127,7 +127,7 @@ fn print_definitions(
     Ok(())
 }
 
-// Prints the entries with marks as they stand.
+// Appends the source text of the entries with marks.
 fn print_entries(
     printed: &mut String,
     text: &str,
@@ -136,7 +136,7 @@ fn print_entries(
 ) -> Result<(), AllocError>
     requires { AllByRecursion (IsBlockOf text.now) (map entry_reading_of entries.now) }
     ensures { OnOk result (string_bytes printed.new ≡
-        string_bytes printed.old ++ flat_map (entry_line text.now) (marked marks.now (map entry_reading_of entries.now))) }
+        string_bytes printed.old ++ flat_map (entry_line text.now) (with_marks marks.now (map entry_reading_of entries.now))) }
 {
     'entries: for (entry, mark) in entries.iter().zip(marks) {
         print_if(printed, text, entry, *mark)?;
@@ -144,8 +144,8 @@ fn print_entries(
     Ok(())
 }
 
-// What is printed of a bibliography for what is cited.
-pub(crate) fn cited(
+// Returns the cited entries and everything that they refer to, transitively. Definitions come before entries.
+pub(crate) fn cited_text(
     alloc: Global,
     cited: &CitedKeys<'_>,
     text: &str,

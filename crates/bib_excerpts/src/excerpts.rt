@@ -1,4 +1,4 @@
-//! Entries as they stand in a text.
+//! Prints entries with their source text.
 
 ghost use Rattle.std.specs.Prelude.{◌≡◌, ◌++◌, [], map, if◌then◌else◌, IfOk, OnOk};
 ghost use Rattle.std.specs.List.{AllByRecursion, list_any};
@@ -11,7 +11,7 @@ ghost use Rattle.bib_excerpts.specs.Cited.{entry_line};
 ghost use Rattle.bib_excerpts.specs.Cited as cited_spec;
 ghost use Rattle.bib_excerpts.specs.Standing.{IsFieldIn};
 
-use crate::cited::cited;
+use crate::cited::cited_text;
 use crate::names::is_name;
 use crate::request::{Request, Search};
 use crate::sets::name_set;
@@ -19,7 +19,7 @@ use bib_syntax::raw::{Pair, RawBibliography, RawChunk, RawEntry};
 use bib_text::spanned::Spanned;
 use std::alloc::{AllocError, Global};
 
-// The text of an element of a value.
+// Returns the text of a piece of a value.
 fn text_of<'s>(piece: &Spanned<RawChunk<'s>>) -> &'s str
     ensures { result.now ≡ piece_text (piece_of piece.now) }
 {
@@ -28,42 +28,42 @@ fn text_of<'s>(piece: &Spanned<RawChunk<'s>>) -> &'s str
     }
 }
 
-// Whether a text stands in another.
+// Returns whether `text` contains `part`.
 fn has_part(text: &str, part: &str) -> bool
     ensures { result ≡ answers.has_part part.now text.now }
 {
     text.contains(part)
 }
 
-// Whether a text stands in an element of a value.
+// Returns whether a piece of a value contains `part`.
 fn is_in_value(value: &[Spanned<RawChunk<'_>>], part: &str) -> bool
     ensures { result ≡ list_any (λ piece. answers.has_part part.now (piece_text (piece_of piece))) value.now }
 {
     value.iter().any(|piece| has_part(text_of(piece), part))
 }
 
-// Whether a text stands in a field with the name that is looked for.
+// Returns whether a field has the name of the search, and a piece of its value contains the text of the search.
 fn is_found(field: &Pair<'_>, search: &Search<'_>) -> bool
     ensures { result ≡ answers.is_found search.now.field.now search.now.part.now (field_of field.now) }
 {
     is_name(field.key.v, search.field) && is_in_value(&field.value.v, search.part)
 }
 
-// Whether a text stands in one of the fields with the name that is looked for.
+// Returns whether the search finds one of these fields.
 fn is_in_fields(fields: &[Pair<'_>], search: &Search<'_>) -> bool
     ensures { result ≡ list_any (λ f. answers.is_found search.now.field.now search.now.part.now (field_of f)) fields.now }
 {
     fields.iter().any(|field| is_found(field, search))
 }
 
-// Whether a text stands in one of the fields of an entry with the name that is looked for.
+// Returns whether the search finds a field of an entry.
 fn is_found_in(entry: &Spanned<RawEntry<'_>>, search: &Search<'_>) -> bool
     ensures { result ≡ answers.is_found_in search.now.field.now search.now.part.now (entry_reading_of entry.now) }
 {
     is_in_fields(&entry.v.fields, search)
 }
 
-// An entry as it stands in the text.
+// Returns the source text of an entry.
 fn excerpt<'s>(text: &'s str, entry: &Spanned<RawEntry<'_>>) -> &'s str
     requires { IsBlockOf text.now (entry_reading_of entry.now) }
     ensures { result.now ≡ cited_spec.excerpt text.now (entry_reading_of entry.now) }
@@ -71,7 +71,7 @@ fn excerpt<'s>(text: &'s str, entry: &Spanned<RawEntry<'_>>) -> &'s str
     &text[entry.span.start..entry.span.end + 1]
 }
 
-// Prints an entry as it stands, and a line feed.
+// Appends the source text of an entry and a line feed.
 fn print_entry(
     printed: &mut String,
     text: &str,
@@ -86,7 +86,7 @@ fn print_entry(
     Ok(())
 }
 
-// Prints an entry as it stands, and a line feed, if it is asked for.
+// Appends the source text of an entry and a line feed, if it is requested.
 pub(crate) fn print_if(
     printed: &mut String,
     text: &str,
@@ -103,7 +103,7 @@ pub(crate) fn print_if(
     Ok(())
 }
 
-// The keys of entries, each in a line of its own.
+// Returns the keys of entries, each followed by a line feed.
 fn keys(alloc: Global, entries: &[Spanned<RawEntry<'_>>]) -> Result<String, AllocError>
     ensures { IfOk result (λ printed. string_bytes printed ≡ lines_of_keys (map entry_reading_of entries.now)) }
 {
@@ -115,7 +115,7 @@ fn keys(alloc: Global, entries: &[Spanned<RawEntry<'_>>]) -> Result<String, Allo
     Ok(printed)
 }
 
-// The entries with these keys.
+// Returns the source text of the entries with these keys.
 fn get(
     alloc: Global,
     keys: &[&str],
@@ -134,7 +134,7 @@ fn get(
     Ok(printed)
 }
 
-// The entries in whose field of a name a text stands.
+// Returns the source text of the entries that the search finds.
 fn grep(
     alloc: Global,
     search: &Search<'_>,
@@ -152,8 +152,8 @@ fn grep(
     Ok(printed)
 }
 
-// What is printed of what can be read of a text.
-fn printed(
+// Returns the output for a request on the entries and definitions of a text.
+fn answer_raw(
     alloc: Global,
     request: &Request<'_>,
     text: &str,
@@ -167,14 +167,14 @@ fn printed(
         Request::Keys => keys(alloc, &raw.entries),
         Request::Get(names) => get(alloc, names, text, &raw.entries),
         Request::Grep(search) => grep(alloc, search, text, &raw.entries),
-        Request::Cited(keys) => cited(alloc, keys, text, raw),
+        Request::Cited(keys) => cited_text(alloc, keys, text, raw),
     }
 }
 
-/// What is printed of a text for a request, of what can be read of it.
+/// Returns the output for a request on the entries and definitions that can be parsed of a text.
 pub fn answer(alloc: Global, request: &Request<'_>, text: &str) -> Result<String, AllocError>
     ensures { IfOk result (λ printed. IsTextAnswer request.now text.now (string_bytes printed)) }
 {
     let found = RawBibliography::recover(alloc, text)?;
-    printed(alloc, request, text, &found.raw)
+    answer_raw(alloc, request, text, &found.raw)
 }

@@ -1,4 +1,4 @@
-//! Which keys a file knows, and which of its entries a document doesn't cite.
+//! Compares keys with the names of a file's entries.
 
 ghost use Rattle.std.specs.Prelude.{◌≡◌, ◌++◌, ℕ, List, map, IfOk, OnOk};
 ghost use Rattle.bib_syntax.specs.Views.{entry_reading_of, part_of};
@@ -15,7 +15,7 @@ use bib_text::spanned::Spanned;
 use std::alloc::{AllocError, Global};
 use std::collections::BTreeSet;
 
-// The names of all entries.
+// Returns the names of all entries.
 fn all_names<'s>(
     alloc: Global,
     entries: &[Spanned<RawEntry<'s>>],
@@ -29,7 +29,7 @@ fn all_names<'s>(
     Ok(names)
 }
 
-// Which keys are among these names.
+// Returns a mark for each key: whether it is one of these names.
 fn marks_among(alloc: Global, names: &[&str], keys: &[&str]) -> Result<Vec<bool>, AllocError>
     ensures { IfOk result (λ marks. marks.items ≡
         map (is_listed (map (λ n. n.now) names.now)) (map (λ k. k.now) keys.now)) }
@@ -42,8 +42,9 @@ fn marks_among(alloc: Global, names: &[&str], keys: &[&str]) -> Result<Vec<bool>
     Ok(marks)
 }
 
-/// Which keys are names of entries that can be read of a text: their keys, or names that their fields `ids` list.
-pub fn known(alloc: Global, text: &str, keys: &[&str]) -> Result<Vec<bool>, AllocError>
+/// Returns a mark for each key: whether it is a name of an entry that can be parsed of a text. The names of an entry are its key and
+/// the names in its field `ids`.
+pub fn mark_known(alloc: Global, text: &str, keys: &[&str]) -> Result<Vec<bool>, AllocError>
     ensures { IfOk result (λ marks. IsKnownIn text.now (map (λ k. k.now) keys.now) marks.items) }
 {
     let found = RawBibliography::recover(alloc, text)?;
@@ -52,7 +53,7 @@ pub fn known(alloc: Global, text: &str, keys: &[&str]) -> Result<Vec<bool>, Allo
     Ok(marks)
 }
 
-// Whether a set has one of these names.
+// Returns whether a set contains one of these names.
 fn has_one(set: &BTreeSet<&str>, names: &[&str]) -> bool
     ensures { (keys : List (List ℕ)) → ((name : List ℕ) → is_in_set set.now name ≡ is_listed keys name) →
         result ≡ has_name_among keys (map (λ n. n.now) names.now) }
@@ -65,7 +66,7 @@ fn has_one(set: &BTreeSet<&str>, names: &[&str]) -> bool
     false
 }
 
-// Adds the key of an entry, if it has none of these names.
+// Appends the key of an entry, unless the set contains one of the entry's names.
 fn push_uncited<'s>(
     alloc: Global,
     found: &mut Vec<Spanned<&'s str>>,
@@ -83,7 +84,7 @@ fn push_uncited<'s>(
     Ok(())
 }
 
-// The keys of entries that have none of these names.
+// Returns the keys of the entries that have no name in the set.
 fn uncited_among<'s>(
     alloc: Global,
     set: &BTreeSet<&str>,
@@ -99,8 +100,8 @@ fn uncited_among<'s>(
     Ok(found)
 }
 
-/// The keys, with their places, of the entries that can be read of a text and have no name among these keys.
-pub fn uncited<'s>(
+/// Returns the keys, with their spans, of the entries that can be parsed of a text and have no name among `keys`.
+pub fn find_uncited<'s>(
     alloc: Global,
     text: &'s str,
     keys: &[&str],

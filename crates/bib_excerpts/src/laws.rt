@@ -1,28 +1,28 @@
-//! Laws of what is printed for what a document cites: it stands alone. These functions do nothing: what they ensure is proved of the
-//! definitions alone.
+//! Laws of the output for the citations of a document: it contains everything that it refers to. These functions do nothing; their
+//! clauses are facts about the definitions.
 
 ghost use Rattle.std.specs.Prelude.{◌≡◌, ℕ, Bool, true, List, map};
 ghost use Rattle.bib_syntax.specs.Reading.{FileReading};
 ghost use Rattle.bib_excerpts.specs.Cited.{IsExcerpt, used_in_entries};
 ghost use Rattle.bib_excerpts.specs.Names.{definition_node, entry_node};
-ghost use Rattle.bib_excerpts.specs.Needed.{HasName, RefersTo, is_listed, marked};
+ghost use Rattle.bib_excerpts.specs.Needed.{HasName, RefersTo, is_listed, with_marks};
 ghost use Rattle.bib_excerpts.specs.Searching.{IsMarked};
 
-/// Each entry of the file that an entry refers to that is printed is printed.
+/// If an entry is printed, each entry of the file that it refers to is printed.
 pub fn references_are_printed()
     ensures { (names : List (List ℕ)) (all : Bool) (text printed : List ℕ) (says : FileReading) (h : IsExcerpt names all text says printed) →
         (first second : ℕ) (name : List ℕ) → IsMarked h.entry_marks first → RefersTo (map entry_node says.entries) first name →
         HasName (map entry_node says.entries) second name → IsMarked h.entry_marks second }
 {}
 
-/// Each definition of an abbreviation that an entry uses that is printed is printed.
+/// If an entry is printed, each definition of the file for an abbreviation that it uses is printed.
 pub fn used_are_defined()
     ensures { (names : List (List ℕ)) (all : Bool) (text printed : List ℕ) (says : FileReading) (h : IsExcerpt names all text says printed) →
-        (index : ℕ) (name : List ℕ) → is_listed (used_in_entries (marked h.entry_marks says.entries)) name ≡ true →
+        (index : ℕ) (name : List ℕ) → is_listed (used_in_entries (with_marks h.entry_marks says.entries)) name ≡ true →
         HasName (map definition_node says.abbreviations) index name → IsMarked h.definition_marks index }
 {}
 
-/// Each definition of an abbreviation that a definition uses that is printed is printed.
+/// If a definition is printed, each definition of the file for an abbreviation that it uses is printed.
 pub fn definitions_are_defined()
     ensures { (names : List (List ℕ)) (all : Bool) (text printed : List ℕ) (says : FileReading) (h : IsExcerpt names all text says printed) →
         (first second : ℕ) (name : List ℕ) → IsMarked h.definition_marks first → RefersTo (map definition_node says.abbreviations) first name →

@@ -1,11 +1,11 @@
 //! Finds entries by key, by field or by the citations of a document, and returns their source text.
 //!
-//! A file is read by `RawBibliography::recover`, so that one with errors has excerpts too. What is printed is cut out of its text: each
-//! entry is a block of the file grammar where it stands, each definition a field (`DefinitionFacts`).
+//! A file is parsed by `RawBibliography::recover`, so a file with errors has excerpts too. They are slices of its text: an entry is
+//! a block of the file grammar at its position, and a definition is a field (`DefinitionFacts`).
 //!
-//! Entries and abbreviations are both things that have names and refer to names. `needed` marks what is needed: a map has the things of
-//! each name, and a stack the things that were marked and not looked at; a name's things are taken out of the map when it is looked up
-//! first, so that no name is looked up twice and the search takes as long as the lists of names.
+//! Entries and abbreviations are nodes: they have names and refer to names. `needed` marks the needed nodes. Its map contains the
+//! nodes with each name, and its stack the marked nodes whose references are not looked up yet. Looking up a name removes it from
+//! the map, so that no name is looked up twice.
 #![tactic(auto)]
 
 pub mod citations;

@@ -21,14 +21,14 @@ pub struct Links<'s> {
     pub references: Vec<&'s str>,
 }
 
-// Whether a name is this word, in any ASCII case.
+// Returns whether a name is this word, in any ASCII case.
 pub(crate) fn is_name(name: &str, word: &str) -> bool
     ensures { result ≡ grammar.is_word name.now word.now }
 {
     name.eq_ignore_ascii_case(word)
 }
 
-// Adds the parts of a comma list, without the white space around them; what is empty is no part.
+// Appends the parts of a comma-separated list, without the white space around them and without empty parts.
 pub(crate) fn push_parts<'s>(names: &mut Vec<&'s str>, list: &'s str) -> Result<(), AllocError>
     ensures { OnOk result (text_list names.new ≡ text_list names.old ++ comma_parts list.now) }
 {
@@ -38,9 +38,9 @@ pub(crate) fn push_parts<'s>(names: &mut Vec<&'s str>, list: &'s str) -> Result<
     Ok(())
 }
 
-// Adds a name that isn't empty.
+// Appends a name unless it is empty.
 fn push_filled<'s>(names: &mut Vec<&'s str>, name: &'s str) -> Result<(), AllocError>
-    ensures { OnOk result (text_list names.new ≡ text_list names.old ++ spec.filled name.now) }
+    ensures { OnOk result (text_list names.new ≡ text_list names.old ++ spec.name_if_filled name.now) }
 {
     if name.is_empty() {
         return Ok(());
@@ -49,7 +49,7 @@ fn push_filled<'s>(names: &mut Vec<&'s str>, name: &'s str) -> Result<(), AllocE
     Ok(())
 }
 
-// Adds the parts of the comma lists that the literal elements of a value are.
+// Appends the parts of the literals of a value, which are comma-separated lists.
 fn push_listed<'s>(
     names: &mut Vec<&'s str>,
     value: &[Spanned<RawChunk<'s>>],
@@ -62,7 +62,7 @@ fn push_listed<'s>(
     Ok(())
 }
 
-// Adds the parts of the comma list that a literal element is.
+// Appends the parts of a piece if it is a literal, which is a comma-separated list.
 fn push_piece<'s>(names: &mut Vec<&'s str>, piece: &Spanned<RawChunk<'s>>) -> Result<(), AllocError>
     ensures { OnOk result (text_list names.new ≡ text_list names.old ++ spec.piece_parts (piece_of piece.now)) }
 {
@@ -72,7 +72,7 @@ fn push_piece<'s>(names: &mut Vec<&'s str>, piece: &Spanned<RawChunk<'s>>) -> Re
     }
 }
 
-// Adds the names that a field lists, where it is the field of an entry's further names.
+// Appends the names that a field lists, if it is the field `ids`.
 fn push_alias_field<'s>(names: &mut Vec<&'s str>, field: &Pair<'s>) -> Result<(), AllocError>
     ensures { OnOk result (text_list names.new ≡ text_list names.old ++ spec.aliases_in (field_of field.now)) }
 {
@@ -82,7 +82,7 @@ fn push_alias_field<'s>(names: &mut Vec<&'s str>, field: &Pair<'s>) -> Result<()
     Ok(())
 }
 
-// Adds the further names of an entry with these fields.
+// Appends the names in the fields `ids` of an entry.
 fn push_aliases<'s>(names: &mut Vec<&'s str>, fields: &[Pair<'s>]) -> Result<(), AllocError>
     ensures { OnOk result (text_list names.new ≡ text_list names.old ++ aliases_of (map field_of fields.now)) }
 {
@@ -92,7 +92,7 @@ fn push_aliases<'s>(names: &mut Vec<&'s str>, fields: &[Pair<'s>]) -> Result<(),
     Ok(())
 }
 
-// Adds the names that a field lists, where it is one of references.
+// Appends the names that a field lists, if it is a reference.
 fn push_reference_field<'s>(names: &mut Vec<&'s str>, field: &Pair<'s>) -> Result<(), AllocError>
     ensures { OnOk result (text_list names.new ≡ text_list names.old ++ spec.references_in (field_of field.now)) }
 {
@@ -102,7 +102,7 @@ fn push_reference_field<'s>(names: &mut Vec<&'s str>, field: &Pair<'s>) -> Resul
     Ok(())
 }
 
-// Adds the names that an entry with these fields refers to.
+// Appends the names that an entry with these fields refers to.
 fn push_references<'s>(names: &mut Vec<&'s str>, fields: &[Pair<'s>]) -> Result<(), AllocError>
     ensures { OnOk result (text_list names.new ≡ text_list names.old ++ references_of (map field_of fields.now)) }
 {
@@ -112,7 +112,7 @@ fn push_references<'s>(names: &mut Vec<&'s str>, fields: &[Pair<'s>]) -> Result<
     Ok(())
 }
 
-// Adds the abbreviation that an element is.
+// Appends the name of a piece if it is an abbreviation.
 fn push_used_piece<'s>(
     names: &mut Vec<&'s str>,
     piece: &Spanned<RawChunk<'s>>,
@@ -128,7 +128,7 @@ fn push_used_piece<'s>(
     }
 }
 
-// Adds the abbreviations of a value.
+// Appends the abbreviations that a value uses.
 fn push_used<'s>(
     names: &mut Vec<&'s str>,
     value: &[Spanned<RawChunk<'s>>],
@@ -141,7 +141,7 @@ fn push_used<'s>(
     Ok(())
 }
 
-// Adds the abbreviations of fields.
+// Appends the abbreviations that fields use.
 pub(crate) fn push_used_in_fields<'s>(
     names: &mut Vec<&'s str>,
     fields: &[Pair<'s>],
@@ -154,7 +154,7 @@ pub(crate) fn push_used_in_fields<'s>(
     Ok(())
 }
 
-// The names of an entry: its key, and those that its field `ids` lists.
+// Returns the names of an entry: its key, and the names in its fields `ids`.
 pub(crate) fn entry_names<'s>(
     alloc: Global,
     entry: &Spanned<RawEntry<'s>>,
@@ -167,7 +167,7 @@ pub(crate) fn entry_names<'s>(
     Ok(names)
 }
 
-// The names of an entry, and those that it refers to.
+// Returns the names of an entry, and the names that it refers to.
 fn entry_links<'s>(alloc: Global, entry: &Spanned<RawEntry<'s>>) -> Result<Links<'s>, AllocError>
     ensures { IfOk result (λ links. node_of links ≡ entry_node (entry_reading_of entry.now)) }
 {
@@ -177,7 +177,7 @@ fn entry_links<'s>(alloc: Global, entry: &Spanned<RawEntry<'s>>) -> Result<Links
     Ok(Links { names, references })
 }
 
-// The name of an abbreviation, and those that its definition uses.
+// Returns the name of an abbreviation, and the abbreviations that its definition uses.
 fn definition_links<'s>(alloc: Global, pair: &Pair<'s>) -> Result<Links<'s>, AllocError>
     ensures { IfOk result (λ links. node_of links ≡ definition_node (field_of pair.now)) }
 {
@@ -188,7 +188,7 @@ fn definition_links<'s>(alloc: Global, pair: &Pair<'s>) -> Result<Links<'s>, All
     Ok(Links { names, references })
 }
 
-// The names of each entry, and those that it refers to.
+// Returns the names of each entry, and the names that it refers to.
 pub(crate) fn links_of_entries<'s>(
     alloc: Global,
     entries: &[Spanned<RawEntry<'s>>],
@@ -202,7 +202,7 @@ pub(crate) fn links_of_entries<'s>(
     Ok(links)
 }
 
-// The name of each abbreviation, and those that its definition uses.
+// Returns the name of each abbreviation, and the abbreviations that its definition uses.
 pub(crate) fn links_of_definitions<'s>(
     alloc: Global,
     pairs: &[Pair<'s>],

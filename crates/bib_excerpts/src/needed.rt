@@ -1,17 +1,17 @@
-//! What is needed, where things have names and refer to names.
+//! Marks the needed nodes: those with a requested name, and those that they refer to, transitively.
 
 ghost use Rattle.std.specs.Prelude.{◌≡◌, ◌↔◌, ◌⊎◌, ◌+◌, ◌<◌, ℕ, List, [], ◌∷◌, ◌++◌, true, false, length, map, bytes_eq, slice_index_or, if◌then◌else◌, IfOk, OnOk};
 ghost use Rattle.std.specs.List.{All, Contains};
 ghost use Rattle.bib_excerpts.specs.Needed.{AreMarks, HasName, IsNeeded, is_listed};
-ghost use Rattle.bib_excerpts.specs.Searching.{AreHolders, AreHoldersIn, IsMarked, Marks, LooksUp, holders_in, unmarked};
+ghost use Rattle.bib_excerpts.specs.Searching.{AreHolders, AreHoldersIn, IsMarked, Marks, LooksUp, holders_in, unmarked_count};
 ghost use Rattle.bib_excerpts.specs.Texts.{node_of, text_list};
 
 use crate::names::Links;
 use std::alloc::{AllocError, Global};
 use std::collections::BTreeMap;
 
-// Takes the indices of a name out of a map.
-fn taken(alloc: Global, holders: &mut BTreeMap<&str, Vec<usize>>, name: &str) -> Vec<usize>
+// Removes the indices of a name from a map, and returns them. Returns no indices if the map doesn't contain the name.
+fn take_indices(alloc: Global, holders: &mut BTreeMap<&str, Vec<usize>>, name: &str) -> Vec<usize>
     ensures items { result.items ≡ holders_in holders.old name.now }
     ensures left { (other : List ℕ) → holders_in holders.new other ≡
         (if bytes_eq name.now other then [] else holders_in holders.old other) }
@@ -32,7 +32,7 @@ fn add_holder<'s>(
     ensures { OnOk result ((other : List ℕ) → holders_in holders.new other ≡
         (if bytes_eq name.now other then holders_in holders.old other ++ index ∷ [] else holders_in holders.old other)) }
 {
-    let mut indices = taken(alloc, holders, name);
+    let mut indices = take_indices(alloc, holders, name);
     indices.push(index)?;
     holders.insert(name, indices)?;
     Ok(())
@@ -54,7 +54,7 @@ fn add_holders<'s>(
     Ok(())
 }
 
-// For each name the indices of the things that have it.
+// Returns the indices of the nodes with each name.
 fn holders<'s>(
     alloc: Global,
     links: &[Links<'s>],
@@ -68,7 +68,7 @@ fn holders<'s>(
     Ok(holders)
 }
 
-// Marks indices, and keeps those that had no mark for later.
+// Marks indices, and appends those that had no mark to `pending`.
 fn mark_all(
     indices: &[usize],
     marks: &mut [bool],
@@ -88,7 +88,8 @@ fn mark_all(
     Ok(())
 }
 
-// Marks what has a name, and keeps for later what had no mark. A name that was looked up once isn't looked up again.
+// Marks the nodes with a name, and appends those that had no mark to `pending`. Removes the name from `holders`, so that no name is
+// looked up twice.
 fn mark_name(
     alloc: Global,
     holders: &mut BTreeMap<&str, Vec<usize>>,
@@ -102,11 +103,11 @@ fn mark_name(
     ensures all { OnOk result (All (IsMarked marks.new) (holders_in holders.old name.now)) }
     ensures left { (other : List ℕ) → holders_in holders.new other ≡ (if bytes_eq name.now other then [] else holders_in holders.old other) }
 {
-    let indices = taken(alloc, holders, name);
+    let indices = take_indices(alloc, holders, name);
     mark_all(&indices, marks, pending)
 }
 
-// Marks what has one of these names, and keeps for later what had no mark.
+// Marks the nodes with one of these names, and appends those that had no mark to `pending`.
 fn mark_names(
     alloc: Global,
     holders: &mut BTreeMap<&str, Vec<usize>>,
@@ -125,8 +126,8 @@ fn mark_names(
     Ok(())
 }
 
-// Marks what is needed where these names are asked for.
-pub(crate) fn needed(
+// Marks the nodes with one of these names, and the nodes that they refer to, transitively.
+pub(crate) fn mark_needed(
     alloc: Global,
     names: &[&str],
     links: &[Links<'_>],

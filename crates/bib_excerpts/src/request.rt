@@ -1,32 +1,32 @@
-//! What the program is asked for.
+//! Requests for entries of files.
 
-/// What the program is asked for.
+/// A request for entries of files, or for their keys.
 #[derive(Debug, Drop)]
 pub enum Request<'a> {
     /// The keys of entries.
     Keys,
     /// The entries with these keys.
     Get(Vec<&'a str>),
-    /// The entries in whose field of a name a text stands.
+    /// The entries with a text in a field.
     Grep(Search<'a>),
-    /// The entries that are cited, with the entries and the abbreviations that they need.
+    /// The cited entries, and the entries and abbreviations that they refer to, transitively.
     Cited(CitedKeys<'a>),
 }
 
-/// A text that is looked for in a field.
+/// A search for a text in a field.
 #[derive(Debug, Clone, Copy)]
 pub struct Search<'a> {
     /// The name of the field, in any ASCII case.
     pub field: &'a str,
-    /// The text that stands in its value, as the file has it.
+    /// The text that a piece of its value contains, compared with the source text.
     pub part: &'a str,
 }
 
-/// What a document cites.
+/// The keys that a document cites.
 #[derive(Debug, Drop)]
 pub struct CitedKeys<'a> {
-    /// The names that are cited.
+    /// The cited keys.
     pub keys: Vec<&'a str>,
-    /// Whether all entries are.
+    /// Whether all entries are cited.
     pub all: bool,
 }

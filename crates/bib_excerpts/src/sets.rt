@@ -7,7 +7,7 @@ ghost use Rattle.bib_excerpts.specs.Sets.{is_in_set};
 use std::alloc::{AllocError, Global};
 use std::collections::BTreeSet;
 
-// These names as a set.
+// Returns the set of these names.
 pub(crate) fn name_set<'a>(
     alloc: Global,
     names: &[&'a str],

@@ -117,8 +117,8 @@ fn lint_asked<'a>(alloc: Global, matches: &ArgMatches<'a>) -> Result<Asked<'a>, 
     let settings = Settings {
         only: given_codes(alloc, matches, "only")?,
         ignored: given_codes(alloc, matches, "ignore")?,
-        color: matches.get_str("color").and_then(Color::named),
-        format: matches.get_str("format").and_then(OutputFormat::named),
+        color: matches.get_str("color").and_then(Color::from_name),
+        format: matches.get_str("format").and_then(OutputFormat::from_name),
     };
     let cited = matches.get_str("cited").map(|name| Cited {
         name,
@@ -158,7 +158,7 @@ fn unset_fields<'a>(
 }
 
 // Returns the edits that remove the entries with these keys.
-fn removed<'a>(alloc: Global, keys: &[&'a str]) -> Result<Vec<Edit<'a>>, AllocError> {
+fn remove_entries<'a>(alloc: Global, keys: &[&'a str]) -> Result<Vec<Edit<'a>>, AllocError> {
     let mut edits = Vec::new(alloc);
     'keys: for key in keys {
         edits.push(Edit::Remove { key: *key })?;
@@ -195,7 +195,7 @@ fn edits_of<'a>(
         }
         "remove" => {
             let keys = texts(alloc, matches, "KEYS")?;
-            Ok(Edits::These(removed(alloc, &keys)?))
+            Ok(Edits::These(remove_entries(alloc, &keys)?))
         }
         "strings" => strings_edits(alloc, matches),
         "rename" => {
@@ -234,7 +234,7 @@ fn editing_of<'a>(
 }
 
 // Returns the choice between the flags `yes` and `no`, or `None` if neither is given.
-fn chosen(matches: &ArgMatches<'_>, yes: &str, no: &str) -> Option<bool> {
+fn flag_choice(matches: &ArgMatches<'_>, yes: &str, no: &str) -> Option<bool> {
     if matches.get_flag(yes) {
         Some(true)
     } else if matches.get_flag(no) {
@@ -248,8 +248,8 @@ fn chosen(matches: &ArgMatches<'_>, yes: &str, no: &str) -> Option<bool> {
 fn style_settings<'a>(matches: &ArgMatches<'a>) -> StyleSettings<'a> {
     StyleSettings {
         indent: number(matches, "indent"),
-        aligned: chosen(matches, "align", "no-align"),
-        trailing_comma: chosen(matches, "trailing-comma", "no-trailing-comma"),
+        aligned: flag_choice(matches, "align", "no-align"),
+        trailing_comma: flag_choice(matches, "trailing-comma", "no-trailing-comma"),
         blank_lines: matches
             .get_str("blank-lines")
             .map(|word| word.parse::<usize>().ok()),
@@ -346,7 +346,7 @@ fn words_of<'a>(
 }
 
 // Returns the request and the files of a command line, from the matches of clap.
-fn given<'a>(alloc: Global, matches: &ArgMatches<'a>) -> Result<Words<'a>, AllocError> {
+fn parse_matches<'a>(alloc: Global, matches: &ArgMatches<'a>) -> Result<Words<'a>, AllocError> {
     match matches.subcommand() {
         Some((name, inner)) => words_of(alloc, name, inner),
         None => Ok(Words {
@@ -365,6 +365,6 @@ fn matches<'a>(alloc: Global, words: &'a [String]) -> Result<ArgMatches<'a>, Err
 /// requested help, or the reason for which the words are wrong.
 pub fn read<'a>(alloc: Global, words: &'a [String]) -> Result<Words<'a>, Error> {
     let matches = matches(alloc, words)?;
-    let words = given(alloc, &matches)?;
+    let words = parse_matches(alloc, &matches)?;
     Ok(words)
 }

@@ -17,13 +17,18 @@ use std::io;
 use std::str::from_utf8;
 
 // Returns the error of an output that can't be written.
-fn not_taken(alloc: Global) -> Result<Stop, AllocError> {
+fn output_stop(alloc: Global) -> Result<Stop, AllocError> {
     let said = String::from_str(alloc, "bibkit: the output can't be written\n")?;
     Ok(Stop::Said(said, 2))
 }
 
 // Returns the error of a text that isn't a bibliography.
-fn refused(alloc: Global, name: &str, text: &str, error: &ParseError) -> Result<Stop, AllocError> {
+fn syntax_stop(
+    alloc: Global,
+    name: &str,
+    text: &str,
+    error: &ParseError,
+) -> Result<Stop, AllocError> {
     let said = format!(in alloc; "{}", error.kind)?;
     let line = error_line(alloc, name, text.as_bytes(), error.span.start, &said)?;
     Ok(Stop::Said(line, 1))
@@ -64,10 +69,10 @@ fn convert_text<K: Sink>(
         }),
         Err(error) => match error.unless_out_of_memory()? {
             ConvertError::File(error) => {
-                let stop = refused(rt.alloc(), name, text, &error)?;
+                let stop = syntax_stop(rt.alloc(), name, text, &error)?;
                 Ok(progress.with_status(say(rt, &stop)))
             }
-            _ => Err(not_taken(rt.alloc())?),
+            _ => Err(output_stop(rt.alloc())?),
         },
     }
 }
@@ -102,7 +107,7 @@ fn print_end<K: Sink>(
     if output.write_str(target.end(is_empty)) {
         Ok(())
     } else {
-        Err(not_taken(alloc)?)
+        Err(output_stop(alloc)?)
     }
 }
 

@@ -8,7 +8,7 @@ use bib_source::decoding::decode;
 use bib_syntax::raw::{Pair, RawBibliography};
 use bibkit_core::replacing::ReplaceError;
 use bibkit_edits::edit::{Edit, Refusal};
-use bibkit_edits::editing::edited_file;
+use bibkit_edits::editing::edit_file;
 use bibkit_edits::printing::{Unprinted, print_difference, print_edited};
 use biblatex::Output;
 use std::alloc::{AllocError, Global};
@@ -198,7 +198,7 @@ fn added_text<'a>(edits: &[Edit<'a>]) -> &'a str {
 }
 
 // Returns the message for a refusal.
-fn refused(
+fn refusal_message(
     alloc: Global,
     name: &str,
     bytes: &[u8],
@@ -225,7 +225,7 @@ fn refused(
 }
 
 // Returns the message and the status for an error of printing edits.
-fn unprinted(
+fn printing_stop(
     alloc: Global,
     name: &str,
     bytes: &[u8],
@@ -234,7 +234,7 @@ fn unprinted(
 ) -> Result<Stop, AllocError> {
     match why {
         Unprinted::Refused(refusal) => {
-            let said = refused(alloc, name, bytes, edits, refusal)?;
+            let said = refusal_message(alloc, name, bytes, edits, refusal)?;
             Ok(Stop::Said(said, why.status()))
         }
         Unprinted::NotTaken => {
@@ -294,17 +294,17 @@ pub fn print(rt: &HostRuntime, name: &str, bytes: &[u8], edits: &[Edit<'_>]) -> 
     let mut output = Output::new(io::writer(rt));
     match print_edited(rt.alloc(), bytes, edits, &mut output) {
         Ok(()) => Ok(()),
-        Err(why) => Err(unprinted(rt.alloc(), name, bytes, edits, &why)?),
+        Err(why) => Err(printing_stop(rt.alloc(), name, bytes, edits, &why)?),
     }
 }
 
 // Applies edits to a file's bytes, and returns the new text.
 fn new_text(alloc: Global, name: &str, bytes: &[u8], edits: &[Edit<'_>]) -> Result<String, Stop> {
-    match edited_file(alloc, bytes, edits) {
+    match edit_file(alloc, bytes, edits) {
         Ok(new) => Ok(new),
         Err(refusal) => {
             let why = Unprinted::Refused(refusal);
-            Err(unprinted(alloc, name, bytes, edits, &why)?)
+            Err(printing_stop(alloc, name, bytes, edits, &why)?)
         }
     }
 }
@@ -325,7 +325,7 @@ fn write_edited(
 }
 
 // Returns the message for a file that isn't in the requested style, with status 1.
-fn not_in_style(alloc: Global, name: &str) -> Result<Stop, AllocError> {
+fn style_stop(alloc: Global, name: &str) -> Result<Stop, AllocError> {
     let said = format!(in alloc; "bibkit: {name}: not in this style\n")?;
     Ok(Stop::Said(said, 1))
 }
@@ -336,7 +336,7 @@ fn check_edited(alloc: Global, name: &str, bytes: &[u8], edits: &[Edit<'_>]) -> 
     if new.as_bytes() == bytes {
         Ok(())
     } else {
-        Err(not_in_style(alloc, name)?)
+        Err(style_stop(alloc, name)?)
     }
 }
 
@@ -351,10 +351,10 @@ fn show_difference(
     let mut output = Output::new(io::writer(rt));
     let is_changed = match print_difference(rt.alloc(), name, bytes, edits, &mut output) {
         Ok(is_changed) => is_changed,
-        Err(why) => return Err(unprinted(rt.alloc(), name, bytes, edits, &why)?),
+        Err(why) => return Err(printing_stop(rt.alloc(), name, bytes, edits, &why)?),
     };
     if is_changed && is_check {
-        Err(not_in_style(rt.alloc(), name)?)
+        Err(style_stop(rt.alloc(), name)?)
     } else {
         Ok(())
     }

@@ -24,16 +24,26 @@ fn fault_text(fault: Fault) -> &'static str {
 }
 
 // Returns the error of a text that isn't an array of items, with its position.
-fn refused(alloc: Global, name: &str, text: &str, refusal: &Refusal) -> Result<Stop, AllocError> {
+fn fault_stop(
+    alloc: Global,
+    name: &str,
+    text: &str,
+    refusal: &Refusal,
+) -> Result<Stop, AllocError> {
     let said = fault_text(refusal.fault);
     let line = error_line(alloc, name, text.as_bytes(), refusal.at, said)?;
     Ok(Stop::Said(line, 1))
 }
 
 // Returns the error of converting items.
-fn unmade(alloc: Global, name: &str, text: &str, error: ItemsError) -> Result<Stop, AllocError> {
+fn items_stop(
+    alloc: Global,
+    name: &str,
+    text: &str,
+    error: ItemsError,
+) -> Result<Stop, AllocError> {
     match error.unless_out_of_memory()? {
-        ItemsError::Refused(refusal) => refused(alloc, name, text, &refusal),
+        ItemsError::Refused(refusal) => fault_stop(alloc, name, text, &refusal),
         _ => {
             let line = format!(in alloc; "bibkit: {name}: the entries aren't read again\n")?;
             Ok(Stop::Said(line, 1))
@@ -42,10 +52,10 @@ fn unmade(alloc: Global, name: &str, text: &str, error: ItemsError) -> Result<St
 }
 
 // Converts the items of a text to entries.
-fn made(alloc: Global, name: &str, text: &str) -> Result<Converted, Stop> {
+fn convert_items(alloc: Global, name: &str, text: &str) -> Result<Converted, Stop> {
     match entries_of(alloc, text) {
         Ok(converted) => Ok(converted),
-        Err(error) => Err(unmade(alloc, name, text, error)?),
+        Err(error) => Err(items_stop(alloc, name, text, error)?),
     }
 }
 
@@ -80,7 +90,7 @@ fn edit_of<'a>(dialect: Dialect) -> Edit<'a> {
 
 // Prints the entries of the items of a text, and notes on members that are lost or changed.
 fn import_text(rt: &HostRuntime, dialect: Dialect, name: &str, text: &str) -> Result<(), Stop> {
-    let converted = made(rt.alloc(), name, text)?;
+    let converted = convert_items(rt.alloc(), name, text)?;
     print(
         rt,
         name,

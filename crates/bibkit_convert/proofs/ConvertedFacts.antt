@@ -14,7 +14,7 @@ use Rattle.bibkit_convert.specs.declared.converting.ConvertError.TheVariants.{Fi
 use Rattle.bibkit_convert.specs.Converted.{texts_after, text_after, is_first_after, is_still_first}
 use Rattle.bibkit_convert.specs.declared.target.Target.{Target}
 
--- one more entry
+-- the texts of entries grow by the text of one more entry
 pub text_push : (target : Target) (is_first : Bool) (es : List Entry) (e : Entry)
     → texts_after target is_first (es ++ e ∷ []) ≡ texts_after target is_first es ++ text_after target (is_first_after target is_first es) e
 text_push target is_first [] e = append-nil (text_after target is_first e)
@@ -24,6 +24,7 @@ text_push target is_first (x ∷ es) e =
     (append_assoc (text_after target is_first x) (texts_after target (is_still_first target is_first x) es)
     (text_after target (is_first_after target (is_still_first target is_first x) es) e))
 
+-- whether no entry is printed yet after one more entry
 pub first_push : (target : Target) (is_first : Bool) (es : List Entry) (e : Entry)
     → is_first_after target is_first (es ++ e ∷ []) ≡ is_still_first target (is_first_after target is_first es) e
 first_push target is_first [] e = refl
@@ -31,7 +32,7 @@ first_push target is_first (x ∷ es) e = first_push target (is_still_first targ
 
 -- ---- texts that aren't converted
 
--- why a text isn't read as a bibliography
+-- parsing a text may fail with this error: out of memory, or the text isn't accepted and has this error
 abbrev IsUnread : List ℕ → ParseError → Type 0
 IsUnread text e = (e ≡ out_of_memory) ⊎ (IsErrorOf text e × (IsAcceptedText text → ⊥))
 
@@ -60,20 +61,20 @@ module _ {K : Type 0} (refusals : K → ℕ) (text : List ℕ) (output : K) wher
   by_kind e (kind.ReferenceCycle n) is unread =
       of_text e (λ out. let clash : kind.ReferenceCycle n ≡ kind.OutOfMemory = sym is ∙ out in cc) unread
 
-  -- a text that isn't read isn't converted, and nothing is printed
+  -- a text that can't be parsed isn't converted, and nothing is printed
   pub unread_fails : (e : ParseError) → IsUnread text e → ConvertFails refusals text output output (file_error e)
   unread_fails e unread = by_kind e e.kind refl unread
 
 -- ---- texts that are converted
 
--- what is answered of a bibliography whose entries are printed
-pub converted : {K E : Type 0} (taken : K → Option (List ℕ)) (target : Target) (is_first : Bool) (text : List ℕ)
+-- if the entries of the bibliography of a text are printed, the text is exported
+pub converted_text : {K E : Type 0} (taken : K → Option (List ℕ)) (target : Target) (is_first : Bool) (text : List ℕ)
     (old new : K) (b : Bibliography) (r : Result Bool E) → IsBibliographyOf text b
     → IfOk r (λ next. Appends (taken old) (taken new) (texts_after target is_first b.entries))
     → IfOk r (λ next. next ≡ is_first_after target is_first b.entries)
     → IfOk r (IsExported taken target is_first text old new)
-converted taken target is_first text old new b (Err e) of_text printed next = _
-converted taken target is_first text old new b (Ok first') of_text printed next = record {
+converted_text taken target is_first text old new b (Err e) of_text printed next = _
+converted_text taken target is_first text old new b (Ok first') of_text printed next = record {
   bibliography = b;
   of_text = of_text;
   printed = printed;

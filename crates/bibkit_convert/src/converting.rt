@@ -1,4 +1,4 @@
-//! What is printed of a bibliography in another format.
+//! Prints the entries of a bibliography in another format.
 
 ghost use Rattle.std.specs.Prelude.{◌≡◌, ◌≢◌, IfErr, IfOk, OnErr};
 ghost use Rattle.std.specs.String.{string_bytes};
@@ -10,19 +10,19 @@ use crate::target::Target;
 use biblatex::{Bibliography, Entry, ParseError, Sink};
 use std::alloc::{AllocError, Global};
 
-/// Why a bibliography isn't converted, or not to its end.
+/// The error of converting a bibliography.
 #[derive(Debug, Drop)]
 pub enum ConvertError {
-    /// The text is no bibliography, by this error. Nothing is printed.
+    /// The text isn't accepted as a bibliography, for this error. Nothing is printed.
     File(ParseError),
     /// The output refused the text of an entry.
     NotTaken,
-    /// There was no memory.
+    /// Out of memory.
     OutOfMemory,
 }
 
 impl ConvertError {
-    /// Passes out of memory on as such: Ok with any other error.
+    /// Returns `AllocError` for out of memory, and `Ok` with any other error.
     pub fn unless_out_of_memory(self) -> Result<ConvertError, AllocError>
         ensures other { IfOk result (λ other. (other ≡ self) × (self ≢ ConvertError.OutOfMemory)) }
         ensures no_memory { OnErr result (self ≡ ConvertError.OutOfMemory) }
@@ -55,7 +55,7 @@ impl From<ParseError> for ConvertError {
     }
 }
 
-// The text of an entry after what stands before it, or nothing where it isn't written.
+// Returns the text of an entry after its separator, or an empty text if the format doesn't have the entry.
 fn text_of(
     alloc: Global,
     target: Target,
@@ -72,7 +72,7 @@ fn text_of(
     Ok(text)
 }
 
-// Prints an entry, and answers whether the next one is still the first.
+// Prints an entry if the format has it, and returns whether the next entry would be the first of the output.
 fn print_entry<K: Sink>(
     alloc: Global,
     target: Target,
@@ -93,9 +93,9 @@ fn print_entry<K: Sink>(
     }
 }
 
-/// Prints the entries of a bibliography as they stand, each with what stands before it, and answers whether the next entry would
-/// be the first of what is printed, where `is_first` says whether the first of these is. The output is handed one text for each
-/// entry. What stands after the last is [`Target::end`].
+/// Prints the entries of a bibliography, each after its separator. Returns whether the next entry would be the first of the
+/// output; `is_first` says this of the first of these entries. Passes one text for each entry to `output`. The text after the
+/// last entry is [`Target::end`].
 pub fn print_entries<K: Sink>(
     alloc: Global,
     target: Target,
@@ -114,9 +114,8 @@ pub fn print_entries<K: Sink>(
     Ok(is_still_first)
 }
 
-/// Prints the entries of the bibliography that a text is, resolved, each with what stands before it, and answers whether the next
-/// entry would be the first of what is printed, where `is_first` says whether the first of these is. The output is handed one text
-/// for each entry. What stands after the last is [`Target::end`].
+/// Parses a bibliography and prints its entries with inherited fields, as [`print_entries`] does. Returns whether the next entry
+/// would be the first of the output; `is_first` says this of the first of these entries.
 pub fn print_converted<K: Sink>(
     alloc: Global,
     target: Target,

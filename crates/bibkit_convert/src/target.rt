@@ -13,16 +13,16 @@ use std::alloc::{AllocError, Global};
 /// A format that a bibliography is converted to.
 #[derive(Debug, Clone, Copy, PartialEq, Eq)]
 pub enum Target {
-    /// Items of CSL-JSON, as citation processors read them.
+    /// CSL-JSON items, which citation processors read.
     Csl,
     /// Entries with chunks and typed values, as JSON.
     Json,
-    /// Records of RIS, as reference managers import them.
+    /// RIS records, which reference managers import.
     Ris,
 }
 
 impl Target {
-    // Whether an entry is written: one of the type `xdata` is none by itself.
+    // Returns whether the format has the entry: CSL-JSON and RIS have no entry of the type `xdata`.
     pub(crate) fn has(self, entry: &Entry) -> bool
         ensures { result ≡ spec.is_written self entry.now }
     {
@@ -32,9 +32,9 @@ impl Target {
         }
     }
 
-    // What an entry is in the format.
+    // Returns the text of an entry in the format.
     pub(crate) fn text_of(self, alloc: Global, entry: &Entry) -> Result<String, AllocError>
-        ensures { IfOk result (λ text. string_bytes text ≡ spec.exported self entry.now) }
+        ensures { IfOk result (λ text. string_bytes text ≡ spec.exported_entry self entry.now) }
     {
         match self {
             Target::Csl => item_text(alloc, entry),
@@ -43,7 +43,7 @@ impl Target {
         }
     }
 
-    // What stands before an entry.
+    // Returns the separator before an entry, which depends on whether the entry is the first.
     pub(crate) fn before(self, is_first: bool) -> &'static str
         ensures { result.now ≡ spec.before_next self is_first }
     {
@@ -53,7 +53,7 @@ impl Target {
         }
     }
 
-    /// What stands after the last entry, or alone where there is none.
+    /// Returns the text after the last entry, which depends on whether no entry is printed.
     pub fn end(self, is_empty: bool) -> &'static str
         ensures { result.now ≡ spec.end self is_empty }
     {

@@ -21,7 +21,7 @@ use Rattle.bibkit_core.specs.declared.tally.Tally.{Tally}
 use Rattle.bibkit_core.specs.declared.run.Stop.{Stop}
 use Rattle.bibkit_core.specs.declared.run.Stop.TheVariants.{Refused, NoDocument, OutOfMemory}
 
--- the output of each task is the output of its request
+-- the output of `lint` without a document is the output of its request; the next lemmas say the same of the other tasks
 pub findings_answer : {F : Type 0} {reads : F → List ℕ → Option (List ℕ) → F → Type 0} {files : F}
     {names : List (List ℕ)} {lint : Lint} → lint.cited ≡ None → (text : List ℕ) (status : Option ℕ)
     → AreFindingsPrinted reads lint files names text status → IsCallAnswer reads files names (request.Lint lint) text status

@@ -1,4 +1,4 @@
--- The comparing task prints what `Compared` specifies: its marks say which citations have entries in the files so far.
+-- The output of the comparing task: its marks say which citations have entries in the files so far.
 use Rattle.std.proofs.Common.{◌≡◌, ◌<◌, ◌+◌, ◌||◌, ◌&&◌, ℕ, zero, suc, Bool, true, false, not, cond, List, [], ◌∷◌, ◌++◌, length, take, get_or, map, refl, sym, ap, ap₂, subst, ◌∙◌, arith}
 use Rattle.std.specs.Prelude.{Option, filter, min, replicate}
 use Rattle.std.specs.String.{string_bytes}
@@ -11,8 +11,8 @@ use Rattle.bib_excerpts.specs.declared.citations.Citations.{Citations}
 use Rattle.bib_findings.specs.declared.finding.Finding.{Finding}
 use Rattle.bib_syntax.specs.Reading.{FileReading, Part}
 use Rattle.bib_syntax.proofs.RecoveryFacts.{recovery_same}
-use Rattle.bibkit_core.specs.Asked.{asked}
-use Rattle.bibkit_core.specs.Compared.{Compared, EndsCompared, PrintsCompared, cited_keys, compared_begins, is_in_files, missing_finding, missing_findings, none_compared, unused_finding, unused_findings}
+use Rattle.bibkit_core.specs.Asked.{selected_findings}
+use Rattle.bibkit_core.specs.Compared.{ComparisonState, EndsCompared, PrintsCompared, cited_keys, compared_begins, is_in_files, missing_finding, missing_findings, none_compared, unused_finding, unused_findings}
 use Rattle.bibkit_core.specs.Linted.{ArePrinted}
 use Rattle.bibkit_core.specs.Marks.{AreUnused, BeginsDocument, EndsComparing, PrintsComparing, comparing_begins, either_mark, unmarked_findings}
 use Rattle.bibkit_core.specs.Running.{IsTaskPrinted}
@@ -137,7 +137,8 @@ unmarked_all (c ∷ cs) (m ∷ marks) zero end = absurd (omega (arith, end))
 unmarked_all (c ∷ cs) (m ∷ marks) (suc n) end =
     unmarked_same c (take n cs) cs (take n marks) marks m (unmarked_all cs marks n (omega (arith, end)))
 
--- if uncited entries are requested and the document doesn't cite all, their findings are those of the keys that `uncited` finds
+-- if uncited entries are requested and the document doesn't cite all, the findings are those of the keys that `find_uncited`
+-- returns
 pub unused_asked : (document : Document) (text : List ℕ) (parts : List Part)
     → (document.has_unused && not document.citations.all) ≡ true → IsUncited text (cited_keys document.citations) parts
     → AreUnused document text (map unused_finding parts)
@@ -156,7 +157,7 @@ unused_unasked document text unasked says skipped recovery =
 
 -- the task has the same settings, document, counts and known citations as the state `s` of the specification
 record IsSeen (lint : Lint) (has_unused : Bool) (name document : List ℕ) (found : Citations) (task : Comparing)
-    (s : Compared) : Type 0 where
+    (s : ComparisonState) : Type 0 where
   pub lint_is : task.linting.lint.now ≡ lint
   pub tally : task.linting.tally ≡ s.tally
   pub name_is : task.document.name.now ≡ name
@@ -181,9 +182,9 @@ begins_seen lint has_unused name document task linting begins = record {
 
 -- the output of the task for a file is specified, and leads to a state with the same contents as the new task
 step_compared : (lint : Lint) (has_unused : Bool) (name document : List ℕ) (found : Citations) (old new : Comparing)
-    (before : Compared) (file bytes text : List ℕ) → IsSeen lint has_unused name document found old before
+    (before : ComparisonState) (file bytes text : List ℕ) → IsSeen lint has_unused name document found old before
     → PrintsComparing old file bytes text new
-    → (after : Compared) × PrintsCompared lint has_unused found before file bytes text after
+    → (after : ComparisonState) × PrintsCompared lint has_unused found before file bytes text after
     × IsSeen lint has_unused name document found new after
 step_compared lint has_unused name document found old new before file bytes text same p =
     let says : FileReading = p.known.known_in.says in
@@ -206,11 +207,11 @@ step_compared lint has_unused name document found old new before file bytes text
         unused =
             subst
             (λ l.
-            ArePrinted l.style file decoded (asked l.selection (unused_findings has_unused found says.entries))
+            ArePrinted l.style file decoded (selected_findings l.selection (unused_findings has_unused found says.entries))
             p.between p.second new.linting.tally) same.lint_is
             (subst
             (λ u.
-            ArePrinted old.linting.lint.now.style file decoded (asked old.linting.lint.now.selection u)
+            ArePrinted old.linting.lint.now.style file decoded (selected_findings old.linting.lint.now.selection u)
             p.between p.second new.linting.tally)
             (p.are_unused says p.known.known_in.skipped p.known.known_in.recovery
             ∙ ap₂ (λ b f. unused_findings b f says.entries) same.unused_is same.citations) p.more);
@@ -234,7 +235,7 @@ step_compared lint has_unused name document found old new before file bytes text
 
 -- the output of the task after the files is specified
 ends_compared : (lint : Lint) (has_unused : Bool) (name document : List ℕ) (found : Citations) (task : Comparing)
-    (s : Compared) (text : List ℕ) (status : ℕ) → IsSeen lint has_unused name document found task s
+    (s : ComparisonState) (text : List ℕ) (status : ℕ) → IsSeen lint has_unused name document found task s
     → EndsComparing task text status → EndsCompared lint name document found s text status
 ends_compared lint has_unused name document found task s text status same e =
     let missing : List Finding = missing_findings s.readings found.keys.items in
@@ -247,27 +248,29 @@ ends_compared lint has_unused name document found task s text status same e =
     subst
     (λ l.
     ArePrinted task.linting.lint.now.style task.document.name.now task.document.text.now
-    (asked task.linting.lint.now.selection l) task.linting.tally e.first e.after) lists e.more in
+    (selected_findings task.linting.lint.now.selection l) task.linting.tally e.first e.after) lists e.more in
     let named =
     subst
     (λ n.
     ArePrinted task.linting.lint.now.style n task.document.text.now
-    (asked task.linting.lint.now.selection missing) task.linting.tally e.first e.after) same.name_is
+    (selected_findings task.linting.lint.now.selection missing) task.linting.tally e.first e.after) same.name_is
     listed in
     let placed =
     subst
     (λ d.
-    ArePrinted task.linting.lint.now.style name d (asked task.linting.lint.now.selection missing)
+    ArePrinted task.linting.lint.now.style name d (selected_findings task.linting.lint.now.selection missing)
     task.linting.tally e.first e.after) same.text_is named in
     let counted =
     subst
     (λ t.
-    ArePrinted task.linting.lint.now.style name document (asked task.linting.lint.now.selection missing) t
+    ArePrinted task.linting.lint.now.style name document (selected_findings task.linting.lint.now.selection missing) t
     e.first e.after) same.tally placed in
     record {
       first = e.first;
       after = e.after;
-      missing = subst (λ l. ArePrinted l.style name document (asked l.selection missing) s.tally e.first e.after) same.lint_is counted;
+      missing =
+          subst (λ l. ArePrinted l.style name document (selected_findings l.selection missing) s.tally e.first e.after)
+          same.lint_is counted;
       is = e.is ∙ ap (λ l. e.first ++ closing l.style e.after) same.lint_is;
       status_is = e.status_is;
     }

@@ -14,12 +14,12 @@ use Rattle.bibkit_core.specs.declared.lint.Printed.{Printed}
 use Rattle.bibkit_core.specs.declared.request.Style.{Style}
 use Rattle.bibkit_core.specs.declared.selection.Selection.{Selection}
 use Rattle.bibkit_core.specs.declared.tally.Tally.{Tally}
-use Rattle.bibkit_core.specs.Asked.{asked, is_asked}
+use Rattle.bibkit_core.specs.Asked.{is_asked, selected_findings}
 use Rattle.bibkit_core.specs.Adding.{IsAdded, IsPrintedOne}
 use Rattle.bib_source.specs.declared.decoding.Decoded.{Decoded}
 use Rattle.bib_findings.specs.Findings.{AreFindings}
 use Rattle.bibkit_core.specs.declared.request.Lint.{Lint}
-use Rattle.bibkit_core.specs.Linted.{AreShown, ArePrinted, IsPrintedFile, counted, unread_findings}
+use Rattle.bibkit_core.specs.Linted.{AreShown, ArePrinted, IsPrintedFile, tally_after, unread_findings}
 use Rattle.bibkit_core.specs.Linted.AreShown.{none, next}
 use Rattle.bibkit_core.specs.Printed.{IsShown, is_none, one_more}
 use Rattle.std.proofs.Math.Bool.{and-false}
@@ -48,7 +48,7 @@ not_none t Warning =
     ap (λ b. (t.errors == 0) && b) (not_zero (min (t.warnings + 1) 18446744073709551615) above) ∙ and-false (t.errors == 0)
 
 -- the counts after these findings are both zero exactly if the next finding is the first of all
-none_counted : (t : Tally) (xs : List Finding) → is_none (counted t xs) ≡ is_first_after (is_none t) xs
+none_counted : (t : Tally) (xs : List Finding) → is_none (tally_after t xs) ≡ is_first_after (is_none t) xs
 unfolding is_first_after
 none_counted t [] = refl
 none_counted t (f ∷ rest) =
@@ -93,38 +93,40 @@ none_added a = record { text = []; are = record { shown = none; tally = refl }; 
 
 -- a finding whose code is selected is appended to the selected findings
 pub asked_more : (s : Selection) (xs : List Finding) (f : Finding) → is_asked s f.code ≡ true
-    → asked s (xs ++ f ∷ []) ≡ asked s xs ++ f ∷ []
-asked_more s xs f is = filter-append (λ g. is_asked s g.code) xs (f ∷ []) ∙ ap (λ b. asked s xs ++ cond b (f ∷ []) []) is
+    → selected_findings s (xs ++ f ∷ []) ≡ selected_findings s xs ++ f ∷ []
+asked_more s xs f is = filter-append (λ g. is_asked s g.code) xs (f ∷ []) ∙ ap (λ b. selected_findings s xs ++ cond b (f ∷ []) []) is
 
 -- a finding whose code isn't selected leaves the selected findings unchanged
-pub asked_same : (s : Selection) (xs : List Finding) (f : Finding) → is_asked s f.code ≡ false → asked s (xs ++ f ∷ []) ≡ asked s xs
+pub asked_same : (s : Selection) (xs : List Finding) (f : Finding) → is_asked s f.code ≡ false
+    → selected_findings s (xs ++ f ∷ []) ≡ selected_findings s xs
 asked_same s xs f isnt =
-    filter-append (λ g. is_asked s g.code) xs (f ∷ []) ∙ ap (λ b. asked s xs ++ cond b (f ∷ []) []) isnt
-    ∙ append-nil (asked s xs)
+    filter-append (λ g. is_asked s g.code) xs (f ∷ []) ∙ ap (λ b. selected_findings s xs ++ cond b (f ∷ []) []) isnt
+    ∙ append-nil (selected_findings s xs)
 
 -- one step of the loop for a finding whose code is selected
 pub step_printed : {style : Style} {name bytes : List ℕ} (s : Selection) (xs more : List Finding) (f : Finding)
     (place : Position) {a b c d : Printed} → more ≡ xs ++ f ∷ [] → is_asked s f.code ≡ true
-    → place ≡ position_at bytes f.span.start → IsAdded (ArePrinted style name bytes (asked s xs)) a b
-    → IsAdded (IsPrintedOne style name place f) b c → d ≡ c → IsAdded (ArePrinted style name bytes (asked s more)) a d
+    → place ≡ position_at bytes f.span.start → IsAdded (ArePrinted style name bytes (selected_findings s xs)) a b
+    → IsAdded (IsPrintedOne style name place f) b c → d ≡ c → IsAdded (ArePrinted style name bytes (selected_findings s more)) a d
 step_printed {style} {name} {bytes} s xs more f place {a} {b} {c} {d} grows is at before one same =
-    subst (λ p. IsAdded (ArePrinted style name bytes (asked s more)) a p) (sym same)
-    (subst (λ ys. IsAdded (ArePrinted style name bytes ys) a c) (sym (ap (asked s) grows ∙ asked_more s xs f is))
+    subst (λ p. IsAdded (ArePrinted style name bytes (selected_findings s more)) a p) (sym same)
+    (subst (λ ys. IsAdded (ArePrinted style name bytes ys) a c) (sym (ap (selected_findings s) grows ∙ asked_more s xs f is))
     (one_added f before (subst (λ p. IsAdded (IsPrintedOne style name p f) b c) at one)))
 
 -- one step of the loop for a finding whose code isn't selected
 pub step_passed : {style : Style} {name bytes : List ℕ} (s : Selection) (xs more : List Finding) (f : Finding)
     {a b d : Printed} → more ≡ xs ++ f ∷ [] → is_asked s f.code ≡ false
-    → IsAdded (ArePrinted style name bytes (asked s xs)) a b → d ≡ b → IsAdded (ArePrinted style name bytes (asked s more)) a d
+    → IsAdded (ArePrinted style name bytes (selected_findings s xs)) a b → d ≡ b
+    → IsAdded (ArePrinted style name bytes (selected_findings s more)) a d
 step_passed {style} {name} {bytes} s xs more f {a} {b} {d} grows isnt before same =
-    subst (λ p. IsAdded (ArePrinted style name bytes (asked s more)) a p) (sym same)
-    (subst (λ ys. IsAdded (ArePrinted style name bytes ys) a b) (sym (ap (asked s) grows ∙ asked_same s xs f isnt)) before)
+    subst (λ p. IsAdded (ArePrinted style name bytes (selected_findings s more)) a p) (sym same)
+    (subst (λ ys. IsAdded (ArePrinted style name bytes ys) a b) (sym (ap (selected_findings s) grows ∙ asked_same s xs f isnt)) before)
 
 -- the finding that a file isn't UTF-8, and then those of its text, are the output for the file
 pub file_added : {lint : Lint} {name bytes : List ℕ} {decoded : Decoded} (found : List Finding) {a b c : Printed}
     → AreFindings (string_bytes decoded.text) found
-    → IsAdded (ArePrinted lint.style name bytes (asked lint.selection (unread_findings decoded.invalid))) a b
-    → IsAdded (ArePrinted lint.style name (string_bytes decoded.text) (asked lint.selection found)) b c
+    → IsAdded (ArePrinted lint.style name bytes (selected_findings lint.selection (unread_findings decoded.invalid))) a b
+    → IsAdded (ArePrinted lint.style name (string_bytes decoded.text) (selected_findings lint.selection found)) b c
     → IsAdded (IsPrintedFile lint name bytes decoded) a c
 file_added found {a} {b} {c} are first second = record {
   text = first.text ++ second.text;

@@ -25,6 +25,7 @@ touches_none old new known same time = record {
       (time.nothing_else t other c le left);
 }
 
+-- no call affects no name
 pub touches_none_at_first : (disk : Disk) → disk.is_known → TouchesNothing disk disk
 touches_none_at_first disk known = record {
   known = known;
@@ -46,6 +47,7 @@ none_then_one name old mid new first next = record {
   past = λ t other c le ne left. first.past t other c le (next.past t other c (omega (arith, le, first.later)) ne left);
 }
 
+-- calls that affect no name, one after another
 pub none_then_none : (old mid new : Disk) → TouchesNothing old mid → TouchesNothing mid new → TouchesNothing old new
 none_then_none old mid new first next = record {
   known = next.known;
@@ -58,6 +60,7 @@ none_then_none old mid new first next = record {
   past = λ t other c le left. first.past t other c le (next.past t other c (omega (arith, le, first.later)) left);
 }
 
+-- calls that affect only one name, one after another
 pub one_then_one : (name : List ℕ) (old mid new : Disk) → TouchesOnly name old mid → TouchesOnly name mid new → TouchesOnly name old new
 one_then_one name old mid new first next = record {
   known = next.known;

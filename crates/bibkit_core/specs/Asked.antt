@@ -22,5 +22,5 @@ is_asked selection code =
     (has_none selection.only.items || has_code selection.only.items code) && not (has_code selection.ignored.items code)
 
 -- the selected findings
-abbrev pub asked : Selection → List Finding → List Finding
-asked selection found = filter (λ f. is_asked selection f.code) found
+abbrev pub selected_findings : Selection → List Finding → List Finding
+selected_findings selection found = filter (λ f. is_asked selection f.code) found

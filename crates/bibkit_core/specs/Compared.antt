@@ -14,7 +14,7 @@ use Rattle.bib_findings.specs.declared.finding.Finding.{Finding}
 use Rattle.bib_syntax.specs.Reading.{EntryReading, FileReading, Part}
 use Rattle.bib_syntax.specs.Recovery.{IsRecovery}
 use Rattle.bib_syntax.specs.declared.raw.recovery.SkippedBlock.{SkippedBlock}
-use Rattle.bibkit_core.specs.Asked.{asked}
+use Rattle.bibkit_core.specs.Asked.{selected_findings}
 use Rattle.bibkit_core.specs.Linted.{ArePrinted}
 use Rattle.bibkit_core.specs.Tasks.{AreDecoded, PrintsFindings, closing, lint_status, opening}
 use Rattle.bibkit_core.specs.declared.request.Lint.{Lint}
@@ -73,21 +73,21 @@ unused_findings has_unused found entries =
     if has_unused && not found.all then map unused_finding (uncited_keys (cited_keys found) entries) else []
 
 -- the state of the comparison: the counts of findings, and the contents of the files so far
-pub record Compared : Type 0 where
+pub record ComparisonState : Type 0 where
   pub tally : Tally
   pub readings : List FileReading
 
 -- the state before the first file
-abbrev pub none_compared : Compared
+abbrev pub none_compared : ComparisonState
 none_compared = record { tally = record { errors = 0; warnings = 0 }; readings = [] }
 
 -- the text before the files
-abbrev pub compared_begins : Lint → Compared → List ℕ
+abbrev pub compared_begins : Lint → ComparisonState → List ℕ
 compared_begins lint before = opening lint.style
 
 -- the output for a file: its findings, and then the findings of its entries that the document doesn't cite, at their keys
-pub record PrintsCompared (lint : Lint) (has_unused : Bool) (found : Citations) (before : Compared)
-    (name bytes text : List ℕ) (after : Compared) : Type 0 where
+pub record PrintsCompared (lint : Lint) (has_unused : Bool) (found : Citations) (before : ComparisonState)
+    (name bytes text : List ℕ) (after : ComparisonState) : Type 0 where
   pub first : List ℕ
   pub second : List ℕ
   pub between : Tally
@@ -98,17 +98,17 @@ pub record PrintsCompared (lint : Lint) (has_unused : Bool) (found : Citations) 
   pub of_bytes : AreDecoded bytes decoded
   pub recovery : IsRecovery (string_bytes decoded.text) says skipped
   pub unused : ArePrinted lint.style name (string_bytes decoded.text)
-      (asked lint.selection (unused_findings has_unused found says.entries)) between second after.tally
+      (selected_findings lint.selection (unused_findings has_unused found says.entries)) between second after.tally
   pub is : text ≡ first ++ second
   pub readings : after.readings ≡ before.readings ++ says ∷ []
 
 -- the output after all files, and the status: the findings of the citations for which no file has an entry, at their positions in
 -- the file of the document, and then the text after findings
-pub record EndsCompared (lint : Lint) (name document : List ℕ) (found : Citations) (before : Compared) (text : List ℕ)
+pub record EndsCompared (lint : Lint) (name document : List ℕ) (found : Citations) (before : ComparisonState) (text : List ℕ)
     (status : ℕ) : Type 0 where
   pub first : List ℕ
   pub after : Tally
   pub missing : ArePrinted lint.style name document
-      (asked lint.selection (missing_findings before.readings found.keys.items)) before.tally first after
+      (selected_findings lint.selection (missing_findings before.readings found.keys.items)) before.tally first after
   pub is : text ≡ first ++ closing lint.style after
   pub status_is : status ≡ lint_status after

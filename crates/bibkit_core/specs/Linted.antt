@@ -7,7 +7,7 @@ use Rattle.bib_source.specs.declared.decoding.Decoded.{Decoded}
 use Rattle.bib_findings.specs.Findings.{AreFindings}
 use Rattle.bib_findings.specs.declared.codes.Code.TheVariants.{UnreadBytes}
 use Rattle.bib_findings.specs.declared.finding.Finding.{Finding}
-use Rattle.bibkit_core.specs.Asked.{asked}
+use Rattle.bibkit_core.specs.Asked.{selected_findings}
 use Rattle.bibkit_core.specs.declared.request.Lint.{Lint}
 use Rattle.bibkit_core.specs.declared.request.Style.{Style}
 use Rattle.bibkit_core.specs.declared.tally.Tally.{Tally}
@@ -22,14 +22,14 @@ pub data AreShown (style : Style) (name bytes : List ℕ) : Bool → List Findin
       → AreShown style name bytes false rest texts → AreShown style name bytes is_first (f ∷ rest) (text ++ texts)
 
 -- the counts after these findings
-abbrev pub counted : Tally → List Finding → Tally
-counted tally found = fold (λ t f. one_more t (severity_of f.code)) tally found
+abbrev pub tally_after : Tally → List Finding → Tally
+tally_after tally found = fold (λ t f. one_more t (severity_of f.code)) tally found
 
 -- `text` is the output for these findings of a file, with the counts before and after them
 pub record ArePrinted (style : Style) (name bytes : List ℕ) (found : List Finding) (before : Tally) (text : List ℕ)
     (after : Tally) : Type 0 where
   pub shown : AreShown style name bytes (is_none before) found text
-  pub tally : after ≡ counted before found
+  pub tally : after ≡ tally_after before found
 
 -- the finding of the first byte that isn't UTF-8, at this offset
 abbrev pub unread_finding : ℕ → Finding
@@ -53,6 +53,6 @@ pub record IsPrintedFile (lint : Lint) (name bytes : List ℕ) (decoded : Decode
   pub between : Tally
   pub first : List ℕ
   pub second : List ℕ
-  pub unread : ArePrinted lint.style name bytes (asked lint.selection (unread_findings decoded.invalid)) before first between
-  pub of_text : ArePrinted lint.style name (string_bytes decoded.text) (asked lint.selection found) between second after
+  pub unread : ArePrinted lint.style name bytes (selected_findings lint.selection (unread_findings decoded.invalid)) before first between
+  pub of_text : ArePrinted lint.style name (string_bytes decoded.text) (selected_findings lint.selection found) between second after
   pub is : text ≡ first ++ second

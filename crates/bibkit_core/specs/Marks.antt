@@ -8,7 +8,7 @@ use Rattle.bib_findings.specs.declared.finding.Finding.{Finding}
 use Rattle.bib_syntax.specs.Reading.{FileReading, Part}
 use Rattle.bib_syntax.specs.Recovery.{IsRecovery}
 use Rattle.bib_syntax.specs.declared.raw.recovery.SkippedBlock.{SkippedBlock}
-use Rattle.bibkit_core.specs.Asked.{asked}
+use Rattle.bibkit_core.specs.Asked.{selected_findings}
 use Rattle.bibkit_core.specs.Compared.{AreCitedBy, cited_keys, missing_finding, unused_finding, unused_findings}
 use Rattle.bibkit_core.specs.Linted.{ArePrinted}
 use Rattle.bibkit_core.specs.Tasks.{AreDecoded, PrintsFindings, closing, lint_status, opening}
@@ -80,7 +80,7 @@ pub record PrintsComparing (old : Comparing) (name bytes text : List ℕ) (new :
   pub known : AreKnownWith (string_bytes decoded.text) old.document new.document.known.items
   pub are_unused : AreUnused old.document (string_bytes decoded.text) unused
   pub more : ArePrinted old.linting.lint.now.style name (string_bytes decoded.text)
-      (asked old.linting.lint.now.selection unused) between second new.linting.tally
+      (selected_findings old.linting.lint.now.selection unused) between second new.linting.tally
   pub is : text ≡ first ++ second
 
 -- the text of the comparing task after the files, and its status
@@ -88,7 +88,7 @@ pub record EndsComparing (task : Comparing) (text : List ℕ) (status : ℕ) : T
   pub first : List ℕ
   pub after : Tally
   pub more : ArePrinted task.linting.lint.now.style task.document.name.now task.document.text.now
-      (asked task.linting.lint.now.selection
+      (selected_findings task.linting.lint.now.selection
       (unmarked_findings task.document.citations.keys.items task.document.known.items)) task.linting.tally first
       after
   pub is : text ≡ first ++ closing task.linting.lint.now.style after

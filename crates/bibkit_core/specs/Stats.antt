@@ -71,20 +71,20 @@ abbrev pub years_in : List FieldReading → List (List ℕ)
 years_in fields = option_map_or (λ year. year ∷ []) (year_in fields) []
 
 -- all entries and all findings of the files so far
-pub record Counted : Type 0 where
+pub record FilesSoFar : Type 0 where
   pub entries : List EntryReading
   pub found : List Finding
 
 -- no entries and no findings
-abbrev pub none_counted : Counted
+abbrev pub none_counted : FilesSoFar
 none_counted = record { entries = []; found = [] }
 
 -- the text before the files: none
-abbrev pub counted_begins : Counted → List ℕ
+abbrev pub counted_begins : FilesSoFar → List ℕ
 counted_begins before = []
 
 -- a file is counted: the entries that can be parsed of it, and its findings
-pub record IsCountedWith (before : Counted) (bytes : List ℕ) (after : Counted) : Type 0 where
+pub record IsCountedWith (before : FilesSoFar) (bytes : List ℕ) (after : FilesSoFar) : Type 0 where
   pub decoded : Decoded
   pub says : FileReading
   pub skipped : List SkippedBlock
@@ -95,12 +95,12 @@ pub record IsCountedWith (before : Counted) (bytes : List ℕ) (after : Counted)
   pub after_is : after ≡ record { entries = before.entries ++ says.entries; found = before.found ++ found }
 
 -- a file is counted, and its output is empty
-abbrev pub PrintsCounted : Counted → List ℕ → List ℕ → List ℕ → Counted → Type 0
+abbrev pub PrintsCounted : FilesSoFar → List ℕ → List ℕ → List ℕ → FilesSoFar → Type 0
 PrintsCounted before name bytes text after = (text ≡ []) × IsCountedWith before bytes after
 
 -- the output after all files: the number of entries, and tables of types, fields, years and findings; the years are in order, and
 -- the other tables begin with the greatest count; the status is 0
-pub record EndsCounted (all : Counted) (text : List ℕ) (status : ℕ) : Type 0 where
+pub record EndsCounted (all : FilesSoFar) (text : List ℕ) (status : ℕ) : Type 0 where
   pub types : List Row
   pub fields : List Row
   pub years : List Row

@@ -9,7 +9,7 @@ use Rattle.bib_findings.specs.declared.finding.Finding.{Finding}
 use Rattle.bib_syntax.specs.Reading.{EntryReading, FileReading}
 use Rattle.bib_syntax.specs.Recovery.{IsRecovery}
 use Rattle.bib_syntax.specs.declared.raw.recovery.SkippedBlock.{SkippedBlock}
-use Rattle.bibkit_core.specs.Stats.{Counted, EndsCounted, IsCountedWith, lowercase_names, type_name, years_in}
+use Rattle.bibkit_core.specs.Stats.{EndsCounted, FilesSoFar, IsCountedWith, lowercase_names, type_name, years_in}
 use Rattle.bibkit_core.specs.Tables.{times_met}
 use Rattle.bibkit_core.specs.declared.counting.Counting.{Counting}
 use Rattle.bibkit_core.specs.declared.tables.Counts.{Counts}
@@ -23,7 +23,7 @@ pub record AddsNames (names : List (List ℕ)) (old new : Counts) : Type 0 where
   pub adds : (before : List (List ℕ)) → AreCounted before old → AreCounted (before ++ names) new
 
 -- the counts are those of these entries and findings
-pub record AreCountsOf (all : Counted) (task : Counting) : Type 0 where
+pub record AreCountsOf (all : FilesSoFar) (task : Counting) : Type 0 where
   pub entries : task.entries ≡ min (length all.entries) (2 ^ 64 - 1)
   pub types : AreCounted (map type_name all.entries) task.types
   pub fields : AreCounted (flat_map (λ e. lowercase_names e.fields) all.entries) task.fields
@@ -32,11 +32,11 @@ pub record AreCountsOf (all : Counted) (task : Counting) : Type 0 where
 
 -- the counts of the task are increased by these entries
 pub record AddsEntries (entries : List EntryReading) (old new : Counting) : Type 0 where
-  pub adds : (all : Counted) → AreCountsOf all old → AreCountsOf (record { entries = all.entries ++ entries; found = all.found }) new
+  pub adds : (all : FilesSoFar) → AreCountsOf all old → AreCountsOf (record { entries = all.entries ++ entries; found = all.found }) new
 
 -- the counts of the task are increased by these findings
 pub record AddsFindings (found : List Finding) (old new : Counting) : Type 0 where
-  pub adds : (all : Counted) → AreCountsOf all old → AreCountsOf (record { entries = all.entries; found = all.found ++ found }) new
+  pub adds : (all : FilesSoFar) → AreCountsOf all old → AreCountsOf (record { entries = all.entries; found = all.found ++ found }) new
 
 -- the counts of the task are increased by the entries that can be parsed of a text
 pub record AddsTextEntries (text : List ℕ) (old new : Counting) : Type 0 where
@@ -54,8 +54,9 @@ pub record AddsTextFindings (text : List ℕ) (old new : Counting) : Type 0 wher
 -- a file is counted, and its output is empty
 pub record PrintsCounting (old : Counting) (name bytes text : List ℕ) (new : Counting) : Type 0 where
   pub text_is : text ≡ []
-  pub counted : (before : Counted) → AreCountsOf before old → (after : Counted) × IsCountedWith before bytes after × AreCountsOf after new
+  pub counted : (before : FilesSoFar) → AreCountsOf before old
+      → (after : FilesSoFar) × IsCountedWith before bytes after × AreCountsOf after new
 
 -- the output after all files is that of the counted entries and findings
 pub record EndsCounting (task : Counting) (text : List ℕ) (status : ℕ) : Type 0 where
-  pub ends : (all : Counted) → AreCountsOf all task → EndsCounted all text status
+  pub ends : (all : FilesSoFar) → AreCountsOf all task → EndsCounted all text status

@@ -8,7 +8,7 @@ ghost use Rattle.bibkit_core.specs.Marks.{AreKnownWith, AreUncited, AreUnused, B
 
 use crate::lint::Origin;
 use bib_excerpts::citations::{Citation, Citations, in_aux, in_bcf};
-use bib_excerpts::known::{known, uncited};
+use bib_excerpts::known::{find_uncited, mark_known};
 use bib_findings::codes::Code;
 use bib_findings::finding::Finding;
 use bib_text::spanned::Spanned;
@@ -125,7 +125,7 @@ fn push_unless_known(
 }
 
 // Returns the findings of the citations whose mark is false.
-fn unmarked(
+fn unmarked_findings(
     alloc: Global,
     citations: &[Citation],
     known: &[bool],
@@ -179,7 +179,7 @@ impl<'t> Document<'t> {
         ensures known { OnOk result (AreKnownWith text.now self.old self.new.known.items) }
         ensures unused { IfOk result (λ found. AreUnused self.old text.now found.items) }
     {
-        let unused = self.unused(alloc, text)?;
+        let unused = self.unused_findings(alloc, text)?;
         self.known = self.known_with(alloc, text)?;
         Ok(unused)
     }
@@ -189,7 +189,7 @@ impl<'t> Document<'t> {
         ensures { IfOk result (λ known. AreKnownWith text.now self.now known.items) }
     {
         let keys = keys(alloc, &self.citations)?;
-        let here = known(alloc, text, &keys)?;
+        let here = mark_known(alloc, text, &keys)?;
         either(alloc, &self.known, &here)
     }
 
@@ -205,13 +205,13 @@ impl<'t> Document<'t> {
         ensures { IfOk result (λ found. AreUncited text.now (cited_keys self.now.citations) found.items) }
     {
         let keys = keys(alloc, &self.citations)?;
-        let uncited = uncited(alloc, text, &keys)?;
+        let uncited = find_uncited(alloc, text, &keys)?;
         let found = unused_entries(alloc, &uncited)?;
         Ok(found)
     }
 
     // Returns the same findings if they are requested and the document doesn't cite all entries, otherwise none.
-    fn unused(&self, alloc: Global, text: &str) -> Result<Vec<Finding>, AllocError>
+    fn unused_findings(&self, alloc: Global, text: &str) -> Result<Vec<Finding>, AllocError>
         ensures { IfOk result (λ found. AreUnused self.now text.now found.items) }
     {
         if self.asks_for_unused() {
@@ -222,9 +222,9 @@ impl<'t> Document<'t> {
     }
 
     /// Returns the findings of the citations for which no file so far has an entry.
-    pub fn missing(&self, alloc: Global) -> Result<Vec<Finding>, AllocError>
+    pub fn missing_findings(&self, alloc: Global) -> Result<Vec<Finding>, AllocError>
         ensures { IfOk result (λ found. found.items ≡ unmarked_findings self.now.citations.keys.items self.now.known.items) }
     {
-        unmarked(alloc, &self.citations.keys, &self.known)
+        unmarked_findings(alloc, &self.citations.keys, &self.known)
     }
 }

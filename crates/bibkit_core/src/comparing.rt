@@ -5,7 +5,7 @@ ghost use Rattle.bibkit_core.specs.Marks.{EndsComparing, PrintsComparing, compar
 ghost use Rattle.bibkit_core.specs.Tasks.{BeginsLinting};
 
 use crate::cited::Document;
-use crate::decoding::decoded;
+use crate::decoding::decode_bytes;
 use crate::lint::Origin;
 use crate::linting::Linting;
 use crate::request::Lint;
@@ -45,7 +45,7 @@ impl<'r, 'a> Task for Comparing<'r, 'a> {
 
     fn file(&mut self, alloc: Global, name: &str, bytes: &[u8]) -> Result<String, AllocError> {
         let mut text = self.linting.file(alloc, name, bytes)?;
-        let decoded = decoded(alloc, bytes)?;
+        let decoded = decode_bytes(alloc, bytes)?;
         let unused = self.document.compare(alloc, decoded.text.as_str())?;
         let origin = Origin {
             name,
@@ -57,7 +57,7 @@ impl<'r, 'a> Task for Comparing<'r, 'a> {
     }
 
     fn end(&mut self, alloc: Global) -> Result<End, AllocError> {
-        let missing = self.document.missing(alloc)?;
+        let missing = self.document.missing_findings(alloc)?;
         let mut text = self
             .linting
             .print(alloc, &self.document.origin(), &missing)?;

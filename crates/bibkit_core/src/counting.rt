@@ -12,7 +12,7 @@ ghost use Rattle.bibkit_core.specs.Stats as spec;
 ghost use Rattle.bibkit_core.specs.Stats.{none_counted};
 ghost use Rattle.bibkit_core.specs.Totals.{AddsEntries, AddsFindings, AddsNames, AddsTextEntries, AddsTextFindings, AreCountsOf, EndsCounting, PrintsCounting};
 
-use crate::decoding::decoded;
+use crate::decoding::decode_bytes;
 use crate::tables::Counts;
 use crate::task::{End, Task};
 use bib_findings::finding::Finding;
@@ -244,7 +244,7 @@ impl Task for Counting {
     }
 
     fn file(&mut self, alloc: Global, _name: &str, bytes: &[u8]) -> Result<String, AllocError> {
-        let decoded = decoded(alloc, bytes)?;
+        let decoded = decode_bytes(alloc, bytes)?;
         self.add_text(alloc, decoded.text.as_str())?;
         self.add_findings(alloc, decoded.text.as_str())?;
         Ok(String::new(alloc))

@@ -4,7 +4,7 @@ ghost use Rattle.std.specs.Prelude.{◌≡◌, ◌||◌, ◌==◌, length, not};
 ghost use Rattle.bibkit_core.specs.Tasks.{BeginsEntries, entries_begins, entries_ends, entries_prints};
 ghost use Rattle.bibkit_core.specs.Tasks as spec;
 
-use crate::decoding::decoded;
+use crate::decoding::decode_bytes;
 use crate::task::{End, Task};
 use bib_excerpts::excerpts::answer;
 use bib_excerpts::request::Request as Excerpts;
@@ -69,7 +69,7 @@ impl<'r, 'a> Task for Entries<'r, 'a> {
     }
 
     fn file(&mut self, alloc: Global, _name: &str, bytes: &[u8]) -> Result<String, AllocError> {
-        let decoded = decoded(alloc, bytes)?;
+        let decoded = decode_bytes(alloc, bytes)?;
         let text = answer(alloc, self.request, decoded.text.as_str())?;
         self.is_found = is_found_with(self.is_found, text.as_str());
         Ok(text)

@@ -65,7 +65,7 @@ fn end_of(bytes: &[u8]) -> &str {
 
 // Returns the character to print: a control character other than a tab is replaced, since it could move the cursor or change
 // colours.
-fn shown(character: char) -> char {
+fn printable_char(character: char) -> char {
     if character == '\t' || !character.is_control() {
         character
     } else {
@@ -85,8 +85,8 @@ fn frame(alloc: Global, bytes: &[u8], at: usize) -> Result<String, AllocError> {
     let before = end_of(before(bytes, at));
     let after = text_of(after(bytes, at));
     let mut text = String::from_str(alloc, "  ")?;
-    text.extend(before.chars().map(shown))?;
-    text.extend(after.chars().map(shown))?;
+    text.extend(before.chars().map(printable_char))?;
+    text.extend(after.chars().map(printable_char))?;
     text.push_str("\n  ")?;
     text.extend(before.chars().map(blank))?;
     text.push_str("\x1b[1;32m^\x1b[0m\n")?;

@@ -3,7 +3,7 @@
 ghost use Rattle.std.specs.Prelude.{◌≡◌, OnOk, IfOk};
 ghost use Rattle.std.specs.String.{string_bytes};
 ghost use Rattle.bibkit_core.specs.Printed.{IsShown};
-ghost use Rattle.bibkit_core.specs.Asked.{asked};
+ghost use Rattle.bibkit_core.specs.Asked.{selected_findings};
 ghost use Rattle.bibkit_core.specs.Adding.{IsAdded, IsPrintedOne};
 ghost use Rattle.bibkit_core.specs.Linted.{ArePrinted, IsPrintedFile, unread_finding, unread_findings};
 ghost use Rattle.bibkit_core.specs.Printed as spec;
@@ -40,7 +40,7 @@ pub struct Printed {
 }
 
 // Returns the text of a finding. `tally` counts the findings before it.
-fn shown(
+fn finding_text(
     alloc: Global,
     style: Style,
     tally: Tally,
@@ -69,7 +69,7 @@ fn print_finding(
 ) -> Result<(), AllocError>
     ensures { OnOk result (IsAdded (IsPrintedOne style origin.now.name.now place finding.now) printed.old printed.new) }
 {
-    let text = shown(alloc, style, printed.tally, origin, place, finding)?;
+    let text = finding_text(alloc, style, printed.tally, origin, place, finding)?;
     printed.text.push_str(&text)?;
     printed.tally = printed.tally.with(finding.code.severity());
     Ok(())
@@ -84,7 +84,7 @@ pub fn print_findings(
     found: &[Finding],
 ) -> Result<(), AllocError>
     ensures { OnOk result (IsAdded (ArePrinted lint.now.style origin.now.name.now origin.now.bytes.now
-        (asked lint.now.selection found.now)) printed.old printed.new) }
+        (selected_findings lint.now.selection found.now)) printed.old printed.new) }
 {
     let mut positions = Positions::of_bytes(origin.bytes);
     'findings: for finding in found {
@@ -119,7 +119,7 @@ fn print_unread(
     invalid: Option<usize>,
 ) -> Result<(), AllocError>
     ensures { OnOk result (IsAdded (ArePrinted lint.now.style origin.now.name.now origin.now.bytes.now
-        (asked lint.now.selection (unread_findings invalid))) printed.old printed.new) }
+        (selected_findings lint.now.selection (unread_findings invalid))) printed.old printed.new) }
 {
     let Some(at) = invalid else {
         return print_findings(alloc, printed, lint, origin, &[]);

@@ -2,12 +2,12 @@
 
 ghost use Rattle.std.specs.Prelude.{◌≡◌, [], IfOk};
 ghost use Rattle.std.specs.String.{string_bytes};
-ghost use Rattle.bibkit_core.specs.Asked.{asked};
+ghost use Rattle.bibkit_core.specs.Asked.{selected_findings};
 ghost use Rattle.bibkit_core.specs.Linted.{ArePrinted};
 ghost use Rattle.bibkit_core.specs.Tasks.{BeginsLinting, linting_begins, linting_ends, linting_prints};
 ghost use Rattle.bibkit_core.specs.Tasks as spec;
 
-use crate::decoding::decoded;
+use crate::decoding::decode_bytes;
 use crate::lint::{Origin, Printed, print_file, print_findings};
 use crate::request::{Lint, Style};
 use crate::tally::Tally;
@@ -45,7 +45,7 @@ impl<'r, 'a> Linting<'r, 'a> {
     }
 
     // Stores the counts of `printed`, and returns its text.
-    fn kept(&mut self, printed: Printed) -> String
+    fn take_text(&mut self, printed: Printed) -> String
         ensures text { string_bytes result ≡ string_bytes printed.text }
         ensures tally { self.new.tally ≡ printed.tally }
         ensures lint { self.new.lint.now ≡ self.old.lint.now }
@@ -63,12 +63,12 @@ impl<'r, 'a> Linting<'r, 'a> {
         found: &[Finding],
     ) -> Result<String, AllocError>
         ensures printed { IfOk result (λ text. ArePrinted self.old.lint.now.style origin.now.name.now origin.now.bytes.now
-            (asked self.old.lint.now.selection found.now) self.old.tally (string_bytes text) self.new.tally) }
+            (selected_findings self.old.lint.now.selection found.now) self.old.tally (string_bytes text) self.new.tally) }
         ensures lint { self.new.lint.now ≡ self.old.lint.now }
     {
         let mut printed = self.nothing(alloc);
         print_findings(alloc, &mut printed, self.lint, origin, found)?;
-        Ok(self.kept(printed))
+        Ok(self.take_text(printed))
     }
 }
 
@@ -111,7 +111,7 @@ impl<'r, 'a> Task for Linting<'r, 'a> {
     }
 
     fn file(&mut self, alloc: Global, name: &str, bytes: &[u8]) -> Result<String, AllocError> {
-        let decoded = decoded(alloc, bytes)?;
+        let decoded = decode_bytes(alloc, bytes)?;
         let mut printed = self.nothing(alloc);
         print_file(
             alloc,
@@ -120,7 +120,7 @@ impl<'r, 'a> Task for Linting<'r, 'a> {
             &Origin { name, bytes },
             &decoded,
         )?;
-        Ok(self.kept(printed))
+        Ok(self.take_text(printed))
     }
 
     fn end(&mut self, alloc: Global) -> Result<End, AllocError> {

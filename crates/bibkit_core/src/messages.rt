@@ -59,7 +59,7 @@ impl<M: Sink> Messages<M> {
     }
 
     /// Prints the error of a file that could not be read.
-    pub fn unread(
+    pub fn report(
         &mut self,
         alloc: Global,
         name: &str,

@@ -12,7 +12,7 @@ ghost use Rattle.bibkit_core.specs.declared.run.Stop.TheVariants.{OutOfMemory};
 use crate::cited::{Document, citations, keys};
 use crate::comparing::Comparing;
 use crate::counting::Counting;
-use crate::decoding::decoded;
+use crate::decoding::decode_bytes;
 use crate::entries::Entries;
 use crate::files::Files;
 use crate::linting::Linting;
@@ -69,7 +69,7 @@ fn bytes_of<F: Files, M: Sink>(
         Ok(bytes) => Ok(Some(bytes)),
         Err(error) => {
             let error = error.unless_out_of_memory()?;
-            messages.unread(alloc, name, error)?;
+            messages.report(alloc, name, error)?;
             Ok(None)
         }
     }
@@ -171,7 +171,7 @@ fn document_text<F: Files, M: Sink>(
     let Some(bytes) = bytes_of(alloc, name, files, messages)? else {
         return Err(Stop::NoDocument);
     };
-    let decoded = decoded(alloc, &bytes)?;
+    let decoded = decode_bytes(alloc, &bytes)?;
     Ok(decoded.text)
 }
 

@@ -78,7 +78,11 @@ impl From<ResolveError> for Step {
 }
 
 // Returns the text of a document with its entries sorted. Fails only if out of memory.
-fn in_order(alloc: Global, document: &RawDocument<'_>, order: Order) -> Result<String, EditError>
+fn sort_document(
+    alloc: Global,
+    document: &RawDocument<'_>,
+    order: Order,
+) -> Result<String, EditError>
     ensures made { IfOk result (λ new. IsEdited (IsInOrder order document.now) (string_bytes new)) }
     ensures refused { IfErr result (λ why. why ≡ OutOfMemory) }
 {
@@ -87,7 +91,7 @@ fn in_order(alloc: Global, document: &RawDocument<'_>, order: Order) -> Result<S
 }
 
 // Returns the text of a document with its abbreviations replaced by their texts.
-fn written_out(alloc: Global, document: &RawDocument<'_>) -> Result<String, ExpandError>
+fn expand_document(alloc: Global, document: &RawDocument<'_>) -> Result<String, ExpandError>
     ensures made { IfOk result (λ new. IsEdited (IsWrittenOut document.now) (string_bytes new)) }
     ensures refused { IfErr result (ExpandIsRefused document.now) }
 {
@@ -95,7 +99,7 @@ fn written_out(alloc: Global, document: &RawDocument<'_>) -> Result<String, Expa
 }
 
 // Returns the text of a document with abbreviations for repeated texts of these fields. Fails only if out of memory.
-fn collected(
+fn collect_texts(
     alloc: Global,
     document: &RawDocument<'_>,
     fields: &[&str],
@@ -108,7 +112,7 @@ fn collected(
 }
 
 // Returns the text of a document with the types and fields of a dialect. Fails only if out of memory.
-fn converted(
+fn convert_document(
     alloc: Global,
     document: &RawDocument<'_>,
     dialect: Dialect,
@@ -120,7 +124,7 @@ fn converted(
 }
 
 // Returns the text of a document with the references `crossref` and `xdata` replaced by the inherited fields.
-fn resolved(alloc: Global, document: &RawDocument<'_>) -> Result<String, ResolveError>
+fn resolve_document(alloc: Global, document: &RawDocument<'_>) -> Result<String, ResolveError>
     ensures made { IfOk result (λ new. IsEdited (IsResolvedDocument document.now) (string_bytes new)) }
     ensures refused { IfErr result (IsResolveRefused document.now.text) }
 {
@@ -128,7 +132,7 @@ fn resolved(alloc: Global, document: &RawDocument<'_>) -> Result<String, Resolve
 }
 
 // Returns the text of a document in a style. Fails only if out of memory.
-fn in_style(
+fn format_document(
     alloc: Global,
     document: &RawDocument<'_>,
     style: &Style<'_>,
@@ -153,13 +157,13 @@ fn edit_document(alloc: Global, document: &RawDocument<'_>, edit: &Edit<'_>) -> 
             let more = RawDocument::parse(alloc, text)?;
             Ok(document.add_entries(alloc, &more)?)
         }
-        Edit::Sort { order } => Ok(in_order(alloc, document, order)?),
-        Edit::Expand => Ok(written_out(alloc, document)?),
-        Edit::Collect { fields, at_least } => Ok(collected(alloc, document, fields, at_least)?),
-        Edit::ToBiblatex => Ok(converted(alloc, document, Dialect::Biblatex)?),
-        Edit::ToBibtex => Ok(converted(alloc, document, Dialect::Bibtex)?),
-        Edit::Resolve => Ok(resolved(alloc, document)?),
-        Edit::Format { style } => Ok(in_style(alloc, document, &style)?),
+        Edit::Sort { order } => Ok(sort_document(alloc, document, order)?),
+        Edit::Expand => Ok(expand_document(alloc, document)?),
+        Edit::Collect { fields, at_least } => Ok(collect_texts(alloc, document, fields, at_least)?),
+        Edit::ToBiblatex => Ok(convert_document(alloc, document, Dialect::Biblatex)?),
+        Edit::ToBibtex => Ok(convert_document(alloc, document, Dialect::Bibtex)?),
+        Edit::Resolve => Ok(resolve_document(alloc, document)?),
+        Edit::Format { style } => Ok(format_document(alloc, document, &style)?),
     }
 }
 
@@ -227,7 +231,7 @@ fn refusal(step: Step, index: usize) -> Refusal
 }
 
 // Applies an edit to a text, and returns the new text. `index` is the index of the edit, for its refusal.
-fn edited_once(alloc: Global, text: &str, edit: &Edit<'_>, index: usize) -> Result<String, Refusal>
+fn edit_once(alloc: Global, text: &str, edit: &Edit<'_>, index: usize) -> Result<String, Refusal>
     ensures made { IfOk result (λ new. IsMade edit.now text.now (string_bytes new)) }
     ensures refused { IfErr result (IsTextRefused edit.now text.now index) }
 {
@@ -252,13 +256,13 @@ fn latest<'a>(new: &'a Option<String>, first: &'a str) -> &'a str
 
 /// Applies edits to a text, each to the text after the previous one, and returns the new text. If one edit is refused, returns
 /// its refusal.
-pub fn edited(alloc: Global, text: &str, edits: &[Edit<'_>]) -> Result<String, Refusal>
+pub fn edit_text(alloc: Global, text: &str, edits: &[Edit<'_>]) -> Result<String, Refusal>
     ensures made { IfOk result (λ new. AreMade edits.now text.now (string_bytes new)) }
     ensures refused { IfErr result (AreRefused edits.now text.now) }
 {
     let mut new = None;
     'edits: for (index, edit) in edits.iter().enumerate() {
-        new = Some(edited_once(alloc, latest(&new, text), edit, index)?);
+        new = Some(edit_once(alloc, latest(&new, text), edit, index)?);
     }
     match new {
         Some(new) => Ok(new),
@@ -268,13 +272,13 @@ pub fn edited(alloc: Global, text: &str, edits: &[Edit<'_>]) -> Result<String, R
 
 /// Applies edits to the bytes of a file, and returns the new text. The bytes must be UTF-8. A byte order mark at their start is
 /// kept, and the text after it is edited.
-pub fn edited_file(alloc: Global, bytes: &[u8], edits: &[Edit<'_>]) -> Result<String, Refusal>
+pub fn edit_file(alloc: Global, bytes: &[u8], edits: &[Edit<'_>]) -> Result<String, Refusal>
     ensures made { IfOk result (λ new. IsFileMade edits.now bytes.now (string_bytes new)) }
     ensures refused { IfErr result (IsFileRefused edits.now bytes.now) }
 {
     match text_after_mark(bytes) {
         Ok(text) => {
-            let new = edited(alloc, text, edits)?;
+            let new = edit_text(alloc, text, edits)?;
             Ok(with_mark(alloc, bytes, new)?)
         }
         Err(at) => Err(Refusal::NotUtf8 { at }),

@@ -9,7 +9,7 @@ ghost use Rattle.bibkit_edits.specs.declared.printing.Unprinted.TheVariants.{Not
 ghost use Rattle.bibkit_edits.specs.Printing.{HasPrintedDifference, HasPrintedEdited, IsDifferenceNotPrinted, IsNotPrinted, status_of};
 
 use crate::edit::{Edit, Refusal};
-use crate::editing::edited_file;
+use crate::editing::edit_file;
 use bib_source::unified::unified_diff;
 use biblatex::Sink;
 use std::alloc::{AllocError, Global};
@@ -84,7 +84,7 @@ pub fn print_edited<K: Sink>(
     ensures printed { OnOk result (HasPrintedEdited K.taken edits.now bytes.now output.old output.new) }
     ensures not_printed { IfErr result (IsNotPrinted K.hands_over edits.now bytes.now output.old output.new) }
 {
-    let new = edited_file(alloc, bytes, edits)?;
+    let new = edit_file(alloc, bytes, edits)?;
     hand_over(&new, output)
 }
 
@@ -111,7 +111,7 @@ pub fn print_difference<K: Sink>(
     ensures printed { IfOk result (λ differs. HasPrintedDifference K.taken name.now edits.now bytes.now differs output.old output.new) }
     ensures not_printed { IfErr result (IsDifferenceNotPrinted K.hands_over name.now edits.now bytes.now output.old output.new) }
 {
-    let edited = edited_file(alloc, bytes, edits)?;
+    let edited = edit_file(alloc, bytes, edits)?;
     let diff = difference(alloc, name, bytes, &edited)?;
     hand_over(&diff, output)?;
     Ok(!diff.as_str().is_empty())

@@ -34,7 +34,7 @@ pub fn text_after_mark(bytes: &[u8]) -> Result<&str, usize>
 }
 
 // Returns the concatenation of two texts.
-fn joined(alloc: Global, first: &str, second: &str) -> Result<String, AllocError>
+fn concat(alloc: Global, first: &str, second: &str) -> Result<String, AllocError>
     ensures { IfOk result (λ text. string_bytes text ≡ first.now ++ second.now) }
 {
     let mut text = String::from_str(alloc, first)?;
@@ -49,6 +49,6 @@ pub fn with_mark(alloc: Global, bytes: &[u8], text: String) -> Result<String, Al
     if mark_length(bytes) == 0 {
         Ok(text)
     } else {
-        joined(alloc, "\u{FEFF}", &text)
+        concat(alloc, "\u{FEFF}", &text)
     }
 }

@@ -571,7 +571,7 @@ fn positional<'a>(alloc: Global, row: &'static Argument) -> Arg<'a> {
 }
 
 // Returns a required positional argument.
-fn required<'a>(alloc: Global, row: &'static Argument) -> Arg<'a> {
+fn required_argument<'a>(alloc: Global, row: &'static Argument) -> Arg<'a> {
     positional(alloc, row).required(true).action(ArgAction::Set)
 }
 
@@ -619,8 +619,8 @@ fn edited_file<'a>(alloc: Global, row: &'static Argument) -> Arg<'a> {
 // Returns the argument of a row.
 fn argument_of<'a>(alloc: Global, row: &'static Argument) -> Result<Arg<'a>, AllocError> {
     match row.takes {
-        Takes::Text => Ok(required(alloc, row)),
-        Takes::Texts => Ok(required(alloc, row).value_delimiter(',')),
+        Takes::Text => Ok(required_argument(alloc, row)),
+        Takes::Texts => Ok(required_argument(alloc, row).value_delimiter(',')),
         Takes::Words => Ok(words(alloc, row)),
         Takes::WordsOrTexts => Ok(words(alloc, row).value_delimiter(',')),
         Takes::EditedFile => Ok(edited_file(alloc, row)),
@@ -674,7 +674,7 @@ fn own_arguments<'a>(alloc: Global, rows: &'static [Argument]) -> Result<Vec<Arg
 }
 
 // Returns a command without arguments.
-fn described<'a>(alloc: Global, row: &'static Row) -> Command<'a> {
+fn command_of<'a>(alloc: Global, row: &'static Row) -> Command<'a> {
     Command::new(alloc, row.name)
         .about(row.about)
         .after_help(row.help)
@@ -684,13 +684,13 @@ fn described<'a>(alloc: Global, row: &'static Row) -> Command<'a> {
 fn reading_command<'a>(alloc: Global, row: &'static Row) -> Result<Command<'a>, AllocError> {
     let mut arguments = own_arguments(alloc, row.arguments)?;
     arguments.push(files(alloc))?;
-    described(alloc, row).args(arguments)
+    command_of(alloc, row).args(arguments)
 }
 
 // Returns a command that edits a file.
 fn editing_command<'a>(alloc: Global, row: &'static Row) -> Result<Command<'a>, AllocError> {
     let arguments = own_arguments(alloc, row.arguments)?;
-    described(alloc, row).args(arguments)
+    command_of(alloc, row).args(arguments)
 }
 
 // Returns the commands that read files.

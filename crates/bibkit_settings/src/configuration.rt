@@ -117,11 +117,11 @@ fn set_lint(
     match key {
         "only" => settings.only = codes(alloc, key, value)?,
         "ignore" => settings.ignored = codes(alloc, key, value)?,
-        "color" => match value.as_str().and_then(Color::named) {
+        "color" => match value.as_str().and_then(Color::from_name) {
             Some(color) => settings.color = Some(color),
             None => return wrong(alloc, key, "\"auto\", \"always\" or \"never\""),
         },
-        "format" => match value.as_str().and_then(OutputFormat::named) {
+        "format" => match value.as_str().and_then(OutputFormat::from_name) {
             Some(format) => settings.format = Some(format),
             None => return wrong(alloc, key, "\"text\" or \"json\""),
         },

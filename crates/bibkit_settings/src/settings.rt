@@ -66,7 +66,7 @@ impl Color {
     }
 
     /// Returns the variant with this name, or `None` if no variant has it. Case matters.
-    pub fn named(name: &str) -> Option<Self>
+    pub fn from_name(name: &str) -> Option<Self>
         ensures { result ≡ color_named name.now }
     {
         match name {
@@ -87,7 +87,7 @@ impl OutputFormat {
     }
 
     /// Returns the variant with this name, or `None` if no variant has it. Case matters.
-    pub fn named(name: &str) -> Option<Self>
+    pub fn from_name(name: &str) -> Option<Self>
         ensures { result ≡ format_named name.now }
     {
         match name {

@@ -15,9 +15,9 @@ end_else f g (too_short is short) = too_short (f _ is) short
 end_else f g (failed why) = failed (g _ why)
 
 -- a call is done if the result is at the start of a buffer that is long enough
-pub written : {answer bytes out : List ℕ} {size : ℕ} → bytes ≡ answer → length answer ≤ length out
+pub written_answer : {answer bytes out : List ℕ} {size : ℕ} → bytes ≡ answer → length answer ≤ length out
     → IsEnd (λ bytes. bytes ≡ answer) (λ _. ⊥) out size (bytes ++ drop (length answer) out) (length answer) Done
-written is fits = rw is (done refl fits)
+written_answer is fits = rw is (done refl fits)
 
 -- if each result of `made` meets `A` and each error meets `F`, then the end of a call with `made` is an end with `A` and `F`
 pub end_of : {A : List ℕ → Type 0} {F : Status → Type 0} {out out' : List ℕ} {size size' : ℕ} {status : Status}

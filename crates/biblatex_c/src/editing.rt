@@ -15,7 +15,7 @@ use bib_format::style::Style;
 use std::alloc::Global;
 
 // Returns the text in the default style.
-fn laid_out(alloc: Global, text: &[u8]) -> Result<String, Status>
+fn format_text(alloc: Global, text: &[u8]) -> Result<String, Status>
     ensures text { IfOk result (λ edited. IsLaidOut text.now (string_bytes edited)) }
     ensures fails { IfErr result (TextFails (IsNoFile text.now) text.now) }
 {
@@ -29,7 +29,7 @@ pub extern "C" fn biblatex_fmt(alloc: Global, text: &[u8], out: &mut [u8], size:
     ensures { IsNumberedEnd (IsLaidOut text.now) (TextFails (IsNoFile text.now) text.now)
         out.old size.old out.new size.new result }
 {
-    end(laid_out(alloc, text), out, size).number()
+    end(format_text(alloc, text), out, size).number()
 }
 
 // Returns the text with the field `name` of the entry `key` set to `value` in braces.

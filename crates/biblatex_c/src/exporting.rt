@@ -73,7 +73,7 @@ pub(crate) fn entries_as(
 }
 
 // Parses a bibliography and returns its entries in a format.
-fn written_as(alloc: Global, target: Target, bytes: &[u8]) -> Result<String, Status>
+fn bibliography_as(alloc: Global, target: Target, bytes: &[u8]) -> Result<String, Status>
     ensures text { IfOk result (λ text. IsWrittenAs target bytes.now (string_bytes text)) }
     ensures fails { IfErr result (TextFails (IsNoBibliography bytes.now) bytes.now) }
 {
@@ -88,7 +88,7 @@ pub extern "C" fn biblatex_json(alloc: Global, text: &[u8], out: &mut [u8], size
     ensures { IsNumberedEnd (IsWrittenAs Json text.now) (TextFails (IsNoBibliography text.now) text.now)
         out.old size.old out.new size.new result }
 {
-    end(written_as(alloc, Target::Json, text), out, size).number()
+    end(bibliography_as(alloc, Target::Json, text), out, size).number()
 }
 
 /// Writes the entries of a bibliography as an array of CSL-JSON items. Returns `Refused` if parsing the text fails.
@@ -97,5 +97,5 @@ pub extern "C" fn biblatex_csl(alloc: Global, text: &[u8], out: &mut [u8], size:
     ensures { IsNumberedEnd (IsWrittenAs Csl text.now) (TextFails (IsNoBibliography text.now) text.now)
         out.old size.old out.new size.new result }
 {
-    end(written_as(alloc, Target::Csl, text), out, size).number()
+    end(bibliography_as(alloc, Target::Csl, text), out, size).number()
 }

@@ -70,7 +70,7 @@ fn recovered_text(alloc: Global, format: ExportFormat, text: &str) -> Result<Str
 
 // Decodes `bytes`, and returns everything that can be parsed of them in the format with this number. Bytes that aren't UTF-8
 // are decoded as Windows-1252.
-fn recovered_in(alloc: Global, number: u32, bytes: &[u8]) -> Result<String, Status>
+fn recover_in(alloc: Global, number: u32, bytes: &[u8]) -> Result<String, Status>
     ensures text { IfOk result (λ answer. IsRecoveredIn number bytes.now (string_bytes answer)) }
     ensures fails { IfErr result (RecoverFails number) }
 {
@@ -99,5 +99,5 @@ pub extern "C" fn biblatex_recover(
     ensures { IsNumberedEnd (IsRecoveredIn format text.now) (RecoverFails format)
         out.old size.old out.new size.new result }
 {
-    end(recovered_in(alloc, format, text), out, size).number()
+    end(recover_in(alloc, format, text), out, size).number()
 }

@@ -5,7 +5,7 @@ use Rattle.std.proofs.lemmas.List.{length_push}
 use Rattle.std.proofs.lemmas.Slice.Zip.{zip_turn, zip_end}
 use Rattle.bib_syntax.specs.Views.{field_of}
 use Rattle.bib_excerpts.specs.Cited.{definition_line}
-use Rattle.bib_excerpts.specs.Needed.{marked}
+use Rattle.bib_excerpts.specs.Needed.{with_marks}
 use Rattle.bib_excerpts.specs.Standing.{IsFieldIn}
 use Rattle.bib_excerpts.proofs.MarkFacts.{all_at, marked_all, marked_made}
 use Rattle.bib_excerpts.proofs.cited.print_definitions.Goals as goal
@@ -30,7 +30,7 @@ pairs-preserved c =
     string_bytes c.print_definition.new.printed
     ≡ string_bytes c.args.printed.now
     ++ flat_map (definition_line c.args.text.now)
-    (marked (take n c.args.marks.now) (map field_of (take n c.args.pairs.now))))
+    (with_marks (take n c.args.marks.now) (map field_of (take n c.args.pairs.now))))
     (sym (length_push c.pairs.yielded (c.in-Some.pair, c.in-Some.mark)))
     (marked_made field_of (definition_line c.args.text.now) c.args.marks.now c.args.pairs.now (length c.pairs.yielded)
     c.in-Some.mark.now c.in-Some.pair.now (string_bytes c.args.printed.now) (string_bytes c.pairs.printed)

@@ -3,7 +3,7 @@ use Rattle.std.specs.List.{flat_map}
 use Rattle.std.specs.String.{string_bytes}
 use Rattle.bib_syntax.specs.Views.{field_of}
 use Rattle.bib_excerpts.specs.Cited.{definition_line}
-use Rattle.bib_excerpts.specs.Needed.{marked}
+use Rattle.bib_excerpts.specs.Needed.{with_marks}
 use Rattle.bib_excerpts.proofs.cited.print_definitions.Given as goal
 
 abbrev pub invariant-pairs : goal.invariant-pairs
@@ -11,4 +11,4 @@ invariant-pairs l =
     string_bytes l.printed
     ≡ string_bytes l.initial.printed
     ++ flat_map (definition_line l.text)
-    (marked (take (length l.yielded) l.marks) (map field_of (take (length l.yielded) l.pairs)))
+    (with_marks (take (length l.yielded) l.marks) (map field_of (take (length l.yielded) l.pairs)))

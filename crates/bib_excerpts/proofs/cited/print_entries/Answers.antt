@@ -6,7 +6,7 @@ use Rattle.std.proofs.lemmas.Slice.Zip.{zip_turn, zip_end}
 use Rattle.bib_syntax.specs.Recovery.{IsBlockOf}
 use Rattle.bib_syntax.specs.Views.{entry_reading_of}
 use Rattle.bib_excerpts.specs.Cited.{entry_line}
-use Rattle.bib_excerpts.specs.Needed.{marked}
+use Rattle.bib_excerpts.specs.Needed.{with_marks}
 use Rattle.bib_excerpts.proofs.MarkFacts.{all_at, marked_all, marked_made}
 use Rattle.bib_excerpts.proofs.cited.print_entries.Goals as goal
 
@@ -30,7 +30,7 @@ entries-preserved c =
     string_bytes c.print_if.new.printed
     ≡ string_bytes c.args.printed.now
     ++ flat_map (entry_line c.args.text.now)
-    (marked (take n c.args.marks.now) (map entry_reading_of (take n c.args.entries.now))))
+    (with_marks (take n c.args.marks.now) (map entry_reading_of (take n c.args.entries.now))))
     (sym (length_push c.entries.yielded (c.in-Some.entry, c.in-Some.mark)))
     (marked_made entry_reading_of (entry_line c.args.text.now) c.args.marks.now c.args.entries.now
     (length c.entries.yielded) c.in-Some.mark.now c.in-Some.entry.now (string_bytes c.args.printed.now)

@@ -3,7 +3,7 @@ use Rattle.std.specs.List.{flat_map}
 use Rattle.std.specs.String.{string_bytes}
 use Rattle.bib_syntax.specs.Views.{entry_reading_of}
 use Rattle.bib_excerpts.specs.Cited.{entry_line}
-use Rattle.bib_excerpts.specs.Needed.{marked}
+use Rattle.bib_excerpts.specs.Needed.{with_marks}
 use Rattle.bib_excerpts.proofs.cited.print_entries.Given as goal
 
 abbrev pub invariant-entries : goal.invariant-entries
@@ -11,4 +11,4 @@ invariant-entries l =
     string_bytes l.printed
     ≡ string_bytes l.initial.printed
     ++ flat_map (entry_line l.text)
-    (marked (take (length l.yielded) l.marks) (map entry_reading_of (take (length l.yielded) l.entries)))
+    (with_marks (take (length l.yielded) l.marks) (map entry_reading_of (take (length l.yielded) l.entries)))

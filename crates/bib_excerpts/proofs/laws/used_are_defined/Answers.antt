@@ -2,11 +2,11 @@ use Rattle.std.proofs.Common.{map}
 use Rattle.std.proofs.lemmas.List.{length-map}
 use Rattle.bib_excerpts.specs.Cited.{used_in_entries}
 use Rattle.bib_excerpts.specs.Names.{definition_node}
-use Rattle.bib_excerpts.specs.Needed.{marked}
+use Rattle.bib_excerpts.specs.Needed.{with_marks}
 use Rattle.bib_excerpts.proofs.CitedFacts.{asked_marked}
 use Rattle.bib_excerpts.proofs.laws.used_are_defined.Goals as goal
 
 pub returns : goal.returns
 returns c names all text printed says h index name used has =
-    asked_marked (used_in_entries (marked h.entry_marks says.entries)) (map definition_node says.abbreviations) _
+    asked_marked (used_in_entries (with_marks h.entry_marks says.entries)) (map definition_node says.abbreviations) _
     h.definition_marks index name (length-map says.abbreviations definition_node) h.definitions used has

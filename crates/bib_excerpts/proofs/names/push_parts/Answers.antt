@@ -3,7 +3,7 @@ use Rattle.std.specs.List.{flat_map}
 use Rattle.std.specs.Str.{trim}
 use Rattle.std.proofs.lemmas.Iterator.Consumers.{YieldsList-end}
 use Rattle.std.proofs.lemmas.Iterator.Splits.{YieldsList-from_str_split}
-use Rattle.bib_excerpts.specs.Names.{filled}
+use Rattle.bib_excerpts.specs.Names.{name_if_filled}
 use Rattle.bib_excerpts.specs.Texts.{text_list}
 use Rattle.bib_excerpts.proofs.names.push_parts.Goals as goal
 
@@ -12,4 +12,4 @@ returns c =
     let all =
     YieldsList-end (YieldsList-from_str_split 44 c.args.list.now (lit< tt) (cc) (cc) (cc)) c.parts.yielded _
     c.parts.yielded_by _ _ c.in-None.is c.next.ensures.steps in
-    c.parts.invariant ∙ ap (λ l. text_list c.args.names.now ++ flat_map (λ part. filled (trim part)) l) all.0
+    c.parts.invariant ∙ ap (λ l. text_list c.args.names.now ++ flat_map (λ part. name_if_filled (trim part)) l) all.0

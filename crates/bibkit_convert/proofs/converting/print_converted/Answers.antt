@@ -1,5 +1,5 @@
 use Rattle.std.proofs.lemmas.Result.{err_from_is_err_and}
-use Rattle.bibkit_convert.proofs.ConvertedFacts.{converted, unread_fails}
+use Rattle.bibkit_convert.proofs.ConvertedFacts.{converted_text, unread_fails}
 use Rattle.bibkit_convert.proofs.converting.print_converted.Goals as goal
 
 pub returns-in_err-bibliography-clause-failed : goal.returns-in_err-bibliography-clause-failed
@@ -11,6 +11,6 @@ returns-in_err-bibliography-clause-failed g c =
 
 pub returns-clause-converted : goal.returns-clause-converted
 returns-clause-converted g c =
-    converted g.K.Sink.taken c.args.target c.args.is_first c.args.text.now c.args.output.now c.print_entries.new.output
+    converted_text g.K.Sink.taken c.args.target c.args.is_first c.args.text.now c.args.output.now c.print_entries.new.output
     c.in_ok-bibliography.bibliography c.print_entries.result
     c.in_ok-bibliography.ensures.loaded c.print_entries.ensures.printed c.print_entries.ensures.next

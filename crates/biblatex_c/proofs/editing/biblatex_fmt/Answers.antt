@@ -5,5 +5,5 @@ pub returns : goal.returns
 returns c = record {
   status = c.end.result;
   is = c.number.ensures;
-  ends = end_of c.laid_out.result c.laid_out.ensures.text c.laid_out.ensures.fails c.end.ensures;
+  ends = end_of c.format_text.result c.format_text.ensures.text c.format_text.ensures.fails c.end.ensures;
 }

@@ -5,5 +5,5 @@ pub returns : goal.returns
 returns c = record {
   status = c.end.result;
   is = c.number.ensures;
-  ends = end_of c.written_as.result c.written_as.ensures.text c.written_as.ensures.fails c.end.ensures;
+  ends = end_of c.bibliography_as.result c.bibliography_as.ensures.text c.bibliography_as.ensures.fails c.end.ensures;
 }

@@ -5,5 +5,5 @@ pub returns : goal.returns
 returns c = record {
   status = c.end.result;
   is = c.number.ensures;
-  ends = end_of c.recovered_in.result c.recovered_in.ensures.text c.recovered_in.ensures.fails c.end.ensures;
+  ends = end_of c.recover_in.result c.recover_in.ensures.text c.recover_in.ensures.fails c.end.ensures;
 }

@@ -1,6 +1,6 @@
 use Rattle.std.proofs.Common.{◌++◌, ap, subst, ◌∙◌}
 use Rattle.std.specs.String.{string_bytes}
-use Rattle.bibkit_core.specs.Asked.{asked}
+use Rattle.bibkit_core.specs.Asked.{selected_findings}
 use Rattle.bibkit_core.specs.Linted.{ArePrinted}
 use Rattle.bibkit_core.specs.Marks.{AreKnownWith, AreUnused}
 use Rattle.bibkit_core.proofs.comparing.ComparingTask.file.Goals as goal
@@ -13,12 +13,12 @@ returns c =
     let of_lint =
     subst
     (λ l.
-    ArePrinted l.style c.args.name.now c.as_bytes.result.now (asked l.selection c.deref.result.now) before
+    ArePrinted l.style c.args.name.now c.as_bytes.result.now (selected_findings l.selection c.deref.result.now) before
     text after) c.in_ok-text.ensures.0 c.in_ok-more.ensures.printed in
     let lint = c.args.self.now.linting.lint.now in
     let listed =
     subst
-    (λ f. ArePrinted lint.style c.args.name.now c.as_bytes.result.now (asked lint.selection f) before text after)
+    (λ f. ArePrinted lint.style c.args.name.now c.as_bytes.result.now (selected_findings lint.selection f) before text after)
     c.deref.ensures.value of_lint in
     record {
       first = string_bytes c.in_ok-text.text;
@@ -39,7 +39,7 @@ returns c =
       more =
           subst
           (λ b.
-          ArePrinted lint.style c.args.name.now b (asked lint.selection c.in_ok-unused.unused.items) before text
+          ArePrinted lint.style c.args.name.now b (selected_findings lint.selection c.in_ok-unused.unused.items) before text
           after) c.as_bytes.ensures.value listed;
       is = c.in_ok-push_str.ensures.bytes ∙ ap (λ t. string_bytes c.in_ok-text.text ++ t) c.deref-2.ensures;
     }

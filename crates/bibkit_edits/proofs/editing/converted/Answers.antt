@@ -1,6 +1,0 @@
-use Rattle.std.specs.String.{string_bytes}
-use Rattle.bibkit_edits.proofs.EditedFacts.{conversion_made}
-use Rattle.bibkit_edits.proofs.editing.converted.Goals as goal
-
-pub returns-clause-made : goal.returns-clause-made
-returns-clause-made c = conversion_made c.args.dialect c.args.document.now (string_bytes c.in_ok-convert.field-0) c.in_ok-convert.ensures

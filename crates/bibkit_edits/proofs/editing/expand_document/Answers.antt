@@ -1,0 +1,9 @@
+use Rattle.std.specs.String.{string_bytes}
+use Rattle.std.proofs.lemmas.Result.{IfOk-weaker}
+use Rattle.bibkit_edits.proofs.EditedFacts.{expansion_made}
+use Rattle.bibkit_edits.proofs.editing.expand_document.Goals as goal
+
+pub returns-clause-made : goal.returns-clause-made
+returns-clause-made c =
+    IfOk-weaker c.expand.result _ _ (λ new made. expansion_made c.args.document.now (string_bytes new) made)
+    c.expand.ensures.expanded
