@@ -3,5 +3,6 @@ pub mod Commands
 pub mod Contents
 pub mod ContentErrors
 pub mod Effects
+pub mod ParseResults
 pub mod Progress
 pub mod UnitViews

@@ -1,18 +1,17 @@
 //! Parses arguments in braces. Nested arguments are a stack of frames, and all of them are written to one text.
 
-ghost use Rattle.std.specs.Prelude.{◌≡◌, ◌+◌, ◌-◌, ◌≤◌, ◌<◌, ◌^◌, ◌⊎◌, ◌||◌, ◌==◌, ℕ, List, ◌++◌, length, false, true, IfOk, IfErr, OnOk, Some, string_bytes, encode_utf8_all};
+ghost use Rattle.std.specs.Prelude.{◌≡◌, ◌+◌, ◌-◌, ◌≤◌, ◌<◌, ◌^◌, ◌||◌, ◌==◌, ℕ, List, length, false, true, IfOk, IfErr, OnOk, Some, string_bytes};
 ghost use Rattle.std.specs.Str.{chars};
 ghost use Rattle.bib_chunks.specs.Formatted.{formatted_atoms};
 ghost use Rattle.bib_chunks.specs.Styled.{Atom};
 ghost use Rattle.bib_chunks.specs.Writing.{Writes};
-ghost use Rattle.bib_contents.specs.Arguments.{AreKnown, KeepsFrame, IsReadOn, IsReadTo, IsShorterThan, IsArgumentBetween, StandsRight};
+ghost use Rattle.bib_contents.specs.Arguments.{AreKnown, StandsRight};
 ghost use Rattle.bib_contents.specs.Commands.{command_text};
 ghost use Rattle.bib_contents.specs.ContentErrors.{ContentFails};
-ghost use Rattle.bib_contents.specs.Contents.{IsNext, Reads, is_name, StaysBetween, saturate};
+ghost use Rattle.bib_contents.specs.Contents.{Reads, is_name, StaysBetween};
 ghost use Rattle.bib_contents.specs.Effects.{IsFit, before_argument, effect_text};
+ghost use Rattle.bib_contents.specs.ParseResults.{IsArgumentError, IsErrorAt, IsParsedOn, IsSameExceptDepth, IsUnitTaken};
 ghost use Rattle.bib_contents.specs.Progress.{left};
-ghost use Rattle.bib_contents.specs.UnitViews.{unit_of};
-ghost use Rattle.bib_syntax.specs.Errors.{out_of_memory};
 
 use crate::characters::Characters;
 use crate::classes::is_ordinary;
@@ -92,20 +91,11 @@ impl<'s> Frame<'s> {
     ) -> Result<Next<'s>, ParseError>
         requires known { AreKnown ends.now self.old.s.text }
         requires right { StandsRight self.old }
-        ensures kept { OnOk result (KeepsFrame self.old self.new) }
-        ensures right { OnOk result (StandsRight self.new) }
-        ensures read { (whole base : List ℕ) →
-            IsReadTo self.old.is_flat whole base (left self.old.s) self.old.depth
-            (string_bytes text.old) →
-            IfOk result (IsReadOn whole base self.new (string_bytes text.new)) }
-        ensures shorter { IfOk result (IsShorterThan (length (left self.old.s)) self.old.s.text
-            self.old.s.at self.new.s) }
-        ensures refused { (whole base : List ℕ) →
-            IsReadTo self.old.is_flat whole base (left self.old.s) self.old.depth
-            (string_bytes text.old) →
-            IfErr result (λ e. (e ≡ out_of_memory) ⊎ ContentFails false 0 whole e.kind) }
-        ensures within { offset + length self.old.s.text < 2 ^ 64 →
-            IfErr result (StaysBetween (offset + self.old.s.at) (offset + length self.old.s.text)) }
+        ensures ok { IfOk result (IsParsedOn self.old (string_bytes text.old)
+            self.new (string_bytes text.new)) }
+        ensures err { IfErr result (IsErrorAt
+            (IsArgumentError self.old (left self.old.s) (string_bytes text.old))
+            offset self.old.s.at (length self.old.s.text)) }
     {
         let run = self.s.eat_while(|c| is_ordinary(false, c));
         text.push_str(run)?;
@@ -133,21 +123,9 @@ impl<'s> Frame<'s> {
         end: usize,
     ) -> Result<Next<'s>, ParseError>
         requires deep { self.old.depth < 2 ^ 63 }
-        ensures cursor { self.new.s ≡ self.old.s }
-        ensures kept { KeepsFrame self.old self.new }
-        ensures deep { self.new.depth ≤ self.old.depth + 1 }
-        ensures read { (whole base before : List ℕ) →
-            IsNext false (unit_of unit.entry) before (left self.old.s) →
-            IsReadTo self.old.is_flat whole base before self.old.depth (string_bytes text.old) →
-            IfOk result (IsReadOn whole base self.new (string_bytes text.new)) }
-        ensures shorter { (before : List ℕ) (low : ℕ) →
-            IsNext false (unit_of unit.entry) before (left self.old.s) →
-            IsArgumentBetween self.old.s.text low unit.entry self.old.s.at →
-            IfOk result (IsShorterThan (length before) self.old.s.text low self.new.s) }
-        ensures refused { (whole base before : List ℕ) →
-            IsNext false (unit_of unit.entry) before (left self.old.s) →
-            IsReadTo self.old.is_flat whole base before self.old.depth (string_bytes text.old) →
-            IfErr result (λ e. (e ≡ out_of_memory) ⊎ ContentFails false 0 whole e.kind) }
+        ensures frame { IsSameExceptDepth self.old self.new }
+        ensures taken { IsUnitTaken unit.entry self.old (string_bytes text.old)
+            self.new (string_bytes text.new) result }
         ensures within { start ≤ end → IfErr result (StaysBetween start end) }
     {
         match unit {
@@ -179,11 +157,8 @@ pub(crate) fn write_applied(
     requires place { inside.at ≤ length inside.text }
     ensures read { OnOk result ((inner : List Atom) × Reads false 0 (left inside.entry) inner ×
         Writes text.old text.new (command_text (chars name.now) (Some (formatted_atoms false inner)))) }
-    ensures refused { IfErr result (λ e. (e ≡ out_of_memory) ⊎
-        ContentFails false 0 (left inside.entry) e.kind) }
-    ensures within { offset + length inside.entry.text < 2 ^ 64 →
-        IfErr result (StaysBetween (offset + inside.entry.at)
-        (offset + length inside.entry.text)) }
+    ensures err { IfErr result (IsErrorAt (ContentFails false 0 (left inside.entry))
+        offset inside.entry.at (length inside.entry.text)) }
 {
     let ends = Ends::of(alloc, &inside)?;
     let mut frames = Vec::new(alloc);

@@ -1,14 +1,14 @@
 //! Parses the contents of a piece: cuts it into units and appends their text to chunks.
 
-ghost use Rattle.std.specs.Prelude.{◌≡◌, ◌++◌, ◌+◌, ◌<◌, ◌^◌, ◌⊎◌, ℕ, List, length, OnOk, IfErr, encode_utf8_all};
+ghost use Rattle.std.specs.Prelude.{◌≡◌, ◌++◌, ◌+◌, ◌<◌, ◌^◌, ◌⊎◌, ℕ, List, length, OnOk, IfErr};
 ghost use Rattle.std.specs.Str.{chars};
 ghost use Rattle.bib_chunks.specs.Styled.{Atom, styled};
-ghost use Rattle.bib_contents.specs.Arguments.{HasCommandName, IsArgumentBetween};
 ghost use Rattle.bib_contents.specs.ContentErrors.{ContentFails};
-ghost use Rattle.bib_contents.specs.Contents.{IsContent, IsUnread, unit_spelling, StaysBetween, saturate};
+ghost use Rattle.bib_contents.specs.Contents.{IsContent, IsUnread, StaysBetween, saturate};
+ghost use Rattle.bib_contents.specs.ParseResults.{IsErrorAt, IsUnitAppended, IsUnitAt};
 ghost use Rattle.bib_syntax.specs.Errors.{out_of_memory};
 ghost use Rattle.bib_chunks.specs.Joined.{AreJoined, ArePlaced};
-ghost use Rattle.bib_contents.specs.Progress.{StaysPlaced, IsUntaken, Took, so_far};
+ghost use Rattle.bib_contents.specs.Progress.{IsUntaken};
 ghost use Rattle.bib_contents.specs.UnitViews.{unit_of};
 
 use crate::arguments::write_applied;
@@ -34,19 +34,12 @@ fn take(
     span: Span,
 ) -> Result<(), ParseError>
     requires deep { growing.old.depth < 2 ^ 63 }
-    requires spelt { span.end ≡ span.start + length
-        (encode_utf8_all (unit_spelling (unit_of unit))) }
-    requires stands { (text : List ℕ) × IsArgumentBetween text span.start unit span.end }
-    requires named { HasCommandName unit }
-    ensures taken { OnOk result (Took (unit_of unit.entry) growing.old.depth
-        (so_far out.old growing.old) growing.new.depth (so_far out.new growing.new)) }
-    ensures refused { IfErr result (λ e. (e ≡ out_of_memory) ⊎
-        IsUntaken (unit_of unit.entry) growing.old.depth e.kind) }
-    ensures within { offset + span.end < 2 ^ 64 →
-        IfErr result (StaysBetween (offset + span.start) (offset + span.end)) }
-    ensures joined { OnOk result (AreJoined out.old → AreJoined out.new) }
-    ensures placed { OnOk result (StaysPlaced out.old growing.old
-        (saturate (offset + span.start)) out.new growing.new (saturate (offset + span.end))) }
+    requires place { IsUnitAt unit span.start span.end }
+    ensures ok { OnOk result (IsUnitAppended (unit_of unit.entry)
+        out.old growing.old (saturate (offset + span.start))
+        out.new growing.new (saturate (offset + span.end))) }
+    ensures err { IfErr result (IsErrorAt (IsUntaken (unit_of unit.entry) growing.old.depth)
+        offset span.start span.end) }
 {
     let end = offset.saturating_add(span.start);
     let following = offset.saturating_add(span.end);

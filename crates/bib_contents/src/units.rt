@@ -1,14 +1,14 @@
 //! Units of contents, into which a field's text is cut.
 
-ghost use Rattle.std.specs.Prelude.{◌≡◌, ℕ, ◌==◌, Bool, true, false, not, List, [], ◌∷◌, ◌++◌, replicate, IfNone, IfSome, MatchOption, MatchBool};
-ghost use Rattle.std.specs.List.{list_any};
+ghost use Rattle.std.specs.Prelude.{◌≡◌, ℕ, ◌==◌, true, false, not, List, ◌∷◌, ◌++◌, replicate, IfNone, MatchOption};
 ghost use Rattle.std.specs.Str.{chars};
-ghost use Rattle.bib_contents.specs.Arguments.{AreKnown, Encloses, IsFoundIn, IsArgumentBetween};
+ghost use Rattle.bib_contents.specs.Arguments.{AreKnown, Encloses};
 ghost use Rattle.bib_contents.specs.ContentErrors.{UnitFails};
 ghost use Rattle.bib_contents.specs.Contents as contents;
-ghost use Rattle.bib_contents.specs.Contents.{ContentUnit, IsNext, begins, balances, is_argument, argument_spelling};
+ghost use Rattle.bib_contents.specs.Contents.{ContentUnit, IsNext, begins, balances};
+ghost use Rattle.bib_contents.specs.ParseResults.{IsNameStart, IsParsedArgument, IsParsedUnit};
 ghost use Rattle.bib_contents.specs.Progress.{left, Passes};
-ghost use Rattle.bib_contents.specs.UnitViews.{found_of, unit_of};
+ghost use Rattle.bib_contents.specs.UnitViews.{unit_of};
 ghost use Rattle.bib_text.specs.Characters as char;
 
 use crate::characters::Characters;
@@ -132,17 +132,7 @@ fn eat_argument<'s>(
     ends: &Ends,
 ) -> Option<Found<'s>>
     requires known { AreKnown ends.now s.old.text }
-    ensures same { s.new.text ≡ s.old.text }
-    ensures found { MatchOption result
-        ((a : contents.Argument) (rest : List ℕ) → left s.old ≡ argument_spelling a ++ rest →
-        is_argument takes_next is_spaced a rest ≡ true → ⊥)
-        (λ a. (left s.old ≡ argument_spelling (found_of a) ++ left s.new) ×
-        (is_argument takes_next is_spaced (found_of a) (left s.new) ≡ true)) }
-    ensures unclosed { IfNone result ((is_spaced ≡ false) × ((inside : List ℕ) ×
-        (left s.old ≡ char.open_brace ∷ inside) × ((text rest : List ℕ) → inside ≡ text ++ char.close_brace ∷ rest →
-        balances 0 text ≡ true → ⊥))) }
-    ensures inside { IfSome result
-        (λ a. IsFoundIn s.old.text s.old.at a s.new.at) }
+    ensures { IsParsedArgument takes_next is_spaced s.old s.new result }
 {
     if s.peek() == Some('{') {
         if is_spaced {
@@ -165,9 +155,7 @@ fn eat_argument<'s>(
 
 // Consumes the name of a command. `first` is the next character.
 fn eat_name<'s>(s: &mut Characters<'s>, first: char) -> &'s str
-    requires stands { (rest : List ℕ) × (left s.old ≡ first ∷ rest) }
-    requires begins { (contents.is_escaped false first ≡ false) ×
-        (contents.is_blank first ≡ false) }
+    requires { IsNameStart first (left s.old) }
     ensures passed { Passes s.old (chars result.now) s.new }
     ensures name { contents.is_name (chars result.now) ≡ true }
     ensures whole { contents.is_whole_name (chars result.now) (left s.new) ≡ true }
@@ -200,17 +188,9 @@ fn takes_next(name: &str, is_spaced: bool) -> bool
 // Parses a command after its backslash. `first` is the next character and can begin a name. Returns `None` if the
 // closing brace of its argument is missing.
 fn command<'s>(s: &mut Characters<'s>, first: char, ends: &Ends) -> Option<Unit<'s>>
-    requires stands { (rest : List ℕ) × (left s.old ≡ first ∷ rest) }
-    requires begins { (contents.is_escaped false first ≡ false) ×
-        (contents.is_blank first ≡ false) }
+    requires start { IsNameStart first (left s.old) }
     requires known { AreKnown ends.now s.old.text }
-    ensures same { s.new.text ≡ s.old.text }
-    ensures found { MatchOption result
-        ((u : ContentUnit) (rest : List ℕ) → IsNext false u (char.backslash ∷ left s.old) rest → ⊥)
-        (λ u. IsNext false (unit_of u) (char.backslash ∷ left s.old) (left s.new)) }
-    ensures fails { IfNone result (UnitFails false (char.backslash ∷ left s.old)) }
-    ensures inside { IfSome result
-        (λ u. IsArgumentBetween s.old.text s.old.at u s.new.at) }
+    ensures { IsParsedUnit false (char.backslash ∷ left s.old) s.old s.new result }
 {
     let name = eat_name(s, first);
     let space = s.eat_while(is_space);
@@ -228,13 +208,7 @@ fn command<'s>(s: &mut Characters<'s>, first: char, ends: &Ends) -> Option<Unit<
 // Parses the unit that begins with a backslash, after the backslash.
 fn escape<'s>(s: &mut Characters<'s>, is_verbatim: bool, ends: &Ends) -> Option<Unit<'s>>
     requires known { AreKnown ends.now s.old.text }
-    ensures same { s.new.text ≡ s.old.text }
-    ensures found { MatchOption result
-        ((u : ContentUnit) (rest : List ℕ) → IsNext is_verbatim u (char.backslash ∷ left s.old) rest → ⊥)
-        (λ u. IsNext is_verbatim (unit_of u) (char.backslash ∷ left s.old) (left s.new)) }
-    ensures fails { IfNone result (UnitFails is_verbatim (char.backslash ∷ left s.old)) }
-    ensures inside { IfSome result
-        (λ u. IsArgumentBetween s.old.text s.old.at u s.new.at) }
+    ensures { IsParsedUnit is_verbatim (char.backslash ∷ left s.old) s.old s.new result }
 {
     let Some(c) = s.peek() else {
         if is_verbatim {
@@ -262,13 +236,7 @@ pub(crate) fn eat_unit<'s>(
     ends: &Ends,
 ) -> Option<Unit<'s>>
     requires known { AreKnown ends.now s.old.text }
-    ensures same { s.new.text ≡ s.old.text }
-    ensures found { MatchOption result
-        ((u : ContentUnit) (rest : List ℕ) → IsNext is_verbatim u (left s.old) rest → ⊥)
-        (λ u. IsNext is_verbatim (unit_of u) (left s.old) (left s.new)) }
-    ensures fails { IfNone result ((left s.old ≡ [] → ⊥) → UnitFails is_verbatim (left s.old)) }
-    ensures inside { IfSome result
-        (λ u. IsArgumentBetween s.old.text s.old.at u s.new.at) }
+    ensures { IsParsedUnit is_verbatim (left s.old) s.old s.new result }
 {
     let Some(c) = s.peek() else {
         return None;

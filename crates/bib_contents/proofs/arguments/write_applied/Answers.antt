@@ -30,12 +30,12 @@ units-preserved-in-Read c =
     let inv = c.units.invariant in
     let read =
     rw c.in-Read.is at
-    (c.in_ok-next.ensures.read inv.whole (inv.under ++ before_argument c.units.frame.effect inv.name) inv.read) in
-    reading_on inv c.in_ok-next.ensures.kept c.in_ok-next.ensures.right read
+    (c.in_ok-next.ensures.ok.read inv.whole (inv.under ++ before_argument c.units.frame.effect inv.name) inv.read) in
+    reading_on inv c.in_ok-next.ensures.ok.kept c.in_ok-next.ensures.ok.right read
 
 pub units-smaller-in-Read : goal.units-smaller-in-Read
 units-smaller-in-Read c =
-    let shorter = rw c.in-Read.is at c.in_ok-next.ensures.shorter in
+    let shorter = rw c.in-Read.is at c.in_ok-next.ensures.ok.shorter in
     omega (arith, shorter)
 
 pub units-preserved-in-Follows : goal.units-preserved-in-Follows
@@ -43,18 +43,18 @@ units-preserved-in-Follows c =
     let inv = c.units.invariant in
     let read =
     rw c.in-Follows.is at
-    (c.in_ok-next.ensures.read inv.whole (inv.under ++ before_argument c.units.frame.effect inv.name) inv.read) in
-    let shorter = rw c.in-Follows.is at c.in_ok-next.ensures.shorter in
+    (c.in_ok-next.ensures.ok.read inv.whole (inv.under ++ before_argument c.units.frame.effect inv.name) inv.read) in
+    let shorter = rw c.in-Follows.is at c.in_ok-next.ensures.ok.shorter in
     let opened = c.in_ok-above-in-Follows.ensures in
     let reversed = reversed_push c.push.new.self.items c.units.frames.items _ c.in_ok-push-in-Follows.ensures.items in
     rw reversed
-    (reading_follows inv c.in_ok-next.ensures.kept c.in_ok-next.ensures.right (IsUtf8-string_bytes c.next.new.text)
+    (reading_follows inv c.in_ok-next.ensures.ok.kept c.in_ok-next.ensures.ok.right (IsUtf8-string_bytes c.next.new.text)
     read.0 read.1 read.2 read.3 shorter.1 opened.frame.0 opened.frame.1
     (opened.frame.2 ∙ c.is_flat_here.ensures) opened.made opened.fit opened.wrote.0 opened.wrote.1)
 
 pub units-smaller-in-Follows : goal.units-smaller-in-Follows
 units-smaller-in-Follows c =
-    let shorter = rw c.in-Follows.is at c.in_ok-next.ensures.shorter in
+    let shorter = rw c.in-Follows.is at c.in_ok-next.ensures.ok.shorter in
     let opened = c.in_ok-above-in-Follows.ensures in
     let reversed = reversed_push c.push.new.self.items c.units.frames.items _ c.in_ok-push-in-Follows.ensures.items in
     let size = ap (λ s. length (left s)) opened.frame.0 in
@@ -65,9 +65,9 @@ end-requires c =
     let inv = c.units.invariant in
     let read =
     rw c.in-End.is at
-    (c.in_ok-next.ensures.read inv.whole (inv.under ++ before_argument c.units.frame.effect inv.name) inv.read) in
-    let kept = c.in_ok-next.ensures.kept in
-    let begun = begun_on inv.begun kept c.in_ok-next.ensures.right in
+    (c.in_ok-next.ensures.ok.read inv.whole (inv.under ++ before_argument c.units.frame.effect inv.name) inv.read) in
+    let kept = c.in_ok-next.ensures.ok.kept in
+    let begun = begun_on inv.begun kept c.in_ok-next.ensures.ok.right in
     let said = argument_written c.next.new.self.is_flat read.0.atoms in
     let now = read.0.wrote ∙ ap (λ e. encode_utf8_all ((inv.under ++ before_argument e inv.name) ++ said)) (sym kept.effect) in
     record { fit = begun.fit; begun = (inv.under ++ before_argument c.next.new.self.effect inv.name, said, begun.start, now) }
@@ -78,9 +78,9 @@ returns-in_default-clause-read c =
     let inv = rw none at c.units.invariant in
     let read =
     rw c.in-End.is at
-    (c.in_ok-next.ensures.read inv.whole (inv.under ++ before_argument c.units.frame.effect inv.name) inv.read) in
-    let kept = c.in_ok-next.ensures.kept in
-    let begun = begun_on inv.begun kept c.in_ok-next.ensures.right in
+    (c.in_ok-next.ensures.ok.read inv.whole (inv.under ++ before_argument c.units.frame.effect inv.name) inv.read) in
+    let kept = c.in_ok-next.ensures.ok.kept in
+    let begun = begun_on inv.begun kept c.in_ok-next.ensures.ok.right in
     let said = argument_written c.next.new.self.is_flat read.0.atoms in
     let now = read.0.wrote ∙ ap (λ e. encode_utf8_all ((inv.under ++ before_argument e inv.name) ++ said)) (sym kept.effect) in
     let done = reading_done inv kept read.0 (c.in_ok-end-in-End.ensures inv.under inv.name said begun.start now) in
@@ -92,9 +92,9 @@ units-preserved c =
     let inv = rw reversed at c.units.invariant in
     let read =
     rw c.in-End.is at
-    (c.in_ok-next.ensures.read inv.whole (inv.under ++ before_argument c.units.frame.effect inv.name) inv.read) in
-    let kept = c.in_ok-next.ensures.kept in
-    let begun = begun_on inv.begun kept c.in_ok-next.ensures.right in
+    (c.in_ok-next.ensures.ok.read inv.whole (inv.under ++ before_argument c.units.frame.effect inv.name) inv.read) in
+    let kept = c.in_ok-next.ensures.ok.kept in
+    let begun = begun_on inv.begun kept c.in_ok-next.ensures.ok.right in
     let said = argument_written c.next.new.self.is_flat read.0.atoms in
     let now = read.0.wrote ∙ ap (λ e. encode_utf8_all ((inv.under ++ before_argument e inv.name) ++ said)) (sym kept.effect) in
     reading_below inv kept read.0 (c.in_ok-end-in-End.ensures inv.under inv.name said begun.start now)
@@ -105,21 +105,19 @@ units-smaller c =
     let size = ap weight reversed in
     omega (arith, size)
 
-pub returns-in_err-next-clause-refused : goal.returns-in_err-next-clause-refused
-returns-in_err-next-clause-refused c =
-    let inv = c.units.invariant in
-    let p = err_from_is_err_and c.from_residual-in_err-next.result c.from_residual-in_err-next.ensures.1 in
-    rw (p.1, p.2) (elim (c.in_err-next.ensures.refused inv.whole (inv.under ++ before_argument c.units.frame.effect inv.name) inv.read) [
-      | inl memory ↦ inl memory
-      | inr fails ↦ inr (fails_up inv.waiting fails)
-    ])
-
-pub returns-in_err-next-clause-within : goal.returns-in_err-next-clause-within
-returns-in_err-next-clause-within c fits =
+pub returns-in_err-next-clause-err : goal.returns-in_err-next-clause-err
+returns-in_err-next-clause-err c =
     let inv = c.units.invariant in
     let p = err_from_is_err_and c.from_residual-in_err-next.result c.from_residual-in_err-next.ensures.1 in
     let following = inv.begun.following in
     let within = inv.begun.within in
-    rw (p.1, p.2)
-    (stays_wider (c.in_err-next.ensures.within (omega (arith, fits, within))) (omega (arith, following))
-    (omega (arith, within)))
+    rw (p.1, p.2) (record {
+      refused =
+          elim c.in_err-next.ensures.err.refused [
+            | inl memory ↦ inl memory
+            | inr fails ↦ inr (fails_up inv.waiting (fails inv.whole (inv.under ++ before_argument c.units.frame.effect inv.name) inv.read))
+          ];
+      within =
+          λ fits. stays_wider (c.in_err-next.ensures.err.within (omega (arith, fits, within))) (omega (arith, following))
+          (omega (arith, within));
+    })

@@ -64,9 +64,11 @@ take-requires c =
     run.within (rw (← c.cursor.ensures.place) c.cursor.ensures.boundary.0) in
     record {
       deep = omega (arith, run.deep, run.within, fits);
-      spelt = c.cursor.ensures.place ∙ next ∙ ap (λ n. n + length (encode_utf8_all (unit_spelling (unit_of c.in-Some.unit)))) (sym at);
-      stands = (c.write_plain.new.s.text, stands_at _ _ _ _ _ at c.cursor.ensures.place c.in-Some.unit c.in-Some.ensures.inside);
-      named = unit_named c.in-Some.unit c.in-Some.ensures.found;
+      place = record {
+        spelt = c.cursor.ensures.place ∙ next ∙ ap (λ n. n + length (encode_utf8_all (unit_spelling (unit_of c.in-Some.unit)))) (sym at);
+        inside = (c.write_plain.new.s.text, stands_at _ _ _ _ _ at c.cursor.ensures.place c.in-Some.unit c.in-Some.ensures.inside);
+        named = unit_named c.in-Some.unit c.in-Some.ensures.found;
+      };
     }
 
 pub units-smaller : goal.units-smaller
@@ -86,8 +88,8 @@ units-preserved c =
     unit_place c.in-Some.ensures.found c.in-Some.ensures.same c.cursor-start.ensures.utf8 c.cursor.ensures.utf8
     run.within within in
     reading_unit grown c.take.new.growing run c.in-Some.ensures.found c.in-Some.ensures.same next within
-    c.in_ok-take.ensures.taken c.in_ok-take.ensures.joined
-    (rw (c.cursor-start.ensures.place, c.cursor.ensures.place) at c.in_ok-take.ensures.placed)
+    c.in_ok-take.ensures.ok.taken c.in_ok-take.ensures.ok.joined
+    (rw (c.cursor-start.ensures.place, c.cursor.ensures.place) at c.in_ok-take.ensures.ok.placed)
 
 pub returns-in_err-take-clause-refused : goal.returns-in_err-take-clause-refused
 returns-in_err-take-clause-refused c =
@@ -96,7 +98,7 @@ returns-in_err-take-clause-refused c =
     let run : Reading c.args.is_verbatim c.args.text.now c.args.offset c.args.out.now c.write_plain.new.s grown c.units.out =
     reading_plain was grown c.units.invariant c.in_ok-write_plain.ensures refl refl in
     let p = err_from_is_err_and c.from_residual-in_err-take.result c.from_residual-in_err-take.ensures.1 in
-    rw (p.1, p.2) (elim c.in_err-take.ensures.refused [
+    rw (p.1, p.2) (elim c.in_err-take.ensures.err.refused [
       | inl memory ↦ inl memory
       | inr untaken ↦ let fails = fails_taken run.read c.in-Some.ensures.found untaken in inr (fails_kind fails, fails_stuck fails)
     ])
@@ -108,7 +110,7 @@ returns-in_err-take-clause-fails c =
     let run : Reading c.args.is_verbatim c.args.text.now c.args.offset c.args.out.now c.write_plain.new.s grown c.units.out =
     reading_plain was grown c.units.invariant c.in_ok-write_plain.ensures refl refl in
     let p = err_from_is_err_and c.from_residual-in_err-take.result c.from_residual-in_err-take.ensures.1 in
-    rw (p.1, p.2) (elim c.in_err-take.ensures.refused [
+    rw (p.1, p.2) (elim c.in_err-take.ensures.err.refused [
       | inl memory ↦ inl memory
       | inr untaken ↦ inr (fails_taken run.read c.in-Some.ensures.found untaken)
     ])
