@@ -1,6 +1,6 @@
 -- Each text has a raw reading or an error, and has a recovery.
 use Rattle.std.proofs.Common.{◌≡◌, ◌⊎◌, ℕ, zero, suc, ◌<◌, arith, Bool, true, false, List, [], inl, inr, refl}
-use Rattle.std.specs.Prelude.{not, ◌||◌, ◌==◌, take}
+use Rattle.std.specs.Prelude.{not, ◌==◌, take}
 use Rattle.std.specs.Char.{is_whitespace}
 use Rattle.std.proofs.lemmas.Bool.{cases_Bool}
 use Rattle.bib_text.specs.Places.{Place, CharAt, AtEnd}

@@ -10,6 +10,7 @@ ghost use Rattle.bib_syntax.specs.Views.{file_of};
 ghost use Rattle.bib_syntax.specs.declared.raw.ParseErrorKind.TheVariants.{OutOfMemory};
 
 mod closings;
+mod failing;
 mod failures;
 mod fields;
 mod file;

@@ -1,12 +1,11 @@
 //! Parses fields: names with values, separated by commas.
 
-ghost use Rattle.std.specs.Prelude.{◌≡◌, ◌≢◌, ℕ, true, List, map, IfOk, IfErr, OnOk, OnErr};
+ghost use Rattle.std.specs.Prelude.{◌≡◌, ℕ, true, List, map, IfOk, IfErr, OnOk, OnErr};
 ghost use Rattle.std.specs.Char.{is_whitespace};
 ghost use Rattle.bib_text.specs.Characters as char;
 ghost use Rattle.bib_text.specs.Places.{Place, CharAt, Stops, Longest};
 ghost use Rattle.bib_syntax.specs.Characters.{is_id_start};
-ghost use Rattle.bib_syntax.specs.Errors.{IsSyntaxError, Refuses, out_of_memory};
-ghost use Rattle.bib_syntax.specs.Failures.{AllFail};
+ghost use Rattle.bib_syntax.specs.Errors.{IsSyntaxError, Refuses};
 ghost use Rattle.bib_syntax.specs.Grammar.{Elements, Field, Fields, Gap, LineComment, longest};
 ghost use Rattle.bib_syntax.specs.Reading.{Piece, FieldReading};
 ghost use Rattle.bib_syntax.specs.SyntaxErrors.{ElementsFails, FieldFails, FieldsFails, Reports};
@@ -57,7 +56,7 @@ fn elements<'s>(s: &mut Reader<'s, '_>, alloc: Global) -> Result<Field<'s>, Pars
 }
 
 // Parses a field: a name, an equals sign and a value.
-fn field<'s>(s: &mut Reader<'s, '_>, alloc: Global) -> Result<Pair<'s>, ParseError>
+pub(crate) fn field<'s>(s: &mut Reader<'s, '_>, alloc: Global) -> Result<Pair<'s>, ParseError>
     requires { (c : ℕ) × (v : Place) × CharAt s.old c v × (is_id_start c ≡ true) }
     ensures found { IfOk result (λ pair. Field longest s.old (field_of pair) s.new) }
     ensures fails { IfErr result (λ e. Refuses s.old.text e (Reports (FieldFails s.old) e)) }
@@ -72,7 +71,7 @@ fn field<'s>(s: &mut Reader<'s, '_>, alloc: Global) -> Result<Pair<'s>, ParseErr
 }
 
 // Moves past white space to the closing brace after fields. No name may begin here.
-fn closing_brace(s: &mut Reader<'_, '_>) -> Result<(), ParseError>
+pub(crate) fn closing_brace(s: &mut Reader<'_, '_>) -> Result<(), ParseError>
     requires { Stops is_id_start s.old }
     ensures found { OnOk result (Longest is_whitespace s.old s.new ×
         ((v : Place) × CharAt s.new char.close_brace v)) }
@@ -89,25 +88,17 @@ fn closing_brace(s: &mut Reader<'_, '_>) -> Result<(), ParseError>
     Err(error(s, ParseErrorKind::Expected(Token::Identifier)))
 }
 
-// Parses fields up to the closing brace of their block, without moving past that brace. Appends the offset of each field to
-// `starts` before parsing it.
-pub(crate) fn fields<'s>(
-    s: &mut Reader<'s, '_>,
-    alloc: Global,
-    starts: &mut Vec<usize>,
-) -> Result<Vec<Pair<'s>>, ParseError>
+// Parses fields up to the closing brace of their block, without moving past that brace.
+pub(crate) fn fields<'s>(s: &mut Reader<'s, '_>, alloc: Global) -> Result<Vec<Pair<'s>>, ParseError>
     ensures found { IfOk result (λ pairs. Fields longest s.old (map field_of pairs.items) s.new) }
     ensures closed { OnOk result ((v : Place) × CharAt s.new char.close_brace v) }
     ensures fails { IfErr result (λ e. Refuses s.old.text e (Reports (FieldsFails s.old) e)) }
-    ensures from_each { IfErr result (λ e. e ≢ out_of_memory →
-        AllFail s.old.text e starts.old.items → AllFail s.old.text e starts.new.items) }
 {
     let mut pairs = Vec::new(alloc);
     'fields: while begins_identifier(s) {
         if let Some(error) = s.known_error()? {
             return Err(error);
         }
-        starts.push(s.cursor())?;
         let pair = field(s, alloc)?;
         pairs.push(pair)?;
         gap(s);

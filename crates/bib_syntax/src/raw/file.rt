@@ -1,6 +1,6 @@
 //! Parses blocks, and files of blocks.
 
-ghost use Rattle.std.specs.Prelude.{◌≡◌, ◌≢◌, ℕ, List, [], ◌∷◌, ◌==◌, ◌&&◌, ◌||◌, not, true, IfOk, IfErr, OnOk, OnErr};
+ghost use Rattle.std.specs.Prelude.{◌≡◌, ℕ, List, [], ◌∷◌, ◌==◌, ◌&&◌, ◌||◌, not, true, IfOk, IfErr, OnOk, OnErr};
 ghost use Rattle.bib_text.specs.Characters as char;
 ghost use Rattle.bib_text.specs.Places.{Place, CharAt, place};
 ghost use Rattle.bib_syntax.specs.Blocks.{item_of, block_kind_of};
@@ -8,8 +8,7 @@ ghost use Rattle.bib_syntax.specs.Grammar as grammar;
 ghost use Rattle.bib_syntax.specs.Grammar.{BlockKind as ABlock};
 ghost use Rattle.bib_syntax.specs.Grammar.{Head, Body, Block, LineComment, File, Quoted, longest};
 ghost use Rattle.bib_syntax.specs.Reading.{Part, FileReading, empty_reading, then};
-ghost use Rattle.bib_syntax.specs.Errors.{IsSyntaxError, Refuses, out_of_memory};
-ghost use Rattle.bib_syntax.specs.Failures.{AllFail};
+ghost use Rattle.bib_syntax.specs.Errors.{IsSyntaxError, Refuses};
 ghost use Rattle.bib_syntax.specs.SyntaxErrors.{HeadFails, BodyFails, BlockFails, FileFails, Reports};
 ghost use Rattle.bib_syntax.specs.Views.{part_of, file_of};
 
@@ -21,7 +20,7 @@ use bib_text::spanned::Spanned;
 use std::alloc::{AllocError, Global};
 
 // What a block is, by its name.
-enum BlockKind {
+pub(crate) enum BlockKind {
     Comment,
     Preamble,
     Strings,
@@ -35,7 +34,7 @@ pub fn is_word(name: &str, word: &str) -> bool
     name.eq_ignore_ascii_case(word)
 }
 
-fn block_kind(name: &str) -> BlockKind
+pub(crate) fn block_kind(name: &str) -> BlockKind
     ensures { block_kind_of result ≡ grammar.block_kind name.now }
 {
     if is_word(name, "comment") {
@@ -59,7 +58,7 @@ pub(crate) enum Item<'s> {
 }
 
 // Parses the head of a block: its at sign, its name, a brace or a quote, and white space.
-fn head<'s>(s: &mut Reader<'s, '_>) -> Result<Spanned<&'s str>, ParseError>
+pub(crate) fn head<'s>(s: &mut Reader<'s, '_>) -> Result<Spanned<&'s str>, ParseError>
     requires { (v : Place) × CharAt s.old char.at v }
     ensures found { IfOk result (λ kind. Head longest s.old (part_of kind) s.new) }
     ensures fails { IfErr result (Reports (HeadFails s.old)) }
@@ -100,63 +99,46 @@ fn preamble<'s>(s: &mut Reader<'s, '_>) -> Result<&'s str, ParseError>
     Ok(text)
 }
 
-// Parses definitions of abbreviations, and the closing brace. Appends their offsets to `starts`.
-fn strings<'s>(
-    s: &mut Reader<'s, '_>,
-    alloc: Global,
-    starts: &mut Vec<usize>,
-) -> Result<Vec<Pair<'s>>, ParseError>
+// Parses definitions of abbreviations, and the closing brace.
+fn strings<'s>(s: &mut Reader<'s, '_>, alloc: Global) -> Result<Vec<Pair<'s>>, ParseError>
     ensures found { IfOk result (λ pairs. (u : Place) (p : Part) →
         Body longest u p ABlock.strings s.old (item_of (Item.Strings pairs)) s.new) }
     ensures fails { IfErr result (λ e. Refuses s.old.text e
         (Reports (BodyFails ABlock.strings s.old) e)) }
-    ensures from_each { IfErr result (λ e. e ≢ out_of_memory →
-        AllFail s.old.text e starts.old.items → AllFail s.old.text e starts.new.items) }
 {
-    let pairs = fields(s, alloc, starts)?;
+    let pairs = fields(s, alloc)?;
     s.eat_if('}');
     Ok(pairs)
 }
 
 // Parses the key of an entry, the comma after it, its fields and the closing brace. `start` is the offset of the entry.
-// Appends the offsets of its fields to `starts`.
 fn entry<'s>(
     s: &mut Reader<'s, '_>,
     alloc: Global,
     kind: Spanned<&'s str>,
     start: usize,
-    starts: &mut Vec<usize>,
 ) -> Result<Spanned<RawEntry<'s>>, ParseError>
     ensures found { IfOk result (λ e. (u : Place) → u.at ≡ start →
         Body longest u (part_of kind.entry) ABlock.entry s.old (item_of (Item.Entry e)) s.new) }
     ensures fails { IfErr result (λ e. Refuses s.old.text e
         (Reports (BodyFails ABlock.entry s.old) e)) }
-    ensures from_each { IfErr result (λ e. e ≢ out_of_memory →
-        AllFail s.old.text e starts.old.items → AllFail s.old.text e starts.new.items) }
 {
     let key = key(s);
     s.eat_whitespace();
     expect(s, ',', Token::Comma)?;
     gap(s);
-    let fields = fields(s, alloc, starts)?;
+    let fields = fields(s, alloc)?;
     let span = start..s.cursor();
     s.eat_if('}');
     Ok(Spanned::new(RawEntry { key, kind, fields }, span))
 }
 
-// Parses a block: a comment, a preamble, definitions of abbreviations or an entry. Replaces `starts` by the offsets at which
-// its fields begin.
-pub(crate) fn block<'s>(
-    s: &mut Reader<'s, '_>,
-    alloc: Global,
-    starts: &mut Vec<usize>,
-) -> Result<Item<'s>, ParseError>
+// Parses a block: a comment, a preamble, definitions of abbreviations or an entry.
+pub(crate) fn block<'s>(s: &mut Reader<'s, '_>, alloc: Global) -> Result<Item<'s>, ParseError>
     requires { (v : Place) × CharAt s.old char.at v }
     ensures found { IfOk result (λ item. Block longest s.old (item_of item) s.new) }
     ensures fails { IfErr result (λ e. Refuses s.old.text e (Reports (BlockFails s.old) e)) }
-    ensures from_each { IfErr result (λ e. e ≢ out_of_memory → AllFail s.old.text e starts.new.items) }
 {
-    starts.clear();
     let start = s.cursor();
     let kind = head(s)?;
     match block_kind(kind.v) {
@@ -165,8 +147,8 @@ pub(crate) fn block<'s>(
             Ok(Item::Nothing)
         }
         BlockKind::Preamble => Ok(Item::Preamble(preamble(s)?)),
-        BlockKind::Strings => Ok(Item::Strings(strings(s, alloc, starts)?)),
-        BlockKind::Entry => Ok(Item::Entry(entry(s, alloc, kind, start, starts)?)),
+        BlockKind::Strings => Ok(Item::Strings(strings(s, alloc)?)),
+        BlockKind::Entry => Ok(Item::Entry(entry(s, alloc, kind, start)?)),
     }
 }
 
@@ -201,10 +183,9 @@ pub(crate) fn blocks<'s>(
         entries: Vec::new(alloc),
         abbreviations: Vec::new(alloc),
     };
-    let mut starts = Vec::new(alloc);
     'file: while let Some(c) = s.peek() {
         if c == '@' {
-            let item = block(s, alloc, &mut starts)?;
+            let item = block(s, alloc)?;
             add(&mut raw, item)?;
         } else if c == '%' {
             line_comment(s);

@@ -14,6 +14,7 @@ ghost use Rattle.bib_syntax.specs.Stretches.{IsMemoOf};
 ghost use Rattle.bib_syntax.specs.SyntaxErrors.{BlockFails, Reports};
 ghost use Rattle.bib_syntax.specs.Views.{file_of};
 
+use crate::raw::failing::failing_fields;
 use crate::raw::fields::line_comment;
 use crate::raw::file::{Item, add, block};
 use crate::raw::memo::Memo;
@@ -88,34 +89,50 @@ fn read_block<'s>(
     s: &mut Reader<'s, '_>,
     alloc: Global,
     memo: Option<&Memo>,
-    starts: &mut Vec<usize>,
 ) -> Result<Item<'s>, ParseError>
     requires sign { (v : Place) × CharAt s.old char.at v }
     requires memo { IfSome memo (λ memo. IsMemoOf s.old.text memo.now) }
     ensures found { IfOk result (λ item. Block longest s.old (item_of item) s.new) }
     ensures fails { IfErr result (λ e. Refuses s.old.text e (Reports (BlockFails s.old) e)) }
-    ensures from_each { IfErr result (λ e. e ≢ out_of_memory → AllFail s.old.text e starts.new.items) }
     ensures stays { OnErr result (s.new ≡ s.old) }
 {
     let mut reader = s.with_memo(memo);
-    let item = block(&mut reader, alloc, starts)?;
+    let item = block(&mut reader, alloc)?;
     s.jump(reader.cursor());
     Ok(item)
 }
 
-// If there is a memo, adds to it that parsing fields from each of `starts` fails with `error`.
-fn remember_failures(
-    memo: &mut Option<Memo>,
-    starts: &[usize],
-    error: &ParseError,
-) -> Result<(), AllocError>
-    ensures { OnOk result ((text : List ℕ) → AllFail text error.now starts.now →
+// If there is a memo, adds to it that parsing fields from each of `starts` fails with `error`, unless that is out of memory.
+fn remember(memo: &mut Option<Memo>, starts: &[usize], error: &ParseError) -> Result<(), AllocError>
+    ensures { OnOk result ((text : List ℕ) → (error.now ≢ out_of_memory → AllFail text error.now starts.now) →
         IfSome memo.old (IsMemoOf text) → IfSome memo.new (IsMemoOf text)) }
 {
+    error.unless_out_of_memory()?;
     match memo {
         Some(memo) => memo.failures.remember(starts, error),
         None => Ok(()),
     }
+}
+
+// If there is a memo, adds to it the offsets in the block at this at sign from which parsing fields fails.
+fn remember_failures(
+    s: &Reader<'_, '_>,
+    alloc: Global,
+    memo: &mut Option<Memo>,
+) -> Result<(), AllocError>
+    requires sign { (v : Place) × CharAt s.now char.at v }
+    requires memo { IfSome memo.old (IsMemoOf s.now.text) }
+    ensures { OnOk result (IfSome memo.new (IsMemoOf s.now.text)) }
+{
+    if memo.is_none() {
+        return Ok(());
+    }
+    let mut starts = Vec::new(alloc);
+    let mut reader = s.with_memo(memo.as_ref());
+    if let Err(error) = failing_fields(&mut reader, alloc, &mut starts) {
+        return remember(memo, &starts, &error);
+    }
+    Ok(())
 }
 
 impl<'s> RawRecovery<'s> {
@@ -142,7 +159,6 @@ impl<'s> RawRecovery<'s> {
         s: &mut Reader<'s, '_>,
         alloc: Global,
         memo: &mut Option<Memo>,
-        starts: &mut Vec<usize>,
     ) -> Result<(), AllocError>
         requires sign { (v : Place) × CharAt s.old char.at v }
         requires memo { IfSome memo.old (IsMemoOf s.old.text) }
@@ -153,11 +169,11 @@ impl<'s> RawRecovery<'s> {
         ensures smaller { OnOk result (length s.new.text - s.new.at < length s.old.text - s.old.at) }
         ensures memo { OnOk result (IfSome memo.new (IsMemoOf s.old.text)) }
     {
-        match read_block(s, alloc, memo.as_ref(), starts) {
+        match read_block(s, alloc, memo.as_ref()) {
             Ok(item) => add(&mut self.raw, item),
             Err(error) => {
                 error.unless_out_of_memory()?;
-                remember_failures(memo, starts, &error)?;
+                remember_failures(s, alloc, memo)?;
                 self.skip(s, error)
             }
         }
@@ -180,13 +196,12 @@ impl<'s> RawRecovery<'s> {
         ensures end { OnOk result (AtEnd s.new) }
     {
         let mut memo = None;
-        let mut starts = Vec::new(alloc);
         'file: while let Some(c) = s.peek() {
             if c == '@' {
                 if memo.is_none() && !self.skipped.is_empty() {
                     memo = Some(Memo::new(alloc, text)?);
                 }
-                self.add_block(s, alloc, &mut memo, &mut starts)?;
+                self.add_block(s, alloc, &mut memo)?;
             } else if c == '%' {
                 line_comment(s);
             } else {

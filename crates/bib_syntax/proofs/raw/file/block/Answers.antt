@@ -1,6 +1,5 @@
 use Rattle.std.proofs.Common.{inr}
 use Rattle.std.proofs.lemmas.Result.{err_from_is_err_and}
-use Rattle.bib_syntax.proofs.FailingFacts.{each_of_none}
 use Rattle.bib_syntax.proofs.FieldFacts.{refuses_from}
 use Rattle.bib_syntax.proofs.FileFacts.{ahead_head, body_fails}
 use Rattle.bib_syntax.specs.SyntaxErrors.{BlockFails as fails}
@@ -50,15 +49,3 @@ returns-in_err-entry-in-Entry-clause-fails c =
     rw (p.1, p.2)
     (refuses_from _ _ (ahead_head head) (reports_as (λ kind v f. body_fails _ head c.in-Entry.ensures f))
     c.in_err-entry-in-Entry.ensures.fails)
-
-pub returns-in_err-strings-in-Strings-clause-from_each : goal.returns-in_err-strings-in-Strings-clause-from_each
-returns-in_err-strings-in-Strings-clause-from_each c =
-    let p = err_from_is_err_and c.from_residual-in_err-strings-in-Strings.result c.from_residual-in_err-strings-in-Strings.ensures.1 in
-    rw (p.1, p.2)
-    (each_of_none _ _ c.clear.ensures.items (ahead_head c.in_ok-kind.ensures.found)
-    c.in_err-strings-in-Strings.ensures.from_each)
-
-pub returns-in_err-entry-in-Entry-clause-from_each : goal.returns-in_err-entry-in-Entry-clause-from_each
-returns-in_err-entry-in-Entry-clause-from_each c =
-    let p = err_from_is_err_and c.from_residual-in_err-entry-in-Entry.result c.from_residual-in_err-entry-in-Entry.ensures.1 in
-    rw (p.1, p.2) (each_of_none _ _ c.clear.ensures.items (ahead_head c.in_ok-kind.ensures.found) c.in_err-entry-in-Entry.ensures.from_each)

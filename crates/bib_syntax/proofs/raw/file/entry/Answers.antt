@@ -1,7 +1,6 @@
 use Rattle.std.proofs.Common.{inr}
 use Rattle.std.proofs.lemmas.Result.{err_from_is_err_and}
 use Rattle.bib_text.proofs.PlaceFacts.{ahead_run, ahead_then, ahead_char, stops_without}
-use Rattle.bib_syntax.proofs.FailingFacts.{each_back}
 use Rattle.bib_syntax.proofs.FieldFacts.{ahead_gap, refuses_from}
 use Rattle.bib_syntax.proofs.FileFacts.{entry_found}
 use Rattle.bib_syntax.specs.SyntaxErrors.{BodyFails as fails}
@@ -33,15 +32,6 @@ returns-in_err-fields-clause-fails c =
     rw (p.1, p.2)
     (refuses_from _ _ passed (reports_as (λ kind v f. fails.fields key white comma c.gap.ensures f))
     c.in_err-fields.ensures.fails)
-
-pub returns-in_err-fields-clause-from_each : goal.returns-in_err-fields-clause-from_each
-returns-in_err-fields-clause-from_each c =
-    let p = err_from_is_err_and c.from_residual-in_err-fields.result c.from_residual-in_err-fields.ensures.1 in
-    let passed =
-    ahead_then (ahead_run c.key-key.ensures.longest.run)
-    (ahead_then (ahead_run c.eat_whitespace.ensures.longest.run)
-    (ahead_then (ahead_char c.in_ok-expect.ensures.found) (ahead_gap c.gap.ensures))) in
-    rw (p.1, p.2) (each_back _ _ passed c.in_err-fields.ensures.from_each)
 
 pub returns-clause-found : goal.returns-clause-found
 returns-clause-found c u starts =

@@ -1,7 +1,7 @@
-use Rattle.std.proofs.Common.{rules, ◌≡◌, ◌≢◌, ◌-◌, ◌<◌, length, ◌∙◌, ap, sym, subst}
-use Rattle.bib_syntax.specs.Errors.{out_of_memory}
+use Rattle.std.proofs.Common.{◌-◌, ◌<◌, IfSome, length, ◌∙◌, ap, sym, subst}
 use Rattle.bib_syntax.specs.Recovering.{RecoveredTo}
 use Rattle.bib_syntax.specs.Recovery.{IsUnreadBlock}
+use Rattle.bib_syntax.specs.Stretches.{IsMemoOf}
 use Rattle.bib_syntax.specs.Views.{file_of}
 use Rattle.bib_syntax.proofs.FileFacts.{ahead_block, block_smaller}
 use Rattle.bib_syntax.proofs.RecoveryFacts.{ahead_passed, on_ok, all_ok, unread_from, block_found, unread_found, unread_smaller}
@@ -40,9 +40,7 @@ returns-in_ok-remember_failures-in-Err-clause-smaller c =
 
 pub returns-in_ok-remember_failures-in-Err-clause-memo : goal.returns-in_ok-remember_failures-in-Err-clause-memo
 returns-in_ok-remember_failures-in-Err-clause-memo c =
-    let some : c.in-Err.error ≢ out_of_memory = (λ memory. c.in_ok-unless_out_of_memory-in-Err.ensures.ok (ap (λ e. e.kind) memory)) in
-    let seen : c.deref.result.now ≡ c.read_block.new.starts.items = search rules in
     on_ok c.skip.result c.skip.ensures.passed
     (λ on.
-    c.in_ok-remember_failures-in-Err.ensures c.args.s.now.text (rw seen (c.in-Err.ensures.from_each some))
-    c.requires.memo)
+    subst (λ u. IfSome c.remember_failures.new.memo (IsMemoOf u.text)) c.in-Err.ensures.stays
+    c.in_ok-remember_failures-in-Err.ensures)
