@@ -53,7 +53,7 @@ pub error_answered : {E : Type 0} {bytes : List ℕ} (e : ParseError) (r : Resul
 error_answered e (Ok answer) listed utf8 refused reported = rw listed.2 (error_reported utf8 refused reported listed.0 listed.1)
 error_answered e (Err x) listed utf8 refused reported = tt
 
--- a text with an error other than out of memory is not accepted
+-- the line for an error of parsing other than out of memory satisfies `ShowsNoBibliography`
 pub no_bibliography : {bytes text : List ℕ} {e : ParseError}
     → (e ≡ out_of_memory) ⊎ (IsErrorOf bytes e × (IsAcceptedText bytes → ⊥)) → (e.kind ≡ OutOfMemory → ⊥)
     → ShowsError e text

@@ -210,7 +210,7 @@ braced_opens read passed plain brace = braced_open (braced_run read passed plain
 pub is_closing : (c : ℕ) → is_no_brace c ≡ false → (c ≡ 123 → ⊥) → c ≡ 125
 is_closing c brace differs = grind arith
 
--- the closing brace of an inner pair, after a run without braces, leaves one open brace less
+-- a closing brace after a run without braces lowers the number of open braces by one, if one is open
 pub braced_closes : {u s t w : Place} {depth : ℕ} {run : List ℕ} {c : ℕ} → BracedRead u depth s → Passes s run t
     → list_all is_no_brace run ≡ true → begins is_no_brace (left t) ≡ false → Passes t (c ∷ []) w → (c ≡ 123 → ⊥)
     → nat_lt 0 depth ≡ true

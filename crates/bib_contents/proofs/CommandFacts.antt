@@ -1,4 +1,4 @@
--- Facts about the text of commands: the table of the program is that of the definition, and a mark is put on a letter.
+-- Facts about the text of commands: the code and the definition have equal tables of symbols, and put marks on letters alike.
 use Rattle.std.proofs.Common.{append_assoc, ◌≡◌, ℕ, ◌<◌, Bool, true, false, cond, eqb, List, [], ◌∷◌, ◌++◌, length, map, Option, None, Some, refl, sym, ap, ◌∙◌, arith, bytes_eq, encode_utf8_all}
 use Rattle.std.specs.Prelude.{codes}
 use Rattle.std.specs.Char.{encode_utf8}

@@ -40,7 +40,7 @@ passes_none u = record { same = refl; here = refl; next = omega arith; left = re
 pub stands : (u : Place) (c : ℕ) (rest : List ℕ) → IsUtf8 (ahead u) → left u ≡ c ∷ rest → (v : Place) × CharAt u c v
 stands u c rest utf8 is = (_, char_here u.text (encode_utf8_all rest) u.at c (sym (encodes-chars (ahead u) utf8) ∙ ap encode_utf8_all is))
 
--- the characters left are the one at the cursor and those after it
+-- the remaining characters are the one at the place and those after it
 pub stands_left : {u v : Place} {c : ℕ} → CharAt u c v → IsUtf8 (ahead u) → left u ≡ c ∷ left v
 stands_left char utf8 = (passed_char char utf8).spelt
 

@@ -12,7 +12,7 @@ abbrev pub prefix : (ℕ → Bool) → List ℕ → List ℕ
 prefix test [] = []
 prefix test (c ∷ cs) = if test c then c ∷ prefix test cs else []
 
--- the characters from the first one on that fails the test
+-- the first character that fails the test, and all characters after it
 abbrev pub following : (ℕ → Bool) → List ℕ → List ℕ
 following test [] = []
 following test (c ∷ cs) = if test c then following test cs else c ∷ cs

@@ -60,7 +60,7 @@ letter c = if c == 0x131 then 0x69 else if c == 0x237 then 0x6A else c
 abbrev pub bare : ℕ → List ℕ
 bare mark = if mark == 0x302 then codes "^" else if mark == 0x303 then codes "~" else mark ∷ []
 
--- a text with a mark on its last character, composed with it; for an empty text the mark without a letter
+-- a text whose last character is composed with the mark (NFC); for an empty text, the mark without a letter
 abbrev pub with_mark : ℕ → List ℕ → List ℕ
 with_mark mark [] = bare mark
 with_mark mark (c ∷ []) = nfc (letter c ∷ mark ∷ [])

@@ -237,14 +237,14 @@ IsContent is_verbatim text atoms = Reads is_verbatim 0 text atoms
 abbrev pub IsUnread : ParseErrorKind → Type 0
 IsUnread kind = (kind ≡ UnexpectedEof) ⊎ (kind ≡ Unexpected ClosingBrace)
 
--- the span of an error lies between two positions
+-- the span of an error lies between two byte offsets
 abbrev pub LiesBetween : ℕ → ℕ → ParseError → Type 0
 LiesBetween low high e = (low ≤ e.span.start) × (e.span.start ≤ e.span.end) × (e.span.end ≤ high)
 
--- out of memory, or an error whose span lies between two positions
+-- out of memory, or an error whose span lies between two byte offsets
 abbrev pub StaysBetween : ℕ → ℕ → ParseError → Type 0
 StaysBetween low high e = (e ≡ out_of_memory) ⊎ LiesBetween low high e
 
--- a position, at most the greatest 64-bit number
+-- a byte offset, at most the greatest 64-bit number
 abbrev pub saturate : ℕ → ℕ
 saturate n = min n (2 ^ 64 - 1)

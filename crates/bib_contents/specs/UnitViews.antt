@@ -23,7 +23,7 @@ abbrev pub found_of : Found → contents.Argument
 found_of (Plain argument) = argument_of argument
 found_of (InBraces inside) = contents.Argument.braced (left inside)
 
--- a unit that is written as characters
+-- the `ContentUnit` of a unit of the code that is written as characters
 abbrev pub text_unit_of : TextUnit → contents.ContentUnit
 text_unit_of (Hyphens n) = contents.ContentUnit.hyphens n
 text_unit_of (Spaces text) = contents.ContentUnit.spaces (chars text.now)

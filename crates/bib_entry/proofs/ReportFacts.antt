@@ -112,7 +112,7 @@ adds_number = adds_field number.ghosts number_error (λ _ _ same. same)
 none_is_some : {A : Type 0} {a : A} → None ≡ Some a → ⊥
 none_is_some h = search rules
 
--- the error of a date with this result of parsing is appended
+-- if the error of parsing a date, if any, is appended, then so is the error of its verdict
 pub adds_date : (reading : Reading Date) (place : Range ℕ) (read : Result Date TypeError) (name : List ℕ)
     (old new : FieldErrors) → AnswersReading reading read → LiesAt place read → AppendsError read name old new
     → AppendsErrors ((name, date_verdict reading place) ∷ []) old new
@@ -147,7 +147,7 @@ adds_dates v₁ v₂ v₃ v₄ old t₁ t₂ t₃ new a₁ a₂ a₃ a₄ =
     adds_then (v₁ ∷ []) (v₂ ∷ v₃ ∷ v₄ ∷ []) old t₁ new a₁
     (adds_then (v₂ ∷ []) (v₃ ∷ v₄ ∷ []) t₁ t₂ new a₂ (adds_then (v₃ ∷ []) (v₄ ∷ []) t₂ t₃ new a₃ a₄))
 
--- all errors of an entry are appended
+-- if the errors of the fields and then those of the dates are appended to an empty list, it has all errors of the entry
 pub reported_all : (entry : Entry) (mid new : FieldErrors) → AppendsErrors (field_verdicts entry) [] mid
     → AppendsErrors (date_verdicts entry) mid new → AreMalformed entry new
 reported_all entry mid new h k =

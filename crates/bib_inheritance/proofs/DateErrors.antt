@@ -27,14 +27,14 @@ module _ (looks : List Bool) (graph : Graph) (entries : List Entry) (index : ℕ
   abbrev Fails : ℕ → Type 0
   Fails k = is_unread_at looks graph values k ≡ true
 
-  -- the next entry doesn't lack a required date
+  -- if the next entry doesn't lack a required date, it adds no error
   pub looks_for_none : get_or looks index false ≡ false → EachReported Fails (IsUnreadError graph entries) index errors
       → EachReported Fails (IsUnreadError graph entries) (index + 1) errors
   looks_for_none unflagged h =
       passed h
       (λ bad. false≢true (sym (ap (λ b. b && list_any (is_bad_date values) (refs_of graph index)) unflagged) ∙ bad))
 
-  -- all dates of its references can be parsed
+  -- if all dates of its references can be parsed, it adds no error
   pub finds_none : list_any (is_bad_date values) (refs_of graph index) ≡ false
       → EachReported Fails (IsUnreadError graph entries) index errors
       → EachReported Fails (IsUnreadError graph entries) (index + 1) errors
@@ -47,7 +47,7 @@ module _ (looks : List Bool) (graph : Graph) (entries : List Entry) (index : ℕ
       never true = refl
       never false = refl
 
-  -- the date of one of its references can't be parsed
+  -- if the date of one of its references can't be parsed, it adds the error of that date
   pub finds_one : (error : TypeError) (e : ParseError) → get_or looks index false ≡ true
       → IsUnreadDate entries (refs_of graph index) error
       → e ≡ record { span = error.span; kind = ResolutionError error.kind }

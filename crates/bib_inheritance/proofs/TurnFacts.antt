@@ -336,7 +336,7 @@ turned_none refs turns own = record {
   chunks = λ index d name chunks is. inl is;
 }
 
--- one more entry is resolved
+-- resolving the next entry in the order leads from the state after i entries to the state after i + 1
 pub turned_more : (refs : Graph) (turns : List ℕ) (own entries after : List Entry) (i : ℕ) (new : Entry)
     (indices : List ℕ) → IsTopologicalOrder refs turns → i < length turns → length own ≡ length refs
     → indices ≡ refs_of refs (get_or turns i 0)

@@ -149,10 +149,11 @@ taken_here : {u v : Place} (taken : Option ℕ) → MatchOption taken (AtEnd u �
 taken_here None ended going = absurd (going ended.0)
 taken_here (Some c) char going = (c, char)
 
--- the search continues after an at sign that doesn't begin a line
+-- a test can't have both results
 no_line : (b : Bool) → b ≡ false → b ≡ true → ⊥
 no_line b fails passes = cc
 
+-- the search continues after an at sign that doesn't begin a line
 pub search_more : {start u v w : Place} (taken : Option ℕ) → Passed start u → Longest (λ c. not (c == 64)) u v
     → (AtEnd v → ⊥) × (ends_blank (take v.at v.text) ≡ false)
     → MatchOption taken (AtEnd v × (w ≡ v)) (λ c. CharAt v c w) → Passed start w

@@ -39,7 +39,7 @@ unread_finding at = record {
   message = codes "not UTF-8 from here on, so the file is read as Windows-1252";
 }
 
--- that finding, or none without an offset
+-- the finding of bytes that aren't UTF-8, or no finding if there is no offset
 abbrev pub unread_findings : Option ℕ → List Finding
 unread_findings None = []
 unread_findings (Some at) = unread_finding at ∷ []

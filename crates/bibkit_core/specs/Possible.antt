@@ -19,7 +19,8 @@ loose_disk files open_name = record {
   only_now = λ _ _ _. tt;
 }
 
--- the contents that a crash could have left on `firm_disk`: any since moment 0, and only those of the files since later moments
+-- the contents that a crash since a moment could have left on `firm_disk`: any since moment 0, and since a later one those of
+-- `files`
 abbrev pub firm_since : Files → ℕ → List ℕ → Option (List ℕ) → Type 0
 firm_since files zero name c = Unit {0}
 firm_since files (suc t) name c = c ≡ files name

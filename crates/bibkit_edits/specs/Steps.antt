@@ -63,7 +63,7 @@ abbrev pub unresolved_refusal : ResolveError → ℕ → Refusal
 unresolved_refusal resolve_error.OutOfMemory index = refusal.OutOfMemory
 unresolved_refusal why index = refusal.Unresolved index why
 
--- the refusal for the edit at an index, which failed with this step
+-- the refusal that reports this failed step of the edit at an index
 abbrev pub refusal_at : Step → ℕ → Refusal
 refusal_at (step.Added e) index = added_refusal e
 refusal_at (step.Refused why) index = edit_refusal why index

@@ -723,7 +723,7 @@ pub fn is_editing(name: &str) -> bool {
     EDITING.iter().any(|row| row.name == name)
 }
 
-/// Returns the whole command line: the program with its commands.
+/// Returns the definition of the command line: the program with all its commands.
 pub fn command<'a>(alloc: Global) -> Result<Command<'a>, AllocError> {
     let reading = reading_commands(alloc)?;
     let editing = editing_commands(alloc)?;

@@ -154,7 +154,7 @@ loaded own entries names are named resolved =
 
 -- ---- bibliographies of texts
 
--- a bibliography of a raw bibliography is one of its text
+-- a bibliography of the raw reading of a text is a bibliography of the text
 pub bibliography_of : {E : Type 0} {says : FileReading} (text : List ℕ) (r : Result Bibliography E)
     → IsRawReading text says → IfOk r (IsLoaded says) → IfOk r (IsBibliographyOf text)
 bibliography_of {says = says} text (Ok bibliography) reads is = record { says = says; reading = reads; loaded = is }

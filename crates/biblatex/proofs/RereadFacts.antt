@@ -237,7 +237,7 @@ module _ (definitions : Definitions) where
   zip_apart word link (w ∷ ws) [] all = absurd all
   zip_apart word link (w ∷ ws) (r ∷ rs) all = (link (name_of r) all.0.apart, zip_apart word link ws rs all.1)
 
-  -- no parsed field has a name that differs from the name of each settled field
+  -- no parsed field has the name `word`, if no settled field may have it
   no_link : (word : List ℕ) → IsLink word → (ws : List (List ℕ × Value')) (rs : List FieldReading) → AllZip IsRead ws rs
       → by_name.get (by_name.from_entries {R = by_bytes} (reverse ws)) word ≡ None
   no_link word link ws rs all =

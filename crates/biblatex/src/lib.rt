@@ -1,8 +1,7 @@
 //! Parses and writes BibTeX and BibLaTeX files.
 //!
 //! `Bibliography::parse` parses a text and resolves the references between its entries. `Bibliography::recover` also accepts
-//! texts with errors: it returns all that can be parsed, and the errors. `Entry` has a getter and a setter of a typed value
-//! for each field of BibLaTeX.
+//! texts with errors: it returns all that can be parsed, and the errors. `Entry` has typed getters and setters for 93 fields.
 #![tactic(auto)]
 
 pub mod bibliography;

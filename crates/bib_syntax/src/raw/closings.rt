@@ -85,7 +85,7 @@ impl Braces {
     }
 }
 
-// Returns where the braces of `text` close, sorted by the offsets after the opening braces.
+// Returns a `Closing` for each opening brace of `text` that no backslash escapes, sorted by `start`.
 pub(crate) fn closings(alloc: Global, text: &str) -> Result<Vec<Closing>, AllocError>
     ensures { IfOk result (λ found. AreClosings text.now found.items) }
 {
