@@ -2,9 +2,10 @@
 """Prints the definitions of specs/: definitions.py [CRATE ..], or definitions.py --below WORD ..
 
 Without --below it prints each definition with its comment, by crate and file, of these crates or of all.
-With --below it prints the text of each of these words and of every definition below it, each once, the words of a definition after
-it. So `definitions.py --below IsBibliographyOf` prints all that the contract of `Bibliography::parse` says of its result. The last
-line counts the definitions, their lines, files and crates.
+With --below it prints the text of each of these words and of every definition of this repository below it, each once, the words of a
+definition after it. So `definitions.py --below IsBibliographyOf` prints what the contract of `Bibliography::parse` says of its
+result. The last lines name the words of the kit and the types of the code that these texts use, and count the definitions, their
+lines, files and crates.
 """
 import re
 import sys
@@ -65,10 +66,22 @@ class Definitions:
             found = (found[0], second)
         return found if found in self.texts else None
 
+    def names(self, one):
+        """The names in the text of a definition, in its order."""
+        return WORD.findall("\n".join(re.sub(r'"[^"]*"|--.*', "", line) for line in self.texts[one][1]))
+
     def below(self, one):
         """The definitions that the text of one cites, in its order."""
-        text = "\n".join(re.sub(r'"[^"]*"|--.*', "", line) for line in self.texts[one][1])
-        return [it for it in (self.meant(one[0], name) for name in WORD.findall(text)) if it]
+        return [it for it in (self.meant(one[0], name) for name in self.names(one)) if it]
+
+    def outside(self, one):
+        """The imported names in the text of a definition that no file of specs/ defines, each with whether it is a type of the code."""
+        for name in self.names(one):
+            path, word = self.imports[one[0]].get(name.partition(".")[0], (None, None))
+            is_type = path is not None and "declared" in path.parts
+            is_of_kit = path is not None and not (CRATES / path.relative_to(CRATES).parts[0]).is_dir()
+            if is_of_kit or is_type and word:
+                yield word or name, is_type
 
 
 def print_below(words):
@@ -85,6 +98,9 @@ def print_below(words):
     for file, word in order:
         said, text = all_of.texts[file, word]
         print("\n".join([f"-- {file.relative_to(CRATES)}", *said, *text]), end="\n\n")
+    outside = {it for one in order for it in all_of.outside(one)}
+    print("words of the kit:", *sorted(word for word, is_type in outside if not is_type))
+    print("types of the code:", *sorted(word for word, is_type in outside if is_type))
     lines = sum(len(all_of.texts[it][1]) for it in order)
     files = {file for file, _ in order}
     crates = {file.relative_to(CRATES).parts[0] for file in files}
