@@ -12,7 +12,7 @@ With --crates it prints the table of crates for docs/CONTRIBUTING.md.
 - No comment has a name with an underscore outside of backticks: a name that a script put there reads as prose.
 - The public surface of `biblatex` is that of tests/surface.txt (tests/surface.py).
 - Each word that a public contract cites has a comment in specs/. No word is defined in two files of specs/, and no
-  definition or clause says the code of a character that has a name.
+  definition or clause compares with the code of a character that has a name, or prepends it (CODE).
 - No line of a definition or a proof is over 140 characters, except imports and literal texts.
 - Each public call of `biblatex` that may be refused memory is named in a test, which calls it where memory is there.
 - No function builds an error that says that memory was refused unless it was given one (out_of_memory.py).
@@ -54,7 +54,7 @@ PROMISED = {
     "all pieces of a value are read as one text": ["bib_abbreviations/pieces-read-as-one-text"],
     "a later entry with a claimed key replaces the earlier": ["biblatex/later-entry-replaces-the-one-with-its-key"],
     "a name that was taken over finds its old entry, or there are no names":
-        ["biblatex/alias-that-was-a-name-finds-its-old-entry", "biblatex/names-left-empty"],
+        ["biblatex/name-taken-over-finds-the-first-entry", "biblatex/names-left-empty"],
     "verbatim chunks are written without braces": ["bib_chunks/no-braces-round-verbatim"],
     "an ampersand or a backslash is not escaped": ["bib_chunks/no-escape-of-ampersand", "bib_chunks/no-escape-of-backslash"],
     "`is_settled` always says yes, or always no":
@@ -244,7 +244,7 @@ def check_words():
 
 
 def check_characters():
-    """Definitions and contracts name characters, and write no codes."""
+    """Definitions and contracts name the characters that they compare with or prepend (CODE)."""
     characters = CRATES / "bib_text" / "specs" / "Characters.antt"
     names = {int(code): name for name, code in NAMED.findall(characters.read_text())}
     for file in sorted([*CRATES.glob("*/specs/*.antt"), *CRATES.glob("*/src/**/*.rt")]):
