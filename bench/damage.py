@@ -6,9 +6,9 @@
 A FILE may be a folder, of which all .bib files are taken; EVIDENCE.md says which Debian packages have such files. Each command gets a
 copy of each file. bench/changes.py has the commands and says what a program has to read of the new text, bench/peers.py calls the
 programs, and bench/reasons.py lists the reasons why it may read something else. Each line is one reason for the differences of
-one file, command and program. A difference without a reason is printed in full, and the status is then 1. The tables at the end
-count files, outputs and reasons. --crlf runs each file once more with line ends of CR LF. --walks N makes random edits one after
-another in N files. Biber is slow, so it reads only N small files, 40 without --biber.
+one file, command and program. A difference without a reason is printed in full, and the status is then 1. It is 2 if a program is
+missing. The tables at the end count files, outputs and reasons. --crlf runs each file once more with line ends of CR LF. --walks N
+makes random edits one after another in N files. Biber is slow, so it reads only N small files, 40 without --biber.
 """
 import argparse
 import collections
@@ -357,9 +357,10 @@ def main():
     print_reasons(results)
     unlisted = sum(it.reason is None for result in results for it in result.found)
     print(f"\n{sum(len(it.found) for it in results)} differences, {unlisted} without a reason")
+    absent = [it for it in absent if it != "biber" or options.biber]
     if absent:
-        print("not complete: " + ", ".join(absent) + " missing")
-    return 1 if unlisted else 0
+        print(f"not complete: {', '.join(absent)} missing")
+    return 1 if unlisted else 2 if absent else 0
 
 
 if __name__ == "__main__":

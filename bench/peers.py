@@ -235,8 +235,9 @@ def biber(text, room, is_resolved=False):
     (room / "file.bib").write_bytes(text)
     words = ["biber", "--tool", "--nodieonerror", "--output-fieldcase=lower", *["--output-resolve"] * is_resolved, "file.bib"]
     call(words, room)
-    lines = [re.sub(r"^\[\d+\][^>]*> ", "", it) for it in written(room / "file.bib.blg").splitlines() if re.search(" (WARN|ERROR) ", it)]
-    lines = [re.sub(r"line \d+|/tmp/\S+|file\.bib\S*|\(\d+\)|found at", "", it) for it in lines if not re.search("(WARNINGS|ERRORS):", it)]
+    log = written(room / "file.bib.blg")
+    lines = [re.sub(r"^\[\d+\][^>]*> ", "", it) for it in log.splitlines() if re.search(" (WARN|ERROR) ", it)]
+    lines = [re.sub(r"line \d+|\S*/\S+|file\.bib\S*|\(\d+\)|found at", "", it) for it in lines if not re.search("(WARNINGS|ERRORS):", it)]
     definitions = {}
     printed_entries(text.decode("latin-1"), definitions)
     entries = printed_entries(written(room / "file_bibertool.bib"), definitions)

@@ -155,7 +155,7 @@ REASONS = [
            lambda it: re.search(r"status [12]$", it.difference.before) and re.search("unknown abbreviation|expected|unexpected", it.difference.after)),
     Reason(RULE, "sorting puts an entry before the one that it refers to, and BibTeX then doesn't inherit from the parent of that one", SORTS, "bibtex",
            ".*", is_in_chain),
-    Reason(PEER, "bibtool cuts keys that aren't in ASCII, so several are the same", SORTS, "bibtool", ".*", is_beyond_ascii),
+    Reason(PEER, "bibtool cuts keys that aren't in ASCII, so several are the same", SORTS, "bibtool", "field changed|type", is_beyond_ascii),
     Reason(RULE, "resolve writes what BibLaTeX inherits, and BibTeX inherits each field by its own name", "resolve", "bibtex", "field .*", is_inherited),
     Reason(FAULT, "resolve loses a field that the parent has by its name in BibTeX", "resolve", "biber", "field lost", has_old_name),
     Reason(FAULT, "resolve gives a child the subtitle or the title of its parent by another name than BibLaTeX", "resolve", "biber", "field .*",
