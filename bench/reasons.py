@@ -1,0 +1,204 @@
+"""The list of reasons why a program reads the output of a command of `bibkit` in another way than the file."""
+import re
+from typing import Callable, NamedTuple
+
+from changes import DATE_PARTS, REFERENCES, Command, Difference
+from peers import Reading
+
+# A fault is one of bibkit, a rule follows from what a command is for, and a peer does it by itself. A fault that is repaired is
+# taken out of the list, so if it comes back it has no reason.
+FAULT, RULE, PEER = "fault", "rule", "peer"
+
+
+class Case(NamedTuple):
+    """A difference, with where it was found: `source` has the entries of the file by their keys in lower case."""
+    command: Command
+    program: str
+    difference: Difference
+    before: Reading
+    after: Reading
+    source: dict
+    text: str
+
+    def field(self, key, name):
+        """The text of a field of the file; nothing if it isn't there."""
+        entry = self.source.get(key.lower())
+        return dict(entry.fields).get(name) if entry else None
+
+    def parents(self, key, depth=9):
+        """The keys that an entry refers to, and those that these refer to, as the source or the program reads them."""
+        read = [dict(it.fields) for it in self.before.entries if it.key == key]
+        named = [it.get(name, "") for it in read for name in ("crossref", "xdata")] if read else []
+        named += [self.field(key, "crossref") or "", self.field(key, "xdata") or ""]
+        for parent in dict.fromkeys(re.findall(r"[^,\s\x01]+", ",".join(named).lower())):
+            yield parent
+            if depth:
+                yield from self.parents(parent, depth - 1)
+
+
+class Reason(NamedTuple):
+    """A reason holds for differences of some commands and programs, if its test does."""
+    origin: str
+    text: str
+    commands: str
+    programs: str
+    kinds: str
+    test: Callable = lambda case: True
+
+
+def is_child(case):
+    """Whether the entry refers to another one."""
+    return any(True for _ in case.parents(case.difference.key))
+
+
+def is_in_chain(case):
+    """Whether the entry is in a chain of three references, or a message is about a file with one."""
+    keys = [case.difference.key] if case.difference.key else list(case.source)
+    return any(len(list(case.parents(key))) > 1 for key in keys)
+
+
+def from_parent(case, text):
+    """Whether a parent of the entry has a field with a text, which BibTeX expands."""
+    parents = {it.lower() for it in case.parents(case.difference.key)}
+    return any(text == other for it in case.before.entries if it.key.lower() in parents for _, other in it.fields)
+
+
+def is_inherited(case):
+    """Whether what came is in a field of a parent, and what went is too and isn't in the entry itself."""
+    kind, key, name, before, after = case.difference
+    is_own = (case.field(key, name) or "") != ""
+    is_gone = kind == "field new" or not is_own and from_parent(case, before)
+    is_new = kind == "field lost" or name in DATE_PARTS or from_parent(case, after)
+    return is_child(case) and is_gone and is_new
+
+
+def has_old_name(case):
+    """Whether a parent has the lost field by the name that BibTeX has for it."""
+    olds = {"location": "address", "institution": "school", "journaltitle": "journal", "annotation": "annote"}
+    old = olds.get(case.difference.name)
+    return old is not None and any(case.field(it, old) is not None for it in case.parents(case.difference.key))
+
+
+def is_own_title(case):
+    """Whether a child got a title of its parent as its own."""
+    return is_child(case) and case.difference.name in ("subtitle", "titleaddon", "booktitle", "booksubtitle", "booktitleaddon")
+
+
+def same_key(case):
+    """Whether the file has the key of the command in another case."""
+    key = case.command.key
+    return any(it.key.lower() == key.lower() and it.key != key for it in case.source.values())
+
+
+def of_twin(case):
+    """Whether the file has the key of the command in another case, and the difference is in one of the two entries, or in a message."""
+    return same_key(case) and case.difference.key.lower() in ("", case.command.key.lower())
+
+
+def defines_twice(case):
+    """Whether the file defines an abbreviation twice, in any case."""
+    names = [it.lower() for it in re.findall(r"@\s*string\s*[{(]\s*([^\s=]+)\s*=", case.text, re.I)]
+    return len(set(names)) < len(names)
+
+
+def letters(text):
+    """The letters of a print without commands and braces, in lower case."""
+    return re.sub(r"\\em\b|\\newblock|[{}\\\s.~]", "", text).lower()
+
+
+def is_beyond_ascii(case):
+    """Whether a key isn't in ASCII."""
+    return not case.difference.key.isascii()
+
+
+def is_emptied(case):
+    """Whether the command removes all fields of its entry."""
+    entry = case.source.get(case.command.key.lower())
+    return entry is not None and {name for name, _ in entry.fields} <= set(case.command.words)
+
+
+def has_hard_key(case):
+    """Whether the key of the command has a character that bibtool doesn't read in a key."""
+    return re.search(r"[={}~\"#()%]", case.command.key) is not None
+
+
+def has_escaped_brace(case):
+    """Whether the command sets a text with a backslash before a brace."""
+    return re.search(r"\\[{}]", case.command.words[2]) is not None
+
+
+def refers_otherwise(case):
+    """Whether the file refers to the renamed key in another case, or by an abbreviation."""
+    old = case.command.words[1]
+    texts = [text for it in case.source.values() for name, text in it.fields if name in REFERENCES]
+    return any("\x01" in text or any(it != old and it.lower() == old.lower() for it in re.split(r"[,\s]+", text)) for text in texts)
+
+
+def hides_quote(case):
+    """Whether a text in quotes has a quote in braces, which doesn't end the text for BibTeX."""
+    return re.search(r'=\s*"[^"{}]*\{[^"{}]*"[^"{}]*\}', case.text) is not None
+
+
+def has_only_other_case(case):
+    """Whether a print differs in case, in italics or in nothing else."""
+    return letters(case.difference.before) == letters(case.difference.after)
+
+
+def is_longer(case):
+    """Whether more is printed than before."""
+    return len(case.difference.after) > len(case.difference.before)
+
+
+LAYOUTS, SORTS, EDITS = "fmt.*|sort-.*", "sort-.*", "(walk-)?(set|unset|rename|remove|add).*"
+REASONS = [
+    Reason(RULE, "an edit, a layout or a conversion is refused for a file with an error", ".*", "bibkit", "refused",
+           lambda it: re.search(r"status [12]$", it.difference.before) and re.search("unknown abbreviation|expected|unexpected", it.difference.after)),
+    Reason(RULE, "sorting puts an entry before the one that it refers to, and BibTeX then doesn't inherit from the parent of that one", SORTS, "bibtex",
+           ".*", is_in_chain),
+    Reason(PEER, "bibtool cuts keys that aren't in ASCII, so several are the same", SORTS, "bibtool", "field changed|type", is_beyond_ascii),
+    Reason(RULE, "resolve writes what BibLaTeX inherits, and BibTeX inherits each field by its own name", "resolve", "bibtex", "field .*", is_inherited),
+    Reason(FAULT, "resolve loses a field that the parent has by its name in BibTeX", "resolve", "biber", "field lost", has_old_name),
+    Reason(FAULT, "resolve gives a child the subtitle or the title of its parent by another name than BibLaTeX", "resolve", "biber", "field .*",
+           is_own_title),
+    Reason(RULE, "resolve takes references away, so BibTeX has nothing to say of them", "resolve", "bibtex", "message gone",
+           lambda it: "which also refers" in it.difference.before),
+    Reason(RULE, "BibLaTeX inherits more fields than the library", "resolve", "biber", "field lost", is_child),
+    Reason(FAULT, "the kind of a thesis or report is lost", "to-biblatex", "biber", "field lost", lambda it: it.difference.name == "type"),
+    Reason(FAULT, "a Master's thesis becomes a PhD thesis", "there-and-back", "bibtex", "print",
+           lambda it: "Master" in it.difference.before and "PhD" in it.difference.after),
+    Reason(RULE, "BibTeX prints another case or italics for another type", "there-and-back", "bibtex", "print", has_only_other_case),
+    Reason(RULE, "BibTeX reads by its new name what it passed over", "to-bibtex|there-and-back", "bibtex", "print", is_longer),
+    Reason(FAULT, "a date becomes fields that no style of BibTeX reads, and no message says so", "to-bibtex", "bibtool", "unread field",
+           lambda it: it.difference.name in DATE_PARTS),
+    Reason(FAULT, "a child has the endyear of its parent beside a date of its own", "to-bibtex", "bibtex", "field changed",
+           lambda it: it.difference.name == "date" and is_child(it)),
+    Reason(FAULT, "the type of a thesis or report stays a key of BibLaTeX, which BibTeX prints", "to-bibtex", "bibtool", "kind printed"),
+    Reason(FAULT, "a key that differs in case alone is a repeated entry for BibTeX", "(walk-)?(add|rename).*", "bibtex|bibtool", ".*", of_twin),
+    Reason(FAULT, "each abbreviation gets the last of its definitions", "expand", ".*", "field changed|print", defines_twice),
+    Reason(FAULT, "set changes the last of two fields with one name, and BibTeX reads the first", "set-twice", "bibtex", "field changed"),
+    Reason(FAULT, "rename leaves a reference in another case, or by an abbreviation", "rename", ".*", ".*", refers_otherwise),
+    Reason(FAULT, "an added definition of an abbreviation is read for the entries before it by bibtool, as by this library", "add-string", "bibtool",
+           "field changed"),
+    Reason(FAULT, "bibtool loses an entry without fields, and what follows it", "(walk-)?unset.*", "bibtool", ".*", is_emptied),
+    Reason(FAULT, "bibtool doesn't read a key with one of = { } ~ \" # ( ) %", "walk-.*", "bibtool", ".*", has_hard_key),
+    Reason(FAULT, "BibTeX and bibtool count a brace after a backslash", "walk-set", ".*", ".*", has_escaped_brace),
+    Reason(FAULT, "BibTeX doesn't end a text in quotes at a quote in braces, as this library and bibtool do", f"{LAYOUTS}|{EDITS}", "bibtex|bibtool",
+           ".*", hides_quote),
+    Reason(FAULT, "an abbreviation isn't shorter than its text", "collect", "bytes", "long name"),
+    Reason(FAULT, "LF in a file whose lines end with CR LF", "add.*|set-new|collect", "bytes", "line ends"),
+    Reason(RULE, "a comment after the field goes with it", "unset.*|resolve", "bytes", "comment lost"),
+]
+
+
+def reason(case):
+    """The reason of a difference, or none."""
+    for it in REASONS:
+        words = (it.commands, case.command.name), (it.programs, case.program), (it.kinds, case.difference.kind)
+        if all(re.fullmatch(pattern, word) for pattern, word in words) and it.test(case):
+            return f"{it.origin}: {it.text}"
+    return None
+
+
+def texts():
+    """The reasons as they are printed."""
+    return list(dict.fromkeys(f"{it.origin}: {it.text}" for it in REASONS))
