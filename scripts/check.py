@@ -60,7 +60,7 @@ PROMISED = {
     "`is_settled` always says yes, or always no":
         ["bib_chunks/is-settled-always", "bib_chunks/is-settled-never", "biblatex/bibliography-is-settled-always",
          "biblatex/bibliography-is-settled-never"],
-    "`remove` leaves later indices as they are": ["biblatex/remove-leaves-later-indices"],
+    "`remove` leaves later indices as they are": ["bib_collections/remove-leaves-later-places"],
     "`insert` appends on a present name": ["biblatex/insert-appends-on-a-present-name"],
     "a list of people is cut at `and` inside a word": ["bib_chunks/and-cut-inside-a-word"],
     "a shared parent is resolved anew on each use": ["bib_inheritance/shared-parent-resolved-anew"],
@@ -78,7 +78,7 @@ PROMISED = {
     "a circumflex is written as a command in math too": ["bib_chunks/circumflex-command-in-math"],
     "`is_settled` accepts any math without a dollar sign": ["bib_chunks/settled-takes-any-math-without-dollar"],
     "every syntax error is an early end at 0..0": ["tests/rows/syntax.stdout: keys|@article{a} => expected comma: 10-10"],
-    "empty chunks stand between all others": ["bib_chunks/neighbours-of-one-kind-stay-apart"],
+    "empty chunks stand between all others": ["bib_chunks/empty-chunk-between-neighbours"],
     "empty chunks are dropped": ["tests/rows/contents.stdout: title|a{}b => N<a>V<>N<b>"],
 }
 errors = []
