@@ -23,8 +23,8 @@ import tempfile
 
 TOP = pathlib.Path(__file__).resolve().parent.parent
 SOURCES = TOP / "tests" / "refused"
-CALLS = ("parse parse-names insert insert-present alias set set-title set-date biblatex bibtex entry-biblatex entry-bibtex verify "
-         "clone").split()
+CALLS = ("parse parse-names insert insert-taking insert-present alias set set-title set-date biblatex bibtex entry-biblatex "
+         "entry-bibtex verify clone").split()
 REFUSED = 300
 INHERITING = b"@mvbook{p, title={Works}} @book{c, title={One}, crossref={p}}"
 JOURNALS = b"@article{k, journal={A}, journaltitle={B}}"

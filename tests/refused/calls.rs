@@ -14,6 +14,7 @@ pub fn call(alloc: Global, name: &str) -> Option<Answer> {
         "parse" => parse(alloc),
         "parse-names" => parse_names(alloc),
         "insert" => insert(alloc),
+        "insert-taking" => insert_taking(alloc),
         "insert-present" => insert_present(alloc),
         "alias" => alias(alloc),
         "set" => set(alloc),
@@ -33,15 +34,17 @@ pub fn call(alloc: Global, name: &str) -> Option<Answer> {
 // An entry that inherits, and the one that gives.
 static INHERITING: &str = "@mvbook{p, title={Works}} @book{c, title={One}, crossref={p}}";
 
+// The fields of the entry that inherits.
+static CHILD: [(&str, &str); 3] = [("crossref", "p"), ("maintitle", "Works"), ("title", "One")];
+
 // An entry of which two fields have one written name.
 static JOURNALS: &str = "@article{k, journal={A}, journaltitle={B}}";
 
 // Whether it is the bibliography of an entry that inherits.
 fn is_inheriting(library: &Bibliography) -> bool {
-    let child = [("crossref", "p"), ("maintitle", "Works"), ("title", "One")];
     library.len() == 2
         && finds(library, "p", "p", &[("title", "Works")])
-        && finds(library, "c", "c", &child)
+        && finds(library, "c", "c", &CHILD)
 }
 
 fn parse(alloc: Global) -> Answer {
@@ -77,6 +80,22 @@ fn insert(alloc: Global) -> Answer {
     Ok(match library.insert(new) {
         Ok(had) => answered(had.is_none() && is_added(&library)),
         Err(error) => refused(error.entry == given && library == before),
+    })
+}
+
+// Inserts an entry whose `ids` name the key of another entry, so that this name points to the new entry.
+fn insert_taking(alloc: Global) -> Answer {
+    let mut library = read(alloc, INHERITING)?;
+    let before = library.clone()?;
+    let fields = [("ids", "x, c")];
+    let new = entry(alloc, "k", &fields)?;
+    let given = new.clone()?;
+    Ok(match library.insert(new) {
+        Ok(had) => {
+            let is_taken = finds(&library, "c", "k", &fields) && finds(&library, "x", "k", &fields);
+            answered(had.is_none() && library.len() == 3 && is_taken)
+        }
+        Err(error) => refused(error.entry == given && library == before && finds(&library, "c", "c", &CHILD)),
     })
 }
 
