@@ -217,7 +217,7 @@ def month_number(text):
 
 
 def date_of(fields):
-    """A date as a text, whether it stands in one field or in several."""
+    """A date as a text, from one field or several."""
     date = re.fullmatch(r"(-?\d{4})(?:-(\d\d))?(?:-(\d\d))?(/)?(?:(-?\d{4})(?:-(\d\d))?(?:-(\d\d))?)?", fields.get("date", ""))
     if "date" in fields and not date:
         return " ".join(fields.get(name, "") for name in DATE_PARTS)
@@ -293,7 +293,7 @@ def differences(command, program, before, after, source, said):
 
 
 def edit_differences(command, before, after):
-    """What an edit changed in messages and prints, but for those of its own entry."""
+    """What an edit changed in the messages and prints of all entries except its own."""
     old, new = command.words[1:3] if command.rule == "renamed" else ("", "")
     message = lambda it: re.sub(rf"([\"']){re.escape(old)}\1", lambda found: found[1] + new + found[1], it) if old else it
     printed = {new if key == old else key: it.replace(f"{{{old}}}", f"{{{new}}}") if old else it for key, it in before.printed.items()}

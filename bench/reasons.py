@@ -21,7 +21,7 @@ class Case(NamedTuple):
     text: str
 
     def field(self, key, name):
-        """The text of a field of the file; nothing if it isn't there."""
+        """The text of a field of the file, empty if the entry has no such field."""
         entry = self.source.get(key.lower())
         return dict(entry.fields).get(name) if entry else None
 
