@@ -21,7 +21,7 @@ class Case(NamedTuple):
     text: str
 
     def field(self, key, name):
-        """The text of a field of the file, empty if the entry has no such field."""
+        """The text of a field of the file, or None if the entry has no such field."""
         entry = self.source.get(key.lower())
         return dict(entry.fields).get(name) if entry else None
 
