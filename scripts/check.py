@@ -40,7 +40,9 @@ FOLDERS = ("must-fail", "wrong")
 DEFINITION = re.compile(r"(?:(?:pub|abbrev|unfoldable|opaque|data|record) )+([A-Za-z_][\w'-]*)(?=[ :(]|$)")
 NAMED = re.compile(r"(?m)^(\w+) = (\d+)$")
 CLAUSE = re.compile(r" *(?:ensures|requires)\*?(?: \w+)? \{")
-CODE = re.compile(r"(?:== |≡ |CharAt [\w'.]+ |cut_at [\w'.]+ )(\d+)\b|(?<![\w'.])(\d+)(?= ∷)")
+CODE = re.compile(
+    r"(?:== |≡ |CharAt [\w'.]+ |cut_at [\w'.]+ |replicate [\w'.]+ |has_byte |holds |IsWithout )(\d+)\b|(?<![\w'.])(\d+)(?= ∷)"
+)
 # Wrong bodies that the promises of the library name, each with the edits in must-fail/ that stand for it, or the file and the
 # text of a test that shows it.
 PROMISED = {

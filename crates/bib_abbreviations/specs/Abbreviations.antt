@@ -1,7 +1,7 @@
 -- Meaning: words of public contracts.
 -- Abbreviations: the styled text of a field in which each name is replaced by its definition. Names and texts are lists
 -- of their bytes.
-use Rattle.std.specs.Prelude.{◌≡◌, ◌+◌, ◌<◌, ◌^◌, ℕ, Bool, List, [], ◌∷◌, ◌++◌, length, map, ◌⊎◌, ◌||◌, Option, Some, None, is_some, codes, if◌then◌else◌, bytes_eq}
+use Rattle.std.specs.Prelude.{◌≡◌, ◌+◌, ◌<◌, ◌^◌, ℕ, Bool, List, [], ◌∷◌, ◌++◌, length, map, ◌⊎◌, Option, Some, None, is_some, bytes_eq}
 use Rattle.std.specs.Option.{option_map}
 use Rattle.std.specs.Borrow.{Bor}
 use Rattle.std.specs.Str.{chars}
@@ -19,7 +19,7 @@ use Rattle.bib_syntax.specs.declared.raw.ParseErrorKind.TheVariants.{UnknownAbbr
 use Rattle.bib_syntax.specs.declared.raw.ParseError.{ParseError}
 use Rattle.bib_contents.specs.ContentErrors.{ContentFails}
 use Rattle.bib_contents.specs.Contents.{IsContent, IsUnread, LiesBetween}
-use Rattle.bib_syntax.specs.Grammar.{is_word}
+use Rattle.bib_tables.specs.Months.{month_of_abbreviation, month_name}
 use Rattle.bib_syntax.specs.Reading.{Part, Piece}
 use Rattle.bib_syntax.specs.Reading.Piece.{literal, abbreviation}
 use Rattle.bib_syntax.specs.Views.{piece_of}
@@ -28,22 +28,9 @@ use Rattle.bib_syntax.specs.Views.{piece_of}
 abbrev pub Definitions : Type 0
 Definitions = List ℕ → Option (List Piece)
 
--- the English name of the month with these first three letters, in any ASCII case
-unfoldable pub month : List ℕ → Option (List ℕ)
-month name =
-    if is_word name (codes "jan") then Some (codes "January")
-    else if is_word name (codes "feb") then Some (codes "February")
-    else if is_word name (codes "mar") then Some (codes "March")
-    else if is_word name (codes "apr") then Some (codes "April")
-    else if is_word name (codes "may") then Some (codes "May")
-    else if is_word name (codes "jun") then Some (codes "June")
-    else if is_word name (codes "jul") then Some (codes "July")
-    else if is_word name (codes "aug") then Some (codes "August")
-    else if is_word name (codes "sep") then Some (codes "September")
-    else if is_word name (codes "oct") then Some (codes "October")
-    else if is_word name (codes "nov") then Some (codes "November")
-    else if is_word name (codes "dec") then Some (codes "December")
-    else None
+-- the English name of the month that a name abbreviates, in any ASCII case
+abbrev pub month : List ℕ → Option (List ℕ)
+month name = option_map month_name (month_of_abbreviation name)
 
 -- a name occurs among these pieces
 abbrev pub HoldsName : List Piece → List ℕ → Type 0
@@ -63,7 +50,7 @@ pub data Reaches (definitions : Definitions) (field : List Piece) : List ℕ →
   through : {name next : List ℕ} {definition : List Piece} → Reaches definitions field name
       → definitions name ≡ Some definition → HoldsName definition next → Reaches definitions field next
 
--- a name is defined, or the first three letters of a month
+-- a name is defined, or the abbreviation of a month
 abbrev pub IsKnown : Definitions → List ℕ → Type 0
 IsKnown definitions name =
     ((definition : List Piece) × (definitions name ≡ Some definition))

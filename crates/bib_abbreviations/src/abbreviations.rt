@@ -17,7 +17,8 @@ use crate::definitions::Lookup;
 use bib_chunks::chunk::{Chunk, Chunks, Span, Spanned};
 use bib_chunks::joining::append_copies;
 use bib_contents::contents::contents;
-use bib_syntax::raw::{Field, ParseError, ParseErrorKind, RawChunk, is_word};
+use bib_syntax::raw::{Field, ParseError, ParseErrorKind, RawChunk};
+use bib_tables::months::Month;
 use bib_text::items::Items;
 use bib_text::text::Text;
 use std::alloc::{AllocError, Global};
@@ -348,36 +349,9 @@ impl<'m, 'f, 's> Expansion<'m, 'f, 's> {
     }
 }
 
-// Returns the English name of the month with these first three letters, in any ASCII case.
-#[tactic(auto, unfolding(crate::specs::Abbreviations::month))]
+// Returns the English name of the month that `name` abbreviates, in any ASCII case.
 pub(crate) fn month(name: &str) -> Option<&'static str>
     ensures { option_map (λ english. english.now) result ≡ abbreviations.month name.now }
 {
-    if is_word(name, "jan") {
-        Some("January")
-    } else if is_word(name, "feb") {
-        Some("February")
-    } else if is_word(name, "mar") {
-        Some("March")
-    } else if is_word(name, "apr") {
-        Some("April")
-    } else if is_word(name, "may") {
-        Some("May")
-    } else if is_word(name, "jun") {
-        Some("June")
-    } else if is_word(name, "jul") {
-        Some("July")
-    } else if is_word(name, "aug") {
-        Some("August")
-    } else if is_word(name, "sep") {
-        Some("September")
-    } else if is_word(name, "oct") {
-        Some("October")
-    } else if is_word(name, "nov") {
-        Some("November")
-    } else if is_word(name, "dec") {
-        Some("December")
-    } else {
-        None
-    }
+    Some(Month::from_abbreviation(name)?.name())
 }

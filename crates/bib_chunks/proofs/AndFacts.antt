@@ -58,7 +58,7 @@ never (a ∷ []) = refl
 never (a ∷ n ∷ []) = refl
 never (a ∷ n ∷ d ∷ rest) = refl
 
--- without white space before the characters the word isn't there
+-- without white space before them, characters don't begin with the word
 pub not_spaced : (space : Bool) (cs : List ℕ) → space ≡ false → word_here space cs ≡ false
 not_spaced space cs none = rw none (never cs)
 
@@ -72,7 +72,7 @@ no_word space bs utf8 no_and = false_from_ne_true (word_here space (chars bs)) (
     append_cancel_left (97 ∷ 110 ∷ 100 ∷ []) _ _ (sym (and_chars bs (encode_utf8_all rest) utf8 word).0 ∙ letters) in
     no_and (encode_utf8_all rest) (record { word = word; space = ap begins_with_space same ∙ spaced }))
 
--- if the word isn't there, the character belongs to the first text
+-- where the word doesn't stand, the character belongs to the first text
 pub between_other : (space : Bool) (c : ℕ) (cs : List ℕ) → word_here space (c ∷ cs) ≡ false
     → between_ands space (c ∷ cs) ≡ prepend (c ∷ []) (between_ands (is_whitespace c) cs)
 between_other space c [] here = refl
@@ -107,7 +107,7 @@ ands_some space (a ∷ n ∷ d ∷ rest) =
 prepend_none : (space : Bool) (cs : List ℕ) → prepend [] (between_ands space cs) ≡ between_ands space cs
 prepend_none space cs = let some = ands_some space cs in rw some.2 refl
 
--- the characters `cs` before the position `at` contain no such word; `space` says whether white space comes right
+-- the characters `cs` before the byte offset `at` contain no such word; `space` says whether white space comes right
 -- before it
 pub record IsSearchedTo (text : List ℕ) (at : ℕ) (space : Bool) : Type 0 where
   pub cs : List ℕ
@@ -138,13 +138,13 @@ searched_char text at next c space so_far char none =
           ∙ prepend_prepend so_far.cs (c ∷ []) _;
     }
 
--- the text before a position is that of the passed characters
+-- the text before a byte offset is the encoding of the passed characters
 before_place : (text : List ℕ) (at : ℕ) (cs : List ℕ) → MovesPast (place text 0) cs (place text at) → take at text ≡ encode_utf8_all cs
 before_place text at cs passed =
     let next : at ≡ 0 + length (encode_utf8_all cs) = passed.next in
     ap (take at) passed.here ∙ take_at (encode_utf8_all cs) (drop at text) at (omega arith)
 
--- the word at a position is the first one
+-- the word at an offset is the first one
 pub searched_word : (text : List ℕ) (at : ℕ) (before following : List ℕ) → IsSearchedTo text at true → before ≡ take at text
     → IsUtf8 before → IsAnd (drop at text) following → IsFirstAnd text before following
 searched_word text at before following so_far leading_run prefix_utf8 word =

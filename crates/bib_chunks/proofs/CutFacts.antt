@@ -69,11 +69,11 @@ read_end old middle new piece next more added closed following =
     ∙ append_assoc old.done ((old.last ++ piece ∷ []) ∷ []) _
     ∙ ap (λ ps. old.done ++ (old.last ++ piece ∷ []) ∷ ps) (onto_some next more following)
 
--- two additions to a position are one
+-- two additions to an offset are one
 further_twice : (at n m : ℕ) → further at (further n m) ≡ further at (n + m)
 further_twice at n m = omega arith
 
--- the span of a part is the same if its position is saturated first
+-- the span of a part is the same if its offset is saturated first
 pub part_further : (whole text : List ℕ) (span : Range ℕ) (at skipped : ℕ)
     → chunk_part whole span (further at skipped) text ≡ chunk_part whole span (at + skipped) text
 part_further whole text span at skipped =

@@ -70,7 +70,7 @@ placed_push (c ∷ rest) chunk low high placed before ordered = (
   placed_push rest chunk c.span.end high placed.2 before ordered,
 )
 
--- chunks that are placed up to a position are placed up to a later one
+-- chunks that are placed up to an offset are placed up to a later one
 pub placed_up : (chunks : List (Spanned Chunk)) (low high higher : ℕ) → high ≤ higher → ArePlaced low high chunks
     → ArePlaced low higher chunks
 placed_up [] low high higher up placed = omega (arith, up, placed)

@@ -1,4 +1,4 @@
--- Facts about the positions of the pieces of a list.
+-- Facts about the byte offsets of the pieces of a list.
 use Rattle.std.proofs.Common.{◌≡◌, ℕ, suc, ◌+◌, Bool, true, false, List, [], ◌∷◌, ◌++◌, length, refl, sym, ap, subst, ◌∙◌, append-nil, append_assoc, length-append, arith}
 use Rattle.std.specs.Prelude.{◌==◌, encode_utf8_all, if◌then◌else◌}
 use Rattle.std.specs.List.{AllByRecursion, Contains}

@@ -123,7 +123,7 @@ or_right false b holds = holds
 or_left : (a b : Bool) → a ≡ true → (a || b) ≡ true
 or_left a b holds = ap (λ c. c || b) holds
 
--- characters with `and` between two white space characters contain a word
+-- `holds_and` is true if `and` occurs between two white space characters
 found_and : (space : Bool) (before following : List ℕ) (s t : ℕ) → is_whitespace s ≡ true → is_whitespace t ≡ true
     → holds_and space (before ++ (s ∷ 97 ∷ 110 ∷ 100 ∷ t ∷ following)) ≡ true
 found_and space [] following s t white blank =

@@ -10,7 +10,7 @@ use Rattle.bib_chunks.specs.declared.chunk.Chunk.TheVariants.{Normal, Verbatim, 
 use Rattle.bib_text.specs.declared.spanned.Spanned.{Spanned}
 use Rattle.bib_text.specs.Characters as char
 
--- a position `n` bytes after `at`, at most the greatest 64-bit number: a detached span stays detached
+-- the offset `n` bytes after `at`, at most the greatest 64-bit number: a detached span stays detached
 abbrev pub further : ℕ → ℕ → ℕ
 further at n = min (at + n) (2 ^ 64 - 1)
 

@@ -1,5 +1,5 @@
 -- Meaning: words of public contracts.
--- The contents of the parts of a list: words of laws.
+-- The contents of the parts of a list. The only contracts that use these words are laws.
 use Rattle.std.specs.Prelude.{◌≡◌, ℕ, ◌==◌, Bool, true, false, List, [], ◌∷◌, ◌++◌, ◌+◌, ◌<◌, ◌^◌, length}
 use Rattle.std.specs.Char.{is_whitespace}
 use Rattle.std.specs.List.{list_all, list_any, AllByRecursion, Contains}

@@ -7,7 +7,8 @@ use Rattle.std.specs.FinMap as map
 use Rattle.bib_collections.specs.Sorted.{by_bytes}
 
 module _ {V : Type 0} (name : List ℕ) (pairs : List (List ℕ × V)) (i : ℕ) where
-  -- a search from a pair on finds its value if it has the name, and otherwise continues at the next pair
+  -- a search that begins at a pair finds the pair's value if the pair has the name; otherwise it continues at the next
+  -- pair
   at_pair : (p : List ℕ × V) → i < length pairs → p ≡ get_or pairs i p → (b : Bool) → bytes_eq name p.0 ≡ b
       → map.find by_bytes name (drop i pairs) ≡ cond b (Some p.1) (map.find by_bytes name (drop (i + 1) pairs))
   at_pair p h here b is =

@@ -45,7 +45,7 @@ module _ (graph : List (List ℕ)) where
     clash : None ≡ Some root → ⊥
     clash e = cc
 
-  -- setting the root of the indices that it leads to keeps the property of roots
+  -- `AreRoots` still holds after `root` becomes the root of some indices that it leads to
   pub roots_set : (root : ℕ) (reached : List ℕ) (old new : List (Option ℕ)) → AreReached graph root reached
       →
       ((index : ℕ)

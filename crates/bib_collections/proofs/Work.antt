@@ -58,7 +58,8 @@ among_decides order index p =
       ]
     ]
 
--- adding an index to the order lowers the number of missing references by the number of its occurrences in `xs`
+-- adding a new index to the order lowers the number of references in `xs` outside the order by how often `xs` has the
+-- index
 undone_less : (order : List ℕ) (p : ℕ) (xs : List ℕ) → is_among order p ≡ false → undone (order ++ p ∷ []) xs + times p xs ≡ undone order xs
 undone_less order p [] h = refl
 undone_less order p (x ∷ xs) h =

@@ -1,4 +1,4 @@
--- The positions of closing braces: each one is stored at its opening brace.
+-- The byte offsets of closing braces: each one is stored at its opening brace.
 use Rattle.std.proofs.Common.{◌≡◌, ℕ, zero, suc, ◌+◌, ◌-◌, ◌<◌, ◌≤◌, true, false, List, [], ◌∷◌, ◌++◌, length, drop, refl, sym, ap, subst, ◌∙◌, arith, inl, inr, reverse, replicate}
 use Rattle.std.specs.Prelude.{encode_utf8_all, slice_index, nat_lt}
 use Rattle.std.specs.List.{list_all}
@@ -12,7 +12,7 @@ use Rattle.bib_contents.specs.Contents.{begins}
 use Rattle.bib_contents.specs.Progress.{left, Passes}
 use Rattle.bib_contents.proofs.ArgumentFacts.{BracedRead, braced_none, braced_opens, braced_closes, braced_found, is_no_brace, is_closing, next_brace, passes_ahead, passes_within}
 
--- the positions after open braces, the last one first; `depth` is the number of braces open after the first of them
+-- the offsets after open braces, the last one first; `depth` is the number of braces open after the first of them
 pub data AreOpen (text : List ℕ) (start : ℕ) (s : Place) : ℕ → List ℕ → Type 0 where
   nothing : {depth : ℕ} → AreOpen text start s depth []
   following : {depth begin : ℕ} {opened : List ℕ} → BracedRead (place text begin) depth s → start ≤ begin → begin ≤ s.at
@@ -42,7 +42,7 @@ open_closed {text} {start} {s} {t} {w} depth before (AreOpen.following {begin = 
     (let a = passes_ahead passed in let b = passes_ahead brace in omega (arith, ahead, a, b))
     (open_closed (depth + 1) (before + 1) rest (omega (arith, is)) passed plain ends brace differs)
 
--- a place is its position in its text
+-- a place is the place at its offset in its text
 pub place_here : {u : Place} (text : List ℕ) → u.text ≡ text → place text u.at ≡ u
 place_here {u} text same = λ i. record { text = sym same i; at = u.at }
 

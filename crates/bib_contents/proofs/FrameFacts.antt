@@ -398,7 +398,7 @@ module _ {first_name first_whole first_under : List ℕ} {ends : Ends} {low high
       (subst (λ u. AreKnown ends u.text) (sym same) (known_inside ends reading.known stands)) flat
       (read_begun above name more most same shallow wrote utf8)
 
--- an error between two positions is between wider ones
+-- an error between two offsets is between wider ones
 pub stays_wider : {low high lower higher : ℕ} {e : ParseError} → StaysBetween low high e → lower ≤ low → high ≤ higher
     → StaysBetween lower higher e
 stays_wider (inl memory) lows highs = inl memory

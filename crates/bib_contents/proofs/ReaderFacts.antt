@@ -119,7 +119,7 @@ pub no_unit : {is_verbatim : Bool} {depth : ℕ} {text : List ℕ} {atoms : List
 no_unit more none end = more refl
 no_unit more none (next {u = u} {rest = rest} one closable argument read) = none u rest one
 
--- chunks that are placed up to a position are placed up to a later one
+-- chunks that are placed up to an offset are placed up to a later one
 pub placed_wider : (low high higher : ℕ) (cs : List (Spanned Chunk)) → ArePlaced low high cs → high ≤ higher → ArePlaced low higher cs
 placed_wider low high higher [] placed wider = omega (arith, placed, wider)
 placed_wider low high higher (c ∷ rest) placed wider = (placed.0, placed.1, placed_wider _ high higher rest placed.2 wider)

@@ -187,7 +187,7 @@ pub command_is : {unit : TextUnit} {name space : Bor (List ℕ)} {command_text :
 command_is {unit} {name} {space} {command_text} argument is same =
     ap text_unit_of is ∙ ap (λ a. ContentUnit.command (chars name.now) (chars space.now) (argument_of a)) same
 
--- the positions around the argument of a unit, given by equal numbers
+-- the offsets around the argument of a unit, given by equal numbers
 pub stands_at : (text : List ℕ) (low high start end : ℕ) → start ≡ low → end ≡ high → (unit : all_units.Unit)
     → IsArgumentBetween text low unit high → IsArgumentBetween text start unit end
 stands_at text low high start end first last unit stands = rw (first, last) stands

@@ -25,7 +25,7 @@ pub record Closes (text : List ℕ) (begin end : ℕ) : Type 0 where
   pub balanced : balances 0 inside ≡ true
   pub brace : drop end text ≡ char.close_brace ∷ drop (end + 1) text
 
--- each known end that lies in the text is the end of the argument that begins at its position
+-- each known end that lies in the text is the end of the argument that begins at byte `start` plus the end's index
 abbrev pub AreKnown : Ends → List ℕ → Type 0
 AreKnown ends text =
     (index : ℕ) → 0 < slice_index ends.places.items index → slice_index ends.places.items index < length text
@@ -94,12 +94,12 @@ IsShorterThan size text low s Read = length (left s) < size
 IsShorterThan size text low s (Follows name inside) = (length (left s) + length (left inside) + 1 < size) × IsInside text low inside s.at
 IsShorterThan size text low s End = length (left s) ≤ size
 
--- a frame's position lies in its text, and at most as many braces are open as bytes come before it
+-- a frame's offset lies in its text, and at most as many braces are open as bytes come before it
 pub record StandsRight (frame : Frame) : Type 0 where
   pub within : frame.s.at ≤ length frame.s.text
   pub deep : frame.depth ≤ frame.s.at
 
--- `new` is a later state of the frame `old`: its position isn't earlier, and its text, effect, start and flag are the
+-- `new` is a later state of the frame `old`: its offset isn't smaller, and its text, effect, start and flag are the
 -- same
 pub record KeepsFrame (old new : Frame) : Type 0 where
   pub text : new.s.text ≡ old.s.text

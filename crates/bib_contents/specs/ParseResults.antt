@@ -45,7 +45,8 @@ pub record IsParsedUnit (is_verbatim : Bool) (text : List ℕ) (u v : Place) (re
   pub fails : IfNone result ((text ≡ [] → ⊥) → UnitFails is_verbatim text)
   pub inside : IfSome result (λ c. IsArgumentBetween u.text u.at c v.at)
 
--- a unit is from byte `low` to byte `high` of a text; so is its argument in braces, and then it has a command's name
+-- the spelling of a unit is as long as bytes `low` to `high`. If the unit is a command with an argument in braces, the
+-- argument is between them in some text, and the command has a name.
 pub record IsUnitAt (unit : Unit) (low high : ℕ) : Type 0 where
   pub spelt : high ≡ low + length (encode_utf8_all (unit_spelling (unit_of unit)))
   pub inside : (text : List ℕ) × IsArgumentBetween text low unit high

@@ -11,7 +11,7 @@ use crate::classes::{is_ordinary, is_space};
 use bib_text::scanner::Scanner;
 use std::marker::Model;
 
-// A text and a position in it. Contracts speak of the characters that are left.
+// A text and a byte offset in it. Contracts speak of the characters that are left.
 #[derive(Drop)]
 pub(crate) struct Characters<'s> {
     text: &'s str,
@@ -75,7 +75,7 @@ impl<'s> Characters<'s> {
         }
     }
 
-    // Returns the position, in bytes from the start of the text.
+    // Returns the offset, in bytes from the start of the text.
     pub(crate) fn cursor(&self) -> usize
         ensures place { result ≡ self.now.at }
         ensures boundary { IsCharBoundary self.now.text result }
@@ -198,7 +198,7 @@ impl<'s> Characters<'s> {
         inside
     }
 
-    // Returns another cursor at this position.
+    // Returns another cursor at this offset.
     pub(crate) fn copy(&self) -> Characters<'s>
         ensures { result ≡ self.now }
     {

@@ -6,7 +6,7 @@ ghost use Rattle.bib_contents.specs.Arguments.{AreKnown, Closes};
 use crate::characters::Characters;
 use std::alloc::{AllocError, Global};
 
-// The positions of the closing braces in a text. `places[i]` belongs to the opening brace right before the position
+// The byte offsets of the closing braces in a text. `places[i]` belongs to the opening brace right before byte
 // `start + i`; it is 0 if there is no such brace or it isn't closed. The text is scanned once, however deep its braces
 // are nested.
 #[derive(Drop)]
@@ -60,7 +60,7 @@ impl Ends {
         }
     }
 
-    // Returns the position of the brace that closes the argument that begins at `begin`, if it is known.
+    // Returns the byte offset of the brace that closes the argument that begins at `begin`, if it is known.
     pub(crate) fn end_of(&self, begin: usize) -> Option<usize>
         ensures { IfSome result (λ end. (text : List ℕ) → AreKnown self.now text →
             end < length text → Closes text begin end) }

@@ -13,7 +13,7 @@
 //! `arguments` parses a command's argument in braces without recursion. Nested arguments are a stack of frames, and all
 //! of them are written to the end of one text. When an argument ends, its command is applied to the end of that text.
 //! An argument that is nested in another outside braces has its line breaks written as spaces at once (`writing`),
-//! since the outer argument is put on one line. If an argument contains braces, `ends` finds the position of each
+//! since the outer argument is put on one line. If an argument contains braces, `ends` finds the byte offset of each
 //! closing brace once, so the text of a nested argument isn't searched again. So time and memory are linear in the
 //! text, however deep commands are nested.
 #![tactic(auto)]

@@ -56,7 +56,7 @@ pub(crate) enum Unit<'s> {
 pub(crate) fn hyphens(s: &mut Characters<'_>) -> usize
     ensures passed { (cs : List ℕ) × Passes s.old cs s.new }
     ensures same { s.new.text ≡ s.old.text }
-    ensures spelt { left s.old ≡ replicate result 45 ++ left s.new }
+    ensures spelt { left s.old ≡ replicate result char.hyphen ++ left s.new }
     ensures whole { begins (λ c. c == char.hyphen) (left s.new) ≡ false }
 {
     s.eat_while(|c| c == '-').len()
@@ -102,7 +102,7 @@ fn search<'s>(s: &mut Characters<'s>) -> Option<Characters<'s>>
     }
 }
 
-// Parses an argument after its opening brace. Searches for the closing one if its position isn't known.
+// Parses an argument after its opening brace. Searches for the closing one if its offset isn't known.
 fn argument_in_braces<'s>(s: &mut Characters<'s>, ends: &Ends) -> Option<Characters<'s>>
     requires known { AreKnown ends.now s.old.text }
     ensures same { s.new.text ≡ s.old.text }

@@ -48,7 +48,7 @@ fn is_break(c: char) -> bool
 
 // Returns the character that is written after a kept backslash: on one line a line break becomes a space.
 fn flat_character(c: char, is_flat: bool) -> char
-    ensures { result ≡ (if is_flat then (if formatted.is_break c then 32 else c) else c) }
+    ensures { result ≡ (if is_flat then (if formatted.is_break c then char.space else c) else c) }
 {
     if is_flat && is_break(c) {
         return ' ';

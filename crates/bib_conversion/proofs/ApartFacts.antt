@@ -7,8 +7,8 @@ use Rattle.bib_syntax.specs.Grammar.{is_word}
 use Rattle.bib_syntax.specs.Reading.{EntryReading, FieldReading}
 use Rattle.bib_documents.specs.Documents.{has_name}
 use Rattle.bib_tables.specs.EntryType.{entry_type_of}
-use Rattle.bib_entry.specs.declared.write.Dialect.{Dialect}
-use Rattle.bib_entry.specs.declared.write.Dialect.TheVariants.{Biblatex, Bibtex}
+use Rattle.bib_tables.specs.declared.dialects.Dialect.{Dialect}
+use Rattle.bib_tables.specs.declared.dialects.Dialect.TheVariants.{Biblatex, Bibtex}
 use Rattle.bib_strings.specs.Collected.{single_text}
 use Rattle.bib_conversion.specs.Conversions.{divides_date, exchanged_date, free_names, is_field_there, joined_date, literal_of, new_field_name, other_date_names, other_name, other_names, times_named, value_sides}
 use Rattle.bib_conversion.specs.Dates.{Sides, part_names}

@@ -4,7 +4,7 @@ use Rattle.std.specs.Prelude.{◌&&◌, codes}
 use Rattle.std.specs.List.{AllByRecursion}
 use Rattle.bib_syntax.specs.Reading.{EntryReading, FieldReading}
 use Rattle.bib_documents.specs.Documents.{CanBeName, has_name}
-use Rattle.bib_entry.specs.declared.write.Dialect.{Dialect}
+use Rattle.bib_tables.specs.declared.dialects.Dialect.{Dialect}
 use Rattle.bib_strings.specs.Collected.{single_text}
 use Rattle.bib_conversion.specs.Conversions.{FieldChange, change_of, date_field, divides_date, exchanged_date, field_change, is_date_part, joined_among, joined_date, new_field_name, value_sides}
 use Rattle.bib_conversion.specs.Dates.{Sides, from_names, more_fields, to_fields, side_year}

@@ -10,7 +10,7 @@ use Rattle.bib_documents.specs.Documents.{CanBeName, Document, IsDocument}
 use Rattle.bib_documents.specs.Stretches.{AreEditsInOrder}
 use Rattle.bib_documents.proofs.EditFacts.{moved_before}
 use Rattle.bib_documents.proofs.AgreementFacts.{agrees_self}
-use Rattle.bib_entry.specs.declared.write.Dialect.{Dialect}
+use Rattle.bib_tables.specs.declared.dialects.Dialect.{Dialect}
 use Rattle.bib_strings.specs.Exchanged.{IsReadPlaceless, placeless}
 use Rattle.bib_strings.specs.Tables.{IsTrimmed}
 use Rattle.bib_strings.proofs.ExchangedFacts.{file_placeless}

@@ -5,7 +5,7 @@ use Rattle.std.specs.Option.{option_map}
 use Rattle.std.specs.String.{string_bytes}
 use Rattle.bib_syntax.specs.Reading.{EntryReading, FieldReading}
 use Rattle.bib_documents.specs.Edits.{Edit}
-use Rattle.bib_entry.specs.declared.write.Dialect.{Dialect}
+use Rattle.bib_tables.specs.declared.dialects.Dialect.{Dialect}
 use Rattle.bib_tables.specs.EntryType.{entry_type_of}
 use Rattle.bib_tables.specs.declared.mechanics.EntryType.{EntryType}
 use Rattle.bib_conversion.specs.Conversions.{change_of, date_among, divides_date, edits_of_entry, edits_of_fields, free_names, joined_among, joined_date, other_name, other_names, other_type, part_edits}

@@ -2,7 +2,7 @@
 use Rattle.std.proofs.Common.{◌≡◌, ℕ, true, false, List, refl, Option, Some, None}
 use Rattle.std.specs.Prelude.{is_some}
 use Rattle.bib_syntax.specs.Reading.{FieldReading}
-use Rattle.bib_entry.specs.declared.write.Dialect.{Dialect}
+use Rattle.bib_tables.specs.declared.dialects.Dialect.{Dialect}
 use Rattle.bib_conversion.specs.Conversions.{FieldChange}
 use Rattle.bib_conversion.specs.Notes.{change_note, stays_note}
 

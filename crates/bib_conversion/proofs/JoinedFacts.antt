@@ -5,8 +5,8 @@ use Rattle.std.specs.List.{find}
 use Rattle.std.proofs.lemmas.Bool.{and_parts}
 use Rattle.bib_syntax.specs.Reading.{FieldReading}
 use Rattle.bib_documents.specs.Documents.{has_name}
-use Rattle.bib_entry.specs.declared.write.Dialect.{Dialect}
-use Rattle.bib_entry.specs.declared.write.Dialect.TheVariants.{Biblatex, Bibtex}
+use Rattle.bib_tables.specs.declared.dialects.Dialect.{Dialect}
+use Rattle.bib_tables.specs.declared.dialects.Dialect.TheVariants.{Biblatex, Bibtex}
 use Rattle.bib_strings.specs.Collected.{single_text}
 use Rattle.bib_strings.proofs.NameFacts.{plain_can}
 use Rattle.bib_conversion.specs.Conversions.{can_all_go_out, date_field, date_of_fields, date_of_parts, date_on_day, has_parts_once, joined_date, literal_of, month_of}

@@ -2,6 +2,7 @@
 use Rattle.std.proofs.Common.{◌≡◌, inl, inr, ℕ, zero, suc, ◌+◌, ◌-◌, ◌<◌, ◌≤◌, Bool, true, false, cond, ◌||◌, ◌==◌, List, [], ◌∷◌, ◌++◌, length, take, drop, get_or, refl, sym, ap, ◌∙◌, subst, arith, lit<, append-nil, Option, Some, None, pos}
 use Rattle.std.specs.Prelude.{◌&&◌, codes, is_some, nat_lt, not}
 use Rattle.std.specs.List.{list_all, list_any, prefix_len}
+use Rattle.std.specs.Option.{option_map}
 use Rattle.std.specs.Char.{is_ascii_alphabetic, is_ascii_digit}
 use Rattle.std.specs.Str.{trim, trim_end, trim_start}
 use Rattle.std.specs.Str.Parse.{AllDigits, digits_value}
@@ -10,6 +11,9 @@ use Rattle.std.proofs.lemmas.Bool.Decides.{nat_tests}
 use Rattle.std.proofs.lemmas.Int.{ints}
 use Rattle.std.proofs.lemmas.List.Folds.{list_all-append}
 use Rattle.jiff_core.specs.Calendar.{IsYear, days_in_month}
+use Rattle.bib_tables.specs.Months.{month_index, month_of_word}
+use Rattle.bib_tables.specs.declared.months.Month.{Month}
+use Rattle.bib_tables.specs.declared.months.Month.TheVariants.{January, February, March, April, May, June, July, August, September, October, November, December}
 use Rattle.bib_tables.specs.declared.type_error.TypeErrorKind.{TypeErrorKind}
 use Rattle.bib_tables.specs.declared.type_error.TypeErrorKind.TheVariants.{DayOutOfRange, MonthOutOfRange}
 use Rattle.bib_dates.specs.declared.date.Date.{Date}
@@ -20,7 +24,7 @@ use Rattle.bib_dates.specs.Kept.{IsKeptDatetime}
 use Rattle.bib_dates.specs.Parts.{after_run, begins_with, lies, run, sign, small_number}
 use Rattle.bib_dates.specs.Readings.{Reading, ◌>>=◌, readable_value}
 use Rattle.bib_dates.specs.Readings.Reading.{says, error, unread}
-use Rattle.bib_dates.specs.ThreeFields.{after_gap, day_after, day_field, day_number, day_of, month_and_day, month_field, month_named, month_with_day, names, on_day, only_day, reported_day, three_fields_of, with_era, year_field}
+use Rattle.bib_dates.specs.ThreeFields.{after_gap, day_after, day_field, day_number, day_of, month_and_day, month_field, month_named, month_with_day, on_day, only_day, reported_day, three_fields_of, with_era, year_field}
 use Rattle.bib_dates.specs.Written.{datetime_text, with_zeros}
 use Rattle.bib_dates.proofs.Digits.{four, run_digits}
 use Rattle.bib_dates.proofs.DatesReread.{is_date_byte, is_side, text_survives, all_more, any_byte, any_none, both, date_plain, digit_bytes, no_slash, no_x}
@@ -78,30 +82,30 @@ year_is (a ∷ b ∷ c ∷ d ∷ e ∷ rest) is =
 
 -- ---- the month
 
--- the index of the name that a word is, in a list whose first element has an index
-abbrev name_index : List (List ℕ × List ℕ) → ℕ → List ℕ → Option ℕ
-name_index [] k word = None
-name_index (row ∷ rows) k word = cond (names word row.0 row.1) (Some k) (name_index rows (suc k) word)
-
-index_below : (rows : List (List ℕ × List ℕ)) (k m : ℕ) (word : List ℕ) → name_index rows k word ≡ Some m → m < k + length rows
-index_below [] k m word is = absurd (cc)
-index_below (row ∷ rows) k m word is = by_case (names word row.0 row.1) (name_index rows (suc k) word) (index_below rows (suc k) m word) is
-  where
-    by_case : (b : Bool) (rest : Option ℕ) → (rest ≡ Some m → m < suc k + length rows) → cond b (Some k) rest ≡ Some m
-        → m < k + length (row ∷ rows)
-    by_case true rest later is = let same : k ≡ m = cc in omega arith
-    by_case false rest later is = let small = later is in omega arith
-
-abbrev months : List (List ℕ × List ℕ)
-months =
-    (codes "january", codes "jan") ∷ (codes "february", codes "feb") ∷ (codes "march", codes "mar")
-    ∷ (codes "april", codes "apr") ∷ (codes "may", codes "may") ∷ (codes "june", codes "jun")
-    ∷ (codes "july", codes "jul") ∷ (codes "august", codes "aug") ∷ (codes "september", codes "sep")
-    ∷ (codes "october", codes "oct") ∷ (codes "november", codes "nov") ∷ (codes "december", codes "dec") ∷ []
+-- the index of a month is less than 12
+index_below : (month : Month) → month_index month < 12
+index_below January = omega arith
+index_below February = omega arith
+index_below March = omega arith
+index_below April = omega arith
+index_below May = omega arith
+index_below June = omega arith
+index_below July = omega arith
+index_below August = omega arith
+index_below September = omega arith
+index_below October = omega arith
+index_below November = omega arith
+index_below December = omega arith
 
 month_below : (word : List ℕ) (m : ℕ) → month_named word ≡ Some m → m < 12
-unfolding month_named
-month_below word m is = index_below months 0 m word is
+month_below word m is = by_case (month_of_word word) is
+  where
+    by_case : (month : Option Month) → option_map month_index month ≡ Some m → m < 12
+    by_case None is = absurd (cc)
+    by_case (Some month) is =
+        let same : month_index month ≡ m = cc in
+        let below = index_below month in
+        omega arith
 
 lies_below : (high n : ℕ) → lies 1 high n ≡ true → n - 1 < high
 lies_below high n is = grind (arith, nat_tests)

@@ -8,10 +8,10 @@ use Rattle.bib_documents.specs.Documents.{CanBeName}
 use Rattle.bib_tables.specs.EntryType.{entry_type_name, entry_type_of}
 use Rattle.bib_tables.specs.declared.mechanics.EntryType.{EntryType}
 use Rattle.bib_tables.specs.declared.mechanics.EntryType.TheVariants.{Article, Book, Booklet, InBook, InCollection, InProceedings, Manual, MastersThesis, PhdThesis, Misc, Proceedings, TechReport, Unpublished, MvBook, BookInBook, SuppBook, Periodical, SuppPeriodical, Collection, MvCollection, SuppCollection, Reference, MvReference, InReference, MvProceedings, Report, Patent, Thesis, Online, Software, Dataset, Set, XData, Unknown}
-use Rattle.bib_entry.specs.Dialect.{kind_in}
-use Rattle.bib_entry.specs.WrittenEntries.{biblatex_names, names_in}
-use Rattle.bib_entry.specs.declared.write.Dialect.{Dialect}
-use Rattle.bib_entry.specs.declared.write.Dialect.TheVariants.{Biblatex, Bibtex}
+use Rattle.bib_tables.specs.Dialects.{kind_in}
+use Rattle.bib_tables.specs.Dialects.{biblatex_names, names_in}
+use Rattle.bib_tables.specs.declared.dialects.Dialect.{Dialect}
+use Rattle.bib_tables.specs.declared.dialects.Dialect.TheVariants.{Biblatex, Bibtex}
 use Rattle.bib_strings.specs.Collecting.{is_plain_name}
 use Rattle.bib_strings.proofs.NameFacts.{plain_can}
 use Rattle.bib_conversion.specs.Conversions.{exchanged_names, is_field_there, is_unnamed_type, new_field_name, new_type, other_name, other_names}

@@ -21,7 +21,7 @@ use Rattle.bib_documents.proofs.ValueFacts.{run_stands}
 use Rattle.bib_strings.proofs.TrimmedFacts.{IsFieldPlaced}
 use Rattle.bib_conversion.specs.Conversions.{FieldChange, date_field, field_change, edits_of_field, edits_of_fields, edits_of_file, field_stretch, going_out, is_date_part, new_type, part_edits, written_sides}
 use Rattle.bib_conversion.specs.Dates.{new_field_text}
-use Rattle.bib_entry.specs.declared.write.Dialect.{Dialect}
+use Rattle.bib_tables.specs.declared.dialects.Dialect.{Dialect}
 use Rattle.bib_text.proofs.BoundaryFacts.{run_boundary, char_boundary}
 
 -- a part that isn't empty, and where it may be cut out

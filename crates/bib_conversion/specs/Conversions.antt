@@ -8,10 +8,10 @@ use Rattle.bib_syntax.specs.Reading.{Part, FieldReading, EntryReading, FileReadi
 use Rattle.bib_tables.specs.EntryType.{entry_type_name, entry_type_of}
 use Rattle.bib_tables.specs.declared.mechanics.EntryType.{EntryType}
 use Rattle.bib_tables.specs.declared.mechanics.EntryType.TheVariants.{Unknown}
-use Rattle.bib_entry.specs.Dialect.{kind_in}
-use Rattle.bib_entry.specs.WrittenEntries.{biblatex_names, names_in}
-use Rattle.bib_entry.specs.declared.write.Dialect.{Dialect}
-use Rattle.bib_entry.specs.declared.write.Dialect.TheVariants.{Biblatex, Bibtex}
+use Rattle.bib_tables.specs.Dialects.{kind_in}
+use Rattle.bib_tables.specs.Dialects.{biblatex_names, names_in}
+use Rattle.bib_tables.specs.declared.dialects.Dialect.{Dialect}
+use Rattle.bib_tables.specs.declared.dialects.Dialect.TheVariants.{Biblatex, Bibtex}
 use Rattle.bib_documents.specs.Documents.{Document, has_name, value_stretch}
 use Rattle.bib_documents.specs.Edits.{Edit, edited_all}
 use Rattle.bib_format.specs.Formatted.{has_percent}

@@ -1,9 +1,9 @@
 -- Meaning: words of public contracts.
 -- A year, a month and perhaps a day as the text of one date, as BibLaTeX has them: of the date that the library reads of the three fields.
-use Rattle.std.specs.Prelude.{ℕ, Bool, true, ◌&&◌, ◌||◌, if◌then◌else◌, List, [], ◌∷◌, codes, is_some, not, Option, Some, None}
+use Rattle.std.specs.Prelude.{ℕ, Bool, true, ◌&&◌, ◌||◌, if◌then◌else◌, List, [], ◌∷◌, is_some, not, Option, Some, None}
 use Rattle.std.specs.Char.{is_ascii_alphabetic}
-use Rattle.std.specs.List.{list_all, list_any}
-use Rattle.bib_syntax.specs.Grammar.{is_word}
+use Rattle.std.specs.List.{list_all}
+use Rattle.bib_tables.specs.Months.{month_of_abbreviation}
 use Rattle.bib_syntax.specs.Reading.{Piece}
 use Rattle.bib_syntax.specs.Reading.Piece.{literal, abbreviation}
 use Rattle.bib_dates.specs.declared.date.Date.{Date}
@@ -39,15 +39,9 @@ joined_text year month day =
     if are_digits 4 year && (is_month_alone month && is_day_alone day)
     then month_date_text (readable_value (three_fields_of year (Some month) day)) else None
 
--- the abbreviations of months
-abbrev pub month_names : List (List ℕ)
-month_names =
-    codes "jan" ∷ codes "feb" ∷ codes "mar" ∷ codes "apr" ∷ codes "may" ∷ codes "jun" ∷ codes "jul" ∷ codes "aug"
-    ∷ codes "sep" ∷ codes "oct" ∷ codes "nov" ∷ codes "dec" ∷ []
-
--- whether a name is that of one of them, in any ASCII case
+-- whether a name is the abbreviation of a month, in any ASCII case
 abbrev pub is_month_name : List ℕ → Bool
-is_month_name name = list_any (is_word name) month_names
+is_month_name name = is_some (month_of_abbreviation name)
 
 -- the text of a month: of one literal, or the name of one abbreviation of a month, where the file doesn't define that itself
 abbrev pub month_value : Bool → List Piece → Option (List ℕ)

@@ -3,7 +3,7 @@
 use Rattle.std.specs.Prelude.{◌≡◌, ℕ, Bool, false, List, codes, Some}
 use Rattle.std.specs.List.{find, list_any}
 use Rattle.bib_syntax.specs.Reading.{EntryReading, FieldReading}
-use Rattle.bib_entry.specs.declared.write.Dialect.{Dialect}
+use Rattle.bib_tables.specs.declared.dialects.Dialect.{Dialect}
 use Rattle.bib_documents.specs.Documents.{has_name}
 use Rattle.bib_dates.specs.Dates.{date_of}
 use Rattle.bib_dates.specs.ThreeFields.{three_fields_of}

@@ -5,8 +5,8 @@ use Rattle.std.specs.List.{list_any}
 use Rattle.bib_syntax.specs.Grammar.{is_word}
 use Rattle.bib_syntax.specs.Reading.{EntryReading, FieldReading}
 use Rattle.bib_tables.specs.EntryType.{entry_type_of}
-use Rattle.bib_entry.specs.declared.write.Dialect.{Dialect}
-use Rattle.bib_entry.specs.declared.write.Dialect.TheVariants.{Biblatex, Bibtex}
+use Rattle.bib_tables.specs.declared.dialects.Dialect.{Dialect}
+use Rattle.bib_tables.specs.declared.dialects.Dialect.TheVariants.{Biblatex, Bibtex}
 use Rattle.bib_documents.specs.Documents.{Document, has_name}
 use Rattle.bib_conversion.specs.Conversions.{FieldChange, defines_month, field_change, other_name, other_names}
 use Rattle.bib_conversion.specs.declared.notes.Note.{Note}

@@ -10,8 +10,8 @@ ghost use Rattle.bib_conversion.specs.Tables.{lent_names};
 use crate::fields::divides_date;
 use crate::joining::joined_date;
 use crate::names::exchanged_names;
-use bib_entry::write::Dialect;
 use bib_syntax::raw::Pair;
+use bib_tables::dialects::Dialect;
 use bib_tables::mechanics::EntryType;
 use std::alloc::{AllocError, Global};
 

@@ -14,8 +14,8 @@ ghost use Rattle.bib_conversion.specs.Tables.{lent_text, sides_as_written};
 
 use crate::dates::{Sides, date_sides};
 use crate::names::has_field;
-use bib_entry::write::Dialect;
 use bib_syntax::raw::{Pair, RawChunk, is_word};
+use bib_tables::dialects::Dialect;
 use bib_text::spanned::Spanned;
 use std::alloc::{AllocError, Global};
 

@@ -10,7 +10,7 @@ ghost use Rattle.bib_chunks.specs.Values as values;
 ghost use Rattle.bib_dates.specs.Readings.{readable_value};
 ghost use Rattle.bib_dates.specs.ThreeFields.{three_fields_of};
 ghost use Rattle.bib_documents.specs.Documents.{has_name};
-ghost use Rattle.bib_entry.specs.declared.write.Dialect.TheVariants.{Biblatex};
+ghost use Rattle.bib_tables.specs.declared.dialects.Dialect.TheVariants.{Biblatex};
 ghost use Rattle.bib_format.specs.Formatted as formatted;
 ghost use Rattle.bib_syntax.specs.Views.{field_of, piece_of};
 ghost use Rattle.bib_conversion.specs.Conversions as conversions;
@@ -19,12 +19,12 @@ ghost use Rattle.bib_conversion.specs.Tables.{lent_text};
 
 use crate::dates::{are_digits, is_date};
 use crate::fields::{count_named, first_named, has_any, has_part, is_date_part, single_text};
-use crate::names::is_one_of;
 use bib_chunks::chunk::making::verbatim;
 use bib_chunks::chunk::{Chunks, ChunksRef};
 use bib_dates::date::Date;
-use bib_entry::write::Dialect;
 use bib_syntax::raw::{Pair, RawChunk};
+use bib_tables::dialects::Dialect;
+use bib_tables::months::Month;
 use bib_text::spanned::Spanned;
 use std::alloc::{AllocError, Global};
 
@@ -154,12 +154,7 @@ fn joined_text(
 fn is_month_name(name: &str) -> bool
     ensures { result ≡ spec.is_month_name name.now }
 {
-    is_one_of(
-        &[
-            "jan", "feb", "mar", "apr", "may", "jun", "jul", "aug", "sep", "oct", "nov", "dec",
-        ],
-        name,
-    )
+    Month::from_abbreviation(name).is_some()
 }
 
 // Whether a file defines an abbreviation of a month itself, in any ASCII case.

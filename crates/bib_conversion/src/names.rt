@@ -4,13 +4,13 @@ ghost use Rattle.std.specs.Prelude.{◌≡◌, IfOk, map};
 ghost use Rattle.std.specs.List.{list_any};
 ghost use Rattle.bib_syntax.specs.Grammar.{is_word};
 ghost use Rattle.bib_syntax.specs.Views.{field_of};
-ghost use Rattle.bib_entry.specs.Dialect.{kind_in};
+ghost use Rattle.bib_tables.specs.Dialects.{kind_in};
 ghost use Rattle.bib_conversion.specs.Conversions as spec;
 ghost use Rattle.bib_conversion.specs.Tables.{lent_names, lent_text};
 ghost use Rattle.bib_strings.specs.Collecting.{lent_texts};
 
-use bib_entry::write::Dialect;
 use bib_syntax::raw::{Pair, is_word};
+use bib_tables::dialects::Dialect;
 use bib_tables::mechanics::EntryType;
 use std::alloc::{AllocError, Global};
 

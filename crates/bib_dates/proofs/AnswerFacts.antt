@@ -61,7 +61,7 @@ month_said : (text : List ℕ) (day : Option (List ℕ)) (r : Result (Option ℕ
 unfolding month_with_day
 month_said text day r p is found = rw (sym is ∙ part_said r p found) refl
 
--- an error of the day is an error of the month and the day
+-- if the month is parsed and the day has an error, the month and the day have this error
 pub day_refused : (text : List ℕ) (day : Option (List ℕ)) (r : Result (Option ℕ × Bor (List ℕ)) ReadError)
     (p : Option ℕ × Bor (List ℕ)) (read : Reading (Option ℕ)) (e : TypeError)
     → part_reading r ≡ month_field text → readable_value (reading r) ≡ Some p → read ≡ day_of day p.1.now → Refused read e

@@ -8,7 +8,8 @@ use Rattle.bib_dates.specs.Readings.Reading.{says, error}
 use Rattle.bib_dates.specs.Parts.{number, small_number, after_hyphens, sign, year}
 use Rattle.bib_dates.specs.Times.{time, after_day, after_hour, after_minute, offset}
 use Rattle.bib_dates.specs.Dates.{datetime, after_month, after_year, side, century, decade, all_days, unknown_month, after_four_digits, unknown, range, date_value, marked_date, date_of}
-use Rattle.bib_dates.specs.ThreeFields.{of_era, with_era, year_field, month_named, month_field, day_after, only_day, day_field, month_with_day, three_fields_of}
+use Rattle.bib_tables.specs.Months.{month_of_word}
+use Rattle.bib_dates.specs.ThreeFields.{of_era, with_era, year_field, month_field, day_after, only_day, day_field, month_with_day, three_fields_of}
 
 century_not_exact : date_of (codes "19XX~")
     ≡ says
@@ -83,16 +84,16 @@ third_before : three_fields_of (codes "3 BCE") (Some (codes "Mar~5")) (Some (cod
       uncertain = false;
       approximate = false;
     })
-unfolding trim_start trim_end chars year_field sign with_era of_era month_field month_named day_field only_day
+unfolding trim_start trim_end chars year_field sign with_era of_era month_field month_of_word day_field only_day
     month_with_day three_fields_of lib.Utf8.encode
 third_before = refl
 
 no_such_day : three_fields_of (codes "2020") (Some (codes "5")) (Some (codes "32")) ≡ error DayOutOfRange
-unfolding trim_start trim_end chars year_field sign with_era of_era month_field month_named day_field only_day
+unfolding trim_start trim_end chars year_field sign with_era of_era month_field month_of_word day_field only_day
     month_with_day three_fields_of lib.Utf8.encode
 no_such_day = refl
 
 day_after_month : three_fields_of (codes "2020") (Some (codes "May 32")) None ≡ error DayOutOfRange
-unfolding trim_start trim_end chars year_field sign with_era of_era month_field month_named day_after month_with_day
+unfolding trim_start trim_end chars year_field sign with_era of_era month_field month_of_word day_after month_with_day
     three_fields_of lib.Utf8.encode
 day_after_month = refl

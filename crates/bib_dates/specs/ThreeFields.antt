@@ -8,7 +8,8 @@ use Rattle.std.specs.declared.ops.Range.{Range}
 use Rattle.std.specs.Char.{is_ascii_digit, is_ascii_alphabetic, is_whitespace}
 use Rattle.std.specs.Char.Unicode.Alphabetic.{is_alphabetic}
 use Rattle.std.specs.Char.Unicode.Numeric.{is_numeric}
-use Rattle.std.specs.Str.{chars, trim, trim_start, str_eq_ignore_ascii_case}
+use Rattle.std.specs.Option.{option_map}
+use Rattle.std.specs.Str.{chars, trim, trim_start}
 use Rattle.std.specs.Str.Parse.{digits_value}
 use Rattle.bib_dates.specs.declared.date.Date.{Date}
 use Rattle.bib_dates.specs.declared.date.DateValue.TheVariants.{At}
@@ -19,6 +20,7 @@ use Rattle.bib_dates.specs.Readings.Reading.{says, error, unread}
 use Rattle.bib_dates.specs.Parts.{run, after_run, lies, begins_with, sign, with_sign}
 use Rattle.bib_dates.specs.Dates.{datetime}
 use Rattle.bib_text.specs.Characters as char
+use Rattle.bib_tables.specs.Months.{month_index, month_of_word}
 
 -- whether a text begins with white space
 abbrev pub starts_blank : List ℕ → Bool
@@ -73,26 +75,9 @@ year_field text =
     then with_era has_sign (sign here).0 (digits_value 10 (run is_ascii_digit digits)) (trim_start (after_run is_ascii_digit digits))
     else unread
 
--- whether a word is the name of a month or its first three letters, in any ASCII case
-abbrev pub names : List ℕ → List ℕ → List ℕ → Bool
-names word name short = str_eq_ignore_ascii_case word name || str_eq_ignore_ascii_case word short
-
--- the month that a word names, from 0
-unfoldable pub month_named : List ℕ → Option ℕ
-month_named word =
-    if names word (codes "january") (codes "jan") then Some 0
-    else if names word (codes "february") (codes "feb") then Some 1
-    else if names word (codes "march") (codes "mar") then Some 2
-    else if names word (codes "april") (codes "apr") then Some 3
-    else if names word (codes "may") (codes "may") then Some 4
-    else if names word (codes "june") (codes "jun") then Some 5
-    else if names word (codes "july") (codes "jul") then Some 6
-    else if names word (codes "august") (codes "aug") then Some 7
-    else if names word (codes "september") (codes "sep") then Some 8
-    else if names word (codes "october") (codes "oct") then Some 9
-    else if names word (codes "november") (codes "nov") then Some 10
-    else if names word (codes "december") (codes "dec") then Some 11
-    else None
+-- the index of the month, from 0, whose English name or abbreviation a word is, in any ASCII case
+abbrev pub month_named : List ℕ → Option ℕ
+month_named word = option_map month_index (month_of_word word)
 
 -- the month that the letters at the start of a text name, or `None`, and the text after these letters
 abbrev pub named_month : List ℕ → Parsed (Option ℕ)

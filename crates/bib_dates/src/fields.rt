@@ -12,6 +12,7 @@ ghost use Rattle.bib_dates.specs.ThreeFields as Spec;
 use crate::errors::{ReadError, SpecifiedKind, UnspecifiedKind};
 use crate::parts::{after, digits, sign, value, with_sign};
 use bib_chunks::chunk::Span;
+use bib_tables::months::Month;
 use bib_text::scanner::Scanner;
 
 // Returns whether the text begins with white space.
@@ -109,45 +110,11 @@ pub(crate) fn year_field(text: &str) -> Result<i32, ReadError>
     with_era(has_sign, is_minus, value(digits), following.trim_start())
 }
 
-// Returns whether a word is this name or its short form, in any ASCII case.
-fn names(word: &str, name: &str, short: &str) -> bool
-    ensures { result ≡ Spec.names word.now name.now short.now }
-{
-    word.eq_ignore_ascii_case(name) || word.eq_ignore_ascii_case(short)
-}
-
-// Returns the month that a word names, from 0.
-#[tactic(auto, unfolding(crate::specs::ThreeFields::month_named))]
+// Returns the index of the month that a word names, from 0.
 fn month_named(word: &str) -> Option<u8>
     ensures { result ≡ Spec.month_named word.now }
 {
-    if names(word, "january", "jan") {
-        Some(0)
-    } else if names(word, "february", "feb") {
-        Some(1)
-    } else if names(word, "march", "mar") {
-        Some(2)
-    } else if names(word, "april", "apr") {
-        Some(3)
-    } else if names(word, "may", "may") {
-        Some(4)
-    } else if names(word, "june", "jun") {
-        Some(5)
-    } else if names(word, "july", "jul") {
-        Some(6)
-    } else if names(word, "august", "aug") {
-        Some(7)
-    } else if names(word, "september", "sep") {
-        Some(8)
-    } else if names(word, "october", "oct") {
-        Some(9)
-    } else if names(word, "november", "nov") {
-        Some(10)
-    } else if names(word, "december", "dec") {
-        Some(11)
-    } else {
-        None
-    }
+    Some(Month::from_word(word)?.index())
 }
 
 // Returns the number of ASCII letters at the start.

@@ -283,7 +283,7 @@ fn range(from: &str, to: &str) -> Result<DateValue, ReadError>
 
 // Returns the texts before and after the first slash.
 fn sides(text: &str) -> Option<(&str, &str)>
-    ensures some { is_some result ≡ Spec.holds 47 text.now }
+    ensures some { is_some result ≡ Spec.holds char.slash text.now }
     ensures from { IfSome result (λ p. p.0.now ≡ before_first (λ b. b == char.slash) text.now) }
     ensures to { IfSome result (λ p. p.1.now ≡ after_first (λ b. b == char.slash) text.now) }
 {

@@ -1,6 +1,7 @@
 //! Parses hyphens and colons between the parts of a date.
 
 ghost use Rattle.std.specs.Prelude.{◌≡◌, MatchResult};
+ghost use Rattle.bib_text.specs.Characters as char;
 ghost use Rattle.bib_dates.specs.Separators.{IsHyphens, IsColon, IsWithout, no_sign};
 
 use bib_tables::type_error::{TypeError, TypeErrorKind};
@@ -21,7 +22,7 @@ fn no_sign(s: &Scanner<'_>, start: usize) -> TypeError
 pub fn parse_hyphen(s: &mut Scanner<'_>) -> Result<(), TypeError>
     ensures { MatchResult result
         (λ _. IsHyphens s.old s.new)
-        (λ e. IsWithout 45 s.old s.new × (e ≡ no_sign s.old s.new)) }
+        (λ e. IsWithout char.hyphen s.old s.new × (e ≡ no_sign s.old s.new)) }
 {
     let start = s.cursor();
     s.eat_whitespace();
@@ -37,7 +38,7 @@ pub fn parse_hyphen(s: &mut Scanner<'_>) -> Result<(), TypeError>
 pub fn parse_colon(s: &mut Scanner<'_>) -> Result<(), TypeError>
     ensures { MatchResult result
         (λ _. IsColon s.old s.new)
-        (λ e. IsWithout 58 s.old s.new × (e ≡ no_sign s.old s.new)) }
+        (λ e. IsWithout char.colon s.old s.new × (e ≡ no_sign s.old s.new)) }
 {
     let start = s.cursor();
     s.eat_whitespace();

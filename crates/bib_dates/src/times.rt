@@ -79,7 +79,8 @@ fn after_minute(hour: u8, minute: u8, text: &str) -> Result<Option<Time>, ReadEr
     }))
 }
 
-// Returns the time of this hour, and of the minute, the second and the offset that may come after it.
+// Parses `text` after an hour: an optional minute, after it an optional second, and after that an optional offset.
+// Never returns `Ok(None)`.
 #[tactic(auto, unfolding(crate::specs::Times::after_hour))]
 fn after_hour(hour: u8, text: &str) -> Result<Option<Time>, ReadError>
     ensures { reading result ≡ Spec.after_hour hour text.now }

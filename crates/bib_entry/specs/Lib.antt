@@ -2,7 +2,6 @@ pub mod Fields
 pub mod Editors
 pub mod Verdicts
 pub mod Reports
-pub mod Dialect
 pub mod Parents
 pub mod WrittenEntries
 pub mod DateFields

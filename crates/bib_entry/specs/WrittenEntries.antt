@@ -1,17 +1,18 @@
 -- Meaning: words of public contracts.
 -- The text of entries in BibLaTeX's or BibTeX's types and fields, as the Rust crate `biblatex` writes them. Texts are lists
 -- of bytes.
-use Rattle.std.specs.Prelude.{ℕ, List, [], ◌∷◌, ◌++◌, codes, unwrap_or, encode_utf8_all, bytes_eq, if◌then◌else◌, Option, Some, None}
+use Rattle.std.specs.Prelude.{ℕ, List, [], ◌∷◌, ◌++◌, codes, encode_utf8_all, bytes_eq, if◌then◌else◌, Option, Some, None}
 use Rattle.std.specs.FinMap.{entries}
 use Rattle.std.specs.List.{flat_map}
-use Rattle.bib_text.specs.Enums.{value_named}
 use Rattle.bib_text.specs.declared.spanned.Spanned.{Spanned}
 use Rattle.bib_chunks.specs.declared.chunk.Chunk.{Chunk}
 use Rattle.bib_chunks.specs.Written.{written_value}
 use Rattle.bib_tables.specs.VerbatimFields.{is_verbatim_field}
 use Rattle.bib_tables.specs.EntryType.{entry_type_name, biblatex_type, bibtex_type}
 use Rattle.bib_tables.specs.declared.mechanics.EntryType.{EntryType}
-use Rattle.bib_tables.specs.declared.mechanics.EntryType.TheVariants.{Thesis, MastersThesis, PhdThesis}
+use Rattle.bib_tables.specs.declared.dialects.Dialect.{Dialect}
+use Rattle.bib_tables.specs.declared.dialects.Dialect.TheVariants.{Biblatex, Bibtex}
+use Rattle.bib_tables.specs.Dialects.{biblatex_name, bibtex_name}
 use Rattle.bib_dates.specs.Chunks.{date_read}
 use Rattle.bib_dates.specs.Written.{first_side, second_side, year_text, month_text, day_text}
 use Rattle.bib_dates.specs.declared.date.Date.{Date}
@@ -30,14 +31,6 @@ written_line name value = name ++ (codes " = " ++ (value ++ codes ",\n"))
 abbrev pub entry_text : List ℕ → List ℕ → List ℕ → List ℕ
 entry_text kind key lines = codes "@" ++ (kind ++ (codes "{" ++ (key ++ (codes ",\n" ++ (lines ++ codes "}")))))
 
--- BibLaTeX's names of some fields of BibTeX
-abbrev pub biblatex_names : List (List ℕ × List ℕ)
-biblatex_names = (codes "journal", codes "journaltitle") ∷ (codes "address", codes "location") ∷ (codes "school", codes "institution") ∷ []
-
--- BibLaTeX's name of a field
-abbrev pub biblatex_name : List ℕ → List ℕ
-biblatex_name name = unwrap_or (value_named biblatex_names name) name
-
 -- the line of a field with BibLaTeX's name
 abbrev pub biblatex_field : List ℕ × List (Spanned Chunk) → List ℕ
 biblatex_field f = written_line (biblatex_name f.0) (value_bytes f.0 f.1)
@@ -45,25 +38,6 @@ biblatex_field f = written_line (biblatex_name f.0) (value_bytes f.0 f.1)
 -- the text of an entry in BibLaTeX's type and fields, in the order of the bytes of the fields' names in the entry
 abbrev pub biblatex_entry : Entry → List ℕ
 biblatex_entry e = entry_text (entry_type_name (biblatex_type e.entry_type)) e.key (flat_map biblatex_field (entries e.fields))
-
--- BibTeX's names of some fields of BibLaTeX
-abbrev pub bibtex_names : List (List ℕ × List ℕ)
-bibtex_names = (codes "journaltitle", codes "journal") ∷ (codes "location", codes "address") ∷ []
-
--- BibTeX's names of fields of a thesis: also `school` for `institution`
-abbrev pub thesis_names : List (List ℕ × List ℕ)
-thesis_names = (codes "institution", codes "school") ∷ bibtex_names
-
--- BibTeX's names of some fields of an entry of this type
-abbrev pub names_in : EntryType → List (List ℕ × List ℕ)
-names_in Thesis = thesis_names
-names_in MastersThesis = thesis_names
-names_in PhdThesis = thesis_names
-names_in kind = bibtex_names
-
--- BibTeX's name of a field of an entry of this type
-abbrev pub bibtex_name : EntryType → List ℕ → List ℕ
-bibtex_name kind name = unwrap_or (value_named (names_in kind) name) name
 
 -- the line of a part of a date; empty if there is no such part
 abbrev pub part_line : List ℕ → Option (List ℕ) → List ℕ
@@ -100,6 +74,16 @@ bibtex_field kind f =
 -- the text of an entry in BibTeX's type and fields, in the order of the bytes of the fields' names in the entry
 abbrev pub bibtex_entry : Entry → List ℕ
 bibtex_entry e = entry_text (entry_type_name (bibtex_type e.entry_type)) e.key (flat_map (bibtex_field e.entry_type) (entries e.fields))
+
+-- the lines of a field of an entry of this type in a dialect
+abbrev pub written_field : Dialect → EntryType → List ℕ × List (Spanned Chunk) → List ℕ
+written_field Biblatex kind f = biblatex_field f
+written_field Bibtex kind f = bibtex_field kind f
+
+-- the text of an entry in the types and fields of a dialect
+abbrev pub entry_in : Dialect → Entry → List ℕ
+entry_in Biblatex = biblatex_entry
+entry_in Bibtex = bibtex_entry
 
 -- the text of entries, given the text of each: a line feed after each, and an empty line between two. Without entries it is
 -- empty

@@ -5,51 +5,21 @@ ghost use Rattle.std.specs.FinMap.{entries};
 ghost use Rattle.std.specs.List.{flat_map};
 ghost use Rattle.bib_tables.specs.EntryType.{entry_type_name};
 ghost use Rattle.bib_text.specs.Enums.{value_named};
-ghost use Rattle.bib_entry.specs.Dialect.{entry_in, written_field, kind_in};
+ghost use Rattle.bib_tables.specs.Dialects.{kind_in};
+ghost use Rattle.bib_entry.specs.WrittenEntries.{entry_in, written_field};
 ghost use Rattle.std.specs.Option.{option_map};
 ghost use Rattle.bib_dates.specs.Chunks.{date_read};
-ghost use Rattle.bib_entry.specs.WrittenEntries.{biblatex_entry, biblatex_name, bibtex_entry, bibtex_field, bibtex_name, bibtex_names, date_lines, date_or, written_line, part_line, side_lines, thesis_names, value_bytes};
+ghost use Rattle.bib_tables.specs.Dialects.{biblatex_name, bibtex_name, bibtex_names, thesis_names};
+ghost use Rattle.bib_entry.specs.WrittenEntries.{biblatex_entry, bibtex_entry, bibtex_field, date_lines, date_or, written_line, part_line, side_lines, value_bytes};
 
 use crate::entry::Entry;
 use bib_chunks::chunk::{ChunksRef, write_value};
 use bib_dates::date::{Date, Datetime};
+use bib_tables::dialects::{Dialect, biblatex_name, bibtex_name};
 use bib_tables::fields::is_verbatim_field;
 use bib_tables::mechanics::EntryType;
 use bib_typed::typed::Type;
 use std::alloc::{AllocError, Global};
-
-/// The dialect whose types and fields an entry is written with.
-#[derive(Clone, Copy)]
-pub enum Dialect {
-    /// BibLaTeX.
-    Biblatex,
-    /// BibTeX.
-    Bibtex,
-}
-
-impl Dialect {
-    // Returns the entry type of this dialect that `kind` is mapped to.
-    fn kind(self, kind: &EntryType) -> EntryType
-        ensures { result ≡ kind_in self kind.now }
-    {
-        match self {
-            Dialect::Biblatex => kind.to_biblatex(),
-            Dialect::Bibtex => kind.to_bibtex(),
-        }
-    }
-}
-
-// Returns BibLaTeX's name of a field.
-fn biblatex_name(name: &str) -> &str
-    ensures { result.now ≡ biblatex_name name.now }
-{
-    match name {
-        "journal" => "journaltitle",
-        "address" => "location",
-        "school" => "institution",
-        _ => name,
-    }
-}
 
 // Appends the line of a field. `written` is the name in the output, and `name` is the name in the entry.
 fn write_line(
@@ -66,37 +36,6 @@ fn write_line(
     write_value(out, chunks, is_verbatim_field(name))?;
     out.push_str(",\n")?;
     Ok(())
-}
-
-// Returns BibTeX's name of a field, for any type of its entry.
-fn plain_name(name: &str) -> &str
-    ensures { result.now ≡ unwrap_or (value_named bibtex_names name.now) name.now }
-{
-    match name {
-        "journaltitle" => "journal",
-        "location" => "address",
-        _ => name,
-    }
-}
-
-// Returns BibTeX's name of a field of a thesis.
-fn thesis_name(name: &str) -> &str
-    ensures { result.now ≡ unwrap_or (value_named thesis_names name.now) name.now }
-{
-    match name {
-        "institution" => "school",
-        _ => plain_name(name),
-    }
-}
-
-// Returns BibTeX's name of a field of an entry of type `kind`.
-fn bibtex_name<'n>(kind: &EntryType, name: &'n str) -> &'n str
-    ensures { result.now ≡ bibtex_name kind.now name.now }
-{
-    match kind {
-        EntryType::Thesis | EntryType::MastersThesis | EntryType::PhdThesis => thesis_name(name),
-        _ => plain_name(name),
-    }
 }
 
 // Appends the line of a part of a date, if there is one.

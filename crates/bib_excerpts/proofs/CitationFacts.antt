@@ -94,7 +94,7 @@ cites_push cited at (y ∷ xs) x =
     (append_assoc (cites_at at (cited y)) (cites_from cited (at + (length y + 1)) xs)
     (cites_at (at + ((length y + 1) + past xs)) (cited x)))
 
--- the pieces of a text, with a separator after each, are one byte longer than the text
+-- a byte in front of the first piece makes the count one greater
 onto : (x : ℕ) (parts : List (List ℕ)) → 0 < length parts → past (onto_first x parts) ≡ past parts + 1
 onto x [] some = absurd (omega (arith, some))
 onto x (part ∷ parts) some = omega arith
@@ -109,6 +109,7 @@ parts_some p (x ∷ xs) = of (p x) where
     longer [] = omega arith
     longer (part ∷ parts) = omega arith
 
+-- the pieces of a text, with a separator after each, are one byte longer than the text
 pub past_split : (p : ℕ → Bool) (xs : List ℕ) → past (slice_split p xs) ≡ length xs + 1
 past_split p [] = omega arith
 past_split p (x ∷ xs) = of (p x) (past_split p xs) where

@@ -15,7 +15,7 @@ not_all : (names : List (List ℕ)) (all : Bool) (nodes : List Node) (index : �
 not_all names all nodes index none (any is) = absurd (false≢true (sym none ∙ is))
 not_all names all nodes index none (needed h) = h
 
--- if not all nodes are cited, marks on the needed nodes are marks on the cited ones
+-- if `all` is false, marks on the needed nodes are marks on the cited ones
 pub needed_marks : (names : List (List ℕ)) (all : Bool) (nodes : List Node) (n : ℕ) (marks : List Bool) → all ≡ false
     → AreMarks (IsNeeded names nodes) n marks → AreMarks (IsCited names all nodes) n marks
 needed_marks names all nodes n marks none h = record {
@@ -26,7 +26,7 @@ needed_marks names all nodes n marks none h = record {
   );
 }
 
--- if all nodes are cited, marks on all nodes are marks on the cited ones
+-- if `all` is true, marks on all nodes are marks on the cited ones
 pub all_marks : (names : List (List ℕ)) (all : Bool) (nodes : List Node) (n : ℕ) (marks : List Bool) → all ≡ true
     → marks ≡ replicate n true → AreMarks (IsCited names all nodes) n marks
 all_marks names all nodes n marks is made = record {

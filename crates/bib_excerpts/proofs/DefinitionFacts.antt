@@ -1,4 +1,4 @@
--- The positions of definitions in a text.
+-- The byte offsets of definitions in a text.
 use Rattle.std.proofs.Common.{◌≡◌, ◌≤◌, ◌<◌, ◌+◌, ◌/◌, ℕ, Bool, true, false, cond, List, ◌++◌, drop, get_or, refl, sym, ap, subst, ◌∙◌, arith, ltb}
 use Rattle.std.specs.List.{AllByRecursion}
 use Rattle.std.specs.Str.{IsUtf8, IsCharBoundary}
@@ -72,7 +72,7 @@ pub record IsCutOut (text : List ℕ) (f : FieldReading) : Type 0 where
   pub start : IsCharBoundary text f.name.start
   pub end : IsCharBoundary text f.value.end
 
--- a field that is at its position in a UTF-8 text may be cut out of it
+-- a field that is at its offset in a UTF-8 text may be cut out of it
 pub cut_out : (text : List ℕ) (f : FieldReading) → IsUtf8 text → IsFieldIn text f → IsCutOut text f
 cut_out text f utf8 stands =
     let field = stands.1 in
@@ -86,7 +86,7 @@ cut_out text f utf8 stands =
       end = subst (λ n. IsCharBoundary text n) (sym field.ends) (cut_elements text utf8 before field.elements).1;
     }
 
--- ---- each definition that is parsed is at its position in the text
+-- ---- each definition that is parsed is at its offset in the text
 
 field_in : {u v : Place} {f : FieldReading} (text : List ℕ) → u.text ≡ text → Field longest u f v → IsFieldIn text f
 field_in {u} {v} {f} text same field = (
@@ -109,7 +109,7 @@ in_body text same (body.preamble quoted white close is_close) = _
 in_body text same (body.strings fs close) = fields_in text same fs
 in_body text same (body.entry v key white comma gap fs close) = _
 
--- each definition that is recovered from a text is at its position in the text
+-- each definition that is recovered from a text is at its offset in the text
 pub definitions_stand : {u : Place} {says : FileReading} {errors : List SkippedBlock} (text : List ℕ) → u.text ≡ text
     → Recovered u says errors → AllByRecursion (IsFieldIn text) says.abbreviations
 definitions_stand text same (recovered.end end) = _

@@ -82,7 +82,7 @@ fn dashed_text(alloc: Global, text: &str) -> Result<Text, AllocError>
 
 // The two sides of the first hyphen.
 fn sides(text: &str) -> Option<(&str, &str)>
-    ensures some { is_some result ≡ has_byte 45 text.now }
+    ensures some { is_some result ≡ has_byte char.hyphen text.now }
     ensures from { IfSome result (λ p. p.0.now ≡ before_first (λ b. b == char.hyphen) text.now) }
     ensures to { IfSome result (λ p. p.1.now ≡ after_first (λ b. b == char.hyphen) text.now) }
 {

@@ -102,7 +102,7 @@ last_at text at utf8 boundary within here later =
       next = IsCharBoundary-after_ascii text at utf8 within (omega arith);
     }
 
--- what `rfind` returns for a space is the position of the last one
+-- for a space, `rfind` returns the byte offset of the last one
 pub last_space_found : (text : List ℕ) (r : Option ℕ) → IsUtf8 text
     → MatchOption r (RFindsChar 32 text None)
     (λ i. (j : ℕ) × RFindsChar 32 text (Some (i, j)) × (i ≤ j) × IsCharBoundary text i × IsCharBoundary text j)

@@ -19,7 +19,7 @@ is_of Low = is_low
 abbrev pub cuts_of : TheCuts → Cuts
 cuts_of cuts = record { given = cuts.given; prefix = cuts.prefix }
 
--- `at` is the position of the last space of a text, in bytes
+-- `at` is the byte offset of the last space of a text
 pub record IsLastSpace (text : List ℕ) (at : ℕ) : Type 0 where
   pub some : list_any is_space_byte text ≡ true
   pub within : at < length text

@@ -46,7 +46,7 @@ joined lines start end low =
     let size : start + (end - start) ≡ end = omega arith in
     sym (take-add start (end - start) lines) ∙ ap (λ n. take n lines) size
 
--- hidden lines from `at` to `start` and the lines from there to `end` extend the hunks so far
+-- the hunks so far are extended by skipped equal lines from `at` to `start`, and by shown lines from `start` to `end`
 pub step : (lines : List Line) (at start end old new : ℕ) (made more : List Hunk) (rest rest' : List (List ℕ))
     → at ≤ start → start ≤ end → end ≤ length lines
     → AreContext (take (start - at) (drop at lines))

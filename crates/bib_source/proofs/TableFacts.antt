@@ -17,7 +17,7 @@ bytes = range_with_len 0 256
 byte_of : ℕ → ℕ
 byte_of c = unwrap_or (find (λ b. windows_1252 b == c) bytes) 0
 
--- whether a byte is the first with its character
+-- whether a byte is the first one that decodes to its character
 abbrev is_own : ℕ → Bool
 is_own b = byte_of (windows_1252 b) == b
 

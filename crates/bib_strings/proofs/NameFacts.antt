@@ -1,8 +1,8 @@
 -- Names that are made for texts.
 use Rattle.std.proofs.Common.{◌≡◌, ℕ, zero, suc, ◌+◌, ◌<◌, ◌≤◌, ◌||◌, ◌&&◌, Bool, true, false, not, List, [], ◌∷◌, ◌++◌, length, drop, codes, refl, sym, ap, ◌∙◌, subst, arith, length-append}
-use Rattle.std.specs.Prelude.{replicate}
+use Rattle.std.specs.Prelude.{replicate, cond, Option, Some, None, is_some}
 use Rattle.std.specs.Char.{is_ascii_digit, is_ascii_lowercase, to_ascii_lowercase}
-use Rattle.std.specs.List.{list_all}
+use Rattle.std.specs.List.{find, list_all}
 use Rattle.std.specs.Str.{str_to_ascii_lowercase}
 use Rattle.std.proofs.lemmas.Bool.{false≢true, and_parts, or_parts}
 use Rattle.std.proofs.lemmas.Bool.Decides.{nat_tests}
@@ -11,6 +11,9 @@ use Rattle.std.proofs.lemmas.Slice.Eq.{bytes_eq-Decides}
 use Rattle.bib_text.specs.Places.{place, CharAt, Run}
 use Rattle.bib_text.specs.Places.Run.{stop, step}
 use Rattle.bib_text.proofs.PlaceFacts.{no_char_at_end, same_char}
+use Rattle.bib_tables.specs.Months.{is_abbreviated, month_abbreviation, month_of_abbreviation, year_months}
+use Rattle.bib_tables.specs.declared.months.Month.{Month}
+use Rattle.bib_tables.specs.declared.months.Month.TheVariants.{January, February, March, April, May, June, July, August, September, October, November, December}
 use Rattle.bib_syntax.specs.Characters.{is_id_continue, is_id_start}
 use Rattle.bib_syntax.specs.Grammar.{Identifier, NoDigit, is_word, longest}
 use Rattle.bib_syntax.specs.Reading.{part}
@@ -95,29 +98,31 @@ no_word name word long three = by_case (is_word name word) refl
     by_case true is = absurd (omega (arith, word_length name word is))
     by_case false is = is
 
+-- an abbreviation of a month has three letters
+three_letters : (month : Month) → length (month_abbreviation month) ≡ 3
+three_letters January = refl
+three_letters February = refl
+three_letters March = refl
+three_letters April = refl
+three_letters May = refl
+three_letters June = refl
+three_letters July = refl
+three_letters August = refl
+three_letters September = refl
+three_letters October = refl
+three_letters November = refl
+three_letters December = refl
+
+-- a longer name abbreviates none of some months
+none_abbreviated : (name : List ℕ) (months : List Month) → 3 < length name → find (is_abbreviated name) months ≡ None
+none_abbreviated name [] long = refl
+none_abbreviated name (month ∷ months) long =
+    ap (λ b. cond b (Some month) (find (is_abbreviated name) months))
+    (no_word name (month_abbreviation month) long (three_letters month)) ∙ none_abbreviated name months long
+
 no_month : (name : List ℕ) → 3 < length name → is_month name ≡ false
-no_month name long =
-    or_false
-    (or_false
-    (or_false
-    (or_false
-    (or_false
-    (or_false
-    (or_false
-    (or_false
-    (or_false
-    (or_false
-    (or_false (no_word name (codes "jan") long refl)
-    (no_word name (codes "feb") long refl))
-    (no_word name (codes "mar") long refl))
-    (no_word name (codes "apr") long refl)) (no_word name (codes "may") long refl))
-    (no_word name (codes "jun") long refl)) (no_word name (codes "jul") long refl))
-    (no_word name (codes "aug") long refl)) (no_word name (codes "sep") long refl))
-    (no_word name (codes "oct") long refl)) (no_word name (codes "nov") long refl))
-    (no_word name (codes "dec") long refl)
-  where
-    or_false : {a b : Bool} → a ≡ false → b ≡ false → (a || b) ≡ false
-    or_false {a} {b} first last = ap (λ x. x || b) first ∙ last
+unfolding month_of_abbreviation
+no_month name long = ap is_some (none_abbreviated name year_months long)
 
 pub longer_fresh : (taken : Taken) (base name : List ℕ) → IsBounded taken → 3 ≤ taken.longest
     → is_plain_name base ≡ true → name ≡ base ++ replicate taken.longest 48 → IsFresh taken name

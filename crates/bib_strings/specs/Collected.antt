@@ -1,9 +1,10 @@
 -- Meaning: words of public contracts.
 -- Texts of fields that repeat, made abbreviations.
-use Rattle.std.specs.Prelude.{◌≡◌, ℕ, ◌≤◌, ◌||◌, Bool, true, false, List, [], ◌∷◌, ◌++◌, codes, if◌then◌else◌, length, max, slice_index_or, Option, Some, None, bytes_eq}
+use Rattle.std.specs.Prelude.{◌≡◌, ℕ, ◌≤◌, ◌||◌, Bool, true, false, List, [], ◌∷◌, ◌++◌, codes, if◌then◌else◌, length, max, slice_index_or, Option, Some, None, is_some, bytes_eq}
 use Rattle.std.specs.List.{count_by, flat_map, list_any}
 use Rattle.std.specs.Option.{option_map}
 use Rattle.bib_text.specs.Places.{place}
+use Rattle.bib_tables.specs.Months.{month_of_abbreviation}
 use Rattle.bib_syntax.specs.Grammar.{NoDigit, is_word}
 use Rattle.bib_syntax.specs.Reading.{Piece, FieldReading, EntryReading, FileReading}
 use Rattle.bib_syntax.specs.Reading.Piece.{literal, abbreviation}
@@ -59,13 +60,9 @@ pub data FirstOnes (Chosen : List ℕ → Type 0) : List (List ℕ) → List (Li
   again : {found : List (List ℕ)} (texts : List (List ℕ)) (text : List ℕ) → FirstOnes Chosen texts found
       → is_listed texts text ≡ true → FirstOnes Chosen (texts ++ text ∷ []) found
 
--- whether a name is the first three letters of a month, in any ASCII case
+-- whether a name is the abbreviation of a month, in any ASCII case
 abbrev pub is_month : List ℕ → Bool
-is_month name =
-    is_word name (codes "jan") || is_word name (codes "feb") || is_word name (codes "mar") || is_word name (codes "apr")
-    || is_word name (codes "may") || is_word name (codes "jun") || is_word name (codes "jul")
-    || is_word name (codes "aug") || is_word name (codes "sep") || is_word name (codes "oct")
-    || is_word name (codes "nov") || is_word name (codes "dec")
+is_month name = is_some (month_of_abbreviation name)
 
 -- the name that an element is, if it is one
 abbrev pub piece_names : Piece → List (List ℕ)

@@ -4,6 +4,7 @@ ghost use Rattle.std.specs.Prelude.{◌≡◌, ◌≤◌, ◌&&◌, ◌++◌, �
 ghost use Rattle.std.specs.Char.{is_ascii_lowercase};
 ghost use Rattle.std.specs.List.{list_all};
 ghost use Rattle.std.specs.String.{string_bytes};
+ghost use Rattle.bib_text.specs.Characters as char;
 ghost use Rattle.bib_syntax.specs.Reading.{FileReading};
 ghost use Rattle.bib_strings.specs.Collected as spec;
 ghost use Rattle.bib_strings.specs.Collected.{AreNewNames, is_one_in_any_case, names_of_file};
@@ -11,26 +12,15 @@ ghost use Rattle.bib_strings.specs.Collecting as plain;
 ghost use Rattle.bib_strings.specs.Collecting.{has_lowercase, number_after, IsBounded, IsFresh, is_plain_name, is_taken, string_texts};
 
 use crate::taken::Taken;
-use bib_syntax::raw::is_word;
+use bib_tables::months::Month;
 use std::alloc::{AllocError, Global};
 use std::collections::BTreeMap;
 
-// Whether a name is that of a month.
+// Whether a name is the abbreviation of a month, in any ASCII case.
 fn is_month(name: &str) -> bool
     ensures { result ≡ spec.is_month name.now }
 {
-    is_word(name, "jan")
-        || is_word(name, "feb")
-        || is_word(name, "mar")
-        || is_word(name, "apr")
-        || is_word(name, "may")
-        || is_word(name, "jun")
-        || is_word(name, "jul")
-        || is_word(name, "aug")
-        || is_word(name, "sep")
-        || is_word(name, "oct")
-        || is_word(name, "nov")
-        || is_word(name, "dec")
+    Month::from_abbreviation(name).is_some()
 }
 
 // Whether bytes are lowercase letters of ASCII or digits.
@@ -95,7 +85,7 @@ fn base(alloc: Global, text: &str) -> Result<String, AllocError>
 
 // A name that is longer than others.
 fn longer(alloc: Global, base: &str, longest: usize) -> Result<String, AllocError>
-    ensures { IfOk result (λ name. string_bytes name ≡ base.now ++ replicate longest 48) }
+    ensures { IfOk result (λ name. string_bytes name ≡ base.now ++ replicate longest char.zero) }
 {
     let mut name = String::from_str(alloc, base)?;
     'digits: for _digit in 0..longest {

@@ -14,9 +14,9 @@
 //! continues at the next at sign that begins a line. The text of a failed block may therefore be parsed again. To avoid
 //! scanning it many times, `memo` contains where the braces of the text close, where its lines end, and from where no
 //! closing brace follows. `reader`, the scanner of all these functions, jumps to these offsets. `memo` also has
-//! the error of each field that a failed block began to parse; `failing` finds these fields when the block has failed. Whether
-//! and how parsing fields fails depends only on the offset. A later block that reaches such a field therefore returns the known
-//! error without parsing it.
+//! the error of each field that a failed block after the first one began to parse; `failing` finds these fields when
+//! the block has failed. Whether and how parsing fields fails depends only on the offset. A later block that reaches such
+//! a field therefore returns the known error without parsing it.
 //!
 //! The grammar is written once and has two modes. In the mode `any`, a run of characters may end anywhere. This is the file
 //! grammar, which accepts or rejects a text. In the mode `longest`, each run is as long as possible. This is the raw reading,

@@ -78,6 +78,6 @@ languages =
 abbrev pub is_named : List ℕ → Language → Bool
 is_named text language = list_any (λ name. bytes_eq name text) ((language_row language).name ∷ (language_row language).others)
 
--- the first language with exactly this name or other name, or `None`
+-- the first language whose name, or one of whose other names, is exactly `text`, or `None`
 unfoldable pub language_named : List ℕ → Option Language
 language_named text = find (is_named text) languages

@@ -1,7 +1,9 @@
+pub mod Dialects
 pub mod EditorType
 pub mod Gender
 pub mod Language
 pub mod LanguageRows
+pub mod Months
 pub mod Pagination
 pub mod ReadAs
 pub mod ReferenceFields

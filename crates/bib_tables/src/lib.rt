@@ -1,13 +1,15 @@
-//! The tables of BibTeX and BibLaTeX: entry types, required fields, verbatim fields, small enumerations and languages. Also
-//! the errors of typed values.
+//! The tables of BibTeX and BibLaTeX: entry types, required fields, the names of both dialects, verbatim fields, months, small
+//! enumerations and languages. Also the errors of typed values.
 //!
 //! `mechanics` has the entry types. An entry type may contain a text, so the table of their names can't be a constant. It is
 //! a macro that expands to one `match` for each direction. `EntryType::new` first looks a name up without changing its case,
 //! so it doesn't allocate for common files. `types` has the enumerations. Languages are rows of a constant table, in the
-//! order of the variants. `fields` has the verbatim fields. `type_error` has the reasons why chunks aren't a value of a type.
+//! order of the variants. `fields` has the verbatim fields and the reference fields. `type_error` has the reasons why chunks aren't a value of a type.
 #![tactic(auto)]
 
+pub mod dialects;
 pub mod fields;
 pub mod mechanics;
+pub mod months;
 pub mod type_error;
 pub mod types;

@@ -37,7 +37,7 @@ stopped test v (c ∷ cs) utf8 is stops =
     let no : test c ≡ false = stops c _ (char_here v.text (encode_utf8_all cs) v.at c spelt) in
     (cond-false (test c) (c ∷ leading_run test cs) [] no, cond-false (test c) (rest_after test cs) (c ∷ cs) no)
 
--- a scanner moved from `u` to `v`, past the leading run of the characters ahead
+-- a scanner moved from `u` to `v`, past the longest run of characters that pass the test
 pub record EatsRun (test : ℕ → Bool) (u v : Place) : Type 0 where
   pub same : v.text ≡ u.text
   pub run : between u v ≡ encode_utf8_all (leading_run test (chars (ahead u)))

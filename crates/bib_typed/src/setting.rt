@@ -30,7 +30,7 @@ impl fmt::Display for SetError {
 
 impl Error for SetError {}
 
-// Returns the chunks.
+// Converts a failed insertion to the error that contains the chunks.
 impl From<AllocFailed<(Text, Chunks)>> for SetError {
     ghost from_gives = { λ failed error. error.chunks ≡ failed.value.1 };
 

@@ -1,7 +1,7 @@
 //! Parses the command line into a request.
 
 use crate::edits::{Editing, Edits, Mode};
-use bib_entry::write::Dialect;
+use bib_tables::dialects::Dialect;
 use bib_excerpts::request::{Request as Excerpts, Search};
 use bib_findings::codes::Code;
 use bib_sorting::order::Order;

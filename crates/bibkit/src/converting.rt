@@ -4,7 +4,7 @@ use crate::edits::{after_mark, print};
 use crate::stops::{Stop, bytes_of, error_line, say};
 use bib_conversion::notes::{NoteKind, notes};
 use bib_documents::document::RawDocument;
-use bib_entry::write::Dialect;
+use bib_tables::dialects::Dialect;
 use bib_source::decoding::decode;
 use bib_source::positions::Positions;
 use bib_syntax::raw::Pair;

@@ -10,7 +10,7 @@ use Rattle.bib_documents.specs.Documents.{Document, EntriesAdded, IsEdited}
 use Rattle.bib_documents.specs.declared.errors.EditError.{EditError}
 use Rattle.bib_documents.specs.declared.errors.EditError.TheVariants as error
 use Rattle.bib_conversion.specs.Conversions.{IsConverted}
-use Rattle.bib_entry.specs.declared.write.Dialect.{Dialect}
+use Rattle.bib_tables.specs.declared.dialects.Dialect.{Dialect}
 use Rattle.bib_format.specs.Formatted.{IsReadAlike, says_in_order, text_in_style}
 use Rattle.bib_format.specs.declared.style.Style.{Style}
 use Rattle.bib_resolution.specs.Resolutions.{IsResolvedText}

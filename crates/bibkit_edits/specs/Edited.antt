@@ -11,8 +11,8 @@ use Rattle.bib_conversion.specs.Conversions.{IsConverted}
 use Rattle.bib_documents.specs.Documents.{Document, EntriesAdded, EntriesAreRefused, EntryIsRefused, EntryRemoved, FieldSet, FieldUnset, IsDocument, IsEdited, SetIsRefused}
 use Rattle.bib_documents.specs.References.{KeyRenamed, RenameIsRefused}
 use Rattle.bib_documents.specs.declared.errors.EditError.{EditError}
-use Rattle.bib_entry.specs.declared.write.Dialect.{Dialect}
-use Rattle.bib_entry.specs.declared.write.Dialect.TheVariants.{Biblatex, Bibtex}
+use Rattle.bib_tables.specs.declared.dialects.Dialect.{Dialect}
+use Rattle.bib_tables.specs.declared.dialects.Dialect.TheVariants.{Biblatex, Bibtex}
 use Rattle.bib_format.specs.Formatted.{content, says_in_order, text_in_style}
 use Rattle.bib_format.specs.declared.style.Style.{Style}
 use Rattle.bib_resolution.specs.Resolutions.{IsResolveRefused, IsResolvedText}

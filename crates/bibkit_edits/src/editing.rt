@@ -16,7 +16,7 @@ use crate::reading::{text_after_mark, with_mark};
 use bib_conversion::converting::convert;
 use bib_documents::document::RawDocument;
 use bib_documents::errors::EditError;
-use bib_entry::write::Dialect;
+use bib_tables::dialects::Dialect;
 use bib_format::formatting::format;
 use bib_format::style::Style;
 use bib_resolution::errors::ResolveError;

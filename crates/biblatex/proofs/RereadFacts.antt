@@ -34,7 +34,8 @@ use Rattle.bib_contents.specs.Contents.{IsContent}
 use Rattle.bib_chunks.specs.Joined.{ArePlaced}
 use Rattle.bib_tables.specs.EntryType.{entry_type_of, biblatex_type}
 use Rattle.bib_collections.specs.Sorted.{by_bytes}
-use Rattle.bib_entry.specs.WrittenEntries.{biblatex_name, biblatex_entry, entries_text}
+use Rattle.bib_tables.specs.Dialects.{biblatex_name}
+use Rattle.bib_entry.specs.WrittenEntries.{biblatex_entry, entries_text}
 use Rattle.bib_entry.specs.declared.entry.Entry.{Entry}
 use Rattle.biblatex.specs.Mapped.{IsMapped}
 use Rattle.biblatex.specs.Settled.{link_names, IsSettledField, IsSettledEntry, AreSettled}

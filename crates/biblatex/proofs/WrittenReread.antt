@@ -18,7 +18,8 @@ use Rattle.bib_tables.specs.VerbatimFields.{is_verbatim_field}
 use Rattle.bib_tables.specs.EntryType.{entry_type_name, entry_type_by_name_or_alias, entry_type_of, biblatex_type}
 use Rattle.bib_tables.specs.declared.mechanics.EntryType.{EntryType}
 use Rattle.bib_tables.specs.declared.mechanics.EntryType.TheVariants.{Article, Book, Booklet, InBook, InCollection, InProceedings, Manual, MastersThesis, PhdThesis, Misc, Proceedings, TechReport, Unpublished, MvBook, BookInBook, SuppBook, Periodical, SuppPeriodical, Collection, MvCollection, SuppCollection, Reference, MvReference, InReference, MvProceedings, Report, Patent, Thesis, Online, Software, Dataset, Set, XData, Unknown}
-use Rattle.bib_entry.specs.WrittenEntries.{biblatex_name, biblatex_field, biblatex_entry, entries_text}
+use Rattle.bib_tables.specs.Dialects.{biblatex_name}
+use Rattle.bib_entry.specs.WrittenEntries.{biblatex_field, biblatex_entry, entries_text}
 use Rattle.bib_entry.specs.declared.entry.Entry.{Entry}
 use Rattle.biblatex.specs.Settled.{IsIdentifier, IsSettledField, IsSettledEntry}
 use Rattle.biblatex.proofs.StandsFacts.{Stands, stands_whole, stands_run, stands_chars}

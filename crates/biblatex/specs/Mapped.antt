@@ -4,7 +4,7 @@ use Rattle.std.specs.Prelude.{◌≡◌, ℕ, List, find, reverse, bytes_eq, opt
 use Rattle.std.specs.FinMap as by_name
 use Rattle.bib_chunks.specs.Styled.{Atom, styled}
 use Rattle.bib_tables.specs.EntryType.{biblatex_type}
-use Rattle.bib_entry.specs.WrittenEntries.{biblatex_name}
+use Rattle.bib_tables.specs.Dialects.{biblatex_name}
 use Rattle.bib_entry.specs.declared.entry.Entry.{Entry}
 
 -- the styled text of the field whose name in BibLaTeX is `name`; if several fields have that name, of the last of them

@@ -2,8 +2,7 @@
 
 ghost use Rattle.std.specs.Prelude.{◌≡◌, ◌≢◌, [], ◌∷◌, ◌++◌, ℕ, ◌-◌, ◌^◌, ◌<◌, OnOk, OnErr, IfOk, codes, string_bytes, Err, Some};
 ghost use Rattle.std.specs.Io.KnownBytes.{Appends};
-ghost use Rattle.bib_entry.specs.Dialect.{entry_in};
-ghost use Rattle.bib_entry.specs.WrittenEntries.{biblatex_entry, bibtex_entry, entries_text};
+ghost use Rattle.bib_entry.specs.WrittenEntries.{entry_in, biblatex_entry, bibtex_entry, entries_text};
 ghost use Rattle.biblatex.specs.Settled.{AreSettled};
 ghost use Rattle.biblatex.specs.HandedOver.{AreHandedOver, entry_texts};
 ghost use Rattle.biblatex.specs.Headline.{IsReadAgain};
@@ -12,7 +11,8 @@ ghost use Rattle.biblatex.specs.Writing.{empty_line_unless};
 use crate::bibliography::Bibliography;
 use crate::sink::Sink;
 use bib_entry::entry::Entry;
-use bib_entry::write::{Dialect, write_entry};
+use bib_entry::write::write_entry;
+use bib_tables::dialects::Dialect;
 use std::alloc::{AllocError, Global};
 use thiserror::Error;
 

@@ -70,7 +70,7 @@ fn formats_to_nothing(alloc: Global, chunks: ChunksRef<'_>) -> Result<bool, Allo
     Ok(text.as_str().is_empty())
 }
 
-// Returns the position of the last space of a text.
+// Returns the byte offset of the last space of a text.
 fn last_space(text: &str) -> Option<usize>
     ensures { MatchOption result (list_any is_space_byte text.now ≡ false) (IsLastSpace text.now) }
 {

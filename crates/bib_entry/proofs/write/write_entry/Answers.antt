@@ -3,8 +3,8 @@ use Rattle.std.proofs.lemmas.Grind.{common_steps}
 use Rattle.std.specs.FinMap.{entries}
 use Rattle.std.specs.List.{flat_map}
 use Rattle.bib_tables.specs.EntryType.{entry_type_name}
-use Rattle.bib_entry.specs.Dialect.{written_field, kind_in}
-use Rattle.bib_entry.specs.WrittenEntries.{entry_text}
+use Rattle.bib_tables.specs.Dialects.{kind_in}
+use Rattle.bib_entry.specs.WrittenEntries.{written_field, entry_text}
 use Rattle.bib_entry.proofs.DialectFacts.{entry_parts}
 use Rattle.bib_entry.proofs.write.write_entry.Goals as goal
 

@@ -3,7 +3,7 @@ use Rattle.std.specs.List.{flat_map}
 use Rattle.std.specs.Slice.Iter.{iter_rest}
 use Rattle.std.specs.String.{string_bytes}
 use Rattle.std.specs.FinMap.{entries}
-use Rattle.bib_entry.specs.Dialect.{written_field}
+use Rattle.bib_entry.specs.WrittenEntries.{written_field}
 use Rattle.bib_entry.proofs.write.write_fields.Given as goal
 
 -- the text so far, followed by the lines of the remaining fields, is the old text followed by all lines

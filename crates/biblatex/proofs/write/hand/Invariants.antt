@@ -1,8 +1,7 @@
 use Rattle.std.proofs.Common.{◌≡◌, take}
 use Rattle.std.specs.Prelude.{◌==◌}
 use Rattle.std.specs.Io.KnownBytes.{Appends}
-use Rattle.bib_entry.specs.Dialect.{entry_in}
-use Rattle.bib_entry.specs.WrittenEntries.{entries_text}
+use Rattle.bib_entry.specs.WrittenEntries.{entry_in, entries_text}
 use Rattle.biblatex.specs.HandedOver.{AreTaken, entry_texts}
 use Rattle.biblatex.proofs.write.hand.Given as goal
 

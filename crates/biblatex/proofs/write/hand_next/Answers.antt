@@ -1,6 +1,6 @@
 use Rattle.std.proofs.Common.{◌++◌, ap, ◌∙◌}
 use Rattle.std.proofs.lemmas.Result.{err_from_is_err_and}
-use Rattle.bib_entry.specs.Dialect.{entry_in}
+use Rattle.bib_entry.specs.WrittenEntries.{entry_in}
 use Rattle.biblatex.proofs.HandingFacts.{none_taken, one_refused, text_of}
 use Rattle.biblatex.proofs.write.hand_next.Goals as goal
 

@@ -1,6 +1,6 @@
 use Rattle.std.proofs.Common.{◌++◌, ap, sym, ◌∙◌}
 use Rattle.std.specs.Prelude.{codes}
-use Rattle.bib_entry.specs.Dialect.{entry_in}
+use Rattle.bib_entry.specs.WrittenEntries.{entry_in}
 use Rattle.biblatex.specs.Writing.{empty_line_unless}
 use Rattle.biblatex.proofs.WritingFacts.{next_written, not_first}
 use Rattle.biblatex.proofs.write.text_of.Goals as goal

@@ -1,7 +1,6 @@
 use Rattle.std.proofs.Common.{◌≡◌, take}
 use Rattle.std.specs.Prelude.{◌==◌, string_bytes}
-use Rattle.bib_entry.specs.Dialect.{entry_in}
-use Rattle.bib_entry.specs.WrittenEntries.{entries_text}
+use Rattle.bib_entry.specs.WrittenEntries.{entry_in, entries_text}
 use Rattle.biblatex.proofs.write.text_of.Given as goal
 
 abbrev pub invariant-entries : goal.invariant-entries

@@ -8,7 +8,8 @@ use Rattle.bib_chunks.specs.Cuts.{pieces_between, joined_parts}
 use Rattle.bib_chunks.specs.Cutting.{all_parts, between_cuts, width}
 use Rattle.bib_chunks.proofs.chunk.cuts.cut_text.Given as goal
 
--- the parts so far with the pieces of the rest are those of the whole text
+-- the parts so far, continued by the pieces of the rest, are the initial parts, continued by the pieces of the whole
+-- text
 abbrev pub invariant-pieces : goal.invariant-pieces
 invariant-pieces l = record {
   utf8 : shadow (Utf8 l.rest);
