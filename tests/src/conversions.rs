@@ -1,9 +1,9 @@
 //! Reads rows, a dialect and a text in each line, and prints each with the text in that dialect's types and fields. With `notes` before the
 //! dialect it prints what is to know of fields that stay: the index of the entry, that of the field, and what.
 
-use bib_conversion::converting::convert;
-use bib_conversion::notes::{NoteKind, notes};
-use bib_documents::document::RawDocument;
+use edit_convert::converting::convert;
+use edit_convert::notes::{NoteKind, notes};
+use edit_entries::document::RawDocument;
 use bib_entry::write::Dialect;
 use std::alloc::{AllocError, Global};
 use crate::support::rows::Calls;

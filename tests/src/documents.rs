@@ -1,8 +1,8 @@
 //! Reads rows, an edit of a text in each line, and prints each with the text that comes of it, or with why it is refused. That the new
 //! text is read, and says what it should, is seen by a row that reads it again.
 
-use bib_documents::document::RawDocument;
-use bib_documents::errors::EditError;
+use edit_entries::document::RawDocument;
+use edit_entries::errors::EditError;
 use bib_syntax::raw::RawChunk;
 use std::alloc::{AllocError, Global};
 use crate::support::rows::Calls;

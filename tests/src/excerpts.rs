@@ -1,10 +1,10 @@
 //! Reads rows, a call with its words and a text in each line, and prints each with what the call answers: excerpts of a file, what a
 //! document cites, which keys a file knows, and which of its entries aren't cited.
 
-use bib_excerpts::citations::{Citations, in_aux, in_bcf};
-use bib_excerpts::excerpts::answer;
-use bib_excerpts::known::{find_uncited, mark_known};
-use bib_excerpts::request::{CitedKeys, Request, Search};
+use bib_queries::citations::{Citations, in_aux, in_bcf};
+use bib_queries::excerpts::answer;
+use bib_queries::known::{find_uncited, mark_known};
+use bib_queries::request::{CitedKeys, Request, Search};
 use std::alloc::{AllocError, Global};
 use crate::support::rows::Calls;
 

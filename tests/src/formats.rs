@@ -3,9 +3,9 @@
 //! so many blank lines between entries, `braces` or `quotes` where literals come to stand in these, `first:` and names of fields, with
 //! commas between them, that come first, `width` and how many characters a field's line has at most.
 
-use bib_documents::document::RawDocument;
-use bib_format::formatting::format;
-use bib_format::style::{Delimiters, Style};
+use edit_entries::document::RawDocument;
+use edit_format::formatting::format;
+use edit_format::style::{Delimiters, Style};
 use std::alloc::{AllocError, Global};
 use crate::support::rows::Calls;
 

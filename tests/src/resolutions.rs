@@ -1,9 +1,9 @@
 //! Reads rows, a text in each line, and prints each with the text in which its entries have what they inherit in fields of their own, or
 //! with why it is refused. `again` prints that text resolved once more, which changes nothing.
 
-use bib_documents::document::RawDocument;
-use bib_resolution::errors::ResolveError;
-use bib_resolution::resolving::resolve;
+use edit_entries::document::RawDocument;
+use edit_resolve::errors::ResolveError;
+use edit_resolve::resolving::resolve;
 use std::alloc::{AllocError, Global};
 use crate::support::rows::Calls;
 

@@ -2,8 +2,8 @@
 //! and `texts` by the words after it. With `again` before it the keys of the entries of that text are printed, and with `twice` what
 //! comes of ordering that text by its keys again.
 
-use bib_documents::document::RawDocument;
-use bib_sorting::sorting::sort_entries;
+use edit_entries::document::RawDocument;
+use edit_sort::sorting::sort_entries;
 use std::alloc::{AllocError, Global};
 use crate::support::rows::Calls;
 

@@ -1,10 +1,10 @@
 //! Reads rows, an edit of a text's abbreviations in each line, and prints each with the text that comes of it, or with why it is
 //! refused: `expand` writes them out, `collect 2 title journal` makes some of the texts that stand at least twice in these fields.
 
-use bib_documents::document::RawDocument;
-use bib_strings::collecting::collect;
-use bib_strings::errors::ExpandError;
-use bib_strings::expanding::expand;
+use edit_entries::document::RawDocument;
+use edit_strings::collecting::collect;
+use edit_strings::errors::ExpandError;
+use edit_strings::expanding::expand;
 use std::alloc::{AllocError, Global};
 use crate::support::rows::Calls;
 

@@ -2,9 +2,9 @@
 
 use crate::edits::{Editing, Edits, Mode};
 use bib_tables::dialects::Dialect;
-use bib_excerpts::request::{Request as Excerpts, Search};
+use bib_queries::request::{Request as Excerpts, Search};
 use bib_findings::codes::Code;
-use bib_sorting::order::Order;
+use edit_sort::order::Order;
 use bibkit_convert::target::Target;
 use bibkit_core::request::{Cited, Request};
 use bibkit_edits::edit::Edit;

@@ -2,8 +2,8 @@
 
 use crate::edits::{after_mark, print};
 use crate::stops::{Stop, bytes_of, error_line, say};
-use bib_conversion::notes::{NoteKind, notes};
-use bib_documents::document::RawDocument;
+use edit_convert::notes::{NoteKind, notes};
+use edit_entries::document::RawDocument;
 use bib_tables::dialects::Dialect;
 use bib_source::decoding::decode;
 use bib_source::positions::Positions;

@@ -2,8 +2,8 @@
 
 use crate::replacing::replace;
 use crate::stops::{Stop, bytes_of, error_line, say, syntax_line};
-use bib_documents::errors::EditError;
-use bib_resolution::errors::ResolveError;
+use edit_entries::errors::EditError;
+use edit_resolve::errors::ResolveError;
 use bib_source::decoding::decode;
 use bib_syntax::raw::{Pair, RawBibliography};
 use bibkit_core::replacing::ReplaceError;

@@ -1,8 +1,8 @@
 //! Runs `fmt`, which formats files in one style.
 
 use crate::edits::{Editing, Edits, Mode, run_edits};
-use bib_format::style::Style;
-use bib_sorting::order::Order;
+use edit_format::style::Style;
+use edit_sort::order::Order;
 use bibkit_edits::edit::Edit;
 use std::alloc::{AllocError, Global};
 

@@ -1,10 +1,10 @@
 -- The output of a request follows from that of its task, and its failure from the stop of its run.
 use Rattle.std.proofs.Common.{◌≡◌, ◌≤◌, ◌&&◌, ℕ, List, Bor, Bool, true, false, not, refl, sym, subst, ◌∙◌, arith}
 use Rattle.std.specs.Prelude.{Option, Some, None, IfSome, if◌then◌else◌}
-use Rattle.bib_excerpts.specs.declared.citations.Citations.{Citations}
-use Rattle.bib_excerpts.specs.declared.request.CitedKeys.{CitedKeys}
-use Rattle.bib_excerpts.specs.declared.request.Request.{Request as Excerpts}
-use Rattle.bib_excerpts.specs.declared.request.Request.TheVariants as excerpts
+use Rattle.bib_queries.specs.declared.citations.Citations.{Citations}
+use Rattle.bib_queries.specs.declared.request.CitedKeys.{CitedKeys}
+use Rattle.bib_queries.specs.declared.request.Request.{Request as Excerpts}
+use Rattle.bib_queries.specs.declared.request.Request.TheVariants as excerpts
 use Rattle.bib_findings.specs.declared.codes.Code.{Code}
 use Rattle.bibkit_core.specs.Answered.{AsksForCited, CantReadDocument, HasFailed, IsCallAnswer}
 use Rattle.bibkit_core.specs.Compared.{AreCitedBy, ReadsDocument}

@@ -4,10 +4,10 @@ use Rattle.std.specs.Prelude.{Option, filter, min, replicate}
 use Rattle.std.specs.String.{string_bytes}
 use Rattle.std.proofs.lemmas.List.Folds.{list_any-append}
 use Rattle.std.proofs.lemmas.Simd.{map-map}
-use Rattle.bib_excerpts.specs.Known.{IsUncited, all_names, uncited_keys}
-use Rattle.bib_excerpts.specs.Needed.{is_listed}
-use Rattle.bib_excerpts.specs.declared.citations.Citation.{Citation}
-use Rattle.bib_excerpts.specs.declared.citations.Citations.{Citations}
+use Rattle.bib_queries.specs.Known.{IsUncited, all_names, uncited_keys}
+use Rattle.bib_queries.specs.Needed.{is_listed}
+use Rattle.bib_queries.specs.declared.citations.Citation.{Citation}
+use Rattle.bib_queries.specs.declared.citations.Citations.{Citations}
 use Rattle.bib_findings.specs.declared.finding.Finding.{Finding}
 use Rattle.bib_syntax.specs.Reading.{FileReading, Part}
 use Rattle.bib_syntax.proofs.RecoveryFacts.{recovery_same}

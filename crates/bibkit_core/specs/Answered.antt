@@ -2,10 +2,10 @@
 -- The output of a request on files, and the status.
 use Rattle.std.specs.Prelude.{◌≡◌, ℕ, List, [], ◌++◌, codes, map, Bool, Option, Some, None}
 use Rattle.std.specs.Borrow.{Bor}
-use Rattle.bib_excerpts.specs.declared.citations.Citations.{Citations}
-use Rattle.bib_excerpts.specs.declared.request.CitedKeys.{CitedKeys}
-use Rattle.bib_excerpts.specs.declared.request.Request.{Request as Excerpts}
-use Rattle.bib_excerpts.specs.declared.request.Request.TheVariants as excerpts
+use Rattle.bib_queries.specs.declared.citations.Citations.{Citations}
+use Rattle.bib_queries.specs.declared.request.CitedKeys.{CitedKeys}
+use Rattle.bib_queries.specs.declared.request.Request.{Request as Excerpts}
+use Rattle.bib_queries.specs.declared.request.Request.TheVariants as excerpts
 use Rattle.bib_findings.specs.Codes.{code_name, severity_name, severity_of}
 use Rattle.bib_findings.specs.declared.codes.Code.{Code}
 use Rattle.bibkit_core.specs.Compared.{EndsCompared, PrintsCompared, ReadsDocument, cited_keys, compared_begins, none_compared}

@@ -4,11 +4,11 @@ use Rattle.std.specs.Prelude.{◌≡◌, ◌==◌, ◌&&◌, ℕ, Bool, not, if�
 use Rattle.std.specs.List.{ends_with, list_any}
 use Rattle.bib_text.specs.Characters as char
 use Rattle.bib_source.specs.declared.decoding.Decoded.{Decoded}
-use Rattle.bib_excerpts.specs.Citations.{AreCitations, aux_cited, bcf_cited}
-use Rattle.bib_excerpts.specs.Known.{all_names, uncited_keys}
-use Rattle.bib_excerpts.specs.Needed.{is_listed}
-use Rattle.bib_excerpts.specs.declared.citations.Citation.{Citation}
-use Rattle.bib_excerpts.specs.declared.citations.Citations.{Citations}
+use Rattle.bib_queries.specs.Citations.{AreCitations, aux_cited, bcf_cited}
+use Rattle.bib_queries.specs.Known.{all_names, uncited_keys}
+use Rattle.bib_queries.specs.Needed.{is_listed}
+use Rattle.bib_queries.specs.declared.citations.Citation.{Citation}
+use Rattle.bib_queries.specs.declared.citations.Citations.{Citations}
 use Rattle.bib_findings.specs.declared.codes.Code.TheVariants.{MissingEntry, UnusedEntry}
 use Rattle.bib_findings.specs.declared.finding.Finding.{Finding}
 use Rattle.bib_syntax.specs.Reading.{EntryReading, FileReading, Part}

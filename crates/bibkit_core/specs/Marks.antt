@@ -2,8 +2,8 @@
 -- Marks on the citations of a document: whether a file has an entry for each.
 use Rattle.std.specs.Prelude.{◌≡◌, ◌||◌, ℕ, Bool, true, false, List, [], ◌∷◌, ◌++◌, length, map, replicate, string_bytes}
 use Rattle.bib_source.specs.declared.decoding.Decoded.{Decoded}
-use Rattle.bib_excerpts.specs.Known.{IsKnownIn, IsUncited}
-use Rattle.bib_excerpts.specs.declared.citations.Citation.{Citation}
+use Rattle.bib_queries.specs.Known.{IsKnownIn, IsUncited}
+use Rattle.bib_queries.specs.declared.citations.Citation.{Citation}
 use Rattle.bib_findings.specs.declared.finding.Finding.{Finding}
 use Rattle.bib_syntax.specs.Reading.{FileReading, Part}
 use Rattle.bib_syntax.specs.Recovery.{IsRecovery}

@@ -3,8 +3,8 @@
 use Rattle.std.specs.Prelude.{◌≡◌, ⊤, ℕ, Bool, List, [], ◌++◌, Option, Some, None, string_bytes}
 use Rattle.std.specs.Io.KnownBytes.{Appends}
 use Rattle.bib_source.specs.declared.decoding.Decoded.{Decoded}
-use Rattle.bib_excerpts.specs.declared.citations.Citations.{Citations}
-use Rattle.bib_excerpts.specs.declared.request.Request.{Request}
+use Rattle.bib_queries.specs.declared.citations.Citations.{Citations}
+use Rattle.bib_queries.specs.declared.request.Request.{Request}
 use Rattle.bib_findings.specs.declared.codes.Code.{Code}
 use Rattle.bibkit_core.specs.Answered.{meaning_text}
 use Rattle.bibkit_core.specs.Compared.{EndsCompared, PrintsCompared, ReadsDocument, compared_begins, none_compared}

@@ -4,9 +4,9 @@ use Rattle.std.specs.Prelude.{◌≡◌, ◌==◌, ◌&&◌, ◌||◌, ℕ, leng
 use Rattle.std.specs.Str.{IsUtf8}
 use Rattle.bib_source.specs.Encoding.{without_byte_order_mark, windows_1252_text, IsFirstInvalid}
 use Rattle.bib_source.specs.declared.decoding.Decoded.{Decoded}
-use Rattle.bib_excerpts.specs.Answers.{IsTextAnswer}
-use Rattle.bib_excerpts.specs.declared.request.Request.{Request}
-use Rattle.bib_excerpts.specs.declared.request.Request.TheVariants.{Keys}
+use Rattle.bib_queries.specs.Answers.{IsTextAnswer}
+use Rattle.bib_queries.specs.declared.request.Request.{Request}
+use Rattle.bib_queries.specs.declared.request.Request.TheVariants.{Keys}
 use Rattle.bibkit_core.specs.Linted.{IsPrintedFile}
 use Rattle.bibkit_core.specs.Printed.{counts_line, is_none}
 use Rattle.bibkit_core.specs.declared.entries.Entries.{Entries}

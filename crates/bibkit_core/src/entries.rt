@@ -6,8 +6,8 @@ ghost use Rattle.bibkit_core.specs.Tasks as spec;
 
 use crate::decoding::decode_bytes;
 use crate::task::{End, Task};
-use bib_excerpts::excerpts::answer;
-use bib_excerpts::request::Request as Excerpts;
+use bib_queries::excerpts::answer;
+use bib_queries::request::Request as Excerpts;
 use std::alloc::{AllocError, Global};
 
 /// Prints the requested entries of files.

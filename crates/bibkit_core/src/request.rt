@@ -1,7 +1,7 @@
 //! The requests that the program runs.
 
 use crate::selection::Selection;
-use bib_excerpts::request::Request as Excerpts;
+use bib_queries::request::Request as Excerpts;
 use bib_findings::codes::Code;
 
 /// The style in which findings are printed.

@@ -6,22 +6,22 @@ use Rattle.bib_syntax.specs.declared.raw.ParseError.{ParseError}
 use Rattle.bib_syntax.specs.declared.raw.ParseErrorKind.{ParseErrorKind}
 use Rattle.bib_syntax.specs.declared.raw.ParseErrorKind.TheVariants as kind
 use Rattle.bib_syntax.proofs.FileFailureFacts.{file_unread}
-use Rattle.bib_documents.specs.Documents.{Document, EntriesAdded, IsEdited}
-use Rattle.bib_documents.specs.declared.errors.EditError.{EditError}
-use Rattle.bib_documents.specs.declared.errors.EditError.TheVariants as error
-use Rattle.bib_conversion.specs.Conversions.{IsConverted}
+use Rattle.edit_entries.specs.Documents.{Document, EntriesAdded, IsEdited}
+use Rattle.edit_entries.specs.declared.errors.EditError.{EditError}
+use Rattle.edit_entries.specs.declared.errors.EditError.TheVariants as error
+use Rattle.edit_convert.specs.Conversions.{IsConverted}
 use Rattle.bib_tables.specs.declared.dialects.Dialect.{Dialect}
-use Rattle.bib_format.specs.Formatted.{IsReadAlike, says_in_order, text_in_style}
-use Rattle.bib_format.specs.declared.style.Style.{Style}
-use Rattle.bib_resolution.specs.Resolutions.{IsResolvedText}
-use Rattle.bib_resolution.specs.declared.errors.ResolveError.{ResolveError}
-use Rattle.bib_resolution.specs.declared.errors.ResolveError.TheVariants as resolve_error
-use Rattle.bib_sorting.specs.Sorted.{IsReadSorted, IsSortedText}
-use Rattle.bib_strings.specs.Collected.{AreMadeAbbreviations}
-use Rattle.bib_strings.specs.Expanded.{IsExpanded}
+use Rattle.edit_format.specs.Formatted.{IsReadAlike, says_in_order, text_in_style}
+use Rattle.edit_format.specs.declared.style.Style.{Style}
+use Rattle.edit_resolve.specs.Resolutions.{IsResolvedText}
+use Rattle.edit_resolve.specs.declared.errors.ResolveError.{ResolveError}
+use Rattle.edit_resolve.specs.declared.errors.ResolveError.TheVariants as resolve_error
+use Rattle.edit_sort.specs.Sorted.{IsReadSorted, IsSortedText}
+use Rattle.edit_strings.specs.Collected.{AreMadeAbbreviations}
+use Rattle.edit_strings.specs.Expanded.{IsExpanded}
 use Rattle.bibkit_edits.specs.Edited.{AreMade, AreRefused, AreTextsCollected, IsDocumentConverted, IsEditRefused, IsInOrder, IsInStyle, IsMade, IsDocumentOf, IsResolvedDocument, IsUnresolved, IsWrittenOut, TextAdded}
 use Rattle.bibkit_edits.specs.Orders.{order_text}
-use Rattle.bib_sorting.specs.declared.order.Order.{Order}
+use Rattle.edit_sort.specs.declared.order.Order.{Order}
 use Rattle.bibkit_edits.specs.Edited.AreMade.{none, next}
 use Rattle.bibkit_edits.specs.Steps.{AddsError, AddsUnread, AreFirstMade, IsTextRefused, StepIsRefused, edit_refusal, refusal_at, unless_no_memory, unresolved_refusal}
 use Rattle.bibkit_edits.specs.declared.edit.Edit.{Edit}

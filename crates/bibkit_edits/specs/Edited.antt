@@ -7,23 +7,23 @@ use Rattle.bib_syntax.specs.Reading.{FileReading}
 use Rattle.bib_syntax.specs.SyntaxErrors.{IsReported}
 use Rattle.bib_syntax.specs.declared.raw.ParseError.{ParseError}
 use Rattle.bib_source.specs.Encoding.{IsFirstInvalid, byte_order_mark, without_byte_order_mark}
-use Rattle.bib_conversion.specs.Conversions.{IsConverted}
-use Rattle.bib_documents.specs.Documents.{Document, EntriesAdded, EntriesAreRefused, EntryIsRefused, EntryRemoved, FieldSet, FieldUnset, IsDocument, IsEdited, SetIsRefused}
-use Rattle.bib_documents.specs.References.{KeyRenamed, RenameIsRefused}
-use Rattle.bib_documents.specs.declared.errors.EditError.{EditError}
+use Rattle.edit_convert.specs.Conversions.{IsConverted}
+use Rattle.edit_entries.specs.Documents.{Document, EntriesAdded, EntriesAreRefused, EntryIsRefused, EntryRemoved, FieldSet, FieldUnset, IsDocument, IsEdited, SetIsRefused}
+use Rattle.edit_entries.specs.References.{KeyRenamed, RenameIsRefused}
+use Rattle.edit_entries.specs.declared.errors.EditError.{EditError}
 use Rattle.bib_tables.specs.declared.dialects.Dialect.{Dialect}
 use Rattle.bib_tables.specs.declared.dialects.Dialect.TheVariants.{Biblatex, Bibtex}
-use Rattle.bib_format.specs.Formatted.{content, says_in_order, text_in_style}
-use Rattle.bib_format.specs.declared.style.Style.{Style}
-use Rattle.bib_resolution.specs.Resolutions.{IsResolveRefused, IsResolvedText}
-use Rattle.bib_resolution.specs.declared.errors.ResolveError.{ResolveError}
-use Rattle.bib_sorting.specs.Sorted.{AreEntriesInOrder, IsSortedText, Item, items, says_sorted, without_places}
-use Rattle.bib_strings.specs.Collected.{AreMadeAbbreviations}
-use Rattle.bib_strings.specs.Expanded.{ExpandIsRefused, IsExpanded}
-use Rattle.bib_strings.specs.declared.errors.ExpandError.TheVariants as expand_error
+use Rattle.edit_format.specs.Formatted.{content, says_in_order, text_in_style}
+use Rattle.edit_format.specs.declared.style.Style.{Style}
+use Rattle.edit_resolve.specs.Resolutions.{IsResolveRefused, IsResolvedText}
+use Rattle.edit_resolve.specs.declared.errors.ResolveError.{ResolveError}
+use Rattle.edit_sort.specs.Sorted.{AreEntriesInOrder, IsSortedText, Item, items, says_sorted, without_places}
+use Rattle.edit_strings.specs.Collected.{AreMadeAbbreviations}
+use Rattle.edit_strings.specs.Expanded.{ExpandIsRefused, IsExpanded}
+use Rattle.edit_strings.specs.declared.errors.ExpandError.TheVariants as expand_error
 use Rattle.bibkit_edits.specs.Orders.{order_text}
 use Rattle.bibkit_edits.specs.declared.edit.Edit.{Edit}
-use Rattle.bib_sorting.specs.declared.order.Order.{Order}
+use Rattle.edit_sort.specs.declared.order.Order.{Order}
 use Rattle.bibkit_edits.specs.declared.edit.Edit.TheVariants.{Set, Unset, Rename, Remove, Add, Sort, Expand, Collect, ToBiblatex, ToBibtex, Resolve, Format}
 use Rattle.bibkit_edits.specs.declared.edit.Refusal.{Refusal}
 use Rattle.bibkit_edits.specs.declared.edit.Refusal.TheVariants as refusal

@@ -6,8 +6,8 @@ use Rattle.std.specs.Str.{str_to_ascii_lowercase, trim_end}
 use Rattle.bib_findings.specs.Identities.{first_person_of, year_of}
 use Rattle.bib_syntax.specs.Reading.{EntryReading}
 use Rattle.bib_text.specs.Characters as char
-use Rattle.bib_sorting.specs.declared.order.Order.{Order}
-use Rattle.bib_sorting.specs.declared.order.Order.TheVariants as order
+use Rattle.edit_sort.specs.declared.order.Order.{Order}
+use Rattle.edit_sort.specs.declared.order.Order.TheVariants as order
 
 -- whether a byte is a space
 abbrev pub is_word_space : ℕ → Bool

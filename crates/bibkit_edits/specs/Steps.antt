@@ -8,13 +8,13 @@ use Rattle.bib_syntax.specs.SyntaxErrors.{IsReported}
 use Rattle.bib_syntax.specs.declared.raw.ParseError.{ParseError}
 use Rattle.bib_syntax.specs.declared.raw.ParseErrorKind.{ParseErrorKind}
 use Rattle.bib_syntax.specs.declared.raw.ParseErrorKind.TheVariants as kind
-use Rattle.bib_documents.specs.Documents.{Document}
-use Rattle.bib_documents.specs.declared.errors.EditError.{EditError}
-use Rattle.bib_documents.specs.declared.errors.EditError.TheVariants as error
-use Rattle.bib_strings.specs.declared.errors.ExpandError.{ExpandError}
-use Rattle.bib_strings.specs.declared.errors.ExpandError.TheVariants as expand_error
-use Rattle.bib_resolution.specs.declared.errors.ResolveError.{ResolveError}
-use Rattle.bib_resolution.specs.declared.errors.ResolveError.TheVariants as resolve_error
+use Rattle.edit_entries.specs.Documents.{Document}
+use Rattle.edit_entries.specs.declared.errors.EditError.{EditError}
+use Rattle.edit_entries.specs.declared.errors.EditError.TheVariants as error
+use Rattle.edit_strings.specs.declared.errors.ExpandError.{ExpandError}
+use Rattle.edit_strings.specs.declared.errors.ExpandError.TheVariants as expand_error
+use Rattle.edit_resolve.specs.declared.errors.ResolveError.{ResolveError}
+use Rattle.edit_resolve.specs.declared.errors.ResolveError.TheVariants as resolve_error
 use Rattle.bibkit_edits.specs.Edited.{AddsText, AreMade, IsEditRefused, IsDocumentOf, IsUnresolved, MeetsCycle}
 use Rattle.bibkit_edits.specs.declared.edit.Edit.{Edit}
 use Rattle.bibkit_edits.specs.declared.edit.Refusal.{Refusal}

@@ -3,10 +3,10 @@
 ghost use Rattle.std.specs.Prelude.{◌≡◌};
 ghost use Rattle.bibkit_edits.specs.declared.edit.Refusal.TheVariants.{OutOfMemory};
 
-use bib_documents::errors::EditError;
-use bib_format::style::Style;
-use bib_resolution::errors::ResolveError;
-use bib_sorting::order::Order;
+use edit_entries::errors::EditError;
+use edit_format::style::Style;
+use edit_resolve::errors::ResolveError;
+use edit_sort::order::Order;
 use bib_syntax::raw::ParseError;
 use std::alloc::AllocError;
 

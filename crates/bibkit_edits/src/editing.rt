@@ -2,30 +2,30 @@
 
 ghost use Rattle.std.specs.Prelude.{◌≡◌, ◌≢◌, IfErr, IfOk, OnErr, map};
 ghost use Rattle.std.specs.String.{string_bytes};
-ghost use Rattle.bib_documents.specs.Documents.{IsEdited};
-ghost use Rattle.bib_documents.specs.declared.errors.EditError.TheVariants.{OutOfMemory};
+ghost use Rattle.edit_entries.specs.Documents.{IsEdited};
+ghost use Rattle.edit_entries.specs.declared.errors.EditError.TheVariants.{OutOfMemory};
 ghost use Rattle.bibkit_edits.specs.Edited.{AreMade, AreRefused, AreTextsCollected, EditOutcome, IsDocumentConverted, IsFileMade, IsFileRefused, IsInOrder, IsInStyle, IsMade, IsResolvedDocument, IsWrittenOut};
-ghost use Rattle.bib_strings.specs.Expanded.{ExpandIsRefused};
+ghost use Rattle.edit_strings.specs.Expanded.{ExpandIsRefused};
 ghost use Rattle.bibkit_edits.specs.declared.editing.Step.TheVariants.{Added, Refused, Unresolved};
 ghost use Rattle.bibkit_edits.specs.Steps.{IsTextRefused, StepIsRefused, added_refusal, edit_refusal, file_refusal, latest, refusal_at, step_of, unresolved_refusal};
-ghost use Rattle.bib_resolution.specs.Resolutions.{IsResolveRefused};
+ghost use Rattle.edit_resolve.specs.Resolutions.{IsResolveRefused};
 
 use crate::edit::{Edit, Refusal};
 use crate::order::order_texts;
 use crate::reading::{text_after_mark, with_mark};
-use bib_conversion::converting::convert;
-use bib_documents::document::RawDocument;
-use bib_documents::errors::EditError;
+use edit_convert::converting::convert;
+use edit_entries::document::RawDocument;
+use edit_entries::errors::EditError;
 use bib_tables::dialects::Dialect;
-use bib_format::formatting::format;
-use bib_format::style::Style;
-use bib_resolution::errors::ResolveError;
-use bib_resolution::resolving::resolve;
-use bib_sorting::order::Order;
-use bib_sorting::sorting::sort_entries;
-use bib_strings::collecting::collect;
-use bib_strings::errors::ExpandError;
-use bib_strings::expanding::expand;
+use edit_format::formatting::format;
+use edit_format::style::Style;
+use edit_resolve::errors::ResolveError;
+use edit_resolve::resolving::resolve;
+use edit_sort::order::Order;
+use edit_sort::sorting::sort_entries;
+use edit_strings::collecting::collect;
+use edit_strings::errors::ExpandError;
+use edit_strings::expanding::expand;
 use bib_syntax::raw::ParseError;
 use std::alloc::{AllocError, Global};
 

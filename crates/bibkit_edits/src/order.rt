@@ -9,7 +9,7 @@ ghost use Rattle.bibkit_edits.specs.Orders as orders;
 ghost use Rattle.bibkit_edits.specs.Orders.{is_word_space};
 
 use bib_findings::identities::{person, year};
-use bib_sorting::order::Order;
+use edit_sort::order::Order;
 use bib_syntax::raw::RawEntry;
 use bib_text::spanned::Spanned;
 use std::alloc::{AllocError, Global};

@@ -3,11 +3,11 @@
 use Rattle.std.specs.Prelude.{◌≡◌, ◌==◌, ℕ, List, [], bytes_eq, codes, map, Option, None, Some, if◌then◌else◌, true, false}
 use Rattle.std.specs.Borrow.{Bor}
 use Rattle.std.specs.Option.{option_or, unwrap_or}
-use Rattle.bib_format.specs.Ordered.{order_of}
-use Rattle.bib_format.specs.declared.style.Delimiters.{Delimiters}
-use Rattle.bib_format.specs.declared.style.Delimiters.TheVariants.{Keep, Braces, Quotes}
-use Rattle.bib_format.specs.declared.style.Style.{Style}
-use Rattle.bib_sorting.specs.declared.order.Order.{Order}
+use Rattle.edit_format.specs.Ordered.{order_of}
+use Rattle.edit_format.specs.declared.style.Delimiters.{Delimiters}
+use Rattle.edit_format.specs.declared.style.Delimiters.TheVariants.{Keep, Braces, Quotes}
+use Rattle.edit_format.specs.declared.style.Style.{Style}
+use Rattle.edit_sort.specs.declared.order.Order.{Order}
 use Rattle.bibkit_settings.specs.declared.style_settings.StyleSettings.{StyleSettings}
 
 -- the delimiters with a name, or `None` if none have it

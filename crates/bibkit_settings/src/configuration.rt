@@ -3,8 +3,8 @@
 use crate::settings::{Color, OutputFormat, Settings};
 use crate::style_settings::{StyleSettings, delimiters_named, width_of};
 use bib_findings::codes::Code;
-use bib_format::style::Delimiters;
-use bib_sorting::order::Order;
+use edit_format::style::Delimiters;
+use edit_sort::order::Order;
 use std::alloc::{AllocError, AllocFailed, Global};
 use std::fs;
 use std::io::ErrorKind;

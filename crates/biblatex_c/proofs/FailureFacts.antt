@@ -6,9 +6,9 @@ use Rattle.bib_syntax.specs.Grammar.{IsFile}
 use Rattle.bib_syntax.specs.declared.raw.ParseError.{ParseError}
 use Rattle.bib_syntax.specs.declared.raw.ParseErrorKind.{ParseErrorKind}
 use Rattle.bib_syntax.specs.declared.raw.ParseErrorKind.TheVariants as kind
-use Rattle.bib_documents.specs.Documents.{Document, EntriesAreRefused, IsDocument}
-use Rattle.bib_documents.specs.declared.errors.EditError.{EditError}
-use Rattle.bib_documents.specs.declared.errors.EditError.TheVariants as edit_error
+use Rattle.edit_entries.specs.Documents.{Document, EntriesAreRefused, IsDocument}
+use Rattle.edit_entries.specs.declared.errors.EditError.{EditError}
+use Rattle.edit_entries.specs.declared.errors.EditError.TheVariants as edit_error
 use Rattle.biblatex_c.specs.Calls.{AddFails, EditFails, IsNoBibliography, IsNoFile, TextFails}
 use Rattle.biblatex_c.specs.Statuses.{status_of_edit, status_of_error, status_of_kind}
 use Rattle.biblatex_c.specs.declared.status.Status.{Status}

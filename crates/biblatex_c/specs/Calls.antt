@@ -5,14 +5,14 @@ use Rattle.std.specs.List.{AllByRecursion}
 use Rattle.std.specs.Str.{IsUtf8}
 use Rattle.biblatex.specs.Headline.{IsAcceptedText, IsBibliographyOf}
 use Rattle.biblatex.specs.Syntax.{Bibliography, Entry, FileReading, IsFile, IsRawReading, entries_text}
-use Rattle.bib_excerpts.specs.Answers.{lines_of_keys}
+use Rattle.bib_queries.specs.Answers.{lines_of_keys}
 use Rattle.bibkit_convert.specs.Converted.{end, is_first_after, texts_after}
-use Rattle.bib_documents.specs.Documents.{Document, EntriesAdded, IsDocument, IsEdited, SharesNoKey}
-use Rattle.bib_documents.specs.declared.errors.EditError.{EditError}
-use Rattle.bib_documents.specs.declared.errors.EditError.TheVariants as edit_error
-use Rattle.bib_format.specs.Formatted.{text_in_style}
-use Rattle.bib_format.specs.Usual.{IsUsual}
-use Rattle.bib_format.specs.declared.style.Style.{Style}
+use Rattle.edit_entries.specs.Documents.{Document, EntriesAdded, IsDocument, IsEdited, SharesNoKey}
+use Rattle.edit_entries.specs.declared.errors.EditError.{EditError}
+use Rattle.edit_entries.specs.declared.errors.EditError.TheVariants as edit_error
+use Rattle.edit_format.specs.Formatted.{text_in_style}
+use Rattle.edit_format.specs.Usual.{IsUsual}
+use Rattle.edit_format.specs.declared.style.Style.{Style}
 use Rattle.bibkit_convert.specs.declared.target.Target.{Target}
 use Rattle.bibkit_core.specs.Tasks.{PrintsFindings}
 use Rattle.bibkit_core.specs.declared.request.Lint.{Lint}

@@ -1,8 +1,8 @@
 -- Meaning: words of public contracts.
 -- The numbers and the texts of statuses, and the statuses of errors.
 use Rattle.std.specs.Prelude.{ℕ, List, ◌==◌, codes, if◌then◌else◌}
-use Rattle.bib_documents.specs.declared.errors.EditError.{EditError}
-use Rattle.bib_documents.specs.declared.errors.EditError.TheVariants as edit_error
+use Rattle.edit_entries.specs.declared.errors.EditError.{EditError}
+use Rattle.edit_entries.specs.declared.errors.EditError.TheVariants as edit_error
 use Rattle.bib_syntax.specs.declared.raw.ParseError.{ParseError}
 use Rattle.bib_syntax.specs.declared.raw.ParseErrorKind.{ParseErrorKind}
 use Rattle.bib_syntax.specs.declared.raw.ParseErrorKind.TheVariants as kind

@@ -2,16 +2,16 @@
 
 ghost use Rattle.std.specs.Prelude.{◌≡◌, [], ◌∷◌, IfOk, IfErr};
 ghost use Rattle.std.specs.String.{string_bytes};
-ghost use Rattle.bib_documents.specs.Documents.{EntryIsRefused, EntryRemoved, FieldSet, FieldUnset, SetIsRefused};
-ghost use Rattle.bib_documents.specs.References.{KeyRenamed, RenameIsRefused};
+ghost use Rattle.edit_entries.specs.Documents.{EntryIsRefused, EntryRemoved, FieldSet, FieldUnset, SetIsRefused};
+ghost use Rattle.edit_entries.specs.References.{KeyRenamed, RenameIsRefused};
 ghost use Rattle.biblatex_c.specs.Calls.{AddFails, EditFails, IsEditedText, IsLaidOut, IsNoFile, IsNumberedEnd, TextFails, WithEntriesOf};
 
 use crate::buffers::end;
 use crate::reading::text_of;
 use crate::status::Status;
-use bib_documents::document::RawDocument;
-use bib_format::formatting::format;
-use bib_format::style::Style;
+use edit_entries::document::RawDocument;
+use edit_format::formatting::format;
+use edit_format::style::Style;
 use std::alloc::Global;
 
 // Returns the text in the default style.

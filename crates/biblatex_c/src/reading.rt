@@ -4,7 +4,7 @@ ghost use Rattle.std.specs.Prelude.{◌≡◌, map, IfOk, IfErr};
 ghost use Rattle.std.specs.Str.{IsUtf8};
 ghost use Rattle.std.specs.String.{string_bytes};
 ghost use Rattle.biblatex.specs.Syntax.{biblatex_entry, bibtex_entry, entry_reading_of};
-ghost use Rattle.bib_excerpts.specs.Answers.{lines_of_keys};
+ghost use Rattle.bib_queries.specs.Answers.{lines_of_keys};
 ghost use Rattle.biblatex_c.specs.Calls.{AreKeysInLines, IsNoBibliography, IsNoFile, IsNumberedEnd, IsWrittenAnew, TextFails};
 
 use crate::buffers::end;

@@ -5,7 +5,7 @@ ghost use Rattle.biblatex_c.specs.Calls.{IsNumberedEnd};
 ghost use Rattle.biblatex_c.specs.Statuses as spec;
 
 use crate::buffers::write;
-use bib_documents::errors::EditError;
+use edit_entries::errors::EditError;
 use biblatex::ParseError;
 use std::alloc::AllocError;
 

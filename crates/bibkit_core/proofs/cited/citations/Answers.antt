@@ -1,7 +1,7 @@
 use Rattle.std.proofs.Common.{◌==◌, sym, subst, ◌∙◌}
 use Rattle.std.specs.Prelude.{IfOk, MatchBool}
 use Rattle.bib_text.specs.Characters as char
-use Rattle.bib_excerpts.specs.Citations.{AreCitations, aux_cited, bcf_cited}
+use Rattle.bib_queries.specs.Citations.{AreCitations, aux_cited, bcf_cited}
 use Rattle.bibkit_core.proofs.cited.citations.Goals as goal
 
 pub returns-then-is_control_file : goal.returns-then-is_control_file

@@ -1,6 +1,6 @@
 use Rattle.std.proofs.Common.{subst, sym}
 use Rattle.std.specs.String.{string_bytes}
-use Rattle.bib_documents.specs.Documents.{IsEdited}
+use Rattle.edit_entries.specs.Documents.{IsEdited}
 use Rattle.bibkit_edits.specs.Edited.{EditOutcome}
 use Rattle.bibkit_edits.specs.declared.edit.Edit.{Edit}
 use Rattle.bibkit_edits.proofs.EditedFacts.{adds_made}

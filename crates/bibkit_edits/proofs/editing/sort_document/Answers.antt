@@ -1,6 +1,6 @@
 use Rattle.std.proofs.Common.{map, ap, ◌∙◌, subst}
 use Rattle.std.specs.String.{string_bytes}
-use Rattle.bib_sorting.specs.Sorted.{IsReadSorted, IsSortedText}
+use Rattle.edit_sort.specs.Sorted.{IsReadSorted, IsSortedText}
 use Rattle.bib_syntax.specs.Views.{entry_reading_of}
 use Rattle.bibkit_edits.specs.Orders.{order_text}
 use Rattle.bibkit_edits.proofs.EditedFacts.{order_made}

@@ -5,7 +5,7 @@ use Rattle.std.proofs.lemmas.Result.{IfOk-weaker}
 use Rattle.std.proofs.lemmas.Str.Pattern.{contains_char}
 use Rattle.bibkit_edits.specs.Orders.{has_comma, is_word_space, last_first}
 use Rattle.bibkit_edits.proofs.OrderFacts.{after_last_drop, slice_from_start}
-use Rattle.bib_format.proofs.PercentFacts.{stands_among}
+use Rattle.edit_format.proofs.PercentFacts.{stands_among}
 use Rattle.bibkit_edits.proofs.order.family_first.Goals as goal
 
 pub returns-then-contains : goal.returns-then-contains

@@ -1,7 +1,7 @@
 use Rattle.std.proofs.Common.{◌≡◌, map, take}
 use Rattle.std.specs.String.{string_bytes}
 use Rattle.bib_syntax.specs.Views.{entry_reading_of}
-use Rattle.bib_excerpts.specs.Answers.{lines_of_keys}
+use Rattle.bib_queries.specs.Answers.{lines_of_keys}
 use Rattle.biblatex_c.proofs.reading.key_lines.Given as goal
 
 abbrev pub invariant-entries : goal.invariant-entries

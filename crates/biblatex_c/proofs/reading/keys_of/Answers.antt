@@ -1,7 +1,7 @@
 use Rattle.std.proofs.Common.{◌∙◌, ap, map, subst}
 use Rattle.std.proofs.lemmas.Result.{err_from_is_err_and}
 use Rattle.biblatex.specs.Syntax.{IsRawReading, entry_reading_of, file_of}
-use Rattle.bib_excerpts.specs.Answers.{lines_of_keys}
+use Rattle.bib_queries.specs.Answers.{lines_of_keys}
 use Rattle.biblatex_c.proofs.FailureFacts.{file_fails}
 use Rattle.biblatex_c.proofs.reading.keys_of.Goals as goal
 

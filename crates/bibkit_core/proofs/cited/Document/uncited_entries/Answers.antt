@@ -1,5 +1,5 @@
 use Rattle.std.proofs.Common.{map, ap, subst, ◌∙◌}
-use Rattle.bib_excerpts.specs.Known.{IsUncited}
+use Rattle.bib_queries.specs.Known.{IsUncited}
 use Rattle.bib_syntax.specs.Views.{part_of}
 use Rattle.bibkit_core.specs.Compared.{unused_finding}
 use Rattle.bibkit_core.proofs.cited.Document.uncited_entries.Goals as goal

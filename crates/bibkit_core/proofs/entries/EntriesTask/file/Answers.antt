@@ -1,6 +1,6 @@
 use Rattle.std.proofs.Common.{◌||◌, ◌==◌, not, length, refl, ap, subst, ◌∙◌}
 use Rattle.std.specs.String.{string_bytes}
-use Rattle.bib_excerpts.specs.Answers.{IsTextAnswer}
+use Rattle.bib_queries.specs.Answers.{IsTextAnswer}
 use Rattle.bibkit_core.proofs.entries.EntriesTask.file.Goals as goal
 
 pub returns : goal.returns

@@ -1,6 +1,0 @@
-use Rattle.std.proofs.Common.{◌≡◌, map}
-use Rattle.bib_strings.specs.Collecting.{lent_texts}
-use Rattle.bib_conversion.proofs.dates.parts.Given as goal
-
-abbrev pub invariant-parts : goal.invariant-parts
-invariant-parts l = lent_texts l.parts.items ≡ map (λ p. p.now) l.yielded

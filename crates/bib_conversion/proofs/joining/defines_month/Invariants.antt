@@ -1,7 +1,0 @@
-use Rattle.std.proofs.Common.{◌≡◌, drop, map}
-use Rattle.bib_syntax.specs.Views.{field_of}
-use Rattle.bib_conversion.specs.Conversions.{defines_month}
-use Rattle.bib_conversion.proofs.joining.defines_month.Given as goal
-
-abbrev pub invariant-abbreviations : goal.invariant-abbreviations
-invariant-abbreviations l = defines_month (map field_of l.abbreviations) ≡ defines_month (map field_of (drop l.pair-index l.abbreviations))

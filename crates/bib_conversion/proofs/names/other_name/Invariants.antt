@@ -1,7 +1,0 @@
-use Rattle.std.proofs.Common.{◌≡◌, drop}
-use Rattle.bib_conversion.specs.Conversions.{other_name}
-use Rattle.bib_conversion.specs.Tables.{lent_names}
-use Rattle.bib_conversion.proofs.names.other_name.Given as goal
-
-abbrev pub invariant-rows : goal.invariant-rows
-invariant-rows l = other_name (lent_names l.names) l.name ≡ other_name (lent_names (drop l.row-index l.names)) l.name

@@ -1,5 +1,0 @@
-use Rattle.bib_excerpts.proofs.PartFacts.{part_found}
-use Rattle.bib_excerpts.proofs.excerpts.has_part.Goals as goal
-
-pub returns : goal.returns
-returns c = part_found c.args.part.now c.args.text.now c.contains.result c.contains.ensures.cases

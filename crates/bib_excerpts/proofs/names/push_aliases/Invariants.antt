@@ -1,8 +1,0 @@
-use Rattle.std.proofs.Common.{◌≡◌, ◌++◌, map, take}
-use Rattle.bib_syntax.specs.Views.{field_of}
-use Rattle.bib_excerpts.specs.Names.{aliases_of}
-use Rattle.bib_excerpts.specs.Texts.{text_list}
-use Rattle.bib_excerpts.proofs.names.push_aliases.Given as goal
-
-abbrev pub invariant-fields : goal.invariant-fields
-invariant-fields l = text_list l.names ≡ text_list l.initial.names ++ aliases_of (map field_of (take l.field-index l.fields))

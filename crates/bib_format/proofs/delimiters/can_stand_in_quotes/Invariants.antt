@@ -1,7 +1,0 @@
-use Rattle.std.proofs.Common.{◌≡◌, false, drop}
-use Rattle.bib_format.specs.Delimited.{hide_quotes}
-use Rattle.bib_format.proofs.delimiters.can_stand_in_quotes.Given as goal
-
--- what is left to look at
-abbrev pub invariant-bytes : goal.invariant-bytes
-invariant-bytes l = hide_quotes l.is_hidden (drop l.byte-index l.byte-items) ≡ hide_quotes false l.content

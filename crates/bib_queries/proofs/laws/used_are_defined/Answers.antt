@@ -1,0 +1,12 @@
+use Rattle.std.proofs.Common.{map}
+use Rattle.std.proofs.lemmas.List.{length-map}
+use Rattle.bib_queries.specs.Cited.{used_in_entries}
+use Rattle.bib_queries.specs.Names.{definition_node}
+use Rattle.bib_queries.specs.Needed.{with_marks}
+use Rattle.bib_queries.proofs.CitedFacts.{asked_marked}
+use Rattle.bib_queries.proofs.laws.used_are_defined.Goals as goal
+
+pub returns : goal.returns
+returns c names all text printed says h index name used has =
+    asked_marked (used_in_entries (with_marks h.entry_marks says.entries)) (map definition_node says.abbreviations) _
+    h.definition_marks index name (length-map says.abbreviations definition_node) h.definitions used has

@@ -1,0 +1,53 @@
+-- Meaning: words of public contracts.
+-- The output for the citations of a document: the cited entries and the entries that they refer to, transitively, and before them
+-- the definitions that they use.
+use Rattle.std.specs.Prelude.{◌≡◌, ℕ, ◌+◌, Bool, true, List, ◌++◌, codes, length, map, slice_range}
+use Rattle.std.specs.List.{flat_map}
+use Rattle.std.specs.Str.{trim_end}
+use Rattle.bib_syntax.specs.Reading.{EntryReading, FieldReading, FileReading}
+use Rattle.bib_queries.specs.Names.{definition_node, entry_node, used_in_fields}
+use Rattle.bib_queries.specs.Needed.{AreMarks, IsNeeded, Node, with_marks}
+
+-- a text and a line feed
+abbrev pub with_line_feed : List ℕ → List ℕ
+with_line_feed text = text ++ codes "\n"
+
+-- the source text of an entry, from its at sign to its closing brace
+abbrev pub excerpt : List ℕ → EntryReading → List ℕ
+excerpt text e = slice_range text e.start (e.end + 1)
+
+-- the source text of a definition, from its name to the end of its value
+abbrev pub definition_text : List ℕ → FieldReading → List ℕ
+definition_text text f = trim_end (slice_range text f.name.start f.value.end)
+
+-- a block with a definition, and a line feed
+abbrev pub definition_line : List ℕ → FieldReading → List ℕ
+definition_line text f = codes "@string{" ++ (definition_text text f ++ with_line_feed (codes "}"))
+
+-- the source text of an entry, and a line feed
+abbrev pub entry_line : List ℕ → EntryReading → List ℕ
+entry_line text e = with_line_feed (excerpt text e)
+
+-- the abbreviations that an entry uses
+abbrev pub used_in_entry : EntryReading → List (List ℕ)
+used_in_entry e = used_in_fields e.fields
+
+-- the abbreviations that entries use
+abbrev pub used_in_entries : List EntryReading → List (List ℕ)
+used_in_entries entries = flat_map used_in_entry entries
+
+-- the entry at an index is cited, or a cited entry refers to it, transitively
+pub data IsCited (names : List (List ℕ)) (all : Bool) (nodes : List Node) : ℕ → Type 0 where
+  any : {index : ℕ} → all ≡ true → IsCited names all nodes index
+  needed : {index : ℕ} → IsNeeded names nodes index → IsCited names all nodes index
+
+-- `printed` is the output for these citations (`all`: of all entries): the definitions and entries of `text` with marks
+pub record IsExcerpt (names : List (List ℕ)) (all : Bool) (text : List ℕ) (says : FileReading) (printed : List ℕ) : Type 0 where
+  pub entry_marks : List Bool
+  pub definition_marks : List Bool
+  pub entries : AreMarks (IsCited names all (map entry_node says.entries)) (length says.entries) entry_marks
+  pub definitions : AreMarks
+      (IsNeeded (used_in_entries (with_marks entry_marks says.entries)) (map definition_node says.abbreviations))
+      (length says.abbreviations) definition_marks
+  pub is : printed ≡ flat_map (definition_line text) (with_marks definition_marks says.abbreviations)
+      ++ flat_map (entry_line text) (with_marks entry_marks says.entries)

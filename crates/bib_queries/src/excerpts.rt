@@ -1,0 +1,180 @@
+//! Prints entries with their source text.
+
+ghost use Rattle.std.specs.Prelude.{◌≡◌, ◌++◌, [], map, if◌then◌else◌, IfOk, OnOk};
+ghost use Rattle.std.specs.List.{AllByRecursion, list_any};
+ghost use Rattle.std.specs.String.{string_bytes};
+ghost use Rattle.bib_syntax.specs.Recovery.{IsBlockOf};
+ghost use Rattle.bib_syntax.specs.Views.{entry_reading_of, field_of, file_of, piece_of};
+ghost use Rattle.bib_queries.specs.Answers as answers;
+ghost use Rattle.bib_queries.specs.Answers.{IsPrinted, IsTextAnswer, has_key, is_found_in, lines_of_keys, passing_lines, piece_text};
+ghost use Rattle.bib_queries.specs.Cited.{entry_line};
+ghost use Rattle.bib_queries.specs.Cited as cited_spec;
+ghost use Rattle.bib_queries.specs.Standing.{IsFieldIn};
+
+use crate::cited::cited_text;
+use crate::names::is_name;
+use crate::request::{Request, Search};
+use crate::sets::name_set;
+use bib_syntax::raw::{Pair, RawBibliography, RawChunk, RawEntry};
+use bib_text::spanned::Spanned;
+use std::alloc::{AllocError, Global};
+
+// Returns the text of a piece of a value.
+fn text_of<'s>(piece: &Spanned<RawChunk<'s>>) -> &'s str
+    ensures { result.now ≡ piece_text (piece_of piece.now) }
+{
+    match piece.v {
+        RawChunk::Normal(text) | RawChunk::Abbreviation(text) => text,
+    }
+}
+
+// Returns whether `text` contains `part`.
+fn has_part(text: &str, part: &str) -> bool
+    ensures { result ≡ answers.has_part part.now text.now }
+{
+    text.contains(part)
+}
+
+// Returns whether a piece of a value contains `part`.
+fn is_in_value(value: &[Spanned<RawChunk<'_>>], part: &str) -> bool
+    ensures { result ≡ list_any (λ piece. answers.has_part part.now (piece_text (piece_of piece))) value.now }
+{
+    value.iter().any(|piece| has_part(text_of(piece), part))
+}
+
+// Returns whether a field has the name of the search, and a piece of its value contains the text of the search.
+fn is_found(field: &Pair<'_>, search: &Search<'_>) -> bool
+    ensures { result ≡ answers.is_found search.now.field.now search.now.part.now (field_of field.now) }
+{
+    is_name(field.key.v, search.field) && is_in_value(&field.value.v, search.part)
+}
+
+// Returns whether the search finds one of these fields.
+fn is_in_fields(fields: &[Pair<'_>], search: &Search<'_>) -> bool
+    ensures { result ≡ list_any (λ f. answers.is_found search.now.field.now search.now.part.now (field_of f)) fields.now }
+{
+    fields.iter().any(|field| is_found(field, search))
+}
+
+// Returns whether the search finds a field of an entry.
+fn is_found_in(entry: &Spanned<RawEntry<'_>>, search: &Search<'_>) -> bool
+    ensures { result ≡ answers.is_found_in search.now.field.now search.now.part.now (entry_reading_of entry.now) }
+{
+    is_in_fields(&entry.v.fields, search)
+}
+
+// Returns the source text of an entry.
+fn excerpt<'s>(text: &'s str, entry: &Spanned<RawEntry<'_>>) -> &'s str
+    requires { IsBlockOf text.now (entry_reading_of entry.now) }
+    ensures { result.now ≡ cited_spec.excerpt text.now (entry_reading_of entry.now) }
+{
+    &text[entry.span.start..entry.span.end + 1]
+}
+
+// Appends the source text of an entry and a line feed.
+fn print_entry(
+    printed: &mut String,
+    text: &str,
+    entry: &Spanned<RawEntry<'_>>,
+) -> Result<(), AllocError>
+    requires { IsBlockOf text.now (entry_reading_of entry.now) }
+    ensures { OnOk result (string_bytes printed.new ≡
+        string_bytes printed.old ++ entry_line text.now (entry_reading_of entry.now)) }
+{
+    printed.push_str(excerpt(text, entry))?;
+    printed.push('\n')?;
+    Ok(())
+}
+
+// Appends the source text of an entry and a line feed, if it is requested.
+pub(crate) fn print_if(
+    printed: &mut String,
+    text: &str,
+    entry: &Spanned<RawEntry<'_>>,
+    is_asked: bool,
+) -> Result<(), AllocError>
+    requires { IsBlockOf text.now (entry_reading_of entry.now) }
+    ensures { OnOk result (string_bytes printed.new ≡
+        string_bytes printed.old ++ (if is_asked then entry_line text.now (entry_reading_of entry.now) else [])) }
+{
+    if is_asked {
+        return print_entry(printed, text, entry);
+    }
+    Ok(())
+}
+
+// Returns the keys of entries, each followed by a line feed.
+fn keys(alloc: Global, entries: &[Spanned<RawEntry<'_>>]) -> Result<String, AllocError>
+    ensures { IfOk result (λ printed. string_bytes printed ≡ lines_of_keys (map entry_reading_of entries.now)) }
+{
+    let mut printed = String::new(alloc);
+    'entries: for entry in entries {
+        printed.push_str(entry.v.key.v)?;
+        printed.push('\n')?;
+    }
+    Ok(printed)
+}
+
+// Returns the source text of the entries with these keys.
+fn get(
+    alloc: Global,
+    keys: &[&str],
+    text: &str,
+    entries: &[Spanned<RawEntry<'_>>],
+) -> Result<String, AllocError>
+    requires { AllByRecursion (IsBlockOf text.now) (map entry_reading_of entries.now) }
+    ensures { IfOk result (λ printed. string_bytes printed ≡
+        passing_lines (has_key (map (λ key. key.now) keys.now)) text.now (map entry_reading_of entries.now)) }
+{
+    let asked = name_set(alloc, keys)?;
+    let mut printed = String::new(alloc);
+    'entries: for entry in entries {
+        print_if(&mut printed, text, entry, asked.contains(entry.v.key.v))?;
+    }
+    Ok(printed)
+}
+
+// Returns the source text of the entries that the search finds.
+fn grep(
+    alloc: Global,
+    search: &Search<'_>,
+    text: &str,
+    entries: &[Spanned<RawEntry<'_>>],
+) -> Result<String, AllocError>
+    requires { AllByRecursion (IsBlockOf text.now) (map entry_reading_of entries.now) }
+    ensures { IfOk result (λ printed. string_bytes printed ≡
+        passing_lines (is_found_in search.now.field.now search.now.part.now) text.now (map entry_reading_of entries.now)) }
+{
+    let mut printed = String::new(alloc);
+    'entries: for entry in entries {
+        print_if(&mut printed, text, entry, is_found_in(entry, search))?;
+    }
+    Ok(printed)
+}
+
+// Returns the output for a request on the entries and definitions of a text.
+fn answer_raw(
+    alloc: Global,
+    request: &Request<'_>,
+    text: &str,
+    raw: &RawBibliography<'_>,
+) -> Result<String, AllocError>
+    requires entries { AllByRecursion (IsBlockOf text.now) (file_of raw.now).entries }
+    requires definitions { AllByRecursion (IsFieldIn text.now) (file_of raw.now).abbreviations }
+    ensures { IfOk result (λ printed. IsPrinted request.now text.now (file_of raw.now) (string_bytes printed)) }
+{
+    match request {
+        Request::Keys => keys(alloc, &raw.entries),
+        Request::Get(names) => get(alloc, names, text, &raw.entries),
+        Request::Grep(search) => grep(alloc, search, text, &raw.entries),
+        Request::Cited(keys) => cited_text(alloc, keys, text, raw),
+    }
+}
+
+/// Returns the output for a request on the entries and definitions that can be parsed of a text.
+pub fn answer(alloc: Global, request: &Request<'_>, text: &str) -> Result<String, AllocError>
+    ensures { IfOk result (λ printed. IsTextAnswer request.now text.now (string_bytes printed)) }
+{
+    let found = RawBibliography::recover(alloc, text)?;
+    answer_raw(alloc, request, text, &found.raw)
+}

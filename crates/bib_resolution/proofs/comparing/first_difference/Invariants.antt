@@ -1,8 +1,0 @@
-use Rattle.std.proofs.Common.{drop}
-use Rattle.std.specs.List.{AllZip}
-use Rattle.bib_resolution.specs.Resolutions.{SaysSame}
-use Rattle.bib_resolution.proofs.comparing.first_difference.Given as goal
-
--- all entries say the same if those that are left do
-abbrev pub invariant-entries : goal.invariant-entries
-invariant-entries l = AllZip SaysSame (drop l.index l.old) (drop l.index l.new) → AllZip SaysSame l.old l.new

@@ -1,9 +1,0 @@
-use Rattle.std.proofs.Common.{arith}
-use Rattle.std.proofs.lemmas.Str.Pattern.{contains_char}
-use Rattle.bib_format.proofs.PercentFacts.{stands_among}
-use Rattle.bib_sorting.proofs.gaps.has_close_brace.Goals as goal
-
-pub returns : goal.returns
-returns c =
-    stands_among 125 c.args.text.now c.contains.result
-    (contains_char 125 c.args.text.now c.contains.result c.contains.ensures.cases (omega arith))

@@ -1,5 +1,0 @@
-use Rattle.bib_sorting.proofs.StaysFacts.{in_order_stays}
-use Rattle.bib_sorting.proofs.laws.in_order_stays.Goals as goal
-
-pub returns : goal.returns
-returns c d texts new read sorted text = in_order_stays d texts new read sorted text

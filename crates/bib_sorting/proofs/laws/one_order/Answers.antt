@@ -1,5 +1,0 @@
-use Rattle.bib_sorting.proofs.OneOrderFacts.{one_order}
-use Rattle.bib_sorting.proofs.laws.one_order.Goals as goal
-
-pub returns : goal.returns
-returns c d texts first second read in_order in_order' = one_order d texts first second read in_order in_order'

@@ -1,6 +1,0 @@
-use Rattle.std.proofs.Common.{sym}
-use Rattle.bib_sorting.proofs.TwiceFacts.{runs_in_order}
-use Rattle.bib_sorting.proofs.laws.runs_stay.Goals as goal
-
-pub returns : goal.returns
-returns c d texts order in_order = sym (runs_in_order d texts order in_order)

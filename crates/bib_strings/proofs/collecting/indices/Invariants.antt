@@ -1,8 +1,0 @@
-use Rattle.std.proofs.Common.{◌≡◌, List, ℕ, take}
-use Rattle.bib_strings.specs.Collected.{text_index}
-use Rattle.bib_strings.specs.Collecting.{lent_texts}
-use Rattle.bib_strings.specs.Tables.{index_in}
-use Rattle.bib_strings.proofs.collecting.indices.Given as goal
-
-abbrev pub invariant-texts : goal.invariant-texts
-invariant-texts l = (text : List ℕ) → index_in l.indices text ≡ text_index (lent_texts (take l.index l.texts)) text

@@ -1,7 +1,0 @@
-use Rattle.std.proofs.Common.{◌≡◌, List, ℕ, take}
-use Rattle.bib_strings.specs.Collected.{times_of}
-use Rattle.bib_strings.specs.Collecting.{count_in, lent_texts}
-use Rattle.bib_strings.proofs.texts.counts.Given as goal
-
-abbrev pub invariant-texts : goal.invariant-texts
-invariant-texts l = (text : List ℕ) → count_in l.counts text ≡ times_of text (lent_texts (take l.text-index l.texts))

@@ -1,0 +1,56 @@
+-- What a field gives way to can stand in a file.
+use Rattle.std.proofs.Common.{◌≡◌, ℕ, Bool, true, false, cond, List, ◌++◌, refl, Option, Some, None}
+use Rattle.std.specs.Prelude.{◌&&◌, codes}
+use Rattle.std.specs.List.{AllByRecursion}
+use Rattle.bib_syntax.specs.Reading.{EntryReading, FieldReading}
+use Rattle.edit_entries.specs.Documents.{CanBeName, has_name}
+use Rattle.bib_tables.specs.declared.dialects.Dialect.{Dialect}
+use Rattle.edit_strings.specs.Collected.{single_text}
+use Rattle.edit_convert.specs.Conversions.{FieldChange, change_of, date_field, divides_date, exchanged_date, field_change, is_date_part, joined_among, joined_date, new_field_name, value_sides}
+use Rattle.edit_convert.specs.Dates.{Sides, from_names, more_fields, to_fields, side_year}
+use Rattle.edit_convert.proofs.DateFacts.{AreKnown, date_known, sides_put}
+use Rattle.edit_convert.proofs.DividedFacts.{CanBePut}
+use Rattle.edit_convert.proofs.JoinedFacts.{joined_put}
+use Rattle.edit_convert.proofs.NewNameFacts.{name_known}
+
+-- a name can be one, and fields can be put in
+abbrev pub CanBeMade : Option FieldChange → Type 0
+CanBeMade None = Unit {0}
+CanBeMade (Some (FieldChange.renamed name)) = CanBeName name
+CanBeMade (Some (FieldChange.divided sides)) =
+    CanBePut (side_year from_names sides.from)
+    × AllByRecursion CanBePut (more_fields from_names sides.from ++ to_fields sides.to)
+CanBeMade (Some (FieldChange.joined date)) = CanBePut (date_field date)
+
+value_known : (text : Option (List ℕ)) (sides : Sides) → value_sides text ≡ Some sides → AreKnown sides
+value_known None sides is = absurd (cc)
+value_known (Some text) sides is = date_known text sides is
+
+date_case : (b : Bool) (text : Option (List ℕ)) (sides : Sides) → cond b (value_sides text) None ≡ Some sides → AreKnown sides
+date_case false text sides is = absurd (cc)
+date_case true text sides is = value_known text sides is
+
+exchanged_known : (dialect : Dialect) (e : EntryReading) (f : FieldReading) (sides : Sides)
+    → exchanged_date dialect e f ≡ Some sides → AreKnown sides
+exchanged_known dialect e f sides is =
+    date_case (has_name (codes "date") f && divides_date dialect e.fields) (single_text f.value.pieces) sides is
+
+among_known : (b : Bool) (joined : Option (List ℕ)) (date : List ℕ) → cond b joined None ≡ Some date → joined ≡ Some date
+among_known false joined date is = absurd (cc)
+among_known true joined date is = is
+
+made_case : (date name : Option (List ℕ)) (sides : Option Sides)
+    → ((t : List ℕ) → date ≡ Some t → CanBePut (date_field t)) → ((n : List ℕ) → name ≡ Some n → CanBeName n)
+    → ((s : Sides) → sides ≡ Some s → AreKnown s) → CanBeMade (change_of date name sides)
+made_case (Some date) name sides joined names dates = joined date refl
+made_case None (Some name) sides joined names dates = names name refl
+made_case None None (Some sides) joined names dates = sides_put sides (dates sides refl)
+made_case None None None joined names dates = tt
+
+pub change_known : (dialect : Dialect) (defines : Bool) (text : List ℕ) (e : EntryReading) (f : FieldReading)
+    → CanBeMade (field_change dialect defines text e f)
+change_known dialect defines text e f =
+    let joined : Option (List ℕ) = joined_date dialect defines text e.fields in
+    made_case (joined_among joined f) (new_field_name dialect e f) (exchanged_date dialect e f)
+    (λ date is. joined_put dialect defines text e.fields date (among_known (is_date_part f) joined date is))
+    (name_known dialect e f) (exchanged_known dialect e f)

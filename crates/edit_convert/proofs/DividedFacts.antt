@@ -1,0 +1,271 @@
+-- Fields that are put in the place of one, as they are written with commas between them.
+use Rattle.std.proofs.Common.{◌≡◌, ℕ, ◌+◌, ◌-◌, ◌<◌, ◌≤◌, List, [], ◌∷◌, ◌++◌, length, drop, map, codes, refl, sym, ap, ◌∙◌, subst, arith, append-nil, Some}
+use Rattle.std.specs.Prelude.{◌==◌, ◌&&◌, not, slice_get}
+use Rattle.std.specs.Char.{is_control, is_whitespace}
+use Rattle.std.proofs.lemmas.Bool.{and_right}
+use Rattle.std.proofs.lemmas.Bool.Decides.{nat_tests}
+use Rattle.bib_syntax.specs.Characters.{is_delimiter}
+use Rattle.std.specs.List.{AllByRecursion}
+use Rattle.bib_text.specs.Places.{Place, place, Longest, Run, Stops, between}
+use Rattle.bib_text.specs.Places.Run.{stop, step}
+use Rattle.bib_text.proofs.PlaceFacts.{ahead_char, ahead_run, ahead_then, same_place, stops_at}
+use Rattle.bib_syntax.specs.Reading.{Piece, EntryReading, FieldReading}
+use Rattle.bib_syntax.specs.Reading.Piece.{abbreviation, literal}
+use Rattle.bib_syntax.specs.Grammar.{Element, Elements, Field, longest}
+use Rattle.bib_syntax.specs.Grammar.{Elements as elements}
+use Rattle.bib_syntax.specs.Grammar.{Gap as gap}
+use Rattle.bib_syntax.proofs.FieldFacts.{ahead_field, ahead_gap, elements_stop}
+use Rattle.bib_syntax.proofs.FileFacts.{ahead_head}
+use Rattle.bib_syntax.proofs.LawFacts.{start_not_white, start_plain}
+use Rattle.edit_entries.specs.Edits.{Edit, edited, moved_field, moved_piece, moved_place}
+use Rattle.edit_entries.specs.Documents.{CanBeName, Document, IsDocument, text_at}
+use Rattle.edit_entries.proofs.AgreementFacts.{Agrees, agrees_before, same_run}
+use Rattle.edit_entries.proofs.EditFacts.{after_frame, moved_after, moved_before, new_bytes, text_stands, zone_after}
+use Rattle.edit_entries.proofs.EntryFacts.{goes}
+use Rattle.edit_entries.proofs.MovedFacts.{char_within}
+use Rattle.edit_entries.proofs.SplitFacts.{FieldsBefore, ahead_fields_before, ahead_file_before, split_fields, split_file}
+use Rattle.edit_entries.proofs.ValueFacts.{elements_opens}
+use Rattle.edit_entries.proofs.ZoneFacts.{Inside, char_there, inside, run_there, stops_there, there}
+use Rattle.edit_format.proofs.ElementFacts.{Ending}
+use Rattle.edit_format.proofs.StandsFacts.{Stands, ascii, first_part, last_part, past}
+use Rattle.edit_strings.specs.Tables.{IsTrimmed}
+use Rattle.edit_strings.proofs.NewValueFacts.{CanBeRead, after_ending}
+use Rattle.edit_strings.proofs.StandingFacts.{element_stands}
+use Rattle.edit_convert.specs.Conversions.{field_stretch}
+use Rattle.edit_convert.specs.Dates.{NewField, field_reading, new_field_text, more_field_texts}
+use Rattle.edit_convert.proofs.KindFacts.{IsWithin}
+use Rattle.edit_convert.proofs.MadeFacts.{IsPut}
+use Rattle.edit_convert.proofs.PutFacts.{Begins, NewFields, fields_put, fields_put_read, new_opens}
+use Rattle.edit_convert.proofs.StandFacts.{name_stands}
+
+-- ---- one of them
+
+-- a field that can be put in: its name can be one, and its value is read wherever it stands
+pub record CanBePut (n : NewField) : Type 0 where
+  pub name : CanBeName n.name
+  pub value : CanBeRead n.value
+
+piece_placeless : (move : ℕ → ℕ) (e : Piece) → moved_piece (λ n. 0) (moved_piece move e) ≡ moved_piece (λ n. 0) e
+piece_placeless move (literal p) = refl
+piece_placeless move (abbreviation p) = refl
+
+-- the bytes of an element are read as it wherever they stand
+pub element_read : {a b : Place} {e : Piece} (bytes : List ℕ) → Element longest a e b → b.at ≤ length a.text
+    → between a b ≡ bytes → CanBeRead (record { bytes = bytes; pieces = e ∷ [] })
+element_read {a} {b} {e} bytes x within is = λ u v w s ending over no_hash.
+    let move = λ (n : ℕ). n - a.at + u.at in
+    record {
+      reading = moved_piece move e ∷ [];
+      elements = elements.last (element_stands x within (subst (λ t. Stands u t v) (sym is) s) ending) over no_hash;
+      alike = ap (λ p. p ∷ []) (piece_placeless move e);
+    }
+
+-- a field that is put in, where it stands
+record IsRead (n : NewField) (u w : Place) : Type 0 where
+  reading : FieldReading
+  field : Field longest u reading w
+  start : reading.name.start ≡ u.at
+  alike : moved_field (λ n. 0) reading ≡ moved_field (λ n. 0) (field_reading n)
+
+field_read : {u v w : Place} (n : NewField) → CanBePut n → Stands u (new_field_text n) v → Ending v
+    → Longest is_whitespace v w → Stops (λ c. c == 35) w → IsRead n u w
+field_read {u} {v} {w} n can s ending over no_hash =
+    let bytes : List ℕ = n.value.bytes in
+    let name = first_part n.name (codes " = " ++ bytes) s in
+    let s1 = last_part n.name (codes " = " ++ bytes) s in
+    let space = ascii 32 (omega arith) (first_part (32 ∷ []) (61 ∷ 32 ∷ bytes) s1) in
+    let s2 = last_part (32 ∷ []) (61 ∷ 32 ∷ bytes) s1 in
+    let sign = ascii 61 (omega arith) (first_part (61 ∷ []) (32 ∷ bytes) s2) in
+    let s3 = last_part (61 ∷ []) (32 ∷ bytes) s2 in
+    let space' = ascii 32 (omega arith) (first_part (32 ∷ []) bytes s3) in
+    let s4 = last_part (32 ∷ []) bytes s3 in
+    let value = can.value _ v w s4 ending over no_hash in
+    let opens = elements_opens value.elements in
+    let build : List Piece → FieldReading =
+    λ (ps : List Piece).
+    record {
+      name = record { text = n.name; start = 0; end = 0 };
+      value = record { pieces = ps; start = 0; end = 0 };
+    } in
+    record {
+      reading = record { name = text_at u.at n.name; value = record { pieces = value.reading; start = _; end = w.at } };
+      field = record {
+        name_end = _;
+        before_sign = _;
+        after_sign = _;
+        value_start = _;
+        name = name_stands u.text _ n.name u.at 32 can.name name.here space refl;
+        white = record { run = step space refl stop; stops = stops_at is_whitespace sign refl };
+        sign = sign;
+        white' = record { run = step space' refl stop; stops = stops_at is_whitespace opens.here opens.dark };
+        elements = value.elements;
+        starts = refl;
+        ends = refl;
+      };
+      start = refl;
+      alike = ap build value.alike;
+    }
+
+-- ---- all of them
+
+-- fields that are put in, where they stand
+pub record AreFieldsRead (fields : List NewField) (u w : Place) : Type 0 where
+  pub readings : List FieldReading
+  pub news : NewFields u readings w
+  pub begins : Begins readings u.at
+  pub alike : map (moved_field (λ n. 0)) readings ≡ map (moved_field (λ n. 0)) (map field_reading fields)
+
+pub fields_read : {u v w : Place} (n : NewField) (ns : List NewField) → CanBePut n → AllByRecursion CanBePut ns
+    → Stands u (new_field_text n ++ more_field_texts ns) v → Ending v → Longest is_whitespace v w
+    → Stops (λ c. c == 35) w → AreFieldsRead (n ∷ ns) u w
+fields_read {u} {v} {w} n [] can all s ending over no_hash =
+    let x = field_read n can (subst (λ t. Stands u t v) (append-nil (new_field_text n)) s) ending over no_hash in
+    record {
+      readings = x.reading ∷ [];
+      news = record { first = []; last = x.reading; middle = u; before = FieldsBefore.none; field = x.field; are = refl };
+      begins = record { first = x.reading; others = []; are = refl; start = x.start };
+      alike = ap (λ r. r ∷ []) x.alike;
+    }
+fields_read {u} {v} {w} n (m ∷ ms) can all s ending over no_hash =
+    let written : List ℕ = new_field_text n in
+    let rest : List ℕ = new_field_text m ++ more_field_texts ms in
+    let first = first_part written (44 ∷ 32 ∷ rest) s in
+    let s1 = last_part written (44 ∷ 32 ∷ rest) s in
+    let comma = ascii 44 (omega arith) (first_part (44 ∷ []) (32 ∷ rest) s1) in
+    let s2 = last_part (44 ∷ []) (32 ∷ rest) s1 in
+    let space = ascii 32 (omega arith) (first_part (32 ∷ []) rest s2) in
+    let s3 = last_part (32 ∷ []) rest s2 in
+    let others =
+    fields_read {u = past (past (past u written) (44 ∷ [])) (32 ∷ [])} {v = v} {w = w} m ms all.0 all.1 s3 ending
+    over no_hash in
+    let white : Longest is_whitespace (past u written) (past u written) =
+    record { run = stop; stops = stops_at is_whitespace comma refl } in
+    let x =
+    field_read n can first
+    (record { char = 44; next = _; here = comma; no_name = refl; no_digit = refl; no_point = refl }) white
+    (stops_at (λ c. c == 35) comma refl) in
+    let opens = new_opens others.news.before others.news.field in
+    let gap1 = gap.white white (stops_at (λ c. c == 37) comma refl) in
+    let gap2 =
+    gap.white
+    (record {
+      run = step space refl stop;
+      stops = stops_at is_whitespace opens.here (start_not_white opens.char opens.starts);
+    }) (stops_at (λ c. c == 37) opens.here (start_plain opens.char opens.starts)) in
+    record {
+      readings = x.reading ∷ others.readings;
+      news = record {
+        first = x.reading ∷ others.news.first;
+        last = others.news.last;
+        middle = others.news.middle;
+        before = FieldsBefore.more x.field gap1 comma gap2 others.news.before;
+        field = others.news.field;
+        are = ap (λ l. x.reading ∷ l) others.news.are;
+      };
+      begins = record { first = x.reading; others = others.readings; are = refl; start = x.start };
+      alike =
+          ap (λ r. r ∷ map (moved_field (λ n. 0)) others.readings) x.alike
+          ∙ ap (λ rs. moved_field (λ n. 0) (field_reading n) ∷ rs) others.alike;
+    }
+
+-- ---- in the place of a field
+
+-- a value ends where white space stands after it
+run_ending : {u v : Place} → Run is_whitespace u v → Ending v → Ending u
+run_ending stop ending = ending
+run_ending (step {c = c} char white rest) ending = record {
+  char = c;
+  next = _;
+  here = char;
+  no_name = and_right (not (is_delimiter c) && not (is_control c)) (not (is_whitespace c)) (ap not white);
+  no_digit = grind (arith, nat_tests);
+  no_point = grind (arith, nat_tests);
+}
+
+module _ (d : Document) (f : FieldReading) (n : NewField) (ns : List NewField) (trimmed : IsTrimmed d.text f)
+    (ordered : f.name.start < f.value.start) (can : CanBePut n) (all : AllByRecursion CanBePut ns) where
+  abbrev edit : Edit
+  edit = field_stretch d.text f (new_field_text n ++ more_field_texts ns)
+
+  divided_read : (at k : ℕ) (after : Document) (entry : EntryReading) (j : ℕ) → f.value.end ≤ at → Agrees at d after
+      → IsDocument after → slice_get after.says.entries k ≡ Some entry → slice_get entry.fields j ≡ Some f
+      → (made : List FieldReading)
+      × (map (moved_field (λ n. 0)) made ≡ map (moved_field (λ n. 0)) (map field_reading (n ∷ ns)))
+      × IsWithin edit after.text × IsDocument (fields_put after edit k entry j made) × Begins made f.name.start
+  divided_read at k after entry j past agrees read here there' =
+      let text = after.text in
+      let s = split_file k entry read here in
+      let b = s.block in
+      let g = split_fields j f b.fields there' in
+      let to_field =
+      ahead_then (ahead_file_before s.first)
+      (ahead_then (ahead_head b.head)
+      (ahead_then (ahead_run b.key.run)
+      (ahead_then (ahead_run b.white.run)
+      (ahead_then (ahead_char b.comma) (ahead_then (ahead_gap b.gap) (ahead_fields_before g.first)))))) in
+      let at_end = ahead_then to_field (ahead_field g.field) in
+      let end : place text f.value.end ≡ g.end = same_place {u = place text f.value.end} {v = g.end} (sym at_end.text) g.field.ends in
+      let same = (agrees_before at f.value.end d after past agrees).text in
+      let blank : Run is_whitespace (place text edit.end) g.end =
+      subst (λ p. Run is_whitespace (place text edit.end) p) end
+      (same_run d.text text f.value.end same refl (omega arith) trimmed) in
+      let start_is : edit.start ≡ g.start.at = ap (λ p. p.start) g.field.name.reading in
+      let some : edit.start < edit.end = omega arith in
+      let following = after_ending g.rest b.closes in
+      let white = ahead_run blank in
+      let end_within : g.end.at ≤ length text =
+      omega (
+        arith,
+        char_within following.here,
+        (ahead_char following.here).at,
+        ap length following.here.same,
+        ap length white.text,
+      ) in
+      let within : edit.end ≤ length text = omega (arith, white.at) in
+      let z = zone_after edit text (omega (arith, some)) within in
+      let frame = after_frame edit text in
+      let here' : Inside frame (place text edit.end) = inside z refl (omega arith) (omega arith) in
+      let last : Inside frame g.end = inside z white.text white.at (omega arith) in
+      let ending = run_ending blank following in
+      let next : Inside frame ending.next =
+      inside z ending.here.same (omega (arith, (ahead_char ending.here).at))
+      (omega (arith, char_within ending.here, ap length ending.here.same)) in
+      let is_end : moved_place edit edit.end ≡ edit.start + length edit.bytes = omega (arith, moved_after edit edit.end (omega arith)) in
+      let from : Place = place (edited edit text) edit.start in
+      let to : Place = goes edit text (place text edit.end) in
+      let standing : drop edit.start (edited edit text) ≡ edit.bytes ++ drop edit.end text = new_bytes edit text (omega (arith, some)) in
+      let stands : Stands from edit.bytes to = record {
+        same = refl;
+        here =
+            standing
+            ∙ ap (λ xs. edit.bytes ++ xs)
+            (sym (text_stands (edited edit text) edit.bytes (drop edit.end text) edit.start standing)
+            ∙ ap (λ m. drop m (edited edit text)) (sym is_end));
+        next = is_end;
+      } in
+      let ending' : Ending to =
+      record {
+        char = ending.char;
+        next = there frame ending.next;
+        here = char_there z here' next ending.here;
+        no_name = ending.no_name;
+        no_digit = ending.no_digit;
+        no_point = ending.no_point;
+      } in
+      let stops = elements_stop g.field.elements in
+      let below : g.end.at < frame.end = omega arith in
+      let over : Longest is_whitespace to (goes edit text g.end) =
+      record { run = run_there z here' last blank; stops = stops_there is_whitespace z last below stops.0 } in
+      let x = fields_read n ns can all stands ending' over (stops_there (λ c. c == 35) z last below stops.1) in
+      let start_goes : moved_place edit g.start.at ≡ edit.start =
+      moved_before edit g.start.at (omega (arith, start_is, some)) ∙ sym start_is in
+      let news = subst (λ m. NewFields (place (edited edit text) m) x.readings (goes edit text g.end)) (sym start_goes) x.news in (
+        x.readings,
+        x.alike,
+        record { some = some; within = omega (arith, some, within) },
+        fields_put_read after edit k entry j f x.readings s g start_is some white.at news,
+        x.begins,
+      )
+
+  pub divided_put : IsPut d f edit (map field_reading (n ∷ ns))
+  divided_put = record { start = refl; read = divided_read }

@@ -1,0 +1,39 @@
+use Rattle.std.proofs.Common.{◌+◌, ◌-◌, List, ◌++◌, append-nil, length, drop, take, map, sym, ap, ◌∙◌, arith}
+use Rattle.std.proofs.lemmas.List.{drop_all, length-drop, take_all}
+use Rattle.bib_syntax.specs.declared.raw.Pair.{Pair}
+use Rattle.bib_syntax.specs.Views.{field_of}
+use Rattle.edit_entries.specs.Edits.{Edit}
+use Rattle.edit_entries.specs.Placed.{IsPlaced}
+use Rattle.edit_strings.proofs.ListFacts.{all_step}
+use Rattle.edit_convert.specs.Tables.{change_by, change_edits, edit_in_bytes}
+use Rattle.edit_convert.proofs.FollowingFacts.{edits_step}
+use Rattle.edit_convert.proofs.converting.push_field_edits.Goals as goal
+
+pub push_field_edit-requires : goal.push_field_edit-requires
+push_field_edit-requires c =
+    (all_step field_of c.args.fields.now c.fields.at c.index-fields-at.result c.fields-test.true c.index-fields-at.is
+    (IsPlaced c.args.text.now) c.fields.invariant.placed).0
+
+pub fields-preserved : goal.fields-preserved
+fields-preserved c =
+    let left : List Pair = drop (c.fields.at + 1) c.args.fields.now in
+    let following : List Pair = take (length c.args.fields.now - (c.fields.at + 1)) left in
+    let same =
+    take_all (length c.args.fields.now - (c.fields.at + 1)) left
+    (omega (arith, length-drop (c.fields.at + 1) c.args.fields.now)) in
+    record {
+      added =
+          edits_step field_of c.args.fields.now c.fields.at c.index-fields-at.result c.fields-test.true
+          c.index-fields-at.is (change_by c.args.changes.now) c.args.text.now following _ _ _ same
+          c.in_ok-push_field_edit.ensures c.fields.invariant.added;
+      placed =
+          (all_step field_of c.args.fields.now c.fields.at c.index-fields-at.result c.fields-test.true
+          c.index-fields-at.is (IsPlaced c.args.text.now) c.fields.invariant.placed).1;
+    }
+
+pub returns : goal.returns
+returns c =
+    let edits : List Edit = map edit_in_bytes c.fields.edits.items in
+    sym (append-nil edits)
+    ∙ ap (λ fs. edits ++ change_edits c.args.changes.now c.args.text.now (map field_of fs))
+    (sym (drop_all c.fields.at c.args.fields.now c.fields-test.false)) ∙ c.fields.invariant.added

@@ -1,0 +1,148 @@
+-- Meaning: words of public contracts.
+-- Dates in fields of their own, as BibTeX has them. Years and days stay as they stand in the date.
+use Rattle.std.specs.Prelude.{ℕ, Bool, ◌&&◌, ◌==◌, if◌then◌else◌, List, [], ◌∷◌, ◌++◌, length, codes, is_some, Option, Some, None}
+use Rattle.std.specs.Char.{is_ascii_digit}
+use Rattle.std.specs.List.{flat_map, list_all, slice_split}
+use Rattle.bib_text.specs.Characters as char
+use Rattle.bib_text.specs.Enums.{value_named}
+use Rattle.bib_syntax.specs.Reading.{FieldReading}
+use Rattle.bib_syntax.specs.Reading.Piece.{literal}
+use Rattle.bib_dates.specs.Dates.{date_of}
+use Rattle.bib_dates.specs.Readings.{readable_value}
+use Rattle.edit_entries.specs.Documents.{in_braces, text_at}
+use Rattle.edit_strings.specs.Collected.{name_value}
+use Rattle.edit_strings.specs.Exchanged.{NewValue}
+
+-- a field that is put in: its name, and its value
+pub record NewField : Type 0 where
+  pub name : List ℕ
+  pub value : NewValue
+
+-- a field whose value is a text in braces
+abbrev pub braced_field : List ℕ → List ℕ → NewField
+braced_field name text = record { name = name; value = record { bytes = in_braces text; pieces = literal (text_at 1 text) ∷ [] } }
+
+-- a field whose value is an abbreviation
+abbrev pub bare_field : List ℕ → List ℕ → NewField
+bare_field name abbreviation = record { name = name; value = name_value abbreviation }
+
+-- a field as it is written
+abbrev pub new_field_text : NewField → List ℕ
+new_field_text n = n.name ++ (codes " = " ++ n.value.bytes)
+
+-- fields as they are written after another one
+abbrev pub more_field_texts : List NewField → List ℕ
+more_field_texts fields = flat_map (λ n. codes ", " ++ new_field_text n) fields
+
+-- what a field that is put in is read as, but for places
+abbrev pub field_reading : NewField → FieldReading
+field_reading n = record { name = text_at 0 n.name; value = record { pieces = n.value.pieces; start = 0; end = 0 } }
+
+-- the numbers of the months, each with the abbreviation that stands for it
+abbrev pub month_abbreviations : List (List ℕ × List ℕ)
+month_abbreviations =
+    (codes "01", codes "jan") ∷ (codes "02", codes "feb") ∷ (codes "03", codes "mar") ∷ (codes "04", codes "apr")
+    ∷ (codes "05", codes "may") ∷ (codes "06", codes "jun")
+    ∷ (codes "07", codes "jul") ∷ (codes "08", codes "aug") ∷ (codes "09", codes "sep") ∷ (codes "10", codes "oct")
+    ∷ (codes "11", codes "nov") ∷ (codes "12", codes "dec") ∷ []
+
+-- a side of a date: its year, and if they are there the abbreviation of its month and its day
+pub record Side : Type 0 where
+  pub year : List ℕ
+  pub month : Option (List ℕ)
+  pub day : Option (List ℕ)
+
+-- whether a text is so many digits
+abbrev pub are_digits : ℕ → List ℕ → Bool
+are_digits count text = (length text == count) && list_all is_ascii_digit text
+
+-- a side with a month, if the month has an abbreviation
+abbrev pub month_side : List ℕ → Option (List ℕ) → Option (List ℕ) → Option Side
+month_side year None day = None
+month_side year (Some month) day = Some (record { year = year; month = Some month; day = day })
+
+-- the side that some parts are: a year in four digits, and perhaps a month and a day in two
+abbrev pub side_of : List (List ℕ) → Option Side
+side_of [] = None
+side_of (year ∷ []) = if are_digits 4 year then Some (record { year = year; month = None; day = None }) else None
+side_of (year ∷ month ∷ []) = if are_digits 4 year then month_side year (value_named month_abbreviations month) None else None
+side_of (year ∷ month ∷ day ∷ []) =
+    if are_digits 4 year && are_digits 2 day then month_side year (value_named month_abbreviations month) (Some day) else None
+side_of (year ∷ month ∷ day ∷ other ∷ rest) = None
+
+-- the side that the parts of a text between its hyphens are
+abbrev pub side_in : List ℕ → Option Side
+side_in text = side_of (slice_split (λ c. c == char.hyphen) text)
+
+-- a date, or the two sides of a range
+pub record Sides : Type 0 where
+  pub from : Side
+  pub to : Option Side
+
+-- the one side of a date, if it is one
+abbrev pub one_side : Option Side → Option Sides
+one_side None = None
+one_side (Some side) = Some (record { from = side; to = None })
+
+-- the two sides of a range, if each is one
+abbrev pub two_sides : Option Side → Option Side → Option Sides
+two_sides None to = None
+two_sides (Some from) None = None
+two_sides (Some from) (Some to) = Some (record { from = from; to = Some to })
+
+-- the sides that some texts are
+abbrev pub sides_of : List (List ℕ) → Option Sides
+sides_of [] = None
+sides_of (from ∷ []) = one_side (side_in from)
+sides_of (from ∷ to ∷ []) = two_sides (side_in from) (side_in to)
+sides_of (from ∷ to ∷ other ∷ rest) = None
+
+-- the sides of a date or a range that BibTeX has fields for: it is read as one, and is written with a year in four digits, and perhaps
+-- a month and a day in two, on each side
+abbrev pub date_sides : List ℕ → Option Sides
+date_sides text = if is_some (readable_value (date_of text)) then sides_of (slice_split (λ c. c == char.slash) text) else None
+
+-- the names of a side's fields
+pub record SideNames : Type 0 where
+  pub year : List ℕ
+  pub month : List ℕ
+  pub day : List ℕ
+
+-- these names after a prefix
+abbrev pub names_after : List ℕ → SideNames
+names_after prefix = record { year = prefix ++ codes "year"; month = prefix ++ codes "month"; day = prefix ++ codes "day" }
+
+-- those of a date, and of the first side of a range
+abbrev pub from_names : SideNames
+from_names = names_after []
+
+-- those of the second side of a range
+abbrev pub to_names : SideNames
+to_names = names_after (codes "end")
+
+-- all of them
+abbrev pub part_names : List (List ℕ)
+part_names = codes "year" ∷ codes "month" ∷ codes "day" ∷ codes "endyear" ∷ codes "endmonth" ∷ codes "endday" ∷ []
+
+-- the field of a month, if there is one
+abbrev pub month_fields : List ℕ → Option (List ℕ) → List NewField
+month_fields name None = []
+month_fields name (Some month) = bare_field name month ∷ []
+
+-- the field of a day, if there is one
+abbrev pub day_fields : List ℕ → Option (List ℕ) → List NewField
+day_fields name None = []
+day_fields name (Some day) = braced_field name day ∷ []
+
+-- the fields of a side after its year
+abbrev pub more_fields : SideNames → Side → List NewField
+more_fields names side = month_fields names.month side.month ++ day_fields names.day side.day
+
+-- the field of a side's year
+abbrev pub side_year : SideNames → Side → NewField
+side_year names side = braced_field names.year side.year
+
+-- the fields of a second side, if there is one
+abbrev pub to_fields : Option Side → List NewField
+to_fields None = []
+to_fields (Some side) = side_year to_names side ∷ more_fields to_names side

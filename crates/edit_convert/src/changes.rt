@@ -1,0 +1,45 @@
+//! What gives way in an entry.
+
+ghost use Rattle.std.specs.Prelude.{◌≡◌, IfOk, map};
+ghost use Rattle.std.specs.Option.{option_map};
+ghost use Rattle.std.specs.String.{string_bytes};
+ghost use Rattle.bib_syntax.specs.Views.{field_of};
+ghost use Rattle.edit_convert.specs.Conversions as spec;
+ghost use Rattle.edit_convert.specs.Tables.{lent_names};
+
+use crate::fields::divides_date;
+use crate::joining::joined_date;
+use crate::names::exchanged_names;
+use bib_syntax::raw::Pair;
+use bib_tables::dialects::Dialect;
+use bib_tables::mechanics::EntryType;
+use std::alloc::{AllocError, Global};
+
+// What gives way in an entry: names of fields, each with the one that takes its place, perhaps its date to fields of the date's
+// parts, and perhaps these to a date with this text.
+#[derive(Drop)]
+pub(crate) struct Changes {
+    pub(crate) names: Vec<(&'static str, &'static str)>,
+    pub(crate) divides: bool,
+    pub(crate) joined: Option<String>,
+}
+
+// What gives way in an entry of a text that defines an abbreviation of a month or doesn't.
+pub(crate) fn changes_of(
+    alloc: Global,
+    dialect: Dialect,
+    defines: bool,
+    text: &str,
+    kind: &EntryType,
+    fields: &[Pair<'_>],
+) -> Result<Changes, AllocError>
+    ensures names { IfOk result (λ changes. lent_names changes.names.items ≡ spec.free_names (map field_of fields.now) (spec.other_names dialect kind.now)) }
+    ensures divides { IfOk result (λ changes. changes.divides ≡ spec.divides_date dialect (map field_of fields.now)) }
+    ensures joined { IfOk result (λ changes. option_map string_bytes changes.joined ≡ spec.joined_date dialect defines text.now (map field_of fields.now)) }
+{
+    Ok(Changes {
+        names: exchanged_names(alloc, dialect, kind, fields)?,
+        divides: divides_date(dialect, fields),
+        joined: joined_date(alloc, dialect, defines, text, fields)?,
+    })
+}

@@ -1,0 +1,234 @@
+//! Files with the types and the fields of a dialect.
+
+ghost use Rattle.std.specs.Prelude.{◌≡◌, ◌++◌, IfOk, List, OnOk, None, Some, map};
+ghost use Rattle.std.specs.List.{AllByRecursion};
+ghost use Rattle.std.specs.Option.{option_map};
+ghost use Rattle.std.specs.String.{string_bytes};
+ghost use Rattle.bib_syntax.specs.Reading.{FieldReading};
+ghost use Rattle.bib_syntax.specs.Views.{entry_reading_of, field_of, part_of};
+ghost use Rattle.edit_entries.specs.Placed.{IsPlaced};
+ghost use Rattle.edit_convert.specs.Conversions.{FieldChange, IsConverted, date_among, edits_of_entry, edits_of_field, edits_of_file, going_out, part_edits};
+ghost use Rattle.edit_convert.specs.Conversions as spec;
+ghost use Rattle.edit_convert.specs.Tables.{change_by, change_edits, edit_in_bytes, lent_text};
+
+use crate::changes::{Changes, changes_of};
+use crate::dates::{written_date, written_sides};
+use crate::editing::{Edit, edited_all};
+use crate::fields::{exchanged_date, has_part, is_date_part, value_end};
+use crate::joining::defines_month;
+use crate::names::{other_name, other_type};
+use bib_syntax::raw::{Pair, RawEntry};
+use bib_tables::dialects::Dialect;
+use bib_tables::mechanics::EntryType;
+use bib_text::spanned::Spanned;
+use edit_entries::document::RawDocument;
+use std::alloc::{AllocError, Global};
+
+// Adds the edit of a part of a text that gives way to another text, if it does.
+fn push_part_edit(
+    edits: &mut Vec<Edit>,
+    alloc: Global,
+    part: &Spanned<&str>,
+    other: Option<&str>,
+) -> Result<(), AllocError>
+    ensures { OnOk result (map edit_in_bytes edits.new.items ≡ map edit_in_bytes edits.old.items ++ part_edits (part_of part.now) (lent_text other.entry)) }
+{
+    let Some(text) = other else {
+        return Ok(());
+    };
+    edits.push(Edit {
+        start: part.span.start,
+        end: part.span.end,
+        text: String::from_str(alloc, text)?,
+    })?;
+    Ok(())
+}
+
+// Adds the edit of a field that is a date, if it gives way to fields of its parts.
+fn push_date_edit(
+    edits: &mut Vec<Edit>,
+    alloc: Global,
+    text: &str,
+    divides: bool,
+    field: &Pair<'_>,
+) -> Result<(), AllocError>
+    requires { IsPlaced text.now (field_of field.now) }
+    ensures { (following : List FieldReading) → OnOk result (map edit_in_bytes edits.new.items ≡ map edit_in_bytes edits.old.items ++
+        edits_of_field text.now (field_of field.now) following (spec.change_of None None (date_among divides (field_of field.now)))) }
+{
+    let Some(sides) = exchanged_date(alloc, divides, field)? else {
+        return Ok(());
+    };
+    edits.push(Edit {
+        start: field.key.span.start,
+        end: value_end(text, field),
+        text: written_sides(alloc, &sides)?,
+    })?;
+    Ok(())
+}
+
+// Adds the edit that takes a field out, up to the one after it.
+fn push_removal(
+    edits: &mut Vec<Edit>,
+    alloc: Global,
+    field: &Pair<'_>,
+    following: &[Pair<'_>],
+) -> Result<(), AllocError>
+    ensures { OnOk result (map edit_in_bytes edits.new.items ≡ map edit_in_bytes edits.old.items ++ going_out (field_of field.now) (map field_of following.now)) }
+{
+    let [next, ..] = following else {
+        return Ok(());
+    };
+    edits.push(Edit {
+        start: field.key.span.start,
+        end: next.key.span.start,
+        text: String::new(alloc),
+    })?;
+    Ok(())
+}
+
+// Adds the edit of a part of a date that gives way to it with the others.
+fn push_joined_edit(
+    edits: &mut Vec<Edit>,
+    alloc: Global,
+    text: &str,
+    date: &str,
+    field: &Pair<'_>,
+    following: &[Pair<'_>],
+) -> Result<(), AllocError>
+    requires { IsPlaced text.now (field_of field.now) }
+    ensures { OnOk result (map edit_in_bytes edits.new.items ≡ map edit_in_bytes edits.old.items ++
+        edits_of_field text.now (field_of field.now) (map field_of following.now) (Some (FieldChange.joined date.now))) }
+{
+    if has_part(following) {
+        return push_removal(edits, alloc, field, following);
+    }
+    edits.push(Edit {
+        start: field.key.span.start,
+        end: value_end(text, field),
+        text: written_date(alloc, date)?,
+    })?;
+    Ok(())
+}
+
+// The text of the date that parts are joined to, if a field is one of them.
+fn joined_among<'c>(joined: &'c Option<String>, field: &Pair<'_>) -> Option<&'c str>
+    ensures { lent_text result ≡ spec.joined_among (option_map string_bytes joined.now) (field_of field.now) }
+{
+    if !is_date_part(field) {
+        return None;
+    }
+    match joined {
+        Some(date) => Some(date.as_str()),
+        None => None,
+    }
+}
+
+// Adds the edit of a field that gives way, if it does.
+fn push_field_edit(
+    edits: &mut Vec<Edit>,
+    alloc: Global,
+    text: &str,
+    changes: &Changes,
+    field: &Pair<'_>,
+    following: &[Pair<'_>],
+) -> Result<(), AllocError>
+    requires { IsPlaced text.now (field_of field.now) }
+    ensures { OnOk result (map edit_in_bytes edits.new.items ≡ map edit_in_bytes edits.old.items ++
+        edits_of_field text.now (field_of field.now) (map field_of following.now) (change_by changes.now (field_of field.now))) }
+{
+    if let Some(date) = joined_among(&changes.joined, field) {
+        return push_joined_edit(edits, alloc, text, date, field, following);
+    }
+    match other_name(&changes.names, field.key.v) {
+        Some(name) => push_part_edit(edits, alloc, &field.key, Some(name)),
+        None => push_date_edit(edits, alloc, text, changes.divides, field),
+    }
+}
+
+// Adds the edit of each field that gives way.
+fn push_field_edits(
+    edits: &mut Vec<Edit>,
+    alloc: Global,
+    text: &str,
+    changes: &Changes,
+    fields: &[Pair<'_>],
+) -> Result<(), AllocError>
+    requires { AllByRecursion (IsPlaced text.now) (map field_of fields.now) }
+    ensures { OnOk result (map edit_in_bytes edits.new.items ≡ map edit_in_bytes edits.old.items ++ change_edits changes.now text.now (map field_of fields.now)) }
+{
+    'fields: for (at, field) in fields.iter().enumerate() {
+        push_field_edit(edits, alloc, text, changes, field, &fields[at + 1..])?;
+    }
+    Ok(())
+}
+
+// Adds the edits of an entry: of the name of its type, and of its fields.
+fn push_entry_edits(
+    edits: &mut Vec<Edit>,
+    alloc: Global,
+    dialect: Dialect,
+    defines: bool,
+    text: &str,
+    entry: &Spanned<RawEntry<'_>>,
+) -> Result<(), AllocError>
+    requires { AllByRecursion (IsPlaced text.now) (entry_reading_of entry.now).fields }
+    ensures { OnOk result (map edit_in_bytes edits.new.items ≡ map edit_in_bytes edits.old.items ++ edits_of_entry dialect defines text.now (entry_reading_of entry.now)) }
+{
+    let kind = EntryType::new(alloc, entry.v.kind.v)?;
+    push_part_edit(edits, alloc, &entry.v.kind, other_type(dialect, &kind))?;
+    let fields = &entry.v.fields;
+    let changes = changes_of(alloc, dialect, defines, text, &kind, fields)?;
+    push_field_edits(edits, alloc, text, &changes, fields)
+}
+
+// The edits of entries of a text that defines an abbreviation of a month or doesn't.
+fn edits(
+    alloc: Global,
+    dialect: Dialect,
+    defines: bool,
+    text: &str,
+    entries: &[Spanned<RawEntry<'_>>],
+) -> Result<Vec<Edit>, AllocError>
+    requires { AllByRecursion (λ e. AllByRecursion (IsPlaced text.now) e.fields) (map entry_reading_of entries.now) }
+    ensures { IfOk result (λ made. map edit_in_bytes made.items ≡ edits_of_file dialect defines text.now (map entry_reading_of entries.now)) }
+{
+    let mut edits = Vec::new(alloc);
+    'entries: for entry in entries {
+        push_entry_edits(&mut edits, alloc, dialect, defines, text, entry)?;
+    }
+    Ok(edits)
+}
+
+/// The text with the types of entries and the fields that a dialect has. Every other byte stays: values but for dates, comments, and what
+/// stands between entries.
+///
+/// The name of a type for which the dialect has another, in any ASCII case, gives way to that one's; a type that neither BibTeX nor
+/// BibLaTeX has stays. For BibLaTeX the fields `journal`, `address` and `school` become `journaltitle`, `location` and `institution`.
+/// For BibTeX `journaltitle` and `location` become `journal` and `address`, and in an entry whose own type is a thesis's `institution`
+/// becomes `school`. A name stays where the entry has a field with the other one.
+///
+/// For BibTeX the field `date` gives way to `year`, and where they are there `month`, as an abbreviation, and `day`, of a range to
+/// `endyear`, `endmonth` and `endday` too: where its value is one literal that is read as a date, with a year in four digits, and
+/// perhaps a month and a day in two, on each side, and the entry has one `date` and none of these fields.
+///
+/// For BibLaTeX the fields `year` and `month`, and `day` if it is there, give way to one `date`: the last of them to the date, and the
+/// others go out up to the field after them. They do where the entry has one of each and no other date, where the year is one literal
+/// of four digits, the month one abbreviation that the file doesn't define itself or one literal that is a month's English name, the
+/// first three letters of it or its number, and the day one literal of one or two digits, where there is such a day, and where no
+/// comment would go out.
+///
+/// Fails only where there is no memory.
+pub fn convert(
+    alloc: Global,
+    document: &RawDocument<'_>,
+    dialect: Dialect,
+) -> Result<String, AllocError>
+    ensures { IfOk result (λ new. IsConverted dialect document.now (string_bytes new)) }
+{
+    let text = document.text();
+    let raw = document.raw();
+    let defines = defines_month(&raw.abbreviations);
+    let edits = edits(alloc, dialect, defines, text, &raw.entries)?;
+    edited_all(alloc, text, &edits)
+}

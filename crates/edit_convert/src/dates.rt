@@ -1,0 +1,270 @@
+//! Dates in fields of their own, as BibTeX has them.
+
+ghost use Rattle.std.specs.Prelude.{◌≡◌, ◌++◌, ◌<◌, ◌==◌, ◌∷◌, [], IfOk, OnOk, codes, is_some};
+ghost use Rattle.std.specs.List.{list_all, slice_split};
+ghost use Rattle.std.specs.Char.{is_ascii_digit};
+ghost use Rattle.std.specs.Option.{option_map};
+ghost use Rattle.std.specs.String.{string_bytes};
+ghost use Rattle.bib_text.specs.Enums.{value_named};
+ghost use Rattle.bib_dates.specs.Dates.{date_of};
+ghost use Rattle.bib_dates.specs.Readings.{readable_value};
+ghost use Rattle.edit_convert.specs.Conversions as conversions;
+ghost use Rattle.edit_convert.specs.Dates as spec;
+ghost use Rattle.edit_convert.specs.Dates.{bare_field, braced_field, more_fields, month_abbreviations, names_after, new_field_text, more_field_texts, side_year};
+ghost use Rattle.edit_strings.specs.Collecting.{lent_texts};
+ghost use Rattle.edit_convert.specs.Tables.{lent_text, side_as_written, sides_as_written};
+
+use bib_chunks::chunk::making::verbatim;
+use bib_dates::date::Date;
+use std::alloc::{AllocError, Global};
+
+// A side of a date: its year, and if they are there the abbreviation of its month and its day.
+#[derive(Drop)]
+pub(crate) struct Side<'t> {
+    year: &'t str,
+    month: Option<&'static str>,
+    day: Option<&'t str>,
+}
+
+// A date, or the two sides of a range.
+#[derive(Drop)]
+pub(crate) struct Sides<'t> {
+    from: Side<'t>,
+    to: Option<Side<'t>>,
+}
+
+// The abbreviation that stands for the month with a number.
+fn month_name(number: &str) -> Option<&'static str>
+    ensures { lent_text result ≡ value_named month_abbreviations number.now }
+{
+    match number {
+        "01" => Some("jan"),
+        "02" => Some("feb"),
+        "03" => Some("mar"),
+        "04" => Some("apr"),
+        "05" => Some("may"),
+        "06" => Some("jun"),
+        "07" => Some("jul"),
+        "08" => Some("aug"),
+        "09" => Some("sep"),
+        "10" => Some("oct"),
+        "11" => Some("nov"),
+        "12" => Some("dec"),
+        _ => None,
+    }
+}
+
+// Whether each character of a text is a digit.
+fn all_digits(text: &str) -> bool
+    ensures { result ≡ list_all is_ascii_digit text.now }
+{
+    'bytes: for byte in text.as_bytes() {
+        if !byte.is_ascii_digit() {
+            return false;
+        }
+    }
+    true
+}
+
+// Whether a text is so many digits.
+pub(crate) fn are_digits(count: usize, text: &str) -> bool
+    ensures { result ≡ spec.are_digits count text.now }
+{
+    text.len() == count && all_digits(text)
+}
+
+// The side with a year alone, if the year has four digits.
+fn year_side(year: &str) -> Option<Side<'_>>
+    ensures { option_map side_as_written result ≡ spec.side_of (year.now ∷ []) }
+{
+    if !are_digits(4, year) {
+        return None;
+    }
+    Some(Side {
+        year,
+        month: None,
+        day: None,
+    })
+}
+
+// The side with a month, if the month has an abbreviation.
+fn month_side<'t>(year: &'t str, month: &str, day: Option<&'t str>) -> Option<Side<'t>>
+    ensures { option_map side_as_written result ≡
+        spec.month_side year.now (value_named month_abbreviations month.now) (lent_text day.entry) }
+{
+    Some(Side {
+        year,
+        month: Some(month_name(month)?),
+        day,
+    })
+}
+
+// The side that some parts are: a year in four digits, and perhaps a month and a day in two.
+fn side_of<'t>(parts: &[&'t str]) -> Option<Side<'t>>
+    ensures { option_map side_as_written result ≡ spec.side_of (lent_texts parts.now) }
+{
+    match parts {
+        [year] => year_side(*year),
+        [year, month] => {
+            if !are_digits(4, *year) {
+                return None;
+            }
+            month_side(*year, *month, None)
+        }
+        [year, month, day] => {
+            if !are_digits(4, *year) || !are_digits(2, *day) {
+                return None;
+            }
+            month_side(*year, *month, Some(*day))
+        }
+        _ => None,
+    }
+}
+
+// The parts of a text between the places where a character of ASCII stands.
+fn parts<'t>(alloc: Global, text: &'t str, separator: char) -> Result<Vec<&'t str>, AllocError>
+    requires { separator < 128 }
+    ensures { IfOk result (λ parts. lent_texts parts.items ≡ slice_split (λ c. c == separator) text.now) }
+{
+    let mut parts = Vec::new(alloc);
+    'parts: for part in text.split(separator) {
+        parts.push(part)?;
+    }
+    Ok(parts)
+}
+
+// The side that the parts of a text between its hyphens are.
+fn side_in<'t>(alloc: Global, text: &'t str) -> Result<Option<Side<'t>>, AllocError>
+    ensures { IfOk result (λ side. option_map side_as_written side ≡ spec.side_in text.now) }
+{
+    let parts = parts(alloc, text, '-')?;
+    Ok(side_of(&parts))
+}
+
+// The two sides of a range.
+fn two_sides<'t>(alloc: Global, from: &'t str, to: &'t str) -> Result<Option<Sides<'t>>, AllocError>
+    ensures { IfOk result (λ sides. option_map sides_as_written sides ≡ spec.two_sides (spec.side_in from.now) (spec.side_in to.now)) }
+{
+    let Some(from) = side_in(alloc, from)? else {
+        return Ok(None);
+    };
+    let Some(to) = side_in(alloc, to)? else {
+        return Ok(None);
+    };
+    Ok(Some(Sides { from, to: Some(to) }))
+}
+
+// The one side of a date.
+fn one_side<'t>(alloc: Global, text: &'t str) -> Result<Option<Sides<'t>>, AllocError>
+    ensures { IfOk result (λ sides. option_map sides_as_written sides ≡ spec.one_side (spec.side_in text.now)) }
+{
+    let Some(from) = side_in(alloc, text)? else {
+        return Ok(None);
+    };
+    Ok(Some(Sides { from, to: None }))
+}
+
+// The sides that some texts are.
+fn sides_of<'t>(alloc: Global, texts: &[&'t str]) -> Result<Option<Sides<'t>>, AllocError>
+    ensures { IfOk result (λ sides. option_map sides_as_written sides ≡ spec.sides_of (lent_texts texts.now)) }
+{
+    match texts {
+        [from] => one_side(alloc, *from),
+        [from, to] => two_sides(alloc, *from, *to),
+        _ => Ok(None),
+    }
+}
+
+// Whether a text is read as a date or a range.
+pub(crate) fn is_date(alloc: Global, text: &str) -> Result<bool, AllocError>
+    ensures { IfOk result (λ is. is ≡ is_some (readable_value (date_of text.now))) }
+{
+    let chunks = verbatim(alloc, text)?;
+    match Date::parse(alloc, chunks.as_slice()) {
+        Ok(_date) => Ok(true),
+        Err(error) => {
+            let _unread = error.unless_out_of_memory()?;
+            Ok(false)
+        }
+    }
+}
+
+// The sides of a date or a range that BibTeX has fields for.
+pub(crate) fn date_sides<'t>(alloc: Global, text: &'t str) -> Result<Option<Sides<'t>>, AllocError>
+    ensures { IfOk result (λ sides. option_map sides_as_written sides ≡ spec.date_sides text.now) }
+{
+    if !is_date(alloc, text)? {
+        return Ok(None);
+    }
+    let texts = parts(alloc, text, '/')?;
+    sides_of(alloc, &texts)
+}
+
+// Adds a field whose value is a text in braces.
+fn push_braced(out: &mut String, prefix: &str, name: &str, text: &str) -> Result<(), AllocError>
+    ensures { OnOk result (string_bytes out.new ≡ string_bytes out.old ++ new_field_text (braced_field (prefix.now ++ name.now) text.now)) }
+{
+    out.push_str(prefix)?;
+    out.push_str(name)?;
+    out.push_str(" = {")?;
+    out.push_str(text)?;
+    out.push_str("}")?;
+    Ok(())
+}
+
+// Adds the field of a month after another field, if there is a month.
+fn push_month(out: &mut String, prefix: &str, month: Option<&'static str>) -> Result<(), AllocError>
+    ensures { OnOk result (string_bytes out.new ≡ string_bytes out.old ++ more_field_texts (spec.month_fields (prefix.now ++ codes "month") (lent_text month.entry))) }
+{
+    let Some(month) = month else {
+        return Ok(());
+    };
+    out.push_str(", ")?;
+    out.push_str(prefix)?;
+    out.push_str("month = ")?;
+    out.push_str(month)?;
+    Ok(())
+}
+
+// Adds the field of a day after another field, if there is a day.
+fn push_day(out: &mut String, prefix: &str, day: Option<&str>) -> Result<(), AllocError>
+    ensures { OnOk result (string_bytes out.new ≡ string_bytes out.old ++ more_field_texts (spec.day_fields (prefix.now ++ codes "day") (lent_text day.entry))) }
+{
+    let Some(day) = day else {
+        return Ok(());
+    };
+    out.push_str(", ")?;
+    push_braced(out, prefix, "day", day)
+}
+
+// Adds the fields of a side.
+fn push_side(out: &mut String, prefix: &str, side: &Side<'_>) -> Result<(), AllocError>
+    ensures { OnOk result (string_bytes out.new ≡ string_bytes out.old ++ (new_field_text (side_year (names_after prefix.now) (side_as_written side.now)) ++ more_field_texts (more_fields (names_after prefix.now) (side_as_written side.now)))) }
+{
+    push_braced(out, prefix, "year", side.year)?;
+    push_month(out, prefix, side.month)?;
+    push_day(out, prefix, side.day)
+}
+
+// The fields of a date's parts as they are written.
+pub(crate) fn written_sides(alloc: Global, sides: &Sides<'_>) -> Result<String, AllocError>
+    ensures { IfOk result (λ text. string_bytes text ≡ conversions.written_sides (sides_as_written sides.now)) }
+{
+    let mut out = String::new(alloc);
+    push_side(&mut out, "", &sides.from)?;
+    let Some(to) = &sides.to else {
+        return Ok(out);
+    };
+    out.push_str(", ")?;
+    push_side(&mut out, "end", to)?;
+    Ok(out)
+}
+
+// The field of a date as it is written.
+pub(crate) fn written_date(alloc: Global, date: &str) -> Result<String, AllocError>
+    ensures { IfOk result (λ text. string_bytes text ≡ new_field_text (conversions.date_field date.now)) }
+{
+    let mut out = String::new(alloc);
+    push_braced(&mut out, "", "date", date)?;
+    Ok(out)
+}

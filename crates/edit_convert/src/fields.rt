@@ -1,0 +1,138 @@
+//! Fields of entries: their values, and those that are dates or parts of dates.
+
+ghost use Rattle.std.specs.Prelude.{◌≡◌, ◌+◌, IfOk, length, map};
+ghost use Rattle.std.specs.List.{find, list_any};
+ghost use Rattle.std.specs.Option.{option_map};
+ghost use Rattle.std.specs.Str.{trim_end};
+ghost use Rattle.bib_syntax.specs.Views.{field_of, piece_of};
+ghost use Rattle.edit_entries.specs.Documents.{has_name, value_stretch};
+ghost use Rattle.edit_entries.specs.Placed.{IsPlaced};
+ghost use Rattle.edit_strings.specs.Collected as values;
+ghost use Rattle.edit_convert.specs.Conversions as spec;
+ghost use Rattle.edit_strings.specs.Collecting.{lent_texts};
+ghost use Rattle.edit_convert.specs.Tables.{lent_text, sides_as_written};
+
+use crate::dates::{Sides, date_sides};
+use crate::names::has_field;
+use bib_syntax::raw::{Pair, RawChunk, is_word};
+use bib_tables::dialects::Dialect;
+use bib_text::spanned::Spanned;
+use std::alloc::{AllocError, Global};
+
+// Where a value ends, but for the white space after it.
+pub(crate) fn value_end(text: &str, field: &Pair<'_>) -> usize
+    requires { IsPlaced text.now (field_of field.now) }
+    ensures { result ≡ (field_of field.now).value.start + length (trim_end (value_stretch text.now (field_of field.now))) }
+{
+    let start = field.value.span.start;
+    let value = &text[start..field.value.span.end];
+    start + value.trim_end().len()
+}
+
+// The text that elements are, if they are one literal.
+pub(crate) fn single_text<'s>(pieces: &[Spanned<RawChunk<'s>>]) -> Option<&'s str>
+    ensures { lent_text result ≡ values.single_text (map piece_of pieces.now) }
+{
+    match pieces {
+        [piece] => match piece.v {
+            RawChunk::Normal(text) => Some(text),
+            RawChunk::Abbreviation(_) => None,
+        },
+        _ => None,
+    }
+}
+
+// Whether one of some fields has one of these names.
+pub(crate) fn has_any(fields: &[Pair<'_>], names: &[&str]) -> bool
+    ensures { result ≡ list_any (spec.is_field_there (map field_of fields.now)) (lent_texts names.now) }
+{
+    'names: for name in names {
+        if has_field(fields, *name) {
+            return true;
+        }
+    }
+    false
+}
+
+// The first of some fields with a name, in any ASCII case.
+pub(crate) fn first_named<'f, 's>(fields: &'f [Pair<'s>], name: &str) -> Option<&'f Pair<'s>>
+    ensures { option_map (λ f. field_of f.now) result ≡ find (has_name name.now) (map field_of fields.now) }
+{
+    'fields: for field in fields {
+        if is_word(field.key.v, name) {
+            return Some(field);
+        }
+    }
+    None
+}
+
+// How many of some fields have a name, in any ASCII case.
+pub(crate) fn count_named(fields: &[Pair<'_>], name: &str) -> usize
+    ensures { result ≡ spec.times_named (map field_of fields.now) name.now }
+{
+    let mut count = 0usize;
+    'fields: for field in fields {
+        if is_word(field.key.v, name) {
+            count += 1;
+        }
+    }
+    count
+}
+
+// Whether a field is a part of a date: its year, its month or its day.
+pub(crate) fn is_date_part(field: &Pair<'_>) -> bool
+    ensures { result ≡ spec.is_date_part (field_of field.now) }
+{
+    let name = field.key.v;
+    is_word(name, "year") || is_word(name, "month") || is_word(name, "day")
+}
+
+// Whether one of some fields is.
+pub(crate) fn has_part(fields: &[Pair<'_>]) -> bool
+    ensures { result ≡ list_any spec.is_date_part (map field_of fields.now) }
+{
+    'fields: for field in fields {
+        if is_date_part(field) {
+            return true;
+        }
+    }
+    false
+}
+
+// Whether a date may give way to fields of its parts: there is one, and none of these fields is there already.
+fn is_date_free(fields: &[Pair<'_>]) -> bool
+    ensures { result ≡ spec.is_date_free (map field_of fields.now) }
+{
+    count_named(fields, "date") == 1
+        && !has_any(
+            fields,
+            &["year", "month", "day", "endyear", "endmonth", "endday"],
+        )
+}
+
+// Whether an entry's date gives way to fields of its parts: for BibTeX, where it may.
+pub(crate) fn divides_date(dialect: Dialect, fields: &[Pair<'_>]) -> bool
+    ensures { result ≡ spec.divides_date dialect (map field_of fields.now) }
+{
+    match dialect {
+        Dialect::Biblatex => false,
+        Dialect::Bibtex => is_date_free(fields),
+    }
+}
+
+// The sides of the date that a field is, where an entry's date gives way, if it is one.
+pub(crate) fn exchanged_date<'s>(
+    alloc: Global,
+    divides: bool,
+    field: &Pair<'s>,
+) -> Result<Option<Sides<'s>>, AllocError>
+    ensures { IfOk result (λ sides. option_map sides_as_written sides ≡ spec.date_among divides (field_of field.now)) }
+{
+    if !is_word(field.key.v, "date") || !divides {
+        return Ok(None);
+    }
+    match single_text(&field.value.v) {
+        Some(text) => date_sides(alloc, text),
+        None => Ok(None),
+    }
+}

@@ -1,0 +1,314 @@
+//! The parts of a date in one field, as BibLaTeX has them.
+
+ghost use Rattle.std.specs.Prelude.{◌≡◌, IfOk, Some, codes, map};
+ghost use Rattle.std.specs.Char.{is_ascii_alphabetic};
+ghost use Rattle.std.specs.List.{find, list_all};
+ghost use Rattle.std.specs.Option.{option_copied, option_map};
+ghost use Rattle.std.specs.String.{string_bytes};
+ghost use Rattle.bib_text.specs.Places.{between, place};
+ghost use Rattle.bib_chunks.specs.Values as values;
+ghost use Rattle.bib_dates.specs.Readings.{readable_value};
+ghost use Rattle.bib_dates.specs.ThreeFields.{three_fields_of};
+ghost use Rattle.edit_entries.specs.Documents.{has_name};
+ghost use Rattle.bib_tables.specs.declared.dialects.Dialect.TheVariants.{Biblatex};
+ghost use Rattle.edit_format.specs.Formatted as formatted;
+ghost use Rattle.bib_syntax.specs.Views.{field_of, piece_of};
+ghost use Rattle.edit_convert.specs.Conversions as conversions;
+ghost use Rattle.edit_convert.specs.Joined as spec;
+ghost use Rattle.edit_convert.specs.Tables.{lent_text};
+
+use crate::dates::{are_digits, is_date};
+use crate::fields::{count_named, first_named, has_any, has_part, is_date_part, single_text};
+use bib_chunks::chunk::making::verbatim;
+use bib_chunks::chunk::{Chunks, ChunksRef};
+use bib_dates::date::Date;
+use bib_syntax::raw::{Pair, RawChunk};
+use bib_tables::dialects::Dialect;
+use bib_tables::months::Month;
+use bib_text::spanned::Spanned;
+use std::alloc::{AllocError, Global};
+
+// Whether each character of a text is a letter of ASCII.
+fn all_letters(text: &str) -> bool
+    ensures { result ≡ list_all is_ascii_alphabetic text.now }
+{
+    'bytes: for byte in text.as_bytes() {
+        if !byte.is_ascii_alphabetic() {
+            return false;
+        }
+    }
+    true
+}
+
+// Whether a text is a number of one or two digits.
+fn is_short_number(text: &str) -> bool
+    ensures { result ≡ spec.is_short_number text.now }
+{
+    are_digits(1, text) || are_digits(2, text)
+}
+
+// Whether a text can be the number or the name of a month, and no more.
+fn is_month_alone(text: &str) -> bool
+    ensures { result ≡ spec.is_month_alone text.now }
+{
+    is_short_number(text) || all_letters(text)
+}
+
+// Whether there is no day, or one that is a number of one or two digits.
+fn is_day_alone(day: Option<&str>) -> bool
+    ensures { result ≡ spec.is_day_alone (lent_text day.entry) }
+{
+    match day {
+        Some(text) => is_short_number(text),
+        None => true,
+    }
+}
+
+// Chunks of a text.
+fn chunks_of(alloc: Global, text: &str) -> Result<Chunks, AllocError>
+    ensures { IfOk result (λ chunks. values.text chunks ≡ text.now) }
+{
+    verbatim(alloc, text)
+}
+
+// Those of a text, if there is one.
+fn chunks_of_some(alloc: Global, text: Option<&str>) -> Result<Option<Chunks>, AllocError>
+    ensures { IfOk result (λ chunks. option_map values.text chunks ≡ lent_text text.entry) }
+{
+    match text {
+        Some(text) => Ok(Some(chunks_of(alloc, text)?)),
+        None => Ok(None),
+    }
+}
+
+// Chunks, if there are some.
+fn lent_chunks(chunks: &Option<Chunks>) -> Option<ChunksRef<'_>>
+    ensures { option_copied result ≡ chunks.now }
+{
+    match chunks {
+        Some(chunks) => Some(chunks.as_slice()),
+        None => None,
+    }
+}
+
+// The date that a year, a month and perhaps a day are read as, if they are.
+fn three_fields(
+    alloc: Global,
+    year: &str,
+    month: &str,
+    day: Option<&str>,
+) -> Result<Option<Date>, AllocError>
+    ensures { IfOk result (λ date. date ≡ readable_value (three_fields_of year.now (Some month.now) (lent_text day.entry))) }
+{
+    let year = chunks_of(alloc, year)?;
+    let month = chunks_of(alloc, month)?;
+    let day = chunks_of_some(alloc, day)?;
+    match Date::parse_three_fields(
+        alloc,
+        year.as_slice(),
+        Some(month.as_slice()),
+        lent_chunks(&day),
+    ) {
+        Ok(date) => Ok(Some(date)),
+        Err(error) => {
+            let _unread = error.unless_out_of_memory()?;
+            Ok(None)
+        }
+    }
+}
+
+// The text of a date that has a month, if it is read as a date.
+fn month_date_text(alloc: Global, date: &Date) -> Result<Option<String>, AllocError>
+    ensures { IfOk result (λ text. option_map string_bytes text ≡ spec.month_date_text (Some date.now)) }
+{
+    let side = date.value.first_side();
+    if side.month.is_none() {
+        return Ok(None);
+    }
+    let text = format!(in alloc; "{side}")?;
+    if !is_date(alloc, &text)? {
+        return Ok(None);
+    }
+    Ok(Some(text))
+}
+
+// The text of the date that a year in four digits, a month and perhaps a day are read as.
+fn joined_text(
+    alloc: Global,
+    year: &str,
+    month: &str,
+    day: Option<&str>,
+) -> Result<Option<String>, AllocError>
+    ensures { IfOk result (λ text. option_map string_bytes text ≡ spec.joined_text year.now month.now (lent_text day.entry)) }
+{
+    if !are_digits(4, year) || !is_month_alone(month) || !is_day_alone(day) {
+        return Ok(None);
+    }
+    let Some(date) = three_fields(alloc, year, month, day)? else {
+        return Ok(None);
+    };
+    month_date_text(alloc, &date)
+}
+
+// Whether a name is that of an abbreviation of a month, in any ASCII case.
+fn is_month_name(name: &str) -> bool
+    ensures { result ≡ spec.is_month_name name.now }
+{
+    Month::from_abbreviation(name).is_some()
+}
+
+// Whether a file defines an abbreviation of a month itself, in any ASCII case.
+pub(crate) fn defines_month(abbreviations: &[Pair<'_>]) -> bool
+    ensures { result ≡ conversions.defines_month (map field_of abbreviations.now) }
+{
+    'abbreviations: for pair in abbreviations {
+        if is_month_name(pair.key.v) {
+            return true;
+        }
+    }
+    false
+}
+
+// The text of a month: of one literal, or the name of one abbreviation of a month, where the file doesn't define that itself.
+fn month_value<'s>(defines: bool, pieces: &[Spanned<RawChunk<'s>>]) -> Option<&'s str>
+    ensures { lent_text result ≡ spec.month_value defines (map piece_of pieces.now) }
+{
+    match pieces {
+        [piece] => match piece.v {
+            RawChunk::Normal(text) => Some(text),
+            RawChunk::Abbreviation(name) => {
+                if is_month_name(name) && !defines {
+                    Some(name)
+                } else {
+                    None
+                }
+            }
+        },
+        _ => None,
+    }
+}
+
+// The text of the first field with a name, if its value is one literal.
+fn literal_named<'s>(fields: &[Pair<'s>], name: &str) -> Option<&'s str>
+    ensures { lent_text result ≡ conversions.literal_of (find (has_name name.now) (map field_of fields.now)) }
+{
+    let field = first_named(fields, name)?;
+    single_text(&field.value.v)
+}
+
+// The text of the first month.
+fn month_among<'s>(defines: bool, fields: &[Pair<'s>]) -> Option<&'s str>
+    ensures { lent_text result ≡ conversions.month_of defines (find (has_name (codes "month")) (map field_of fields.now)) }
+{
+    let field = first_named(fields, "month")?;
+    month_value(defines, &field.value.v)
+}
+
+// The text of the date that the parts among an entry's fields are.
+fn date_of_fields(
+    alloc: Global,
+    defines: bool,
+    fields: &[Pair<'_>],
+) -> Result<Option<String>, AllocError>
+    ensures { IfOk result (λ date. option_map string_bytes date ≡ conversions.date_of_fields defines (map field_of fields.now)) }
+{
+    let Some(year) = literal_named(fields, "year") else {
+        return Ok(None);
+    };
+    let Some(month) = month_among(defines, fields) else {
+        return Ok(None);
+    };
+    let Some(day) = first_named(fields, "day") else {
+        return joined_text(alloc, year, month, None);
+    };
+    let Some(day) = single_text(&day.value.v) else {
+        return Ok(None);
+    };
+    joined_text(alloc, year, month, Some(day))
+}
+
+// Whether a date's parts may be joined: there is one year, one month and at most one day, and none of the other fields.
+fn has_parts_once(fields: &[Pair<'_>]) -> bool
+    ensures { result ≡ conversions.has_parts_once (map field_of fields.now) }
+{
+    count_named(fields, "year") == 1
+        && count_named(fields, "month") == 1
+        && count_named(fields, "day") < 2
+        && !has_any(fields, &["date", "endyear", "endmonth", "endday"])
+}
+
+// The bytes between two places of a text.
+fn stretch(text: &str, start: usize, end: usize) -> &[u8]
+    ensures { result.now ≡ between (place text.now start) (place text.now end) }
+{
+    let bytes = text.as_bytes();
+    let end = end.min(bytes.len());
+    &bytes[start.min(end)..end]
+}
+
+// Whether a percent sign stands between two places of a text.
+fn has_percent(text: &str, start: usize, end: usize) -> bool
+    ensures { result ≡ formatted.has_percent text.now start end }
+{
+    stretch(text, start, end).contains(&b'%')
+}
+
+// Whether no comment stands between a field and the one after it.
+fn is_comment_free(text: &str, field: &Pair<'_>, following: &[Pair<'_>]) -> bool
+    ensures { result ≡ conversions.is_comment_free text.now (field_of field.now) (map field_of following.now) }
+{
+    match following {
+        [next, ..] => !has_percent(text, field.value.span.end, next.key.span.start),
+        [] => true,
+    }
+}
+
+// Whether a field can go out: it is no part of a date that has another part after it, or no comment stands after it.
+fn can_go_out(text: &str, field: &Pair<'_>, following: &[Pair<'_>]) -> bool
+    ensures { result ≡ conversions.can_go_out text.now (field_of field.now) (map field_of following.now) }
+{
+    !(is_date_part(field) && has_part(following)) || is_comment_free(text, field, following)
+}
+
+// Whether each of some fields can.
+fn can_all_go_out(text: &str, fields: &[Pair<'_>]) -> bool
+    ensures { result ≡ conversions.can_all_go_out text.now (map field_of fields.now) }
+{
+    'fields: for (at, field) in fields.iter().enumerate() {
+        if !can_go_out(text, field, &fields[at + 1..]) {
+            return false;
+        }
+    }
+    true
+}
+
+// The text of the date that takes the place of its parts, where they may be joined.
+fn allowed_date(
+    alloc: Global,
+    defines: bool,
+    text: &str,
+    fields: &[Pair<'_>],
+) -> Result<Option<String>, AllocError>
+    ensures { IfOk result (λ date. option_map string_bytes date ≡ conversions.joined_date Biblatex defines text.now (map field_of fields.now)) }
+{
+    if !has_parts_once(fields) || !can_all_go_out(text, fields) {
+        return Ok(None);
+    }
+    date_of_fields(alloc, defines, fields)
+}
+
+// The text of the date that takes the place of its parts among an entry's fields, if one does.
+pub(crate) fn joined_date(
+    alloc: Global,
+    dialect: Dialect,
+    defines: bool,
+    text: &str,
+    fields: &[Pair<'_>],
+) -> Result<Option<String>, AllocError>
+    ensures { IfOk result (λ date. option_map string_bytes date ≡ conversions.joined_date dialect defines text.now (map field_of fields.now)) }
+{
+    match dialect {
+        Dialect::Biblatex => allowed_date(alloc, defines, text, fields),
+        Dialect::Bibtex => Ok(None),
+    }
+}

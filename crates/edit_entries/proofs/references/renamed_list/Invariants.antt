@@ -1,0 +1,7 @@
+use Rattle.std.proofs.Common.{◌≡◌, map}
+use Rattle.std.specs.String.{string_bytes}
+use Rattle.edit_entries.specs.References.{renamed_element}
+use Rattle.edit_entries.proofs.references.renamed_list.Given as goal
+
+abbrev pub invariant-elements : goal.invariant-elements
+invariant-elements l = map string_bytes l.parts.items ≡ map (λ e. renamed_element l.old l.new e) (map (λ p. p.now) l.yielded)

@@ -1,0 +1,280 @@
+-- Meaning: words of public contracts.
+-- A bibliography's text with what it says, and what an edit makes of the two.
+use Rattle.std.specs.Prelude.{◌≡◌, ℕ, suc, ◌+◌, ◌<◌, Bool, true, false, if◌then◌else◌, List, [], ◌∷◌, ◌++◌, length, map, Option, Some, None, bytes_eq, slice_get, slice_set, codes, ⊤}
+use Rattle.std.specs.Char.{is_whitespace}
+use Rattle.std.specs.List.{AllByRecursion, remove}
+use Rattle.std.specs.Option.{option_map_or}
+use Rattle.std.specs.Str.{trim_end}
+use Rattle.bib_text.specs.Places.{CharAt, Longest, Place, Run, between, place}
+use Rattle.bib_syntax.specs.Characters.{is_key}
+use Rattle.bib_text.specs.Characters as char
+use Rattle.bib_syntax.specs.Grammar.{Braced, Identifier, IsRawReading, is_word, longest}
+use Rattle.bib_syntax.specs.Reading.{Part, Piece, FieldReading, EntryReading, FileReading, then}
+use Rattle.bib_syntax.specs.Reading.Piece.{literal, abbreviation}
+use Rattle.edit_entries.specs.declared.errors.EditError.{EditError}
+use Rattle.edit_entries.specs.declared.errors.EditError.TheVariants.{UnknownKey, KeyIsThere, NotAKey, NotAName, NotInBraces, OutOfMemory}
+use Rattle.edit_entries.specs.Edits.{Edit, edited, moved_place, moved_field, moved_entry, moved_file}
+
+-- a text, and what it says
+pub record Document : Type 0 where
+  pub text : List ℕ
+  pub says : FileReading
+
+-- the text says so
+abbrev pub IsDocument : Document → Type 0
+IsDocument d = IsRawReading d.text d.says
+
+-- whether an entry has this key
+abbrev pub is_keyed : List ℕ → EntryReading → Bool
+is_keyed key e = bytes_eq e.key.text key
+
+-- whether a field has this name, in any ASCII case
+abbrev pub has_name : List ℕ → FieldReading → Bool
+has_name name f = is_word f.name.text name
+
+-- the index after one, if there is one
+abbrev pub next_index : Option ℕ → Option ℕ
+next_index (Some i) = Some (suc i)
+next_index None = None
+
+-- the first index at which a test is passed
+abbrev pub first_position : {A : Type 0} → (A → Bool) → List A → Option ℕ
+first_position test [] = None
+first_position test (x ∷ xs) = if test x then Some 0 else next_index (first_position test xs)
+
+-- an index after the first, or else the first if a test is passed
+abbrev pub or_first : Bool → Option ℕ → Option ℕ
+or_first passes (Some i) = Some (suc i)
+or_first passes None = if passes then Some 0 else None
+
+-- the last index at which a test is passed
+abbrev pub last_position : {A : Type 0} → (A → Bool) → List A → Option ℕ
+last_position test [] = None
+last_position test (x ∷ xs) = or_first (test x) (last_position test xs)
+
+-- the first entry with a key, and its index
+pub record HasEntry (d : Document) (key : List ℕ) (k : ℕ) (e : EntryReading) : Type 0 where
+  pub first : first_position (is_keyed key) d.says.entries ≡ Some k
+  pub here : slice_get d.says.entries k ≡ Some e
+
+-- the last field of an entry with a name, which is the one that counts, and its index
+pub record HasField (e : EntryReading) (name : List ℕ) (j : ℕ) (f : FieldReading) : Type 0 where
+  pub last : last_position (has_name name) e.fields ≡ Some j
+  pub here : slice_get e.fields j ≡ Some f
+
+-- a text between two braces
+abbrev pub in_braces : List ℕ → List ℕ
+in_braces text = char.open_brace ∷ (text ++ char.close_brace ∷ [])
+
+-- a text can stand between two braces: with them it is one braced text
+abbrev pub CanStandInBraces : List ℕ → Type 0
+CanStandInBraces text = (p : Part) × Braced (place (in_braces text) 0) p (place (in_braces text) (length (in_braces text)))
+
+-- what stands from a value's start to its end
+abbrev pub value_stretch : List ℕ → FieldReading → List ℕ
+value_stretch text f = between (place text f.value.start) (place text f.value.end)
+
+-- another value in the place of a field's, up to the white space after it
+abbrev pub value_edit : List ℕ → FieldReading → List ℕ → Edit
+value_edit text f value = record {
+  start = f.value.start;
+  end = f.value.start + length (trim_end (value_stretch text f));
+  bytes = in_braces value;
+}
+
+-- a part of a text that is this text
+abbrev pub text_at : ℕ → List ℕ → Part
+text_at start text = record { text = text; start = start; end = start + length text }
+
+-- a field with a text in braces as its value, which begins where the value did
+abbrev pub with_value : List ℕ → FieldReading → FieldReading
+with_value value f = record f { value = record f.value { pieces = literal (text_at (f.value.start + 1) value) ∷ [] } }
+
+-- an edit in one entry: what the text says, with other places and another entry in the place of this one
+abbrev pub entry_edited : Document → Edit → ℕ → EntryReading → Document
+entry_edited d edit k e = record {
+  text = edited edit d.text;
+  says = record (moved_file (moved_place edit) d.says) { entries = slice_set (map (moved_entry (moved_place edit)) d.says.entries) k e };
+}
+
+-- an edit in one field of an entry
+abbrev pub field_edited : Document → Edit → ℕ → EntryReading → ℕ → FieldReading → Document
+field_edited d edit k e j f =
+    entry_edited d edit k
+    (record (moved_entry (moved_place edit) e)
+    { fields = slice_set (map (moved_field (moved_place edit)) e.fields) j f })
+
+-- a field of an entry with another value
+abbrev pub value_changed : Document → ℕ → EntryReading → ℕ → FieldReading → List ℕ → Document
+value_changed d k e j f value =
+    let edit = value_edit d.text f value in
+    field_edited d edit k e j (with_value value (moved_field (moved_place edit) f))
+
+-- whether a value is this text, alone
+abbrev pub is_value : List ℕ → List Piece → Bool
+is_value value [] = false
+is_value value (abbreviation p ∷ rest) = false
+is_value value (literal p ∷ []) = bytes_eq p.text value
+is_value value (literal p ∷ other ∷ rest) = false
+
+-- a text can be a field's name: it is an identifier
+abbrev pub CanBeName : List ℕ → Type 0
+CanBeName text = (p : Part) × Identifier longest (place text 0) p (place text (length text))
+
+-- this is the place after the comma that stands after an entry's key
+pub record IsAfterComma (text : List ℕ) (e : EntryReading) (at : ℕ) : Type 0 where
+  pub before : Place
+  pub white : Longest is_whitespace (place text e.key.end) before
+  pub comma : CharAt before char.comma (place text at)
+
+-- a line with a field, and the comma after it
+abbrev pub added_line : List ℕ → List ℕ → List ℕ
+added_line name value = codes "\n  " ++ name ++ codes " = " ++ in_braces value ++ codes ","
+
+-- a field in a line that is added at a place
+abbrev pub field_at : ℕ → List ℕ → List ℕ → FieldReading
+field_at at name value =
+    let name_start : ℕ = at + length (codes "\n  ") in
+    let value_start : ℕ = name_start + length name + length (codes " = ") in
+    record {
+      name = text_at name_start name;
+      value = record {
+        pieces = literal (text_at (value_start + 1) value) ∷ [];
+        start = value_start;
+        end = value_start + length (in_braces value);
+      };
+    }
+
+-- an entry with one more field, before the others, in a line of its own
+abbrev pub field_added : Document → ℕ → EntryReading → ℕ → List ℕ → List ℕ → Document
+field_added d k e at name value =
+    let edit : Edit = record { start = at; end = at; bytes = added_line name value } in
+    entry_edited d edit k
+    (record (moved_entry (moved_place edit) e)
+    { fields = field_at at name value ∷ map (moved_field (moved_place edit)) e.fields })
+
+-- what comes of setting a field of an entry: nothing changes where that is its value already, else the value is exchanged,
+-- and a field that isn't there is added
+pub data FieldSet (d : Document) (key name value : List ℕ) : Document → Type 0 where
+  same : {k j : ℕ} {e : EntryReading} {f : FieldReading} → HasEntry d key k e → HasField e name j f
+      → is_value value f.value.pieces ≡ true → FieldSet d key name value d
+  changed : {k j : ℕ} {e : EntryReading} {f : FieldReading} → HasEntry d key k e → HasField e name j f
+      → is_value value f.value.pieces ≡ false
+      → FieldSet d key name value (value_changed d k e j f value)
+  added : {k at : ℕ} {e : EntryReading} → HasEntry d key k e → last_position (has_name name) e.fields ≡ None → IsAfterComma d.text e at
+      → FieldSet d key name value (field_added d k e at name value)
+
+-- the last field with a name, of the first entry with a key, has a text as its value
+pub record HasValue (d : Document) (key name value : List ℕ) : Type 0 where
+  pub index : ℕ
+  pub entry : EntryReading
+  pub at : ℕ
+  pub field : FieldReading
+  pub has : HasEntry d key index entry
+  pub named : HasField entry name at field
+  pub is : is_value value field.value.pieces ≡ true
+
+-- why setting a field is refused
+abbrev pub SetIsRefused : Document → List ℕ → List ℕ → List ℕ → EditError → Type 0
+SetIsRefused d key name value UnknownKey = first_position (is_keyed key) d.says.entries ≡ None
+SetIsRefused d key name value KeyIsThere = ⊥
+SetIsRefused d key name value NotAKey = ⊥
+SetIsRefused d key name value NotAName = CanBeName name → ⊥
+SetIsRefused d key name value NotInBraces = CanStandInBraces value → ⊥
+SetIsRefused d key name value OutOfMemory = ⊤
+
+-- an entry taken out, from its at sign up to a place after it
+abbrev pub entry_removed : Document → ℕ → EntryReading → ℕ → Document
+entry_removed d k e at =
+    let edit : Edit = record { start = e.start; end = at; bytes = [] } in
+    record {
+      text = edited edit d.text;
+      says = record (moved_file (moved_place edit) d.says) { entries = remove (map (moved_entry (moved_place edit)) d.says.entries) k };
+    }
+
+-- what comes of removing an entry: it is taken out with the white space after it
+pub data EntryRemoved (d : Document) (key : List ℕ) : Document → Type 0 where
+  removed : {k at : ℕ} {e : EntryReading} → HasEntry d key k e
+      → Longest is_whitespace (place d.text (e.end + 1)) (place d.text at) → EntryRemoved d key (entry_removed d k e at)
+
+-- why an edit of an entry is refused that takes no other text
+abbrev pub EntryIsRefused : Document → List ℕ → EditError → Type 0
+EntryIsRefused d key UnknownKey = first_position (is_keyed key) d.says.entries ≡ None
+EntryIsRefused d key KeyIsThere = ⊥
+EntryIsRefused d key NotAKey = ⊥
+EntryIsRefused d key NotAName = ⊥
+EntryIsRefused d key NotInBraces = ⊥
+EntryIsRefused d key OutOfMemory = ⊤
+
+-- where the field after one begins, or else where the entry's closing brace stands
+abbrev pub field_limit : EntryReading → ℕ → ℕ
+field_limit e j = option_map_or (λ f. f.name.start) (slice_get e.fields (suc j)) e.end
+
+-- a field taken out, up to the next one or the closing brace
+abbrev pub field_edit : EntryReading → ℕ → FieldReading → Edit
+field_edit e j f = record { start = f.name.start; end = field_limit e j; bytes = [] }
+
+-- an entry without one of its fields
+abbrev pub field_removed : Document → ℕ → EntryReading → ℕ → FieldReading → Document
+field_removed d k e j f =
+    let edit = field_edit e j f in
+    entry_edited d edit k (record (moved_entry (moved_place edit) e) { fields = remove (map (moved_field (moved_place edit)) e.fields) j })
+
+-- the indices at which a test is passed, in a list that begins with one
+abbrev pub positions : {A : Type 0} → (A → Bool) → ℕ → List A → List ℕ
+positions test index [] = []
+positions test index (x ∷ xs) = if test x then index ∷ positions test (suc index) xs else positions test (suc index) xs
+
+-- what comes of taking fields out of an entry, from the last to the first, so that each is where it was
+pub data FieldsRemoved (d : Document) (k : ℕ) : List ℕ → Document → Type 0 where
+  none : FieldsRemoved d k [] d
+  taken : {after : Document} {rest : List ℕ} {j : ℕ} {e : EntryReading} {f : FieldReading}
+      → FieldsRemoved d k rest after → slice_get after.says.entries k ≡ Some e → slice_get e.fields j ≡ Some f
+      → FieldsRemoved d k (j ∷ rest) (field_removed after k e j f)
+
+-- what comes of unsetting a field of an entry: each field with the name is taken out
+pub data FieldUnset (d : Document) (key name : List ℕ) : Document → Type 0 where
+  unset : {k : ℕ} {e : EntryReading} {after : Document} → HasEntry d key k e
+      → FieldsRemoved d k (positions (has_name name) 0 e.fields) after → FieldUnset d key name after
+
+-- a text can be a key: some characters that a key may have
+pub record CanBeKey (text : List ℕ) : Type 0 where
+  pub some : 0 < length text
+  pub run : Run is_key (place text 0) (place text (length text))
+
+-- an entry with another key
+abbrev pub entry_renamed : Document → ℕ → EntryReading → List ℕ → Document
+entry_renamed d k e key =
+    let edit : Edit = record { start = e.key.start; end = e.key.end; bytes = key } in
+    entry_edited d edit k (record (moved_entry (moved_place edit) e) { key = text_at (moved_place edit e.key.start) key })
+
+-- a text after another, with a line feed between them
+abbrev pub joined_documents : Document → Document → Document
+joined_documents d more = record {
+  text = d.text ++ char.line_feed ∷ more.text;
+  says = (then) d.says (moved_file (λ at. at + (length d.text + 1)) more.says);
+}
+
+-- no entry has the key of another document's
+abbrev pub SharesNoKey : Document → Document → Type 0
+SharesNoKey d more = AllByRecursion (λ e. first_position (is_keyed e.key.text) d.says.entries ≡ None) more.says.entries
+
+-- what comes of adding what another document has
+pub data EntriesAdded (d more : Document) : Document → Type 0 where
+  added : SharesNoKey d more → EntriesAdded d more (joined_documents d more)
+
+-- why adding a document is refused
+abbrev pub EntriesAreRefused : Document → Document → EditError → Type 0
+EntriesAreRefused d more UnknownKey = ⊥
+EntriesAreRefused d more KeyIsThere = SharesNoKey d more → ⊥
+EntriesAreRefused d more NotAKey = ⊥
+EntriesAreRefused d more NotAName = ⊥
+EntriesAreRefused d more NotInBraces = ⊥
+EntriesAreRefused d more OutOfMemory = ⊤
+
+-- a text is what comes of an edit, and is read so
+pub record IsEdited (Outcome : Document → Type 0) (text : List ℕ) : Type 0 where
+  pub document : Document
+  pub outcome : Outcome document
+  pub is : text ≡ document.text
+  pub read : IsDocument document

@@ -1,0 +1,153 @@
+//! A bibliography file's text with its raw reading.
+
+ghost use Rattle.std.specs.Prelude.{◌≡◌, ◌⊎◌, IfOk, IfErr, OnOk};
+ghost use Rattle.std.specs.String.{string_bytes};
+ghost use Rattle.bib_syntax.specs.Errors.{Refuses, out_of_memory};
+ghost use Rattle.bib_syntax.specs.Grammar.{IsFile, IsRawReading};
+ghost use Rattle.bib_syntax.specs.SyntaxErrors.{IsReported};
+ghost use Rattle.bib_syntax.specs.Views.{file_of};
+ghost use Rattle.edit_entries.specs.Documents.{Document, EntriesAdded, EntriesAreRefused, EntryIsRefused, EntryRemoved, FieldSet, FieldUnset, IsEdited, IsDocument, SetIsRefused};
+ghost use Rattle.edit_entries.specs.References.{KeyRenamed, RenameIsRefused};
+
+use crate::adding::with_field;
+use crate::errors::EditError;
+use crate::joining::{joined, shares_key};
+use crate::keys::can_be_key;
+use crate::lookup::{entry_index, entry_with, field_with};
+use crate::removing::{without_entry, without_fields};
+use crate::renaming::with_key_renamed;
+use crate::setting::set_value;
+use bib_syntax::raw::{ParseError, RawBibliography};
+use std::alloc::Global;
+use std::marker::Model;
+
+/// A text with its raw reading.
+#[derive(Debug, Drop)]
+pub struct RawDocument<'s> {
+    text: &'s str,
+    raw: RawBibliography<'s>,
+}
+
+impl<'s> Model for RawDocument<'s> {
+    ghost use Rattle.bib_syntax.specs.Grammar.{IsRawReading};
+    ghost use Rattle.bib_syntax.specs.Views.{file_of};
+    ghost use Rattle.edit_entries.specs.Documents.{Document};
+
+    ghost Value = { Document };
+
+    ghost view = { λ d. record { text = d.text.now; says = file_of d.raw } };
+
+    ghost invariant = { λ d. IsRawReading d.text.now (file_of d.raw) };
+}
+
+impl<'s> RawDocument<'s> {
+    /// Reads a text, as `RawBibliography::parse` does.
+    pub fn parse(alloc: Global, src: &'s str) -> Result<Self, ParseError>
+        ensures read { IfOk result (λ d. IsDocument d) }
+        ensures same { IfOk result (λ d. d.text ≡ src.now) }
+        ensures accepted { OnOk result (IsFile src.now) }
+        ensures refused { IfErr result (λ e. Refuses src.now e (IsFile src.now → ⊥)) }
+        ensures reported { IfErr result (λ e. (e ≡ out_of_memory) ⊎ IsReported src.now e) }
+    {
+        let raw = RawBibliography::parse(alloc, src)?;
+        Ok(RawDocument { text: src, raw })
+    }
+
+    /// The text.
+    pub fn text(&self) -> &'s str
+        ensures { result.now ≡ self.now.text }
+    {
+        self.text
+    }
+
+    /// What the text says.
+    pub fn raw(&self) -> &RawBibliography<'s>
+        ensures says { file_of result.now ≡ self.now.says }
+        ensures read { IsDocument self.now }
+    {
+        &self.raw
+    }
+
+    /// The text with a field of an entry set to a text in braces: the last field with the name of the first entry with the key. As
+    /// it is where that is the field's value already; a field that isn't there is added before the others.
+    pub fn set_field(
+        &self,
+        alloc: Global,
+        key: &str,
+        name: &str,
+        value: &str,
+    ) -> Result<String, EditError>
+        ensures set { IfOk result (λ new. IsEdited (FieldSet self.now key.now name.now value.now) (string_bytes new)) }
+        ensures refused { IfErr result (SetIsRefused self.now key.now name.now value.now) }
+    {
+        match entry_with(&self.raw.entries, key) {
+            Some(entry) => match field_with(&entry.v.fields, name) {
+                Some(field) => set_value(alloc, self.text, field, value),
+                None => with_field(alloc, self.text, entry, name, value),
+            },
+            None => Err(EditError::UnknownKey),
+        }
+    }
+
+    /// The text without a field of an entry: each field with the name of the first entry with the key, up to the next field or the
+    /// closing brace. As it is where the field isn't there.
+    pub fn unset_field(&self, alloc: Global, key: &str, name: &str) -> Result<String, EditError>
+        ensures unset { IfOk result (λ new. IsEdited (FieldUnset self.now key.now name.now) (string_bytes new)) }
+        ensures refused { IfErr result (EntryIsRefused self.now key.now) }
+    {
+        match entry_with(&self.raw.entries, key) {
+            Some(entry) => Ok(without_fields(alloc, self.text, entry, name)?),
+            None => Err(EditError::UnknownKey),
+        }
+    }
+
+    /// The text without the first entry with a key, and without the white space after it.
+    pub fn remove_entry(&self, alloc: Global, key: &str) -> Result<String, EditError>
+        ensures removed { IfOk result (λ new. IsEdited (EntryRemoved self.now key.now) (string_bytes new)) }
+        ensures refused { IfErr result (EntryIsRefused self.now key.now) }
+    {
+        match entry_with(&self.raw.entries, key) {
+            Some(entry) => Ok(without_entry(alloc, self.text, entry)?),
+            None => Err(EditError::UnknownKey),
+        }
+    }
+
+    /// The text with another key of the first entry with a key, and in each reference to it: an element of the comma list that a
+    /// field `crossref`, `xref`, `xdata`, `entryset`, `related` or `set` of any entry is, where its value is one text. It is the key,
+    /// byte for byte, but for the white space round it. A value with another key in it comes to stand in braces; joined values,
+    /// abbreviations, and keys that are written with TeX stay as they are. As it is where the new key is the old one; refused where
+    /// another entry has it, or a value with it can't stand in braces.
+    pub fn rename_key(&self, alloc: Global, old: &str, new: &str) -> Result<String, EditError>
+        ensures renamed { IfOk result (λ text. IsEdited (KeyRenamed self.now old.now new.now) (string_bytes text)) }
+        ensures refused { IfErr result (RenameIsRefused self.now old.now new.now) }
+    {
+        if !can_be_key(old) {
+            return Err(EditError::NotAKey);
+        }
+        if !can_be_key(new) {
+            return Err(EditError::NotAKey);
+        }
+        let Some(index) = entry_index(&self.raw.entries, old) else {
+            return Err(EditError::UnknownKey);
+        };
+        if old == new {
+            return Ok(String::from_str(alloc, self.text)?);
+        }
+        if entry_index(&self.raw.entries, new).is_some() {
+            return Err(EditError::KeyIsThere);
+        }
+        with_key_renamed(alloc, self.text, &self.raw.entries, index, old, new)
+    }
+
+    /// The text with that of another document after it, in a line of its own. Refused where an entry has the key of one of the
+    /// other's.
+    pub fn add_entries(&self, alloc: Global, more: &RawDocument<'_>) -> Result<String, EditError>
+        ensures added { IfOk result (λ text. IsEdited (EntriesAdded self.now more.now) (string_bytes text)) }
+        ensures refused { IfErr result (EntriesAreRefused self.now more.now) }
+    {
+        if shares_key(alloc, &self.raw.entries, &more.raw.entries)? {
+            return Err(EditError::KeyIsThere);
+        }
+        Ok(joined(alloc, self.text, more.text)?)
+    }
+}

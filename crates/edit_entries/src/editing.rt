@@ -1,0 +1,53 @@
+//! Texts with other bytes in a stretch, or in several.
+
+ghost use Rattle.std.specs.Prelude.{◌≡◌, ◌≤◌, IfOk, map};
+ghost use Rattle.std.specs.Str.{IsCharBoundary};
+ghost use Rattle.std.specs.String.{string_bytes};
+ghost use Rattle.edit_entries.specs.Edits as spec;
+ghost use Rattle.edit_entries.specs.Stretches.{AreEditsInOrder, edit_of};
+
+use std::alloc::{AllocError, Global};
+
+// Another text in the place of a stretch.
+#[derive(Debug, Drop)]
+pub(crate) struct Edit {
+    pub(crate) start: usize,
+    pub(crate) end: usize,
+    pub(crate) text: String,
+}
+
+// A text with other bytes in a stretch.
+pub(crate) fn edited(
+    alloc: Global,
+    text: &str,
+    start: usize,
+    end: usize,
+    bytes: &str,
+) -> Result<String, AllocError>
+    requires ordered { start ≤ end }
+    requires start { IsCharBoundary text.now start }
+    requires end { IsCharBoundary text.now end }
+    ensures { IfOk result (λ new. string_bytes new ≡ spec.edited (record { start = start; end = end; bytes = bytes.now }) text.now) }
+{
+    let mut new = String::new(alloc);
+    new.push_str(&text[..start])?;
+    new.push_str(bytes)?;
+    new.push_str(&text[end..])?;
+    Ok(new)
+}
+
+// The text with each of these edits made.
+pub(crate) fn edited_all(alloc: Global, text: &str, edits: &[Edit]) -> Result<String, AllocError>
+    requires { AreEditsInOrder text.now 0 (map edit_of edits.now) }
+    ensures { IfOk result (λ new. string_bytes new ≡ spec.edited_all (map edit_of edits.now) text.now) }
+{
+    let mut new = String::new(alloc);
+    let mut at = 0usize;
+    'edits: for edit in edits {
+        new.push_str(&text[at..edit.start])?;
+        new.push_str(&edit.text)?;
+        at = edit.end;
+    }
+    new.push_str(&text[at..])?;
+    Ok(new)
+}

@@ -1,0 +1,46 @@
+//! Why an edit is refused.
+
+ghost use Rattle.std.specs.Prelude.{◌≡◌};
+ghost use Rattle.edit_entries.specs.declared.errors.EditError.TheVariants.{OutOfMemory};
+
+use std::alloc::{AllocError, AllocFailed};
+use thiserror::Error;
+
+/// Why an edit is refused. A refused edit changes nothing.
+#[derive(Debug, Clone, Copy, PartialEq, Eq, Error)]
+pub enum EditError {
+    /// No entry has the key.
+    #[error("no entry has the key")]
+    UnknownKey,
+    /// An entry has the key already.
+    #[error("an entry has the key already")]
+    KeyIsThere,
+    /// The text isn't one that can be a key.
+    #[error("the text can't be a key")]
+    NotAKey,
+    /// The text isn't one that can be a field's name.
+    #[error("the text can't be the name of a field")]
+    NotAName,
+    /// The value can't stand between braces: a brace isn't closed, or closes nothing, or a backslash hides the last brace.
+    #[error("the value can't stand between braces")]
+    NotInBraces,
+    /// There was no memory.
+    #[error("out of memory")]
+    OutOfMemory,
+}
+
+impl From<AllocError> for EditError {
+    ghost from_gives = { λ _ error. error ≡ OutOfMemory };
+
+    fn from(_error: AllocError) -> EditError {
+        EditError::OutOfMemory
+    }
+}
+
+impl<T: Drop> From<AllocFailed<T>> for EditError {
+    ghost from_gives = { λ _ error. error ≡ OutOfMemory };
+
+    fn from(failed: AllocFailed<T>) -> EditError {
+        EditError::from(AllocError::from(failed))
+    }
+}

@@ -1,0 +1,33 @@
+//! Texts that can be names of fields.
+
+ghost use Rattle.std.specs.Prelude.{◌≡◌, ℕ, MatchBool, false, true};
+ghost use Rattle.bib_text.specs.Places.{CharAt, Place};
+ghost use Rattle.bib_syntax.specs.Characters as characters;
+ghost use Rattle.edit_entries.specs.Documents.{CanBeName};
+
+use bib_syntax::raw::{is_id_continue, is_id_start};
+use bib_text::scanner::Scanner;
+
+// Whether the first character of an identifier stands here.
+fn begins_name(s: &Scanner<'_>) -> bool
+    ensures { MatchBool result
+        ((c : ℕ) × (v : Place) × CharAt s.now c v × (characters.is_id_start c ≡ true))
+        ((c : ℕ) (v : Place) → CharAt s.now c v → characters.is_id_start c ≡ false) }
+{
+    match s.peek() {
+        Some(c) => is_id_start(c),
+        None => false,
+    }
+}
+
+// Whether a text can be a field's name.
+pub(crate) fn can_be_name(text: &str) -> bool
+    ensures { MatchBool result (CanBeName text.now) (CanBeName text.now → ⊥) }
+{
+    let mut s = Scanner::new(text);
+    if !begins_name(&s) {
+        return false;
+    }
+    s.eat_while(is_id_continue);
+    s.done()
+}

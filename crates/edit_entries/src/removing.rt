@@ -1,0 +1,112 @@
+//! Entries and fields that are taken out.
+
+ghost use Rattle.std.specs.Prelude.{◌≡◌, ◌+◌, ◌++◌, ◌≤◌, ◌<◌, ℕ, [], IfOk, OnOk, length, map};
+ghost use Rattle.std.specs.Char.{is_whitespace};
+ghost use Rattle.std.specs.Str.{IsCharBoundary};
+ghost use Rattle.std.specs.String.{string_bytes};
+ghost use Rattle.bib_text.specs.Places.{Longest};
+ghost use Rattle.bib_text.specs.Places as places;
+ghost use Rattle.bib_syntax.specs.Views.{entry_reading_of, field_of};
+ghost use Rattle.edit_entries.specs.Documents as documents;
+ghost use Rattle.edit_entries.specs.Edits as edits;
+ghost use Rattle.edit_entries.specs.Placed.{IsEntryPlaced};
+ghost use Rattle.edit_entries.specs.Stretches as stretches;
+ghost use Rattle.edit_entries.specs.Stretches.{AreEditsInOrder, edit_of};
+
+use crate::editing::{Edit, edited, edited_all};
+use bib_syntax::raw::{Pair, RawEntry, is_word};
+use bib_text::scanner::Scanner;
+use bib_text::spanned::Spanned;
+use std::alloc::{AllocError, Global};
+
+// The place after the white space that stands after a place of a text.
+fn after_white(text: &str, place: usize) -> usize
+    requires { IsCharBoundary text.now place }
+    ensures white { Longest is_whitespace (places.place text.now place) (places.place text.now result) }
+    ensures boundary { IsCharBoundary text.now result }
+    ensures forward { place ≤ result }
+{
+    let mut s = Scanner::new(text);
+    s.jump(place);
+    s.eat_whitespace();
+    s.cursor()
+}
+
+// The text without an entry and the white space after it.
+pub(crate) fn without_entry(
+    alloc: Global,
+    text: &str,
+    entry: &Spanned<RawEntry<'_>>,
+) -> Result<String, AllocError>
+    requires { IsEntryPlaced text.now (entry_reading_of entry.now) }
+    ensures { IfOk result (λ new. (at : ℕ) ×
+        Longest is_whitespace (places.place text.now ((entry_reading_of entry.now).end + 1)) (places.place text.now at) ×
+        (string_bytes new ≡ edits.edited (record { start = (entry_reading_of entry.now).start; end = at; bytes = [] }) text.now)) }
+{
+    let end = after_white(text, entry.span.end + 1);
+    edited(alloc, text, entry.span.start, end, "")
+}
+
+// Where the field after one begins, or else where the entry's closing brace stands.
+fn field_limit(entry: &Spanned<RawEntry<'_>>, index: usize) -> usize
+    requires { index < length (entry_reading_of entry.now).fields }
+    ensures { result ≡ documents.field_limit (entry_reading_of entry.now) index }
+{
+    match entry.v.fields.get(index + 1) {
+        Some(next) => next.key.span.start,
+        None => entry.span.end,
+    }
+}
+
+// Adds the edit that takes a field out of an entry, if it has a name.
+fn push_removal(
+    edits: &mut Vec<Edit>,
+    alloc: Global,
+    entry: &Spanned<RawEntry<'_>>,
+    index: usize,
+    field: &Pair<'_>,
+    name: &str,
+) -> Result<(), AllocError>
+    requires { index < length (entry_reading_of entry.now).fields }
+    ensures { OnOk result (map edit_of edits.new.items ≡ map edit_of edits.old.items ++ stretches.removal name.now (entry_reading_of entry.now) index (field_of field.now)) }
+{
+    if !is_word(field.key.v, name) {
+        return Ok(());
+    }
+    let end = field_limit(entry, index);
+    edits.push(Edit {
+        start: field.key.span.start,
+        end,
+        text: String::new(alloc),
+    })?;
+    Ok(())
+}
+
+// The edits that take the fields with a name out of an entry.
+fn removals(
+    alloc: Global,
+    entry: &Spanned<RawEntry<'_>>,
+    name: &str,
+) -> Result<Vec<Edit>, AllocError>
+    ensures { IfOk result (λ edits. map edit_of edits.items ≡ stretches.removals name.now (entry_reading_of entry.now) 0 (entry_reading_of entry.now).fields) }
+{
+    let mut edits = Vec::new(alloc);
+    'fields: for (index, field) in entry.v.fields.iter().enumerate() {
+        push_removal(&mut edits, alloc, entry, index, field, name)?;
+    }
+    Ok(edits)
+}
+
+// The text without an entry's fields with a name.
+pub(crate) fn without_fields(
+    alloc: Global,
+    text: &str,
+    entry: &Spanned<RawEntry<'_>>,
+    name: &str,
+) -> Result<String, AllocError>
+    requires { AreEditsInOrder text.now 0 (stretches.removals name.now (entry_reading_of entry.now) 0 (entry_reading_of entry.now).fields) }
+    ensures { IfOk result (λ new. string_bytes new ≡ edits.edited_all (stretches.removals name.now (entry_reading_of entry.now) 0 (entry_reading_of entry.now).fields) text.now) }
+{
+    let removed = removals(alloc, entry, name)?;
+    edited_all(alloc, text, &removed)
+}

@@ -1,0 +1,185 @@
+-- A text in one style, as it is read.
+use Rattle.std.proofs.Common.{◌≡◌, ℕ, ◌+◌, ◌-◌, ◌≤◌, Bool, true, false, cond, List, [], ◌∷◌, ◌++◌, Option, None, length, drop, take, map, refl, sym, ap, ◌∙◌, subst, arith, length-drop}
+use Rattle.bib_text.specs.Places.{Place, place, between}
+use Rattle.bib_text.proofs.PlaceFacts.{ahead_then, ahead_char, ahead_run, char_left, same_place}
+use Rattle.bib_syntax.specs.Reading.{EntryReading, FileReading, then}
+use Rattle.bib_syntax.specs.Recovery.{entry_alone}
+use Rattle.bib_syntax.specs.Grammar.{File, IsRawReading, longest}
+use Rattle.bib_syntax.specs.Grammar.{File as file}
+use Rattle.bib_syntax.proofs.FieldFacts.{ahead_fields, ahead_gap}
+use Rattle.bib_syntax.proofs.FileFacts.{ahead_head}
+use Rattle.edit_entries.specs.Edits.{moved_entry, moved_file}
+use Rattle.edit_entries.proofs.EditFacts.{text_stands}
+use Rattle.edit_entries.proofs.MovedFacts.{body_within, char_within, file_there}
+use Rattle.edit_entries.proofs.SplitFacts.{ahead_file_before, joined_file}
+use Rattle.edit_entries.proofs.ZoneFacts.{Frame, Inside, Zone, there}
+use Rattle.edit_format.specs.Formatted.{IsReadAlike, content, entry_content, entry_in_order, entry_in_style, gap_in_style, line_end_of, rest_in_style, says_in_order, text_in_style}
+use Rattle.edit_format.specs.declared.style.Style.{Style}
+use Rattle.edit_format.proofs.ContentFacts.{content_then, file_placeless}
+use Rattle.edit_format.proofs.EntryFacts.{entry_read}
+use Rattle.edit_format.proofs.FieldFacts.{IsLineEnd}
+use Rattle.edit_format.proofs.GapFacts.{gap_read}
+use Rattle.edit_format.proofs.SplitFacts.{ByEntries, by_entries}
+use Rattle.edit_format.proofs.StandsFacts.{Stands, ascii, between_stands, first_part, past}
+
+-- how lines end
+pub line_end_is : (text : List ℕ) → IsLineEnd (line_end_of text)
+line_end_is text = by_choice _
+  where
+    by_choice : (b : Bool) → IsLineEnd (cond b (13 ∷ 10 ∷ []) (10 ∷ []))
+    by_choice true = record {
+      white = ((omega arith, refl), ((omega arith, refl), _));
+      blank = refl;
+      ending = λ u v rest s.
+          record {
+            char = 13;
+            next = _;
+            here = ascii 13 (omega arith) (first_part (13 ∷ []) (10 ∷ rest) s);
+            no_name = refl;
+            no_digit = refl;
+            no_point = refl;
+          };
+    }
+    by_choice false = record {
+      white = ((omega arith, refl), _);
+      blank = refl;
+      ending = λ u v rest s.
+          record {
+            char = 10;
+            next = _;
+            here = ascii 10 (omega arith) (first_part (10 ∷ []) rest s);
+            no_name = refl;
+            no_digit = refl;
+            no_point = refl;
+          };
+    }
+
+-- what a file says from a place on, read from a place of another text on
+pub record FileRead (line_end : List ℕ) (style : Style) (blank_lines : Option ℕ) (says : FileReading) (u : Place) : Type 0 where
+  pub reading : FileReading
+  pub file : File longest u reading
+  pub alike : content reading ≡ content says
+  pub again : rest_in_style line_end style blank_lines u.text u.at reading.entries ≡ drop u.at u.text
+
+stands_here : (u : Place) (xs ys : List ℕ) → drop u.at u.text ≡ xs ++ ys → Stands u xs (past u xs)
+stands_here u xs ys here = record { same = refl; here = here ∙ ap (λ t. xs ++ t) (sym (text_stands u.text xs ys u.at here)); next = refl }
+
+-- the rest of a text, without entries
+abbrev rest_frame : Place → Place → Frame
+rest_frame a u = record { old = a.text; new = u.text; move = λ n. n - a.at + u.at; from = a.at; to = u.at; end = length a.text + 1 }
+
+rest_read : (line_end : List ℕ) (style : Style) (blank_lines : Option ℕ) {a u : Place} {says : FileReading}
+    → File longest a says → says.entries ≡ [] → a.at ≤ length a.text → u.at ≤ length u.text
+    → drop u.at u.text ≡ drop a.at a.text → FileRead line_end style blank_lines (says_in_order style a.text says) u
+rest_read line_end style blank_lines {a} {u} {says} x none within within' same =
+    let sizes : length a.text + u.at ≡ length u.text + a.at =
+    omega (arith, ap length same, length-drop a.at a.text, length-drop u.at u.text, within, within') in
+    let z : Zone (rest_frame a u) = record {
+      moves = λ n from below. omega arith;
+      same = ap (take (length a.text + 1 - a.at)) (sym same);
+      cut = λ {u = p} {v = q} {c = d} text char below. omega (arith, char_left char, char.next, ap length text, sizes);
+    } in
+    let start : Inside (rest_frame a u) a = record { text = refl; start = omega arith; end = omega (arith, within); moved = omega arith } in
+    let goes : there (rest_frame a u) a ≡ u = same_place refl (omega arith) in
+    record {
+      reading = moved_file (λ n. n - a.at + u.at) says;
+      file = subst (λ p. File longest p (moved_file (λ n. n - a.at + u.at) says)) goes (file_there z refl sizes start x);
+      alike =
+          file_placeless (λ n. n - a.at + u.at) says
+          ∙ ap (λ es. content (record says { entries = es }))
+          (none ∙ sym (ap (map (entry_in_order style a.text)) none));
+      again = ap (λ es. rest_in_style line_end style blank_lines u.text u.at (map (moved_entry (λ n. n - a.at + u.at)) es)) none;
+    }
+
+alike_then : (gap before rest reading : FileReading) (e e' : EntryReading) → content gap ≡ content before
+    → entry_content e' ≡ entry_content e → content reading ≡ content rest
+    → content (then gap (then (entry_alone e') reading)) ≡ content (then before (then (entry_alone e) rest))
+alike_then gap before rest reading e e' between_entries entry others =
+    content_then gap (then (entry_alone e') reading)
+    ∙ ap (λ r. then r (content (then (entry_alone e') reading))) between_entries
+    ∙ ap (then (content before))
+    (content_then (entry_alone e') reading ∙ ap (λ y. then (entry_alone y) (content reading)) entry
+    ∙ ap (then (entry_alone (entry_content e))) others ∙ sym (content_then (entry_alone e) rest))
+    ∙ sym (content_then before (then (entry_alone e) rest))
+
+-- what is said with fields in order, from its parts
+then_in_order : (style : Style) (text : List ℕ) (before rest : FileReading) (e : EntryReading) → before.entries ≡ []
+    → content (then before (then (entry_alone (entry_in_order style text e)) (says_in_order style text rest)))
+    ≡ content (says_in_order style text (then before (then (entry_alone e) rest)))
+then_in_order style text before rest e none =
+    let ordered = entry_in_order style text in
+    ap (λ es. content (record (then before (then (entry_alone e) rest)) { entries = es }))
+    (ap (λ es. es ++ ordered e ∷ map ordered rest.entries) none ∙ sym (ap (λ es. map ordered (es ++ e ∷ rest.entries)) none))
+
+pub file_read : (line_end : List ℕ) (style : Style) (blank_lines : Option ℕ) {a u : Place} {says : FileReading}
+    → IsLineEnd line_end → ByEntries a says → a.at ≤ length a.text → u.at ≤ length u.text
+    → drop u.at u.text ≡ rest_in_style line_end style blank_lines a.text a.at says.entries
+    → FileRead line_end style blank_lines (says_in_order style a.text says) u
+file_read line_end style blank_lines {a} {u} {says} ends (ByEntries.last x none) within within' here =
+    rest_read line_end style blank_lines x none within within'
+    (here ∙ ap (λ es. rest_in_style line_end style blank_lines a.text a.at es) none)
+file_read line_end style blank_lines {a} {u} ends
+    (ByEntries.more {s = s} {v = v} {before = before} {rest = rest} {e = e} first none x file' others) within
+    within' here =
+    let to_start = ahead_file_before first in
+    let to_brace =
+    ahead_then (ahead_head x.head)
+    (ahead_then (ahead_run x.key.run)
+    (ahead_then (ahead_run x.white.run)
+    (ahead_then (ahead_char x.comma) (ahead_then (ahead_gap x.gap) (ahead_fields x.fields))))) in
+    let to_end = ahead_then to_brace (ahead_char x.closes) in
+    let end_text : v.text ≡ a.text = to_end.text ∙ to_start.text in
+    let end_within : v.at ≤ length v.text = char_within x.closes in
+    let next : v.at ≡ x.brace.at + 1 = x.closes.next in
+    let end_is : e.end + 1 ≡ v.at = omega (arith, x.ends) in
+    let entry_bytes = entry_in_style line_end style a.text e in
+    let rest_bytes = rest_in_style line_end style style.blank_lines a.text (e.end + 1) rest.entries in
+    let gap = gap_in_style line_end blank_lines (between a s) in
+    let whole : drop u.at u.text ≡ gap ++ (entry_bytes ++ rest_bytes) =
+    here ∙ ap (λ es. rest_in_style line_end style blank_lines a.text a.at (es ++ e ∷ rest.entries)) none
+    ∙ ap (λ n. gap_in_style line_end blank_lines (take (n - a.at) (drop a.at a.text)) ++ (entry_bytes ++ rest_bytes)) x.starts in
+    let p = past u gap in
+    let s0 = stands_here u gap (entry_bytes ++ rest_bytes) whole in
+    let here' : drop p.at p.text ≡ entry_bytes ++ rest_bytes = text_stands u.text gap (entry_bytes ++ rest_bytes) u.at whole in
+    let q = past p entry_bytes in
+    let s1 = stands_here p entry_bytes rest_bytes here' in
+    let entry = entry_read line_end style a.text ends to_start.text x s1 in
+    let here'' : drop q.at q.text ≡ rest_in_style line_end style style.blank_lines v.text v.at rest.entries =
+    text_stands p.text entry_bytes rest_bytes p.at here'
+    ∙ ap (λ n. rest_in_style line_end style style.blank_lines a.text n rest.entries) end_is
+    ∙ ap (λ t. rest_in_style line_end style style.blank_lines t v.at rest.entries) (sym end_text) in
+    let rest_said =
+    file_read line_end style style.blank_lines {a = v} {u = q} {says = rest} ends others end_within
+    (body_within entry.block.body) here'' in
+    let start_within : s.at ≤ length a.text = omega (arith, to_end.at, end_within, ap length end_text) in
+    let before' = gap_read line_end blank_lines ends.blank first none start_within x.head.sign s0 entry.block.head.sign in
+    let rest_again = λ (n : ℕ). rest_in_style line_end style style.blank_lines u.text n rest_said.reading.entries in
+    let entry_again = entry_in_style line_end style u.text entry.reading in
+    record {
+      reading = then before'.reading (then (entry_alone entry.reading) rest_said.reading);
+      file = joined_file before'.file (file.block entry.block rest_said.file);
+      alike =
+          alike_then before'.reading before (says_in_order style a.text rest) rest_said.reading
+          (entry_in_order style a.text e) entry.reading before'.alike entry.alike
+          (rest_said.alike ∙ ap (λ t. content (says_in_order style t rest)) end_text)
+          ∙ then_in_order style a.text before rest e none;
+      again = ap (λ es. rest_in_style line_end style blank_lines u.text u.at (es ++ entry.reading ∷ rest_said.reading.entries)) before'.none
+          ∙ ap
+          (λ n.
+          gap_in_style line_end blank_lines (between u (place u.text n))
+          ++ (entry_again ++ rest_again (entry.reading.end + 1))) entry.starts
+          ∙ ap (λ t. gap_in_style line_end blank_lines t ++ (entry_again ++ rest_again (entry.reading.end + 1))) (between_stands gap s0)
+          ∙ ap (λ t. t ++ (entry_again ++ rest_again (entry.reading.end + 1))) before'.again
+          ∙ ap (λ t. gap ++ (t ++ rest_again (entry.reading.end + 1))) entry.again
+          ∙ ap (λ n. gap ++ (entry_bytes ++ rest_again n)) entry.ends
+          ∙ ap (λ t. gap ++ (entry_bytes ++ t)) rest_said.again ∙ ap (λ t. gap ++ t) (sym s1.here) ∙ sym s0.here;
+    }
+
+pub text_read : (style : Style) (text : List ℕ) (says : FileReading) → IsRawReading text says
+    → IsReadAlike (says_in_order style text says) (text_in_style style text says)
+text_read style text says read =
+    let new = text_in_style style text says in
+    let r =
+    file_read (line_end_of text) style None {a = place text 0} {u = place new 0} {says = says} (line_end_is text)
+    (by_entries read) (omega arith) (omega arith) refl in
+    record { tells = r.reading; read = r.file; alike = r.alike }

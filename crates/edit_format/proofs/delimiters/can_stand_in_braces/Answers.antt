@@ -1,0 +1,55 @@
+use Rattle.std.proofs.Common.{◌≡◌, ℕ, List, ◌∷◌, slice_index_or, arith}
+use Rattle.edit_format.specs.Delimited.{close_braces}
+use Rattle.edit_format.proofs.ByteStepFacts.{close_byte, hidden_byte, next_is, open_byte, plain_byte, slash_byte}
+use Rattle.edit_format.proofs.delimiters.can_stand_in_braces.Goals.{then-is_hidden, else-is_hidden+then-byte-eq92, else-is_hidden+else-byte-eq92+then-byte-eq123, else-is_hidden+else-byte-eq92+else-byte-eq123+then-byte-eq125+else-depth-eq0, else-is_hidden+else-byte-eq92+else-byte-eq123+else-byte-eq125}
+use Rattle.edit_format.proofs.delimiters.can_stand_in_braces.Goals as goal
+
+pub bytes-preserved : goal.bytes-preserved
+bytes-preserved c =
+    let was = c.bytes.is_hidden in
+    let h = c.if-is_hidden.is_hidden in
+    let depth = c.bytes.depth in
+    let d = c.if-is_hidden.depth in
+    let all = c.as_bytes-byte-items.result.now in
+    let i = c.bytes.byte-index in
+    let b = slice_index_or all i 0 in
+    let within = c.bytes.invariant.within in
+    let left =
+    λ (step : (bs : List ℕ) → close_braces was depth (b ∷ bs) ≡ close_braces h d bs).
+    next_is (close_braces was depth) (close_braces h d) all i c.bytes-test.true step c.bytes.invariant.left in
+    elim c.if-is_hidden.branch [
+      | then-is_hidden w ↦ record {
+        left = left (λ bs. hidden_byte was h depth d b bs w.if-is_hidden.true w.is_hidden-is w.depth-is);
+        within = omega (arith, within, w.depth-is);
+      }
+      | else-is_hidden+then-byte-eq92 w ↦ record {
+        left =
+            left
+            (λ bs.
+            slash_byte was h depth d b bs w.if-is_hidden.false w.if-byte-eq92.true w.is_hidden-is w.depth-is);
+        within = omega (arith, within, w.depth-is);
+      }
+      | else-is_hidden+else-byte-eq92+then-byte-eq123 w ↦ record {
+        left =
+            left
+            (λ bs.
+            open_byte was h depth d b bs w.if-is_hidden.false w.if-byte-eq123.true w.is_hidden-is w.depth-is);
+        within = omega (arith, within, w.depth-is);
+      }
+      | else-is_hidden+else-byte-eq92+else-byte-eq123+then-byte-eq125+else-depth-eq0 w ↦ record {
+        left =
+            left
+            (λ bs.
+            close_byte was h depth d b bs w.if-is_hidden.false w.if-byte-eq125.true w.if-depth-eq0.false
+            w.is_hidden-is w.depth-is);
+        within = omega (arith, within, w.depth-is);
+      }
+      | else-is_hidden+else-byte-eq92+else-byte-eq123+else-byte-eq125 w ↦ record {
+        left =
+            left
+            (λ bs.
+            plain_byte was h depth d b bs w.if-is_hidden.false w.if-byte-eq92.false w.if-byte-eq123.false
+            w.if-byte-eq125.false w.is_hidden-is w.depth-is);
+        within = omega (arith, within, w.depth-is);
+      }
+    ]

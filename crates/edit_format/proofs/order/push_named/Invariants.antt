@@ -1,0 +1,20 @@
+use Rattle.std.proofs.Common.{◌≡◌, ◌++◌, drop, map}
+use Rattle.std.specs.List.{AllByRecursion, filter, flat_map}
+use Rattle.std.specs.String.{string_bytes}
+use Rattle.bib_syntax.specs.Views.{field_of}
+use Rattle.edit_format.specs.Cuts.{ArePiecesCut}
+use Rattle.edit_format.specs.Formatted.{field_laid_out}
+use Rattle.edit_format.specs.Unlisted.{has_name_first, name_texts}
+use Rattle.edit_format.proofs.order.push_named.Given as goal
+
+-- what is left to write
+abbrev pub invariant-fields : goal.invariant-fields
+invariant-fields l = record {
+  written : string_bytes l.new
+      ++ flat_map (field_laid_out l.layout.line_end.now l.layout.style l.layout.text.now l.width)
+      (filter (has_name_first (name_texts l.before) l.name) (map field_of (drop l.field-index l.fields)))
+      ≡ string_bytes l.initial.new
+      ++ flat_map (field_laid_out l.layout.line_end.now l.layout.style l.layout.text.now l.width)
+      (filter (has_name_first (name_texts l.before) l.name) (map field_of l.fields));
+  cut : AllByRecursion (ArePiecesCut l.layout.text.now) (map field_of (drop l.field-index l.fields));
+}

@@ -1,0 +1,137 @@
+//! The delimiters of literals.
+
+ghost use Rattle.std.specs.Prelude.{◌≡◌, ◌++◌, OnOk};
+ghost use Rattle.std.specs.String.{string_bytes};
+ghost use Rattle.edit_entries.specs.Documents.{in_braces};
+ghost use Rattle.edit_format.specs.Delimited as styled;
+
+use crate::style::Delimiters;
+use std::alloc::AllocError;
+
+// Whether a text can stand in braces: each brace in it is closed.
+fn can_stand_in_braces(content: &str) -> bool
+    ensures { result ≡ styled.can_stand_in_braces content.now }
+{
+    let mut depth = 0usize;
+    let mut is_hidden = false;
+    'bytes: for byte in content.as_bytes() {
+        if is_hidden {
+            is_hidden = false;
+        } else if *byte == b'\\' {
+            is_hidden = true;
+        } else if *byte == b'{' {
+            depth += 1;
+        } else if *byte == b'}' {
+            if depth == 0 {
+                return false;
+            }
+            depth -= 1;
+        }
+    }
+    !is_hidden && depth == 0
+}
+
+// Whether a text can stand in quotes: no quote stands in it but where a backslash hides it.
+fn can_stand_in_quotes(content: &str) -> bool
+    ensures { result ≡ styled.can_stand_in_quotes content.now }
+{
+    let mut is_hidden = false;
+    'bytes: for byte in content.as_bytes() {
+        if is_hidden {
+            is_hidden = false;
+        } else if *byte == b'\\' {
+            is_hidden = true;
+        } else if *byte == b'"' {
+            return false;
+        }
+    }
+    !is_hidden
+}
+
+// Whether a quote stands in a text.
+fn has_quote(content: &str) -> bool
+    ensures { result ≡ styled.has_quote content.now }
+{
+    content.contains('"')
+}
+
+// Whether a text in quotes comes to stand in braces.
+fn goes_in_braces(delimiters: Delimiters, content: &str) -> bool
+    ensures { result ≡ styled.goes_in_braces delimiters content.now }
+{
+    match delimiters {
+        Delimiters::Keep => false,
+        Delimiters::Braces => can_stand_in_braces(content),
+        Delimiters::Quotes => false,
+    }
+}
+
+// Whether a text in braces comes to stand in quotes.
+fn goes_in_quotes(delimiters: Delimiters, content: &str) -> bool
+    ensures { result ≡ styled.goes_in_quotes delimiters content.now }
+{
+    match delimiters {
+        Delimiters::Keep => false,
+        Delimiters::Braces => false,
+        Delimiters::Quotes => !has_quote(content) && can_stand_in_quotes(content),
+    }
+}
+
+// Adds a text in braces.
+fn push_in_braces(new: &mut String, content: &str) -> Result<(), AllocError>
+    ensures { OnOk result (string_bytes new.new ≡ string_bytes new.old ++ in_braces content.now) }
+{
+    new.push_str("{")?;
+    new.push_str(content)?;
+    new.push_str("}")?;
+    Ok(())
+}
+
+// Adds a text in quotes.
+fn push_in_quotes(new: &mut String, content: &str) -> Result<(), AllocError>
+    ensures { OnOk result (string_bytes new.new ≡ string_bytes new.old ++ styled.in_quotes content.now) }
+{
+    new.push_str("\"")?;
+    new.push_str(content)?;
+    new.push_str("\"")?;
+    Ok(())
+}
+
+// Adds a text that stands in braces, where the style has it.
+fn push_braced(new: &mut String, delimiters: Delimiters, content: &str) -> Result<(), AllocError>
+    ensures { OnOk result (string_bytes new.new ≡ string_bytes new.old ++ styled.braced_in_style delimiters content.now) }
+{
+    if goes_in_quotes(delimiters, content) {
+        return push_in_quotes(new, content);
+    }
+    push_in_braces(new, content)
+}
+
+// Adds a text that stands in quotes, where the style has it.
+fn push_quoted(new: &mut String, delimiters: Delimiters, content: &str) -> Result<(), AllocError>
+    ensures { OnOk result (string_bytes new.new ≡ string_bytes new.old ++ styled.quoted_in_style delimiters content.now) }
+{
+    if goes_in_braces(delimiters, content) {
+        return push_in_braces(new, content);
+    }
+    push_in_quotes(new, content)
+}
+
+// Adds the text of a literal between the delimiters of the style, by what stands before it in the file.
+pub(crate) fn push_literal(
+    new: &mut String,
+    delimiters: Delimiters,
+    before: &str,
+    content: &str,
+) -> Result<(), AllocError>
+    ensures { OnOk result (string_bytes new.new ≡ string_bytes new.old ++ styled.delimited delimiters before.now content.now) }
+{
+    if before.ends_with("{") {
+        return push_braced(new, delimiters, content);
+    }
+    if before.ends_with("\"") {
+        return push_quoted(new, delimiters, content);
+    }
+    new.push_str(content)?;
+    Ok(())
+}

@@ -1,0 +1,86 @@
+//! Files in one style.
+
+ghost use Rattle.std.specs.Prelude.{◌≡◌, IfOk, None, map};
+ghost use Rattle.std.specs.String.{string_bytes};
+ghost use Rattle.bib_syntax.specs.Views.{entry_reading_of};
+ghost use Rattle.edit_format.specs.Cuts.{AreEntriesCut};
+ghost use Rattle.edit_format.specs.Formatted as styled;
+ghost use Rattle.edit_format.specs.Formatted.{IsReadAlike, line_end_of, says_in_order, text_in_style};
+
+use crate::entries::push_entry;
+use crate::gaps::push_gap;
+use crate::layout::Layout;
+use crate::style::Style;
+use bib_syntax::raw::RawEntry;
+use bib_text::spanned::Spanned;
+use edit_entries::document::RawDocument;
+use std::alloc::{AllocError, Global};
+
+// How the lines of a text end: by the carriage return and the line feed where the first line does, else by the line feed.
+fn line_end(text: &str) -> &'static str
+    ensures { result.now ≡ line_end_of text.now }
+{
+    match text.split_once('\n') {
+        Some((line, _)) => if line.ends_with("\r") { "\r\n" } else { "\n" },
+        None => "\n",
+    }
+}
+
+// A text with its entries laid out, and what stands between them as it is, or as blank lines.
+fn with_entries(
+    alloc: Global,
+    layout: &Layout<'_, '_>,
+    entries: &[Spanned<RawEntry<'_>>],
+) -> Result<String, AllocError>
+    requires { AreEntriesCut layout.now.text.now 0 (map entry_reading_of entries.now) }
+    ensures { IfOk result (λ new. string_bytes new ≡
+        styled.rest_in_style layout.now.line_end.now layout.now.style None layout.now.text.now 0 (map entry_reading_of entries.now)) }
+{
+    let mut new = String::new(alloc);
+    let mut at = 0usize;
+    let mut blank_lines = None;
+    'entries: for entry in entries {
+        push_gap(
+            &mut new,
+            layout.line_end,
+            blank_lines,
+            &layout.text[at..entry.span.start],
+        )?;
+        push_entry(alloc, &mut new, layout, entry)?;
+        at = entry.span.end + 1;
+        blank_lines = layout.style.blank_lines;
+    }
+    new.push_str(&layout.text[at..])?;
+    Ok(new)
+}
+
+/// The text in one style. Each entry is laid out anew:
+///
+/// ```text
+/// @book{key,
+///   author = {A} # b,
+///   title = "T",
+/// }
+/// ```
+///
+/// Its type and the names of its fields are written in lowercase, as far as they are ASCII, and the elements of its values as they
+/// stand. The style may ask for other delimiters round these, for a line for each element of a long value, and for an order of fields.
+/// Everything else stays byte for byte, and so does an entry in which a comment stands between its key, its fields and its closing
+/// brace; but where only white space of ASCII stands between two entries the style may ask for blank lines. Lines that are written end
+/// as the file's first line does. Fails only where there is no memory.
+pub fn format(
+    alloc: Global,
+    document: &RawDocument<'_>,
+    style: &Style<'_>,
+) -> Result<String, AllocError>
+    ensures text { IfOk result (λ new. string_bytes new ≡ text_in_style style.now document.now.text document.now.says) }
+    ensures read { IfOk result (λ new. IsReadAlike (says_in_order style.now document.now.text document.now.says) (string_bytes new)) }
+{
+    let text = document.text();
+    let layout = Layout {
+        text,
+        line_end: line_end(text),
+        style: *style,
+    };
+    with_entries(alloc, &layout, &document.raw().entries)
+}

@@ -1,0 +1,6 @@
+use Rattle.edit_sort.proofs.ParentFacts.{parents_follow}
+use Rattle.edit_sort.proofs.laws.parents_follow.Goals as goal
+
+pub returns : goal.returns
+returns c d texts order i j parent child in_order at_i at_j run last refers =
+    parents_follow d texts order i j parent child in_order at_i at_j run last refers

@@ -1,0 +1,293 @@
+-- A field with another value, where the bytes of the value are read as its elements wherever they stand.
+use Rattle.std.proofs.Common.{◌≡◌, inr, ℕ, ◌+◌, ◌<◌, ◌≤◌, true, List, ◌++◌, length, drop, map, refl, sym, ap, ◌∙◌, subst, arith, Some}
+use Rattle.std.specs.Prelude.{◌==◌, not, ◌&&◌, slice_get}
+use Rattle.std.specs.Char.{is_whitespace, is_control}
+use Rattle.std.proofs.lemmas.Bool.{and_right}
+use Rattle.std.proofs.lemmas.Bool.Decides.{nat_tests}
+use Rattle.std.proofs.lemmas.Str.{len_utf8_bounds}
+use Rattle.bib_text.specs.Places.{Place, place, CharAt, Run, Stops, Longest}
+use Rattle.bib_text.specs.Places.Run.{stop, step}
+use Rattle.bib_text.proofs.PlaceFacts.{ahead_then, ahead_char, ahead_run, same_place, stops_at}
+use Rattle.bib_syntax.specs.Characters.{is_delimiter}
+use Rattle.bib_syntax.specs.Reading.{Piece, FieldReading, EntryReading}
+use Rattle.bib_syntax.specs.Grammar.{Elements, Field, Gap, longest}
+use Rattle.bib_syntax.specs.Grammar.{Elements as elements}
+use Rattle.bib_syntax.specs.Grammar.{Gap as gap}
+use Rattle.bib_syntax.proofs.FieldFacts.{ahead_identifier, ahead_field, ahead_gap, elements_stop}
+use Rattle.bib_syntax.proofs.FileFacts.{ahead_head}
+use Rattle.edit_entries.specs.Edits.{Edit, edited, moved_place, moved_field, moved_piece}
+use Rattle.edit_entries.specs.Documents.{Document, IsDocument, field_edited}
+use Rattle.edit_entries.proofs.EditFacts.{Fits, before_frame, after_frame, moved_before, moved_after, zone_before, zone_after, new_bytes, text_stands}
+use Rattle.edit_entries.proofs.ZoneFacts.{Inside, there, inside, inside_between, char_there, run_there, longest_there, stops_there}
+use Rattle.edit_entries.proofs.GrammarFacts.{below_between, below_char, identifier_there}
+use Rattle.edit_entries.proofs.SplitFacts.{FieldsAfter, ahead_file_before, ahead_fields_before, split_file, split_fields}
+use Rattle.edit_entries.proofs.MovedFacts.{char_within}
+use Rattle.edit_entries.proofs.EntryFacts.{goes, field_edited_read}
+use Rattle.edit_entries.proofs.ValueFacts.{elements_opens, value_some}
+use Rattle.edit_format.proofs.ElementFacts.{Ending}
+use Rattle.edit_format.proofs.StandsFacts.{Stands}
+use Rattle.edit_strings.specs.Exchanged.{NewValue}
+
+-- ---- bytes that are read as elements
+
+-- elements that stand between two places
+pub record AreRead (pieces : List Piece) (u w : Place) : Type 0 where
+  pub reading : List Piece
+  pub elements : Elements longest u reading w
+  pub alike : map (moved_piece (λ n. 0)) reading ≡ map (moved_piece (λ n. 0)) pieces
+
+-- bytes are read so wherever they stand, up to where no name and no number goes on, and white space after that
+abbrev pub CanBeRead : NewValue → Type 0
+CanBeRead new =
+    (u v w : Place) → Stands u new.bytes v → Ending v → Longest is_whitespace v w → Stops (λ c. c == 35) w
+    → AreRead new.pieces u w
+
+-- ---- what stands after a value
+
+white_ending : {u v : Place} {c : ℕ} → CharAt u c v → is_whitespace c ≡ true → Ending u
+white_ending {u} {v} {c} char white = record {
+  char = c;
+  next = v;
+  here = char;
+  no_name = and_right (not (is_delimiter c) && not (is_control c)) (not (is_whitespace c)) (ap not white);
+  no_digit = grind (arith, nat_tests);
+  no_point = grind (arith, nat_tests);
+}
+
+run_ending : {u v : Place} → Run is_whitespace u v → Ending v → Ending u
+run_ending stop ending = ending
+run_ending (step char white rest) ending = white_ending char white
+
+gap_ending : {u v : Place} → Gap longest u v → Ending v → Ending u
+gap_ending (gap.white white ends) ending = run_ending white.run ending
+gap_ending (gap.line_comment white m white') ending =
+    run_ending white.run
+    (record { char = 37; next = m.inside; here = m.sign; no_name = refl; no_digit = refl; no_point = refl })
+
+pub after_ending : {u v w : Place} {fs : List FieldReading} → FieldsAfter u fs v → CharAt v 125 w → Ending u
+after_ending (FieldsAfter.last g) closes =
+    gap_ending g (record { char = 125; next = _; here = closes; no_name = refl; no_digit = refl; no_point = refl })
+after_ending (FieldsAfter.more g comma g' rest) closes =
+    gap_ending g (record { char = 44; next = _; here = comma; no_name = refl; no_digit = refl; no_point = refl })
+
+-- ---- a field
+
+-- a field, where the places of its old value are known
+record ValueStretch (edit : Edit) (text : List ℕ) (f : FieldReading) (u v : Place) : Type 0 where
+  field : Field longest u f v
+  same : u.text ≡ text
+  start : edit.start ≡ field.value_start.at
+  white : Run is_whitespace (place text edit.end) v
+  following : Ending v
+  some : edit.start < edit.end
+
+-- the elements in the place of a value's
+new_elements : (edit : Edit) (text : List ℕ) (new : NewValue) (f : FieldReading) {u v : Place} → edit.bytes ≡ new.bytes
+    → CanBeRead new → (s : ValueStretch edit text f u v)
+    → AreRead new.pieces (place (edited edit text) edit.start) (goes edit text v)
+new_elements edit text new f {u} {v} bytes can s =
+    let white = ahead_run s.white in
+    let following = s.following in
+    let within : edit.end ≤ length text =
+    omega (
+      arith,
+      white.at,
+      char_within following.here,
+      (ahead_char following.here).at,
+      ap length following.here.same,
+      ap length white.text,
+    ) in
+    let z2 = zone_after edit text (omega (arith, s.some)) within in
+    let here : Inside (after_frame edit text) (place text edit.end) = inside z2 refl (omega arith) (omega arith) in
+    let there' : Inside (after_frame edit text) v =
+    inside z2 white.text white.at
+    (omega (
+      arith,
+      char_within following.here,
+      (ahead_char following.here).at,
+      ap length following.here.same,
+      ap length white.text,
+    )) in
+    let ending = run_ending s.white following in
+    let next : Inside (after_frame edit text) ending.next =
+    inside z2 ending.here.same (omega (arith, (ahead_char ending.here).at))
+    (omega (arith, char_within ending.here, ap length ending.here.same)) in
+    let is_end : moved_place edit edit.end ≡ edit.start + length edit.bytes = omega (arith, moved_after edit edit.end (omega arith)) in
+    let from : Place = place (edited edit text) edit.start in
+    let to : Place = goes edit text (place text edit.end) in
+    let standing : drop edit.start (edited edit text) ≡ edit.bytes ++ drop edit.end text = new_bytes edit text (omega (arith, s.some)) in
+    let stands : Stands from new.bytes to = record {
+      same = refl;
+      here =
+          standing ∙ ap (λ xs. xs ++ drop edit.end text) bytes
+          ∙ ap (λ xs. new.bytes ++ xs)
+          (sym (text_stands (edited edit text) edit.bytes (drop edit.end text) edit.start standing)
+          ∙ ap (λ n. drop n (edited edit text)) (sym is_end));
+      next = is_end ∙ ap (λ xs. edit.start + length xs) bytes;
+    } in
+    let ending' : Ending to =
+    record {
+      char = ending.char;
+      next = there (after_frame edit text) ending.next;
+      here = char_there z2 here next ending.here;
+      no_name = ending.no_name;
+      no_digit = ending.no_digit;
+      no_point = ending.no_point;
+    } in
+    let stops = elements_stop s.field.elements in
+    let below : v.at < length text + 1 =
+    omega (
+      arith,
+      char_within following.here,
+      (ahead_char following.here).at,
+      ap length following.here.same,
+      ap length white.text,
+    ) in
+    let blank : Longest is_whitespace to (goes edit text v) =
+    record { run = run_there z2 here there' s.white; stops = stops_there is_whitespace z2 there' below stops.0 } in
+    can from to (goes edit text v) stands ending' blank (stops_there (λ c. c == 35) z2 there' below stops.1)
+
+fits_value : (edit : Edit) (text : List ℕ) (new : NewValue) (f : FieldReading) {u v : Place} → edit.bytes ≡ new.bytes
+    → CanBeRead new → ValueStretch edit text f u v → Fits edit text
+fits_value edit text new f bytes can s =
+    let white = ahead_run s.white in
+    let opens = elements_opens (new_elements edit text new f bytes can s).elements in
+    record {
+      ordered = omega (arith, s.some);
+      within =
+          omega (
+            arith,
+            white.at,
+            char_within s.following.here,
+            (ahead_char s.following.here).at,
+            ap length s.following.here.same,
+            ap length white.text,
+          );
+      border = inr (opens.char, opens.next, opens.here);
+    }
+
+-- a field with these elements as its value
+abbrev pub with_pieces : List Piece → FieldReading → FieldReading
+with_pieces pieces f = record f { value = record f.value { pieces = pieces } }
+
+new_field : (edit : Edit) (text : List ℕ) (new : NewValue) (f : FieldReading) {u v : Place}
+    → (bytes : edit.bytes ≡ new.bytes) (can : CanBeRead new) (s : ValueStretch edit text f u v)
+    → Field longest (goes edit text u)
+    (with_pieces (new_elements edit text new f bytes can s).reading (moved_field (moved_place edit) f))
+    (goes edit text v)
+new_field edit text new f {u} {v} bytes can s =
+    let fits = fits_value edit text new f bytes can s in
+    let z1 = zone_before edit text fits in
+    let field = s.field in
+    let to_sign = ahead_then (ahead_identifier field.name) (ahead_run field.white.run) in
+    let to_value = ahead_then (ahead_char field.sign) (ahead_run field.white'.run) in
+    let all = ahead_then to_sign to_value in
+    let iu : Inside (before_frame edit text) u =
+    record {
+      text = s.same;
+      start = omega arith;
+      end = omega (arith, all.at, s.start);
+      moved = ap (λ n. n + 0) (moved_before edit u.at (omega (arith, all.at, s.start, s.some)));
+    } in
+    let iv : Inside (before_frame edit text) field.value_start =
+    record {
+      text = all.text ∙ s.same;
+      start = omega arith;
+      end = omega (arith, s.start);
+      moved = ap (λ n. n + 0) (moved_before edit field.value_start.at (omega (arith, s.start, s.some)));
+    } in
+    let ia = inside_between z1 iu iv (ahead_identifier field.name) (ahead_then (ahead_run field.white.run) to_value) in
+    let ib = inside_between z1 ia iv (ahead_run field.white.run) to_value in
+    let ic = inside_between z1 ib iv (ahead_char field.sign) (ahead_run field.white'.run) in
+    let is_at : edit.start ≡ moved_place edit field.value_start.at =
+    sym (moved_before edit edit.start s.some) ∙ ap (moved_place edit) s.start in
+    let reading = (new_elements edit text new f bytes can s).reading in
+    let value_elements =
+    subst (λ n. Elements longest (place (edited edit text) n) reading (goes edit text v)) is_at
+    (new_elements edit text new f bytes can s).elements in
+    let opens = elements_opens value_elements in
+    record {
+      name_end = goes edit text field.name_end;
+      before_sign = goes edit text field.before_sign;
+      after_sign = goes edit text field.after_sign;
+      value_start = goes edit text field.value_start;
+      name =
+          identifier_there z1 iu ia
+          (below_between (before_frame edit text) (ahead_run field.white.run) (below_char ic field.sign)) field.name;
+      white = longest_there z1 ia ib (below_char ic field.sign) field.white;
+      sign = char_there z1 ib ic field.sign;
+      white' = record { run = run_there z1 ic iv field.white'.run; stops = stops_at is_whitespace opens.here opens.dark };
+      elements = value_elements;
+      starts = ap (moved_place edit) field.starts;
+      ends = ap (moved_place edit) field.ends;
+    }
+
+-- ---- a text with another value of a field
+
+-- a document with another value of a field
+pub record IsExchanged (d : Document) (edit : Edit) (k : ℕ) (e : EntryReading) (j : ℕ) (f : FieldReading) (new : NewValue) : Type 0 where
+  pub reading : List Piece
+  pub alike : map (moved_piece (λ n. 0)) reading ≡ map (moved_piece (λ n. 0)) new.pieces
+  pub some : edit.start < edit.end
+  pub within : edit.start ≤ length d.text
+  pub read : IsDocument (field_edited d edit k e j (with_pieces reading (moved_field (moved_place edit) f)))
+
+-- the stretch of a value up to the white space after it
+abbrev pub IsStretch : List ℕ → FieldReading → Edit → Type 0
+IsStretch text f edit =
+    (edit.start ≡ f.value.start) × (edit.start ≤ edit.end)
+    × Run is_whitespace (place text edit.end) (place text f.value.end)
+
+pub value_exchanged : (d : Document) (edit : Edit) (k : ℕ) (e : EntryReading) (j : ℕ) (f : FieldReading)
+    (new : NewValue) → IsDocument d → slice_get d.says.entries k ≡ Some e → slice_get e.fields j ≡ Some f
+    → edit.bytes ≡ new.bytes → CanBeRead new → IsStretch d.text f edit → IsExchanged d edit k e j f new
+value_exchanged d edit k e j f new read here there' bytes can at =
+    let s = split_file k e read here in
+    let g = split_fields j f s.block.fields there' in
+    let to_field =
+    ahead_then (ahead_file_before s.first)
+    (ahead_then (ahead_head s.block.head)
+    (ahead_then (ahead_run s.block.key.run)
+    (ahead_then (ahead_run s.block.white.run)
+    (ahead_then (ahead_char s.block.comma)
+    (ahead_then (ahead_gap s.block.gap) (ahead_fields_before g.first)))))) in
+    let over = ahead_field g.field in
+    let to_value =
+    ahead_then (ahead_identifier g.field.name)
+    (ahead_then (ahead_run g.field.white.run)
+    (ahead_then (ahead_char g.field.sign) (ahead_run g.field.white'.run))) in
+    let value_at = ahead_then to_field to_value in
+    let end : place d.text f.value.end ≡ g.end =
+    same_place {u = place d.text f.value.end} {v = g.end} (sym (ahead_then to_field over).text) g.field.ends in
+    let blank : Run is_whitespace (place d.text edit.end) g.end = subst (λ p. Run is_whitespace (place d.text edit.end) p) end at.2 in
+    let start : edit.start ≡ g.field.value_start.at = at.0 ∙ g.field.starts in
+    let some : edit.start < edit.end =
+    subst (λ n. n < edit.end) (sym start)
+    (value_some g.field.elements value_at.text (omega (arith, start, at.1)) blank) in
+    let stretch : ValueStretch edit d.text f g.start g.end = record {
+      field = g.field;
+      same = to_field.text;
+      start = start;
+      white = blank;
+      following = after_ending g.rest s.block.closes;
+      some = some;
+    } in
+    let fits = fits_value edit d.text new f bytes can stretch in
+    let found = new_elements edit d.text new f bytes can stretch in
+    record {
+      reading = found.reading;
+      alike = found.alike;
+      some = some;
+      within = omega (arith, fits.ordered, fits.within);
+      read = field_edited_read d edit k e j f (with_pieces found.reading (moved_field (moved_place edit) f)) fits s g
+          (omega (arith, start, to_value.at, (ahead_char g.field.sign).at, name_before g.field)) (ahead_run blank).at
+          (new_field edit d.text new f bytes can stretch);
+    }
+  where
+    name_before : {u v : Place} {f : FieldReading} → (field : Field longest u f v) → u.at < field.value_start.at
+    name_before {u} {v} {f} field =
+        let rest =
+        ahead_then (ahead_run field.name.rest.run)
+        (ahead_then (ahead_run field.white.run)
+        (ahead_then (ahead_char field.sign) (ahead_run field.white'.run))) in
+        omega (arith, rest.at, field.name.here.next, (len_utf8_bounds field.name.first).0)

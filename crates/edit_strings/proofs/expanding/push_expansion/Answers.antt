@@ -1,0 +1,23 @@
+use Rattle.std.proofs.Common.{◌≡◌, map, sym, ap, ◌∙◌, subst}
+use Rattle.std.specs.List.{AllByRecursion}
+use Rattle.bib_syntax.specs.Views.{field_of, piece_of}
+use Rattle.edit_format.specs.Cuts.{IsPieceCut}
+use Rattle.edit_strings.specs.Expanded.{elements}
+use Rattle.edit_strings.specs.Tables.{index_in, lists_of, lent_pieces, written_by}
+use Rattle.edit_strings.proofs.WrittenFacts.{written_by_all}
+use Rattle.edit_strings.proofs.expanding.push_expansion.Goals as goal
+
+pub laid_out-requires : goal.laid_out-requires
+laid_out-requires c =
+    let names = c.args.names.now in
+    let P = IsPieceCut names.text.now in
+    let pieces : map piece_of c.deref-3.result.now ≡ elements (field_of c.args.field.now) = ap (map piece_of) c.deref-3.ensures.value in
+    let lists : lists_of c.deref-2.result.now ≡ lists_of names.written.items = ap lists_of c.deref-2.ensures.value in
+    let made : lent_pieces c.deref-4.result.now
+    ≡ written_by (index_in names.indices) (lists_of names.written.items) (elements (field_of c.args.field.now)) =
+    ap lent_pieces c.deref-4.ensures.value ∙ c.in_ok-elements.ensures
+    ∙ ap (λ ls. written_by (index_in names.indices) ls (map piece_of c.deref-3.result.now)) lists
+    ∙ ap (written_by (index_in names.indices) (lists_of names.written.items)) pieces in
+    subst (AllByRecursion P) (sym made)
+    (written_by_all P (index_in names.indices) (lists_of names.written.items) (elements (field_of c.args.field.now))
+    c.requires.written c.requires.field.pieces)

@@ -1,0 +1,152 @@
+-- Meaning: words of public contracts.
+-- Texts of fields that repeat, made abbreviations.
+use Rattle.std.specs.Prelude.{◌≡◌, ℕ, ◌≤◌, ◌||◌, Bool, true, false, List, [], ◌∷◌, ◌++◌, codes, if◌then◌else◌, length, max, slice_index_or, Option, Some, None, is_some, bytes_eq}
+use Rattle.std.specs.List.{count_by, flat_map, list_any}
+use Rattle.std.specs.Option.{option_map}
+use Rattle.bib_text.specs.Places.{place}
+use Rattle.bib_tables.specs.Months.{month_of_abbreviation}
+use Rattle.bib_syntax.specs.Grammar.{NoDigit, is_word}
+use Rattle.bib_syntax.specs.Reading.{Piece, FieldReading, EntryReading, FileReading}
+use Rattle.bib_syntax.specs.Reading.Piece.{literal, abbreviation}
+use Rattle.bib_queries.specs.Needed.{is_listed}
+use Rattle.edit_entries.specs.Documents.{CanBeName, CanStandInBraces, Document, has_name, last_position, text_at}
+use Rattle.edit_strings.specs.Exchanged.{Exchange, IsReadPlaceless, NewValue, file_exchanged, text_exchanged}
+use Rattle.edit_strings.specs.Expanded.{Index, elements}
+
+-- the text that elements are, if they are one literal
+abbrev pub single_text : List Piece → Option (List ℕ)
+single_text [] = None
+single_text (abbreviation p ∷ rest) = None
+single_text (literal p ∷ []) = Some p.text
+single_text (literal p ∷ other ∷ rest) = None
+
+-- whether a field has one of these names, in any ASCII case
+abbrev pub is_named_by : List (List ℕ) → FieldReading → Bool
+is_named_by names f = list_any (λ name. has_name name f) names
+
+-- the text of a field that has one of these names, if its value is one literal
+abbrev pub named_text : List (List ℕ) → FieldReading → Option (List ℕ)
+named_text names f = if is_named_by names f then single_text (elements f) else None
+
+-- a text as a list, if there is one
+abbrev pub option_texts : Option (List ℕ) → List (List ℕ)
+option_texts None = []
+option_texts (Some text) = text ∷ []
+
+-- the texts of such fields
+abbrev pub field_texts : List (List ℕ) → List FieldReading → List (List ℕ)
+field_texts names fields = flat_map (λ f. option_texts (named_text names f)) fields
+
+-- the texts of such fields of entries, in order
+abbrev pub named_texts : List (List ℕ) → List EntryReading → List (List ℕ)
+named_texts names entries = flat_map (λ e. field_texts names e.fields) entries
+
+-- how often a text stands among texts
+abbrev pub times_of : List ℕ → List (List ℕ) → ℕ
+times_of text texts = count_by (λ t. bytes_eq t text) texts
+
+-- a text stands at least so often among texts, and can stand in braces
+pub record RepeatsInBraces (least : ℕ) (texts : List (List ℕ)) (text : List ℕ) : Type 0 where
+  pub often : least ≤ times_of text texts
+  pub can : CanStandInBraces text
+
+-- those of some texts that have a property, each once, in the order of their first appearance
+pub data FirstOnes (Chosen : List ℕ → Type 0) : List (List ℕ) → List (List ℕ) → Type 0 where
+  none : FirstOnes Chosen [] []
+  first : {found : List (List ℕ)} (texts : List (List ℕ)) (text : List ℕ) → FirstOnes Chosen texts found
+      → is_listed texts text ≡ false → Chosen text → FirstOnes Chosen (texts ++ text ∷ []) (found ++ text ∷ [])
+  left : {found : List (List ℕ)} (texts : List (List ℕ)) (text : List ℕ) → FirstOnes Chosen texts found
+      → is_listed texts text ≡ false → (Chosen text → ⊥) → FirstOnes Chosen (texts ++ text ∷ []) found
+  again : {found : List (List ℕ)} (texts : List (List ℕ)) (text : List ℕ) → FirstOnes Chosen texts found
+      → is_listed texts text ≡ true → FirstOnes Chosen (texts ++ text ∷ []) found
+
+-- whether a name is the abbreviation of a month, in any ASCII case
+abbrev pub is_month : List ℕ → Bool
+is_month name = is_some (month_of_abbreviation name)
+
+-- the name that an element is, if it is one
+abbrev pub piece_names : Piece → List (List ℕ)
+piece_names (literal p) = []
+piece_names (abbreviation p) = p.text ∷ []
+
+-- the names among elements
+abbrev pub element_names : List Piece → List (List ℕ)
+element_names pieces = flat_map piece_names pieces
+
+-- the names that definitions define and use
+abbrev pub definition_names : List FieldReading → List (List ℕ)
+definition_names definitions = flat_map (λ f. f.name.text ∷ element_names (elements f)) definitions
+
+-- the names that fields use
+abbrev pub used_names : List FieldReading → List (List ℕ)
+used_names fields = flat_map (λ f. element_names (elements f)) fields
+
+-- the names that a file defines or uses
+abbrev pub names_of_file : FileReading → List (List ℕ)
+names_of_file says = definition_names says.abbreviations ++ flat_map (λ e. used_names e.fields) says.entries
+
+-- whether a name is one of these, in any ASCII case: BibTeX takes names that differ in case alone as one
+abbrev pub is_one_in_any_case : List (List ℕ) → List ℕ → Bool
+is_one_in_any_case names name = list_any (λ other. is_word other name) names
+
+-- a name that a file has in no case: an identifier that doesn't begin with a digit, and no month's
+pub record IsNewName (says : FileReading) (name : List ℕ) : Type 0 where
+  pub can : CanBeName name
+  pub no_digit : NoDigit (place name 0)
+  pub no_month : is_month name ≡ false
+  pub free : is_one_in_any_case (names_of_file says) name ≡ false
+
+-- names that a file has in no case, each another in any case
+pub data AreNewNames (says : FileReading) : List (List ℕ) → Type 0 where
+  none : AreNewNames says []
+  more : (names : List (List ℕ)) (name : List ℕ) → AreNewNames says names → IsNewName says name
+      → is_one_in_any_case names name ≡ false → AreNewNames says (names ++ name ∷ [])
+
+-- for a text its index among texts, if it is one of them
+abbrev pub text_index : List (List ℕ) → Index
+text_index texts text = last_position (λ t. bytes_eq t text) texts
+
+-- a name in the place of a value
+abbrev pub name_value : List ℕ → NewValue
+name_value name = record { bytes = name; pieces = abbreviation (text_at 0 name) ∷ [] }
+
+-- the name with the index of a text, in the place of a value, if it has one
+abbrev pub text_value : Index → List (List ℕ) → Option (List ℕ) → Option NewValue
+text_value index names None = None
+text_value index names (Some text) = option_map (λ i. name_value (slice_index_or names i [])) (index text)
+
+-- each value that is one of these texts, of a field with one of these names, is exchanged for its name
+abbrev pub collection : List (List ℕ) → List (List ℕ) → List (List ℕ) → Exchange
+collection fields texts names f = text_value (text_index texts) names (named_text fields f)
+
+-- a line that defines a name as a text
+abbrev pub string_line : List ℕ → List ℕ → List ℕ
+string_line name text = codes "@string{" ++ (name ++ (codes " = {" ++ (text ++ codes "}}\n")))
+
+-- a line for each of some names
+abbrev pub definition_lines : List (List ℕ) → List (List ℕ) → List ℕ
+definition_lines [] texts = []
+definition_lines (name ∷ names) [] = []
+definition_lines (name ∷ names) (text ∷ texts) = string_line name text ++ definition_lines names texts
+
+-- what such lines say, but for places
+abbrev pub line_readings : List (List ℕ) → List (List ℕ) → List FieldReading
+line_readings [] texts = []
+line_readings (name ∷ names) [] = []
+line_readings (name ∷ names) (text ∷ texts) =
+    record { name = text_at 0 name; value = record { pieces = literal (text_at 0 text) ∷ []; start = 0; end = 0 } }
+    ∷ line_readings names texts
+
+-- what a file says with definitions before its own
+abbrev pub with_definitions : List FieldReading → FileReading → FileReading
+with_definitions definitions says = record says { abbreviations = definitions ++ says.abbreviations }
+
+-- a text is a document's with the texts that repeat in fields with these names made abbreviations, and is read so
+pub record AreMadeAbbreviations (d : Document) (fields : List (List ℕ)) (least : ℕ) (text : List ℕ) : Type 0 where
+  pub texts : List (List ℕ)
+  pub names : List (List ℕ)
+  pub chosen : FirstOnes (RepeatsInBraces (max least 2) (named_texts fields d.says.entries)) (named_texts fields d.says.entries) texts
+  pub as_many : length names ≡ length texts
+  pub are_new : AreNewNames d.says names
+  pub is : text ≡ definition_lines names texts ++ text_exchanged (collection fields texts names) d
+  pub read : IsReadPlaceless (with_definitions (line_readings names texts) (file_exchanged (collection fields texts names) d.says)) text

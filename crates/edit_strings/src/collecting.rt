@@ -1,0 +1,191 @@
+//! Texts of fields collected as abbreviations.
+
+ghost use Rattle.std.specs.Prelude.{◌≡◌, ◌++◌, ◌<◌, IfOk, OnOk, length, map};
+ghost use Rattle.std.specs.List.{AllByRecursion};
+ghost use Rattle.std.specs.String.{string_bytes};
+ghost use Rattle.bib_syntax.specs.Grammar.{IsRawReading};
+ghost use Rattle.bib_syntax.specs.Views.{entry_reading_of, field_of, file_of};
+ghost use Rattle.edit_strings.specs.Collected as spec;
+ghost use Rattle.edit_strings.specs.Collected.{AreNewNames, AreMadeAbbreviations, string_line, definition_lines, text_index};
+ghost use Rattle.edit_strings.specs.Collecting.{collection_by, lent_texts, string_texts};
+ghost use Rattle.edit_strings.specs.Exchanged.{entry_edits, field_edits, text_exchanged, value_edits};
+ghost use Rattle.edit_strings.specs.Tables.{AreAllFieldsCut, IsBelow, IsFieldCut, edit_as_written, index_in};
+
+use crate::collected::collected_texts;
+use crate::editing::{Edit, edited_all};
+use crate::naming::new_names;
+use crate::taken::Taken;
+use crate::texts::{counts, named_text, named_texts};
+use crate::values::value_end;
+use bib_syntax::raw::{Pair, RawBibliography, RawEntry};
+use bib_text::spanned::Spanned;
+use edit_entries::document::RawDocument;
+use std::alloc::{AllocError, Global};
+use std::collections::BTreeMap;
+
+// Texts with the index of each, and their names.
+#[derive(Drop)]
+struct Collection<'s> {
+    indices: BTreeMap<&'s str, usize>,
+    names: Vec<String>,
+}
+
+// The index of each text.
+fn indices<'s>(alloc: Global, texts: &[&'s str]) -> Result<BTreeMap<&'s str, usize>, AllocError>
+    ensures { IfOk result (λ indices. index_in indices ≡ text_index (lent_texts texts.now)) }
+{
+    let mut indices = BTreeMap::new(alloc);
+    'texts: for (index, text) in texts.iter().enumerate() {
+        indices.insert(*text, index)?;
+    }
+    Ok(indices)
+}
+
+// Adds the edit of a field whose text is collected, if it is.
+fn push_edit(
+    edits: &mut Vec<Edit>,
+    alloc: Global,
+    text: &str,
+    fields: &[&str],
+    collection: &Collection<'_>,
+    field: &Pair<'_>,
+) -> Result<(), AllocError>
+    requires below { IsBelow (length collection.now.names.items) (index_in collection.now.indices) }
+    requires cut { IsFieldCut text.now (field_of field.now) }
+    ensures { OnOk result (map edit_as_written edits.new.items ≡ map edit_as_written edits.old.items ++
+        value_edits text.now (field_of field.now) ((collection_by (lent_texts fields.now) (index_in collection.now.indices) (string_texts collection.now.names.items)) (field_of field.now))) }
+{
+    let Some(value) = named_text(fields, field) else {
+        return Ok(());
+    };
+    let Some(index) = collection.indices.get(value) else {
+        return Ok(());
+    };
+    edits.push(Edit {
+        start: field.value.span.start,
+        end: value_end(text, field),
+        text: String::from_str(alloc, collection.names[*index].as_str())?,
+    })?;
+    Ok(())
+}
+
+// Adds the edit of each field whose text is collected.
+fn push_edits(
+    edits: &mut Vec<Edit>,
+    alloc: Global,
+    text: &str,
+    fields: &[&str],
+    collection: &Collection<'_>,
+    among: &[Pair<'_>],
+) -> Result<(), AllocError>
+    requires below { IsBelow (length collection.now.names.items) (index_in collection.now.indices) }
+    requires cut { AllByRecursion (IsFieldCut text.now) (map field_of among.now) }
+    ensures { OnOk result (map edit_as_written edits.new.items ≡ map edit_as_written edits.old.items ++
+        field_edits (collection_by (lent_texts fields.now) (index_in collection.now.indices) (string_texts collection.now.names.items)) text.now (map field_of among.now)) }
+{
+    'fields: for field in among {
+        push_edit(edits, alloc, text, fields, collection, field)?;
+    }
+    Ok(())
+}
+
+// The edits of the fields of entries whose text is collected.
+fn edits(
+    alloc: Global,
+    text: &str,
+    fields: &[&str],
+    collection: &Collection<'_>,
+    entries: &[Spanned<RawEntry<'_>>],
+) -> Result<Vec<Edit>, AllocError>
+    requires below { IsBelow (length collection.now.names.items) (index_in collection.now.indices) }
+    requires cut { AreAllFieldsCut text.now (map entry_reading_of entries.now) }
+    ensures { IfOk result (λ made. map edit_as_written made.items ≡ entry_edits (collection_by (lent_texts fields.now) (index_in collection.now.indices) (string_texts collection.now.names.items)) text.now (map entry_reading_of entries.now)) }
+{
+    let mut edits = Vec::new(alloc);
+    'entries: for entry in entries {
+        push_edits(&mut edits, alloc, text, fields, collection, &entry.v.fields)?;
+    }
+    Ok(edits)
+}
+
+// Adds a line that defines a name.
+fn push_definition(new: &mut String, name: &str, text: &str) -> Result<(), AllocError>
+    ensures { OnOk result (string_bytes new.new ≡ string_bytes new.old ++ string_line name.now text.now) }
+{
+    new.push_str("@string{")?;
+    new.push_str(name)?;
+    new.push_str(" = {")?;
+    new.push_str(text)?;
+    new.push_str("}}\n")?;
+    Ok(())
+}
+
+// A line for each name that defines it.
+fn definitions(alloc: Global, names: &[String], texts: &[&str]) -> Result<String, AllocError>
+    requires { length names.now ≡ length texts.now }
+    ensures { IfOk result (λ new. string_bytes new ≡ definition_lines (string_texts names.now) (lent_texts texts.now)) }
+{
+    let mut new = String::new(alloc);
+    'names: for (index, name) in names.iter().enumerate() {
+        push_definition(&mut new, name.as_str(), texts[index])?;
+    }
+    Ok(new)
+}
+
+// New names for texts, and the index of each text.
+fn collection_of<'s>(
+    alloc: Global,
+    raw: &RawBibliography<'_>,
+    texts: &[&'s str],
+) -> Result<Collection<'s>, AllocError>
+    ensures index { IfOk result (λ made. index_in made.indices ≡ text_index (lent_texts texts.now)) }
+    ensures count { IfOk result (λ made. length made.names.items ≡ length texts.now) }
+    ensures are_new { IfOk result (λ made. AreNewNames (file_of raw.now) (string_texts made.names.items)) }
+{
+    let mut taken = Taken::of_file(alloc, raw)?;
+    let names = new_names(alloc, &mut taken, texts)?;
+    let indices = indices(alloc, texts)?;
+    Ok(Collection { indices, names })
+}
+
+// The text with texts exchanged for their names, after a line for each.
+fn with_collection(
+    alloc: Global,
+    text: &str,
+    raw: &RawBibliography<'_>,
+    fields: &[&str],
+    texts: &[&str],
+    collection: &Collection<'_>,
+) -> Result<String, AllocError>
+    requires read { IsRawReading text.now (file_of raw.now) }
+    requires index { index_in collection.now.indices ≡ text_index (lent_texts texts.now) }
+    requires count { length collection.now.names.items ≡ length texts.now }
+    ensures { IfOk result (λ new. string_bytes new ≡ definition_lines (string_texts collection.now.names.items) (lent_texts texts.now) ++
+        text_exchanged (spec.collection (lent_texts fields.now) (lent_texts texts.now) (string_texts collection.now.names.items)) (record { text = text.now; says = file_of raw.now })) }
+{
+    let made = edits(alloc, text, fields, collection, &raw.entries)?;
+    let edited = edited_all(alloc, text, &made)?;
+    let mut new = definitions(alloc, &collection.names, texts)?;
+    new.push_str(edited.as_str())?;
+    Ok(new)
+}
+
+/// The text with abbreviations made of the values that repeat: each text that stands as one literal in at least so many fields of
+/// entries with one of these names, in any ASCII case, becomes an abbreviation (0 and 1 count as 2). Its name takes the place of
+/// each of these values, and a line for each, `@string{name = {text}}`, stands before the old text, in the order in which the
+/// texts first appear. A text that can't stand in braces stays, and so does everything else. Fails only where there is no memory.
+pub fn collect(
+    alloc: Global,
+    document: &RawDocument<'_>,
+    fields: &[&str],
+    at_least: usize,
+) -> Result<String, AllocError>
+    ensures { IfOk result (λ new. AreMadeAbbreviations document.now (lent_texts fields.now) at_least (string_bytes new)) }
+{
+    let raw = document.raw();
+    let all = named_texts(alloc, fields, &raw.entries)?;
+    let counts = counts(alloc, &all)?;
+    let texts = collected_texts(alloc, &counts, at_least.max(2), &all)?;
+    let collection = collection_of(alloc, raw, &texts)?;
+    with_collection(alloc, document.text(), raw, fields, &texts, &collection)
+}

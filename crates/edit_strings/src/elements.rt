@@ -1,0 +1,73 @@
+//! Elements of values as they stand in the file.
+
+ghost use Rattle.std.specs.Prelude.{◌≡◌, ◌++◌, [], codes, cond, OnOk, IfOk};
+ghost use Rattle.std.specs.List.{AllByRecursion};
+ghost use Rattle.std.specs.String.{string_bytes};
+ghost use Rattle.bib_syntax.specs.Views.{piece_of};
+ghost use Rattle.edit_format.specs.Cuts.{IsPieceCut};
+ghost use Rattle.edit_format.specs.Delimited.{delimited, piece_as_written};
+ghost use Rattle.edit_format.specs.declared.style.Delimiters.TheVariants.{Keep};
+ghost use Rattle.edit_strings.specs.Expanded as spec;
+ghost use Rattle.edit_strings.specs.Tables.{lent_pieces};
+
+use bib_syntax::raw::RawChunk;
+use bib_text::spanned::Spanned;
+use std::alloc::{AllocError, Global};
+
+// Adds the text of a literal with the delimiters that it has in the file, by what stands before it there.
+fn push_literal(new: &mut String, before: &str, content: &str) -> Result<(), AllocError>
+    ensures { OnOk result (string_bytes new.new ≡ string_bytes new.old ++ delimited Keep before.now content.now) }
+{
+    if before.ends_with("{") {
+        new.push_str("{")?;
+        new.push_str(content)?;
+        new.push_str("}")?;
+        return Ok(());
+    }
+    if before.ends_with("\"") {
+        new.push_str("\"")?;
+        new.push_str(content)?;
+        new.push_str("\"")?;
+        return Ok(());
+    }
+    new.push_str(content)?;
+    Ok(())
+}
+
+// Adds an element as it stands in the file.
+fn push_piece(new: &mut String, text: &str, piece: &Spanned<RawChunk<'_>>) -> Result<(), AllocError>
+    requires { IsPieceCut text.now (piece_of piece.now) }
+    ensures { OnOk result (string_bytes new.new ≡ string_bytes new.old ++ piece_as_written Keep text.now (piece_of piece.now)) }
+{
+    match piece.v {
+        RawChunk::Normal(content) => push_literal(new, &text[..piece.span.start], content)?,
+        RawChunk::Abbreviation(name) => new.push_str(name)?,
+    }
+    Ok(())
+}
+
+// The sign before an element of a value, and white space round it; none before the first.
+fn sign_before(is_first: bool) -> &'static str
+    ensures { result.now ≡ cond is_first [] (codes " # ") }
+{
+    if is_first { "" } else { " # " }
+}
+
+// Elements as they stand in the file, with `#` between them.
+pub(crate) fn laid_out(
+    alloc: Global,
+    text: &str,
+    pieces: &[&Spanned<RawChunk<'_>>],
+) -> Result<String, AllocError>
+    requires { AllByRecursion (IsPieceCut text.now) (lent_pieces pieces.now) }
+    ensures { IfOk result (λ new. string_bytes new ≡ spec.laid_out text.now (lent_pieces pieces.now)) }
+{
+    let mut new = String::new(alloc);
+    let mut is_first = true;
+    'pieces: for piece in pieces {
+        new.push_str(sign_before(is_first))?;
+        push_piece(&mut new, text, *piece)?;
+        is_first = false;
+    }
+    Ok(new)
+}

@@ -1,0 +1,138 @@
+//! Abbreviations written out.
+
+ghost use Rattle.std.specs.Prelude.{◌≡◌, ◌++◌, IfErr, IfOk, OnOk, length, map};
+ghost use Rattle.std.specs.List.{AllByRecursion};
+ghost use Rattle.std.specs.String.{string_bytes};
+ghost use Rattle.bib_collections.specs.Graph.{HasNoCycle};
+ghost use Rattle.bib_syntax.specs.Views.{entry_reading_of, field_of};
+ghost use Rattle.edit_format.specs.Cuts.{IsPieceCut};
+ghost use Rattle.edit_strings.specs.Exchanged.{entry_edits, field_edits, value_edits};
+ghost use Rattle.edit_strings.specs.Expanded.{ExpandIsRefused, IsExpandError, IsExpanded, definition_graph, definition_index};
+ghost use Rattle.edit_strings.specs.Tables.{AreAllFieldsCut, AreUsedWritten, IsBelow, IsFieldCut, edit_as_written, expansion_by, index_in, lists_of};
+
+use crate::definitions::{definition_indices, definition_values, graph, has_defined};
+use crate::editing::{Edit, edited_all};
+use crate::elements::laid_out;
+use crate::errors::ExpandError;
+use crate::used::used;
+use crate::values::value_end;
+use crate::written::{Elements, written_by, written_in_order};
+use bib_collections::worklist::{OrderError, topological_order};
+use bib_syntax::raw::{Pair, RawEntry};
+use bib_text::spanned::Spanned;
+use edit_entries::document::RawDocument;
+use std::alloc::{AllocError, Global};
+use std::collections::BTreeMap;
+
+// A text, the index of each name's definition in it, and what each definition is written out as.
+#[derive(Drop)]
+struct Names<'a, 's> {
+    text: &'a str,
+    indices: BTreeMap<&'s str, usize>,
+    written: Vec<Elements<'a, 's>>,
+}
+
+// Adds the edit that writes out a field's value, if a name that is defined stands in it.
+fn push_expansion<'a, 's>(
+    edits: &mut Vec<Edit>,
+    alloc: Global,
+    names: &Names<'a, 's>,
+    field: &'a Pair<'s>,
+) -> Result<(), AllocError>
+    requires below { IsBelow (length names.now.written.items) (index_in names.now.indices) }
+    requires written { AllByRecursion (AllByRecursion (IsPieceCut names.now.text.now)) (lists_of names.now.written.items) }
+    requires field { IsFieldCut names.now.text.now (field_of field.now) }
+    ensures { OnOk result (map edit_as_written edits.new.items ≡ map edit_as_written edits.old.items ++
+        value_edits names.now.text.now (field_of field.now) (expansion_by names.now.text.now (index_in names.now.indices) (lists_of names.now.written.items) (field_of field.now))) }
+{
+    if !has_defined(&names.indices, &field.value.v) {
+        return Ok(());
+    }
+    let elements = written_by(alloc, &names.indices, &names.written, &field.value.v)?;
+    let text = laid_out(alloc, names.text, &elements)?;
+    edits.push(Edit {
+        start: field.value.span.start,
+        end: value_end(names.text, field),
+        text,
+    })?;
+    Ok(())
+}
+
+// Adds the edit of each field whose value is written out.
+fn push_expansions<'a, 's>(
+    edits: &mut Vec<Edit>,
+    alloc: Global,
+    names: &Names<'a, 's>,
+    fields: &'a [Pair<'s>],
+) -> Result<(), AllocError>
+    requires below { IsBelow (length names.now.written.items) (index_in names.now.indices) }
+    requires written { AllByRecursion (AllByRecursion (IsPieceCut names.now.text.now)) (lists_of names.now.written.items) }
+    requires fields { AllByRecursion (IsFieldCut names.now.text.now) (map field_of fields.now) }
+    ensures { OnOk result (map edit_as_written edits.new.items ≡ map edit_as_written edits.old.items ++
+        field_edits (expansion_by names.now.text.now (index_in names.now.indices) (lists_of names.now.written.items)) names.now.text.now (map field_of fields.now)) }
+{
+    'fields: for field in fields {
+        push_expansion(edits, alloc, names, field)?;
+    }
+    Ok(())
+}
+
+// The edits that write out the values of entries.
+fn expansions<'a, 's>(
+    alloc: Global,
+    names: &Names<'a, 's>,
+    entries: &'a [Spanned<RawEntry<'s>>],
+) -> Result<Vec<Edit>, AllocError>
+    requires below { IsBelow (length names.now.written.items) (index_in names.now.indices) }
+    requires written { AllByRecursion (AllByRecursion (IsPieceCut names.now.text.now)) (lists_of names.now.written.items) }
+    requires entries { AreAllFieldsCut names.now.text.now (map entry_reading_of entries.now) }
+    ensures { IfOk result (λ edits. map edit_as_written edits.items ≡
+        entry_edits (expansion_by names.now.text.now (index_in names.now.indices) (lists_of names.now.written.items)) names.now.text.now (map entry_reading_of entries.now)) }
+{
+    let mut edits = Vec::new(alloc);
+    'entries: for entry in entries {
+        push_expansions(&mut edits, alloc, names, &entry.v.fields)?;
+    }
+    Ok(edits)
+}
+
+// What the names of a file that its entries use are written out as.
+fn names_of<'a, 's>(
+    alloc: Global,
+    text: &'a str,
+    definitions: &'a [Pair<'s>],
+    entries: &[Spanned<RawEntry<'_>>],
+) -> Result<Names<'a, 's>, ExpandError>
+    ensures text { IfOk result (λ names. names.text.now ≡ text.now) }
+    ensures index { IfOk result (λ names. index_in names.indices ≡ definition_index (map field_of definitions.now)) }
+    ensures written { IfOk result (λ names. AreUsedWritten (map field_of definitions.now) (map entry_reading_of entries.now) (lists_of names.written.items)) }
+    ensures no_cycle { OnOk result (HasNoCycle (definition_graph (map field_of definitions.now))) }
+    ensures refused { IfErr result (IsExpandError (map field_of definitions.now)) }
+{
+    let indices = definition_indices(alloc, definitions)?;
+    let values = definition_values(alloc, definitions)?;
+    let refs = graph(alloc, &indices, &values)?;
+    let order = topological_order(alloc, &refs)?;
+    let used = used(alloc, &indices, &refs, &order, entries)?;
+    let written = written_in_order(alloc, &indices, &values, &used, &order)?;
+    Ok(Names {
+        text,
+        indices,
+        written,
+    })
+}
+
+/// The text with its abbreviations written out: each value of an entry's field in which a name stands that the file defines is its
+/// elements with ` # ` between them, where each such name is exchanged for the elements of its last definition as they stand in
+/// the file, and the names in these likewise. Names that the file doesn't define stay, and so does everything else: other values,
+/// white space after a value, the definitions. Refused where a definition refers to itself, used or not, and where there is no memory.
+pub fn expand(alloc: Global, document: &RawDocument<'_>) -> Result<String, ExpandError>
+    ensures expanded { IfOk result (λ new. IsExpanded document.now (string_bytes new)) }
+    ensures no_cycle { OnOk result (HasNoCycle (definition_graph document.now.says.abbreviations)) }
+    ensures refused { IfErr result (ExpandIsRefused document.now) }
+{
+    let raw = document.raw();
+    let names = names_of(alloc, document.text(), &raw.abbreviations, &raw.entries)?;
+    let edits = expansions(alloc, &names, &raw.entries)?;
+    Ok(edited_all(alloc, document.text(), &edits)?)
+}
