@@ -1,7 +1,7 @@
 -- Meaning: words of public contracts.
 -- Abbreviations: the styled text of a field in which each name is replaced by its definition. Names and texts are lists
 -- of their bytes.
-use Rattle.std.specs.Prelude.{◌≡◌, ◌+◌, ◌<◌, ◌^◌, ℕ, Bool, List, [], ◌∷◌, ◌++◌, length, map, ◌⊎◌, Option, Some, None, is_some, bytes_eq}
+use Rattle.std.specs.Prelude.{◌≡◌, ◌+◌, ◌<◌, ◌^◌, ℕ, Bool, List, [], ◌∷◌, ◌++◌, length, map, ◌⊎◌, ◌||◌, Option, Some, None, is_some, bytes_eq}
 use Rattle.std.specs.Option.{option_map}
 use Rattle.std.specs.Borrow.{Bor}
 use Rattle.std.specs.Str.{chars}
@@ -19,7 +19,8 @@ use Rattle.bib_syntax.specs.declared.raw.ParseErrorKind.TheVariants.{UnknownAbbr
 use Rattle.bib_syntax.specs.declared.raw.ParseError.{ParseError}
 use Rattle.bib_contents.specs.ContentErrors.{ContentFails}
 use Rattle.bib_contents.specs.Contents.{IsContent, IsUnread, LiesBetween}
-use Rattle.bib_tables.specs.Months.{month_of_abbreviation, month_name}
+use Rattle.bib_tables.specs.Months as months
+use Rattle.bib_tables.specs.Months.{month_of_abbreviation}
 use Rattle.bib_syntax.specs.Reading.{Part, Piece}
 use Rattle.bib_syntax.specs.Reading.Piece.{literal, abbreviation}
 use Rattle.bib_syntax.specs.Views.{piece_of}
@@ -30,7 +31,7 @@ Definitions = List ℕ → Option (List Piece)
 
 -- the English name of the month that a name abbreviates, in any ASCII case
 abbrev pub month : List ℕ → Option (List ℕ)
-month name = option_map month_name (month_of_abbreviation name)
+month name = option_map months.month_name (month_of_abbreviation name)
 
 -- a name occurs among these pieces
 abbrev pub HoldsName : List Piece → List ℕ → Type 0
