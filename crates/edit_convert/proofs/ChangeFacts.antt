@@ -9,7 +9,7 @@ use Rattle.edit_strings.specs.Collected.{single_text}
 use Rattle.edit_convert.specs.Conversions.{FieldChange, change_of, date_field, divides_date, exchanged_date, field_change, is_date_part, joined_among, joined_date, new_field_name, value_sides}
 use Rattle.edit_convert.specs.Dates.{Sides, from_names, more_fields, to_fields, side_year}
 use Rattle.edit_convert.proofs.DateFacts.{AreKnown, date_known, sides_put}
-use Rattle.edit_convert.proofs.DividedFacts.{CanBePut}
+use Rattle.edit_entries.proofs.NewFieldFacts.{CanBePut}
 use Rattle.edit_convert.proofs.JoinedFacts.{joined_put}
 use Rattle.edit_convert.proofs.NewNameFacts.{name_known}
 

@@ -11,20 +11,23 @@ use Rattle.edit_entries.specs.Stretches.{AreEditsInOrder}
 use Rattle.edit_entries.proofs.EditFacts.{moved_before}
 use Rattle.edit_entries.proofs.AgreementFacts.{agrees_self}
 use Rattle.bib_tables.specs.declared.dialects.Dialect.{Dialect}
-use Rattle.edit_strings.specs.Exchanged.{IsReadPlaceless, placeless}
-use Rattle.edit_strings.specs.Tables.{IsTrimmed}
-use Rattle.edit_strings.proofs.ExchangedFacts.{file_placeless}
-use Rattle.edit_strings.proofs.ExpandFacts.{all_placed, fields_weaker}
-use Rattle.edit_strings.proofs.TrimmedFacts.{IsFieldPlaced, trimmed_known}
+use Rattle.edit_entries.specs.Changes.{IsReadPlaceless}
+use Rattle.edit_entries.specs.Edits.{placeless}
+use Rattle.edit_entries.specs.Changes.{IsTrimmed}
+use Rattle.edit_entries.proofs.PlacelessFacts.{file_placeless}
+use Rattle.edit_entries.proofs.AllFacts.{all_placed, fields_weaker}
+use Rattle.edit_entries.proofs.TrimmedFacts.{IsFieldPlaced, trimmed_known}
 use Rattle.edit_entries.specs.Placed.{IsPlaced}
-use Rattle.edit_convert.specs.Conversions.{FieldChange, IsConverted, date_field, defines_month, entry_converted, field_change, field_converted, edits_of_field, edits_of_fields, fields_converted, field_stretch, file_converted, edits_of_file, going_out, is_date_part, new_type, part_edits, text_converted, with_other_text, written_sides}
-use Rattle.edit_convert.specs.Dates.{field_reading, from_names, more_fields, new_field_text, to_fields, side_year}
+use Rattle.edit_convert.specs.Conversions.{FieldChange, IsConverted, date_field, defines_month, entry_converted, field_change, field_converted, edits_of_field, edits_of_fields, fields_converted, file_converted, edits_of_file, is_date_part, new_type, text_converted, written_sides}
+use Rattle.edit_entries.specs.Changes.{field_stretch, going_out, part_edits, with_other_text}
+use Rattle.edit_entries.specs.Changes.{field_reading, new_field_text}
+use Rattle.edit_convert.specs.Dates.{from_names, more_fields, to_fields, side_year}
 use Rattle.edit_convert.proofs.ChangeFacts.{CanBeMade, change_known}
-use Rattle.edit_convert.proofs.DividedFacts.{CanBePut, divided_put}
-use Rattle.edit_convert.proofs.FieldNameFacts.{name_exchanged_read, name_stretch, with_name}
-use Rattle.edit_convert.proofs.MadeFacts.{IsPut, Made, MadeFrom, field_gone, field_made, kind_made, less_made, less_made_from, of_entries, stays_made}
+use Rattle.edit_entries.proofs.NewFieldFacts.{CanBePut, divided_put}
+use Rattle.edit_entries.proofs.FieldNameFacts.{name_exchanged_read, name_stretch, with_name}
+use Rattle.edit_entries.proofs.MadeFacts.{IsPut, Made, MadeFrom, field_gone, field_made, kind_made, less_made, less_made_from, of_entries, stays_made}
 use Rattle.edit_convert.proofs.NewNameFacts.{type_known}
-use Rattle.edit_convert.proofs.PlaceFacts.{AreEntriesIn, AreFieldsIn, IsIn, edits_in_order, file_in}
+use Rattle.edit_entries.proofs.PartFacts.{AreEntriesIn, AreFieldsIn, IsIn, edits_in_order, file_in}
 use Rattle.bib_text.proofs.ListFacts.{get_here}
 
 -- ---- a field's name

@@ -19,12 +19,12 @@ use Rattle.edit_entries.proofs.EditFacts.{ascii_stands}
 use Rattle.edit_strings.specs.Collected.{name_value}
 use Rattle.edit_strings.specs.Collecting.{is_plain_name}
 use Rattle.edit_strings.proofs.NameFacts.{plain_can}
-use Rattle.edit_strings.proofs.NewValueFacts.{CanBeRead}
+use Rattle.edit_entries.proofs.NewValueFacts.{CanBeRead}
 use Rattle.bib_dates.specs.Dates.{date_of}
 use Rattle.bib_dates.specs.Readings.{readable_value}
 use Rattle.bib_dates.proofs.DatesReread.{is_date_byte}
 use Rattle.edit_convert.specs.Dates.{Side, SideNames, Sides, are_digits, braced_field, date_sides, day_fields, from_names, month_fields, month_side, month_abbreviations, more_fields, side_in, side_of, sides_of, one_side, two_sides, to_fields, to_names, side_year}
-use Rattle.edit_convert.proofs.DividedFacts.{CanBePut, element_read}
+use Rattle.edit_entries.proofs.NewFieldFacts.{CanBePut, element_read}
 use Rattle.bib_text.proofs.ListFacts.{all_append}
 
 -- ---- digits and hyphens in braces

@@ -8,7 +8,8 @@ use Rattle.edit_entries.specs.Edits.{Edit}
 use Rattle.bib_tables.specs.declared.dialects.Dialect.{Dialect}
 use Rattle.bib_tables.specs.EntryType.{entry_type_of}
 use Rattle.bib_tables.specs.declared.mechanics.EntryType.{EntryType}
-use Rattle.edit_convert.specs.Conversions.{change_of, date_among, divides_date, edits_of_entry, edits_of_fields, free_names, joined_among, joined_date, other_name, other_names, other_type, part_edits}
+use Rattle.edit_convert.specs.Conversions.{change_of, date_among, divides_date, edits_of_entry, edits_of_fields, free_names, joined_among, joined_date, other_name, other_names, other_type}
+use Rattle.edit_entries.specs.Changes.{part_edits}
 use Rattle.edit_convert.specs.Tables.{change_edits, lent_names}
 use Rattle.edit_convert.specs.declared.changes.Changes.{Changes}
 

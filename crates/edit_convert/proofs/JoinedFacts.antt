@@ -11,7 +11,7 @@ use Rattle.edit_strings.specs.Collected.{single_text}
 use Rattle.edit_strings.proofs.NameFacts.{plain_can}
 use Rattle.edit_convert.specs.Conversions.{can_all_go_out, date_field, date_of_fields, date_of_parts, date_on_day, has_parts_once, joined_date, literal_of, month_of}
 use Rattle.edit_convert.proofs.DateFacts.{date_bytes_read}
-use Rattle.edit_convert.proofs.DividedFacts.{CanBePut}
+use Rattle.edit_entries.proofs.NewFieldFacts.{CanBePut}
 use Rattle.edit_convert.proofs.JoinedTextFacts.{IsJoined, joined_bytes, joined_known}
 
 -- a year, a month and perhaps a day whose date this is

@@ -3,17 +3,10 @@ mod ChangeFacts
 mod ConvertedFacts
 mod DateFacts
 mod DateReadFacts
-mod DividedFacts
 mod EntryEditFacts
-mod FieldNameFacts
 mod FollowingFacts
 mod GivingFacts
 mod JoinedFacts
 mod JoinedTextFacts
-mod KindFacts
-mod MadeFacts
 mod NewNameFacts
 mod NoteFacts
-mod PlaceFacts
-mod PutFacts
-mod StandFacts

@@ -16,8 +16,9 @@ use Rattle.edit_entries.specs.Documents.{Document, has_name, value_stretch}
 use Rattle.edit_entries.specs.Edits.{Edit, edited_all}
 use Rattle.edit_format.specs.Formatted.{has_percent}
 use Rattle.edit_strings.specs.Collected.{single_text}
-use Rattle.edit_strings.specs.Exchanged.{IsReadPlaceless}
-use Rattle.edit_convert.specs.Dates.{NewField, Sides, braced_field, date_sides, field_reading, from_names, more_fields, part_names, to_fields, new_field_text, more_field_texts, side_year}
+use Rattle.edit_entries.specs.Changes.{IsReadPlaceless}
+use Rattle.edit_entries.specs.Changes.{NewField, field_reading, new_field_text, more_field_texts}
+use Rattle.edit_convert.specs.Dates.{Sides, braced_field, date_sides, from_names, more_fields, part_names, to_fields, side_year}
 use Rattle.edit_convert.specs.Joined.{is_month_name, joined_text, month_value}
 
 -- whether a type is none of those that BibTeX and BibLaTeX have

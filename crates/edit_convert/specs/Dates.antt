@@ -11,7 +11,7 @@ use Rattle.bib_dates.specs.Dates.{date_of}
 use Rattle.bib_dates.specs.Readings.{readable_value}
 use Rattle.edit_entries.specs.Documents.{in_braces, text_at}
 use Rattle.edit_strings.specs.Collected.{name_value}
-use Rattle.edit_strings.specs.Exchanged.{NewValue}
+use Rattle.edit_entries.specs.Changes.{NewValue}
 
 -- a field that is put in: its name, and its value
 pub record NewField : Type 0 where

@@ -7,7 +7,8 @@ ghost use Rattle.std.specs.String.{string_bytes};
 ghost use Rattle.bib_syntax.specs.Reading.{FieldReading};
 ghost use Rattle.bib_syntax.specs.Views.{entry_reading_of, field_of, part_of};
 ghost use Rattle.edit_entries.specs.Placed.{IsPlaced};
-ghost use Rattle.edit_convert.specs.Conversions.{FieldChange, IsConverted, date_among, edits_of_entry, edits_of_field, edits_of_file, going_out, part_edits};
+ghost use Rattle.edit_convert.specs.Conversions.{FieldChange, IsConverted, date_among, edits_of_entry, edits_of_field, edits_of_file};
+ghost use Rattle.edit_entries.specs.Changes.{going_out, part_edits};
 ghost use Rattle.edit_convert.specs.Conversions as spec;
 ghost use Rattle.edit_convert.specs.Tables.{change_by, change_edits, edit_in_bytes, lent_text};
 

@@ -10,7 +10,8 @@ ghost use Rattle.bib_dates.specs.Dates.{date_of};
 ghost use Rattle.bib_dates.specs.Readings.{readable_value};
 ghost use Rattle.edit_convert.specs.Conversions as conversions;
 ghost use Rattle.edit_convert.specs.Dates as spec;
-ghost use Rattle.edit_convert.specs.Dates.{bare_field, braced_field, more_fields, month_abbreviations, names_after, new_field_text, more_field_texts, side_year};
+ghost use Rattle.edit_convert.specs.Dates.{bare_field, braced_field, more_fields, month_abbreviations, names_after, side_year};
+ghost use Rattle.edit_entries.specs.Changes.{new_field_text, more_field_texts};
 ghost use Rattle.edit_strings.specs.Collecting.{lent_texts};
 ghost use Rattle.edit_convert.specs.Tables.{lent_text, side_as_written, sides_as_written};
 

@@ -54,3 +54,7 @@ moved_file move says = record {
   entries = map (moved_entry move) says.entries;
   abbreviations = map (moved_field move) says.abbreviations;
 }
+
+-- what a file says, without places
+abbrev pub placeless : FileReading → FileReading
+placeless says = moved_file (λ at. 0) says

@@ -10,9 +10,9 @@ use Rattle.std.proofs.lemmas.Str.{encode_ascii}
 use Rattle.bib_text.specs.Places.{Place, Run, between}
 use Rattle.bib_text.specs.Places.Run.{stop, step}
 use Rattle.bib_text.proofs.PlaceFacts.{ahead_char, ahead_run, test_clash}
-use Rattle.edit_format.proofs.ElementFacts.{parted}
+use Rattle.edit_entries.proofs.ElementFacts.{parted}
 use Rattle.edit_format.proofs.NameFacts.{none_between}
-use Rattle.edit_format.proofs.StandsFacts.{AreWhite, between_stands, stands_char}
+use Rattle.edit_entries.proofs.StandsFacts.{AreWhite, between_stands, stands_char}
 
 -- whether a byte stands among bytes
 abbrev pub has : ℕ → List ℕ → Bool

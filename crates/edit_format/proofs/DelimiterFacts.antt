@@ -16,9 +16,9 @@ use Rattle.bib_syntax.specs.OpenBraces.{ClosesOpen}
 use Rattle.bib_syntax.specs.OpenBraces.ClosesOpen.{last, level}
 use Rattle.bib_syntax.proofs.FieldFacts.{ahead_parts, ahead_quoted_parts}
 use Rattle.edit_format.specs.Delimited.{close_braces, hide_quotes}
-use Rattle.edit_format.proofs.ElementFacts.{char_parted, parted}
+use Rattle.edit_entries.proofs.ElementFacts.{char_parted, parted}
 use Rattle.edit_format.proofs.NameFacts.{none_between}
-use Rattle.edit_format.proofs.StandsFacts.{between_stands}
+use Rattle.edit_entries.proofs.StandsFacts.{between_stands}
 
 -- ---- the bytes of a character
 

@@ -28,12 +28,12 @@ use Rattle.edit_format.specs.declared.style.Style.{Style}
 use Rattle.edit_format.proofs.ByteFacts.{has}
 use Rattle.edit_format.proofs.ColumnFacts.{same_last, same_padded}
 use Rattle.edit_format.proofs.ContentFacts.{entry_placeless}
-use Rattle.edit_format.proofs.ElementFacts.{one_byte, parted}
+use Rattle.edit_entries.proofs.ElementFacts.{one_byte, parted}
 use Rattle.edit_format.proofs.FieldFacts.{CommaRead, FieldIn, IsLaidOutAlike, IsLineEnd, LastComma, field_content, fields_in, fields_read, none_read, same_named, zip_again, zip_alike}
 use Rattle.edit_format.proofs.LowerFacts.{kind_lower, lower_lower}
 use Rattle.edit_format.proofs.NameFacts.{name_read}
 use Rattle.edit_format.proofs.OrderFacts.{in_order_all, in_order_twice, in_order_zip, last_ordered, padded_ordered}
-use Rattle.edit_format.proofs.StandsFacts.{Stands, ascii, between_stands, copied, copied_before, copy_frame, first_part, last_part, past}
+use Rattle.edit_entries.proofs.StandsFacts.{Stands, ascii, between_stands, copied, copied_before, copy_frame, first_part, last_part, past}
 use Rattle.bib_syntax.proofs.LawFacts.{key_dark}
 
 abbrev contents : List FieldReading → List FieldReading

@@ -20,10 +20,10 @@ use Rattle.edit_entries.specs.Edits.{moved_field, moved_piece}
 use Rattle.edit_format.specs.Formatted.{elements_as_written, field_in_lowercase, field_laid_out, has_percent, has_percent_between, is_broken, is_too_long, next_line, next_sign, spaces, value_laid_out}
 use Rattle.edit_format.specs.declared.style.Style.{Style}
 use Rattle.edit_format.proofs.ByteFacts.{either_false, has, white_without}
-use Rattle.edit_format.proofs.ElementFacts.{Ending}
+use Rattle.edit_entries.proofs.ElementFacts.{Ending}
 use Rattle.edit_format.proofs.LowerFacts.{lower_lower}
 use Rattle.edit_format.proofs.NameFacts.{name_read, none_between}
-use Rattle.edit_format.proofs.StandsFacts.{AreWhite, Stands, ascii, between_stands, first_part, joined, last_part, past, run_white, spaces_white, white_append}
+use Rattle.edit_entries.proofs.StandsFacts.{AreWhite, Stands, ascii, between_stands, first_part, joined, last_part, past, run_white, spaces_white, white_append}
 use Rattle.edit_format.proofs.ValueFacts.{IsSeparator, in_line, not_opened_run, not_opened_sign, not_opened_white, signed, unsigned, value_read, written}
 use Rattle.edit_format.proofs.WidthFacts.{width_lower}
 

@@ -19,8 +19,8 @@ use Rattle.edit_format.proofs.ContentFacts.{content_then, file_placeless}
 use Rattle.edit_format.proofs.EntryFacts.{entry_read}
 use Rattle.edit_format.proofs.FieldFacts.{IsLineEnd}
 use Rattle.edit_format.proofs.GapFacts.{gap_read}
-use Rattle.edit_format.proofs.SplitFacts.{ByEntries, by_entries}
-use Rattle.edit_format.proofs.StandsFacts.{Stands, ascii, between_stands, first_part, past}
+use Rattle.edit_entries.proofs.ByEntriesFacts.{ByEntries, by_entries}
+use Rattle.edit_entries.proofs.StandsFacts.{Stands, ascii, between_stands, first_part, past}
 
 -- how lines end
 pub line_end_is : (text : List ℕ) → IsLineEnd (line_end_of text)

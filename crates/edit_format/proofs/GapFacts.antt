@@ -20,8 +20,8 @@ use Rattle.edit_entries.proofs.SplitFacts.{FileBefore, ahead_file_before}
 use Rattle.edit_entries.proofs.ZoneFacts.{there}
 use Rattle.edit_format.specs.Formatted.{content, gap_in_style, line_ends}
 use Rattle.edit_format.proofs.ContentFacts.{file_placeless}
-use Rattle.edit_format.proofs.ElementFacts.{char_parted}
-use Rattle.edit_format.proofs.StandsFacts.{Stands, ascii, copied_before, copy_frame, first_part, last_part, nothing, past}
+use Rattle.edit_entries.proofs.ElementFacts.{char_parted}
+use Rattle.edit_entries.proofs.StandsFacts.{Stands, ascii, copied_before, copy_frame, first_part, last_part, nothing, past}
 
 -- ---- white space of ASCII
 

@@ -2,9 +2,7 @@ pub mod ByteFacts
 pub mod ByteStepFacts
 pub mod ColumnFacts
 pub mod ContentFacts
-pub mod CutFacts
 pub mod DelimiterFacts
-pub mod ElementFacts
 pub mod EntryFacts
 pub mod FieldFacts
 pub mod FileFacts
@@ -15,8 +13,6 @@ pub mod NameFacts
 pub mod OrderFacts
 pub mod PercentFacts
 pub mod PieceFacts
-pub mod SplitFacts
-pub mod StandsFacts
 pub mod TwiceFacts
 pub mod ValueFacts
 pub mod WidthFacts

@@ -23,11 +23,11 @@ use Rattle.edit_format.specs.Formatted.{entry_in_style, entry_laid_out, field_la
 use Rattle.edit_format.specs.Ordered.{in_order, order_of}
 use Rattle.edit_format.specs.declared.style.Style.{Style}
 use Rattle.edit_format.proofs.ByteFacts.{char_without, either_false, has, none_append, other_char, run_without}
-use Rattle.edit_format.proofs.ElementFacts.{ends_last, one_byte, parted}
+use Rattle.edit_entries.proofs.ElementFacts.{ends_last, one_byte, parted}
 use Rattle.edit_format.proofs.GapFacts.{are_blank}
 use Rattle.edit_format.proofs.OrderFacts.{last_ordered}
-use Rattle.edit_format.proofs.SplitFacts.{ByEntries}
-use Rattle.edit_format.proofs.StandsFacts.{between_stands, stands_between, stands_char}
+use Rattle.edit_entries.proofs.ByEntriesFacts.{ByEntries}
+use Rattle.edit_entries.proofs.StandsFacts.{between_stands, stands_between, stands_char}
 
 -- ---- the first line of a text
 

@@ -9,9 +9,9 @@ use Rattle.bib_text.proofs.PlaceFacts.{Ahead, ahead_char, ahead_run, stops_at}
 use Rattle.bib_syntax.specs.Characters.{is_id_continue}
 use Rattle.bib_syntax.specs.Reading.{Part, part}
 use Rattle.bib_syntax.specs.Grammar.{Identifier, longest}
-use Rattle.edit_format.proofs.ElementFacts.{Ending, parted}
+use Rattle.edit_entries.proofs.ElementFacts.{Ending, parted}
 use Rattle.edit_format.proofs.LowerFacts.{continues_lower, encode_lower, lower_append, starts_lower}
-use Rattle.edit_format.proofs.StandsFacts.{Stands, between_stands, char_stands, first_part, last_part, nothing, past, stands_char}
+use Rattle.edit_entries.proofs.StandsFacts.{Stands, between_stands, char_stands, first_part, last_part, nothing, past, stands_char}
 
 pub none_between : (a : Place) → between a a ≡ []
 none_between a = let zero : a.at - a.at ≡ 0 = omega arith in ap (λ n. take n (drop a.at a.text)) zero

@@ -20,8 +20,8 @@ use Rattle.edit_format.specs.Delimited.{braced_in_style, can_stand_in_braces, ca
 use Rattle.edit_format.specs.declared.style.Delimiters.{Delimiters}
 use Rattle.edit_format.specs.declared.style.Delimiters.TheVariants.{Keep, Braces, Quotes}
 use Rattle.edit_format.proofs.DelimiterFacts.{parts_of_quoted, quoted_of_parts}
-use Rattle.edit_format.proofs.ElementFacts.{Ending, NotOpened, before, brace_before, identifier_until, number_until, quote_before}
-use Rattle.edit_format.proofs.StandsFacts.{Stands, ascii, between_stands, copied_before, copy_frame, first_part, last_part, past}
+use Rattle.edit_entries.proofs.ElementFacts.{Ending, NotOpened, before, brace_before, identifier_until, number_until, quote_before}
+use Rattle.edit_entries.proofs.StandsFacts.{Stands, ascii, between_stands, copied_before, copy_frame, first_part, last_part, past}
 
 -- ---- how an element is written
 

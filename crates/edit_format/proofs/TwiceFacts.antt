@@ -8,7 +8,7 @@ use Rattle.edit_format.specs.Formatted.{line_end_of, rest_in_style, text_in_styl
 use Rattle.edit_format.specs.declared.style.Style.{Style}
 use Rattle.edit_format.proofs.FileFacts.{file_read, line_end_is}
 use Rattle.edit_format.proofs.LineEndFacts.{InFront, line_end_cases, lines_end}
-use Rattle.edit_format.proofs.SplitFacts.{by_entries}
+use Rattle.edit_entries.proofs.ByEntriesFacts.{by_entries}
 
 pub twice_is_once : (style : Style) (text : List ℕ) (says again : FileReading) → IsRawReading text says
     → IsRawReading (text_in_style style text says) again

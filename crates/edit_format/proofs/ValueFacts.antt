@@ -27,9 +27,9 @@ use Rattle.edit_entries.proofs.MovedFacts.{char_within}
 use Rattle.edit_format.specs.Delimited.{piece_as_written}
 use Rattle.edit_format.specs.Formatted.{value_laid_out}
 use Rattle.edit_format.specs.declared.style.Delimiters.{Delimiters}
-use Rattle.edit_format.proofs.ElementFacts.{Ending, NotOpened, before, start_stands}
+use Rattle.edit_entries.proofs.ElementFacts.{Ending, NotOpened, before, start_stands}
 use Rattle.edit_format.proofs.PieceFacts.{piece_read}
-use Rattle.edit_format.proofs.StandsFacts.{AreWhite, Stands, ascii, first_part, last_part, past, run_white}
+use Rattle.edit_entries.proofs.StandsFacts.{AreWhite, Stands, ascii, first_part, last_part, past, run_white}
 
 -- ---- what stands before an element
 

@@ -1,4 +1,3 @@
-pub mod Cuts
 pub mod Delimited
 pub mod Formatted
 pub mod Ordered

@@ -2,7 +2,7 @@
 
 ghost use Rattle.std.specs.Prelude.{◌≡◌};
 ghost use Rattle.bib_syntax.specs.Views.{entry_reading_of};
-ghost use Rattle.edit_format.specs.Cuts.{AreGapsCut, CanBeCut};
+ghost use Rattle.edit_entries.specs.Cuts.{AreGapsCut, CanBeCut};
 ghost use Rattle.edit_format.specs.Formatted as styled;
 
 use bib_syntax::raw::RawEntry;

@@ -5,7 +5,7 @@ ghost use Rattle.std.specs.List.{AllByRecursion};
 ghost use Rattle.std.specs.Str.{str_to_ascii_lowercase};
 ghost use Rattle.std.specs.String.{string_bytes};
 ghost use Rattle.bib_syntax.specs.Views.{entry_reading_of, field_of};
-ghost use Rattle.edit_format.specs.Cuts.{ArePiecesCut, IsEntryCut};
+ghost use Rattle.edit_entries.specs.Cuts.{ArePiecesCut, IsEntryCut};
 ghost use Rattle.edit_format.specs.Formatted as styled;
 ghost use Rattle.edit_format.specs.Formatted.{entry_in_style, entry_laid_out};
 

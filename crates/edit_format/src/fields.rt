@@ -4,7 +4,7 @@ ghost use Rattle.std.specs.Prelude.{◌≡◌, ◌++◌, codes, length, map, IfO
 ghost use Rattle.std.specs.Str.{chars};
 ghost use Rattle.std.specs.String.{string_bytes};
 ghost use Rattle.bib_syntax.specs.Views.{field_of};
-ghost use Rattle.edit_format.specs.Cuts.{ArePiecesCut};
+ghost use Rattle.edit_entries.specs.Cuts.{ArePiecesCut};
 ghost use Rattle.edit_format.specs.Formatted as styled;
 ghost use Rattle.edit_format.specs.Formatted.{elements_as_written, field_laid_out, spaces};
 

@@ -3,7 +3,7 @@
 ghost use Rattle.std.specs.Prelude.{◌≡◌, IfOk, None, map};
 ghost use Rattle.std.specs.String.{string_bytes};
 ghost use Rattle.bib_syntax.specs.Views.{entry_reading_of};
-ghost use Rattle.edit_format.specs.Cuts.{AreEntriesCut};
+ghost use Rattle.edit_entries.specs.Cuts.{AreEntriesCut};
 ghost use Rattle.edit_format.specs.Formatted as styled;
 ghost use Rattle.edit_format.specs.Formatted.{IsReadAlike, line_end_of, says_in_order, text_in_style};
 

@@ -5,7 +5,7 @@ ghost use Rattle.std.specs.List.{AllByRecursion, filter, flat_map};
 ghost use Rattle.std.specs.String.{string_bytes};
 ghost use Rattle.bib_syntax.specs.Views.{field_of};
 ghost use Rattle.edit_entries.specs.Documents.{has_name};
-ghost use Rattle.edit_format.specs.Cuts.{ArePiecesCut};
+ghost use Rattle.edit_entries.specs.Cuts.{ArePiecesCut};
 ghost use Rattle.edit_format.specs.Formatted as styled;
 ghost use Rattle.edit_format.specs.Formatted.{field_laid_out};
 ghost use Rattle.edit_format.specs.Ordered as ordered;

@@ -4,7 +4,7 @@ ghost use Rattle.std.specs.Prelude.{◌≡◌, ◌++◌, codes, cond, map, OnOk}
 ghost use Rattle.std.specs.List.{AllByRecursion};
 ghost use Rattle.std.specs.String.{string_bytes};
 ghost use Rattle.bib_syntax.specs.Views.{piece_of};
-ghost use Rattle.edit_format.specs.Cuts.{IsPieceCut};
+ghost use Rattle.edit_entries.specs.Cuts.{IsPieceCut};
 ghost use Rattle.edit_format.specs.Delimited.{piece_as_written};
 ghost use Rattle.edit_format.specs.Formatted.{value_laid_out};
 

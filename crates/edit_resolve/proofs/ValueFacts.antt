@@ -13,7 +13,7 @@ use Rattle.std.proofs.lemmas.Slice.Eq.{bytes_eq-Decides}
 use Rattle.edit_entries.specs.Documents.{Document, IsDocument}
 use Rattle.edit_entries.specs.Keys.{is_key_in}
 use Rattle.edit_entries.specs.Placed.{IsPlaced}
-use Rattle.edit_strings.proofs.ExpandFacts.{all_placed}
+use Rattle.edit_entries.proofs.AllFacts.{all_placed}
 use Rattle.bib_syntax.specs.Reading.{EntryReading}
 use Rattle.edit_resolve.specs.ValueSets.{HasOnly}
 

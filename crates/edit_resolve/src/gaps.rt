@@ -2,7 +2,7 @@
 
 ghost use Rattle.std.specs.Prelude.{◌≡◌, IfOk, IsTrue, map};
 ghost use Rattle.bib_syntax.specs.Views.{entry_reading_of};
-ghost use Rattle.edit_format.specs.Cuts.{AreEntriesCut};
+ghost use Rattle.edit_entries.specs.Cuts.{AreEntriesCut};
 ghost use Rattle.edit_strings.specs.Collecting.{lent_texts};
 ghost use Rattle.edit_resolve.specs.Resolutions as spec;
 

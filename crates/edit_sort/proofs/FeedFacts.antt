@@ -18,7 +18,7 @@ use Rattle.bib_text.proofs.BoundaryFacts.{not_over}
 use Rattle.edit_entries.proofs.GrammarFacts.{block_there, line_comment_there, moved-then}
 use Rattle.edit_entries.proofs.SplitFacts.{FileBefore, ahead_file_before}
 use Rattle.edit_entries.proofs.ZoneFacts.{Frame, Zone, Inside, there, inside_between, char_there}
-use Rattle.edit_format.proofs.ElementFacts.{one_byte, parted}
+use Rattle.edit_entries.proofs.ElementFacts.{one_byte, parted}
 use Rattle.edit_sort.specs.Sorted.{has_block_sign}
 use Rattle.edit_sort.proofs.PlainFacts.{Plain, before_plain, none_in_line}
 use Rattle.std.proofs.Math.Bool.{or-true}

@@ -21,9 +21,9 @@ use Rattle.edit_entries.proofs.GrammarFacts.{moved-then}
 use Rattle.edit_entries.proofs.MovedFacts.{body_within, char_within, file_there}
 use Rattle.edit_entries.proofs.SplitFacts.{ahead_file_before, joined_file}
 use Rattle.edit_entries.proofs.ZoneFacts.{Frame, Inside, Zone, there}
-use Rattle.edit_format.proofs.CutFacts.{cut_file, cut_stood, stood}
-use Rattle.edit_format.proofs.SplitFacts.{ByEntries, by_entries}
-use Rattle.edit_format.proofs.StandsFacts.{Stands, past}
+use Rattle.edit_entries.proofs.CutFacts.{cut_file, cut_stood, stood}
+use Rattle.edit_entries.proofs.ByEntriesFacts.{ByEntries, by_entries}
+use Rattle.edit_entries.proofs.StandsFacts.{Stands, past}
 use Rattle.edit_sort.specs.Cuts.{AreItemsCut, IsEntryOfItemCut, IsItemCut}
 use Rattle.edit_sort.specs.Sorted.{AreEntriesInOrder, IsReadSorted, Item, comment_in, without_places, entry_bytes, gap_before, items, items_from, items_laid_out, place_after, run_after, says_sorted, space_in, spaces_from, text_in_order}
 use Rattle.edit_sort.proofs.PlacelessFacts.{file_placeless}

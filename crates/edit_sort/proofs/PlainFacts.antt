@@ -17,9 +17,9 @@ use Rattle.bib_syntax.proofs.FileFacts.{ahead_body}
 use Rattle.bib_text.proofs.BoundaryFacts.{not_over}
 use Rattle.edit_entries.proofs.SplitFacts.{FileBefore, ahead_file_before}
 use Rattle.edit_entries.proofs.ZoneFacts.{Frame, Zone, Inside, there, inside_between, char_there, run_there}
-use Rattle.edit_format.proofs.CutFacts.{Stood, stood}
-use Rattle.edit_format.proofs.ElementFacts.{one_byte, parted}
-use Rattle.edit_format.proofs.StandsFacts.{Stands, ascii, first_part, last_part, nothing, past}
+use Rattle.edit_entries.proofs.CutFacts.{Stood, stood}
+use Rattle.edit_entries.proofs.ElementFacts.{one_byte, parted}
+use Rattle.edit_entries.proofs.StandsFacts.{Stands, ascii, first_part, last_part, nothing, past}
 
 -- a character that ends no line
 abbrev pub in_line : ℕ → Bool

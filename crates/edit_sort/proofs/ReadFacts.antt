@@ -18,9 +18,9 @@ use Rattle.edit_entries.proofs.GrammarFacts.{block_there}
 use Rattle.edit_entries.proofs.MovedFacts.{char_within, file_before_there}
 use Rattle.edit_entries.proofs.SplitFacts.{EntryBlock, FileBefore, ahead_file_before, block_of}
 use Rattle.edit_entries.proofs.ZoneFacts.{there, char_there, inside_between}
-use Rattle.edit_format.proofs.CutFacts.{Stood, stood}
-use Rattle.edit_format.proofs.ElementFacts.{one_byte, parted}
-use Rattle.edit_format.proofs.StandsFacts.{Stands, ahead_stands, ascii, between_stands, copied, copied_before, copy_frame, first_part, last_part, past, stands_between}
+use Rattle.edit_entries.proofs.CutFacts.{Stood, stood}
+use Rattle.edit_entries.proofs.ElementFacts.{one_byte, parted}
+use Rattle.edit_entries.proofs.StandsFacts.{Stands, ahead_stands, ascii, between_stands, copied, copied_before, copy_frame, first_part, last_part, past, stands_between}
 use Rattle.edit_sort.specs.Sorted.{after_blank_line, begins_run, comment_in, has_block_sign, near_comment, without_places, space_in, without_white}
 use Rattle.edit_sort.proofs.FeedFacts.{before_then, clear_of, feed_cut, file_before_inside}
 use Rattle.edit_sort.proofs.LineFacts.{AfterFeed, feed_before}

@@ -3,7 +3,7 @@
 use Rattle.std.specs.Prelude.{ℕ, ◌+◌, ◌-◌, ◌≤◌, ◌==◌, List, [], ◌∷◌, length}
 use Rattle.std.specs.Str.{IsCharBoundary}
 use Rattle.bib_syntax.specs.Reading.{EntryReading}
-use Rattle.edit_format.specs.Cuts.{CanBeCut}
+use Rattle.edit_entries.specs.Cuts.{CanBeCut}
 use Rattle.edit_sort.specs.Sorted.{Item, comment_in, gap_before}
 
 -- an entry, what stays before it and its comment may be cut out of a text, from a place on

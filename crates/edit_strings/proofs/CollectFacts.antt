@@ -14,24 +14,26 @@ use Rattle.edit_entries.specs.Placed.{IsPlaced}
 use Rattle.edit_strings.specs.Collected.{AreNewNames, FirstOnes, AreMadeAbbreviations, IsNewName, RepeatsInBraces, collection, definition_lines, line_readings, name_value, named_text, named_texts, text_index, text_value, with_definitions}
 use Rattle.edit_strings.specs.Collected.{AreNewNames as new_names}
 use Rattle.edit_strings.specs.Collected.{FirstOnes as ones}
-use Rattle.edit_strings.specs.Exchanged.{Exchange, IsReadPlaceless, NewValue, file_exchanged, text_exchanged}
+use Rattle.edit_strings.specs.Exchanged.{Exchange, file_exchanged, text_exchanged}
+use Rattle.edit_entries.specs.Changes.{IsReadPlaceless, NewValue}
 use Rattle.edit_strings.proofs.ElementFacts.{IsElement, can_be_read}
 use Rattle.edit_strings.proofs.ExchangedFacts.{CanBeExchanged, exchanged_read}
-use Rattle.edit_strings.proofs.ExpandFacts.{all_placed, all_weaker, fields_weaker}
+use Rattle.edit_entries.proofs.AllFacts.{all_placed, all_weaker, fields_weaker}
 use Rattle.bib_syntax.specs.Reading.{EntryReading}
 use Rattle.edit_entries.specs.Edits.{Edit}
 use Rattle.edit_entries.specs.Stretches.{AreEditsInOrder}
-use Rattle.edit_format.specs.Cuts.{IsPieceCut}
+use Rattle.edit_entries.specs.Cuts.{IsPieceCut}
 use Rattle.edit_strings.specs.Collecting.{collection_by}
 use Rattle.edit_strings.specs.Exchanged.{entry_edits}
 use Rattle.edit_strings.specs.Expanded.{Index, elements}
 use Rattle.edit_strings.specs.Tables.{AreAllFieldsCut, IsBelow, IsFieldCut}
 use Rattle.edit_strings.proofs.ElementFacts.{IsValue, file_stands, is_cut}
 use Rattle.edit_strings.proofs.OrderFacts.{file_ordered}
-use Rattle.edit_strings.proofs.TrimmedFacts.{IsFieldPlaced, edits_in_order}
+use Rattle.edit_entries.proofs.TrimmedFacts.{IsFieldPlaced}
+use Rattle.edit_strings.proofs.TrimmedFacts.{edits_in_order}
 use Rattle.edit_strings.proofs.LineFacts.{lines_read, with_placeless}
-use Rattle.edit_strings.proofs.NewValueFacts.{CanBeRead}
-use Rattle.edit_strings.proofs.TrimmedFacts.{trimmed_known}
+use Rattle.edit_entries.proofs.NewValueFacts.{CanBeRead}
+use Rattle.edit_entries.proofs.TrimmedFacts.{trimmed_known}
 use Rattle.bib_text.proofs.ListFacts.{all_push}
 use Rattle.edit_strings.proofs.WrittenFacts.{last_below}
 

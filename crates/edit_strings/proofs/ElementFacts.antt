@@ -19,18 +19,19 @@ use Rattle.bib_syntax.proofs.FileFacts.{ahead_block, ahead_head, ahead_line_comm
 use Rattle.edit_entries.specs.Edits.{moved_piece}
 use Rattle.edit_entries.proofs.MovedFacts.{body_within}
 use Rattle.edit_entries.proofs.ValueFacts.{elements_opens}
-use Rattle.edit_format.specs.Cuts.{IsPieceCut}
+use Rattle.edit_entries.specs.Cuts.{IsPieceCut}
 use Rattle.edit_format.specs.Delimited.{piece_as_written}
 use Rattle.edit_format.specs.Formatted.{value_laid_out}
 use Rattle.edit_format.specs.declared.style.Delimiters.TheVariants.{Keep}
-use Rattle.edit_format.proofs.CutFacts.{cut_stood, stood, stood_parts, stood_quoted}
-use Rattle.edit_format.proofs.ElementFacts.{Ending, NotOpened}
-use Rattle.edit_format.proofs.StandsFacts.{Stands, ascii, first_part, last_part}
+use Rattle.edit_entries.proofs.CutFacts.{cut_stood, stood, stood_parts, stood_quoted}
+use Rattle.edit_entries.proofs.ElementFacts.{Ending, NotOpened}
+use Rattle.edit_entries.proofs.StandsFacts.{Stands, ascii, first_part, last_part}
 use Rattle.edit_format.proofs.ValueFacts.{not_opened_run, not_opened_sign}
 use Rattle.bib_syntax.specs.Grammar.{Number as number}
 use Rattle.edit_strings.specs.Expanded.{elements as elements_of, laid_out}
-use Rattle.edit_strings.proofs.StandingFacts.{element_stands, element_written}
-use Rattle.edit_strings.proofs.NewValueFacts.{AreRead, CanBeRead}
+use Rattle.edit_entries.proofs.ElementStandsFacts.{element_stands}
+use Rattle.edit_strings.proofs.StandingFacts.{element_written}
+use Rattle.edit_entries.proofs.NewValueFacts.{AreRead, CanBeRead}
 use Rattle.bib_text.proofs.ListFacts.{all_append}
 
 -- an element that stands somewhere in a text, after neither a brace nor a quote

@@ -12,56 +12,13 @@ use Rattle.bib_syntax.specs.Grammar.{IsRawReading}
 use Rattle.edit_entries.specs.Edits.{Edit, edited, edited_all, moved_place, moved_piece, moved_field, moved_entry, moved_file}
 use Rattle.edit_entries.specs.Documents.{Document, IsDocument, field_edited}
 use Rattle.edit_entries.proofs.AgreementFacts.{Agrees, AgreesIn, agrees_before, agrees_self, edited_agrees, get_set_other, moved_agrees, same_run}
-use Rattle.edit_strings.specs.Exchanged.{Exchange, IsReadPlaceless, NewValue, entry_edits, entry_exchanged, exchange_edit, field_edits, file_exchanged, placeless, text_exchanged, value_edits, with_new_value}
-use Rattle.edit_strings.specs.Tables.{IsTrimmed}
-use Rattle.edit_strings.proofs.NewValueFacts.{CanBeRead, value_exchanged, with_pieces}
+use Rattle.edit_strings.specs.Exchanged.{Exchange, entry_edits, entry_exchanged, exchange_edit, field_edits, file_exchanged, text_exchanged, value_edits, with_new_value}
+use Rattle.edit_entries.specs.Changes.{IsReadPlaceless, NewValue}
+use Rattle.edit_entries.specs.Edits.{placeless}
+use Rattle.edit_entries.specs.Changes.{IsTrimmed}
+use Rattle.edit_entries.proofs.NewValueFacts.{CanBeRead, value_exchanged, with_pieces}
 use Rattle.edit_strings.proofs.OrderFacts.{AreEntriesOrdered, AreOrdered, file_ordered}
 use Rattle.bib_text.proofs.ListFacts.{get_here}
-
--- ---- what is said without places
-
-pieces_placeless : (move : ℕ → ℕ) (ps : List Piece) → map (moved_piece (λ n. 0)) (map (moved_piece move) ps) ≡ map (moved_piece (λ n. 0)) ps
-pieces_placeless move [] = refl
-pieces_placeless move (literal p ∷ ps) = ap (λ xs. moved_piece (λ n. 0) (literal p) ∷ xs) (pieces_placeless move ps)
-pieces_placeless move (abbreviation p ∷ ps) = ap (λ xs. moved_piece (λ n. 0) (abbreviation p) ∷ xs) (pieces_placeless move ps)
-
-field_placeless : (move : ℕ → ℕ) (f : FieldReading) → moved_field (λ n. 0) (moved_field move f) ≡ moved_field (λ n. 0) f
-field_placeless move f =
-    ap
-    (λ ps.
-    let g : FieldReading =
-    record {
-      name = record { text = f.name.text; start = 0; end = 0 };
-      value = record { pieces = ps; start = 0; end = 0 };
-    } in
-    g) (pieces_placeless move f.value.pieces)
-
-fields_placeless : (move : ℕ → ℕ) (fs : List FieldReading)
-    → map (moved_field (λ n. 0)) (map (moved_field move) fs) ≡ map (moved_field (λ n. 0)) fs
-fields_placeless move [] = refl
-fields_placeless move (f ∷ fs) =
-    ap (λ g. g ∷ map (moved_field (λ n. 0)) (map (moved_field move) fs)) (field_placeless move f)
-    ∙ ap (λ gs. moved_field (λ n. 0) f ∷ gs) (fields_placeless move fs)
-
-entry_placeless : (move : ℕ → ℕ) (e : EntryReading) → moved_entry (λ n. 0) (moved_entry move e) ≡ moved_entry (λ n. 0) e
-entry_placeless move e =
-    ap (λ fs. let r : EntryReading = record (moved_entry (λ n. 0) e) { fields = fs } in r)
-    (fields_placeless move e.fields)
-
-entries_placeless : (move : ℕ → ℕ) (es : List EntryReading)
-    → map (moved_entry (λ n. 0)) (map (moved_entry move) es) ≡ map (moved_entry (λ n. 0)) es
-entries_placeless move [] = refl
-entries_placeless move (e ∷ es) =
-    ap (λ x. x ∷ map (moved_entry (λ n. 0)) (map (moved_entry move) es)) (entry_placeless move e)
-    ∙ ap (λ xs. moved_entry (λ n. 0) e ∷ xs) (entries_placeless move es)
-
-pub file_placeless : (move : ℕ → ℕ) (says : FileReading) → placeless (moved_file move says) ≡ placeless says
-file_placeless move says =
-    let build : List EntryReading → List FieldReading → FileReading =
-    λ (es : List EntryReading) (fs : List FieldReading).
-    record { preamble = says.preamble; entries = es; abbreviations = fs } in
-    ap (λ es. build es (map (moved_field (λ n. 0)) (map (moved_field move) says.abbreviations))) (entries_placeless move says.entries)
-    ∙ ap (build (map (moved_entry (λ n. 0)) says.entries)) (fields_placeless move says.abbreviations)
 
 -- ---- one element of a list changed
 

@@ -14,49 +14,20 @@ use Rattle.edit_entries.specs.Edits.{Edit, edited_all}
 use Rattle.edit_entries.specs.Placed.{IsPlaced}
 use Rattle.edit_entries.specs.Stretches.{AreEditsInOrder}
 use Rattle.edit_entries.proofs.ValueFacts.{field_placed}
-use Rattle.edit_format.specs.Cuts.{IsPieceCut}
-use Rattle.edit_strings.specs.Exchanged.{Exchange, IsReadPlaceless, NewValue, entry_edits, file_exchanged}
+use Rattle.edit_entries.specs.Cuts.{IsPieceCut}
+use Rattle.edit_strings.specs.Exchanged.{Exchange, entry_edits, file_exchanged}
+use Rattle.edit_entries.specs.Changes.{IsReadPlaceless, NewValue}
 use Rattle.edit_strings.specs.Expanded.{Index, IsExpanded, WritesOut, definition_graph, definition_index, definition_references, elements, has_defined, laid_out}
 use Rattle.bib_collections.specs.Rows.{rows}
 use Rattle.bib_collections.proofs.Rows.{length-rows}
 use Rattle.edit_strings.specs.Tables.{AreAllFieldsCut, AreUsedWritten, IsBelow, IsFieldCut, HasMark, expansion_by, lent_pieces, lists_of, values_of, written_by}
 use Rattle.edit_strings.proofs.ElementFacts.{AreValues, IsElement, IsSome, IsValue, can_be_read, file_stands, is_cut}
 use Rattle.edit_strings.proofs.ExchangedFacts.{CanBeExchanged, exchanged_read}
-use Rattle.edit_strings.proofs.NewValueFacts.{CanBeRead}
+use Rattle.edit_entries.proofs.NewValueFacts.{CanBeRead}
 use Rattle.edit_strings.proofs.OrderFacts.{file_ordered}
-use Rattle.edit_strings.proofs.TrimmedFacts.{IsFieldPlaced, edits_in_order, trimmed_known}
+use Rattle.edit_entries.proofs.TrimmedFacts.{IsFieldPlaced, trimmed_known}
+use Rattle.edit_strings.proofs.TrimmedFacts.{edits_in_order}
 use Rattle.edit_strings.proofs.WrittenFacts.{all_by_index, elements_all, index_below, known_written, length-graph, written_all, written_some}
-
--- ---- what holds of each element of a list
-
-pub all_weaker : {A : Type 0} (P Q : A → Type 0) → ((x : A) → P x → Q x) → (xs : List A) → AllByRecursion P xs → AllByRecursion Q xs
-all_weaker P Q weaker [] all = tt
-all_weaker P Q weaker (x ∷ xs) all = (weaker x all.0, all_weaker P Q weaker xs all.1)
-
-pub all_both : {A : Type 0} (P Q : A → Type 0) (xs : List A) → AllByRecursion P xs → AllByRecursion Q xs
-    → AllByRecursion (λ x. P x × Q x) xs
-all_both P Q [] all others = tt
-all_both P Q (x ∷ xs) all others = ((all.0, others.0), all_both P Q xs all.1 others.1)
-
-pub all_found : {A : Type 0} (P : A → Type 0) (xs : List A) → ((k : ℕ) (x : A) → slice_get xs k ≡ Some x → P x) → AllByRecursion P xs
-all_found P [] each = tt
-all_found P (x ∷ xs) each = (each zero x refl, all_found P xs (λ k. each (suc k)))
-
--- what holds of each field of entries
-abbrev pub OfFields : (FieldReading → Type 0) → List EntryReading → Type 0
-OfFields P es = AllByRecursion (λ e. AllByRecursion P e.fields) es
-
-pub fields_weaker : (P Q R : FieldReading → Type 0) → ((f : FieldReading) → P f → Q f → R f) → (es : List EntryReading)
-    → OfFields P es → OfFields Q es → OfFields R es
-fields_weaker P Q R weaker es all others =
-    all_weaker (λ e. AllByRecursion P e.fields × AllByRecursion Q e.fields) (λ e. AllByRecursion R e.fields)
-    (λ e both. all_weaker (λ f. P f × Q f) R (λ f here. weaker f here.0 here.1) e.fields (all_both P Q e.fields both.0 both.1)) es
-    (all_both (λ e. AllByRecursion P e.fields) (λ e. AllByRecursion Q e.fields) es all others)
-
-pub all_placed : (d : Document) → IsDocument d → OfFields (IsPlaced d.text) d.says.entries
-all_placed d read =
-    all_found (λ e. AllByRecursion (IsPlaced d.text) e.fields) d.says.entries
-    (λ k e here. all_found (IsPlaced d.text) e.fields (λ j f there. field_placed d k e j f read here there))
 
 -- ---- what the code has
 

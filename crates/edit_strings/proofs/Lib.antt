@@ -6,7 +6,6 @@ pub mod LetterFacts
 pub mod LineFacts
 pub mod ListFacts
 pub mod NameFacts
-pub mod NewValueFacts
 pub mod OrderFacts
 pub mod StandingFacts
 pub mod TextFacts

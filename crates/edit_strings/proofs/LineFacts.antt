@@ -21,8 +21,9 @@ use Rattle.edit_entries.proofs.JoinedFacts.{documents_joined}
 use Rattle.edit_entries.proofs.ValueFacts.{braced_stands}
 use Rattle.edit_entries.proofs.ZoneFacts.{Inside, char_there, inside_between, run_there}
 use Rattle.edit_strings.specs.Collected.{string_line, definition_lines, line_readings, with_definitions}
-use Rattle.edit_strings.specs.Exchanged.{IsReadPlaceless, placeless}
-use Rattle.edit_strings.proofs.ExchangedFacts.{file_placeless}
+use Rattle.edit_entries.specs.Changes.{IsReadPlaceless}
+use Rattle.edit_entries.specs.Edits.{placeless}
+use Rattle.edit_entries.proofs.PlacelessFacts.{file_placeless}
 
 -- ---- the parts of a line
 

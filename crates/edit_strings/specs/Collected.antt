@@ -10,7 +10,8 @@ use Rattle.bib_syntax.specs.Reading.{Piece, FieldReading, EntryReading, FileRead
 use Rattle.bib_syntax.specs.Reading.Piece.{literal, abbreviation}
 use Rattle.bib_queries.specs.Needed.{is_listed}
 use Rattle.edit_entries.specs.Documents.{CanBeName, CanStandInBraces, Document, has_name, last_position, text_at}
-use Rattle.edit_strings.specs.Exchanged.{Exchange, IsReadPlaceless, NewValue, file_exchanged, text_exchanged}
+use Rattle.edit_strings.specs.Exchanged.{Exchange, file_exchanged, text_exchanged}
+use Rattle.edit_entries.specs.Changes.{IsReadPlaceless, NewValue}
 use Rattle.edit_strings.specs.Expanded.{Index, elements}
 
 -- the text that elements are, if they are one literal

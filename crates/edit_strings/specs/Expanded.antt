@@ -9,7 +9,8 @@ use Rattle.edit_entries.specs.Documents.{Document, last_position}
 use Rattle.edit_format.specs.Delimited.{piece_as_written}
 use Rattle.edit_format.specs.Formatted.{value_laid_out}
 use Rattle.edit_format.specs.declared.style.Delimiters.TheVariants.{Keep}
-use Rattle.edit_strings.specs.Exchanged.{Exchange, IsReadPlaceless, file_exchanged, text_exchanged}
+use Rattle.edit_strings.specs.Exchanged.{Exchange, file_exchanged, text_exchanged}
+use Rattle.edit_entries.specs.Changes.{IsReadPlaceless}
 use Rattle.edit_strings.specs.declared.errors.ExpandError.{ExpandError}
 use Rattle.edit_strings.specs.declared.errors.ExpandError.TheVariants.{Cycle, OutOfMemory}
 

@@ -19,7 +19,7 @@ use Rattle.bib_syntax.specs.declared.raw.RawChunk.{RawChunk}
 use Rattle.edit_entries.specs.Documents.{value_stretch}
 use Rattle.edit_entries.specs.Edits as edits
 use Rattle.edit_entries.specs.Placed.{IsPlaced}
-use Rattle.edit_format.specs.Cuts.{IsPieceCut}
+use Rattle.edit_entries.specs.Cuts.{IsPieceCut}
 use Rattle.edit_strings.specs.Exchanged.{Exchange}
 use Rattle.edit_strings.specs.Expanded.{definition_index, definition_references, Index, WritesOut, elements, elements_at, expansion, piece_index}
 use Rattle.edit_strings.specs.declared.editing.Edit.{Edit}

@@ -4,7 +4,7 @@ ghost use Rattle.std.specs.Prelude.{◌≡◌, ◌++◌, [], codes, cond, OnOk, 
 ghost use Rattle.std.specs.List.{AllByRecursion};
 ghost use Rattle.std.specs.String.{string_bytes};
 ghost use Rattle.bib_syntax.specs.Views.{piece_of};
-ghost use Rattle.edit_format.specs.Cuts.{IsPieceCut};
+ghost use Rattle.edit_entries.specs.Cuts.{IsPieceCut};
 ghost use Rattle.edit_format.specs.Delimited.{delimited, piece_as_written};
 ghost use Rattle.edit_format.specs.declared.style.Delimiters.TheVariants.{Keep};
 ghost use Rattle.edit_strings.specs.Expanded as spec;

@@ -5,7 +5,7 @@ ghost use Rattle.std.specs.List.{AllByRecursion};
 ghost use Rattle.std.specs.String.{string_bytes};
 ghost use Rattle.bib_collections.specs.Graph.{HasNoCycle};
 ghost use Rattle.bib_syntax.specs.Views.{entry_reading_of, field_of};
-ghost use Rattle.edit_format.specs.Cuts.{IsPieceCut};
+ghost use Rattle.edit_entries.specs.Cuts.{IsPieceCut};
 ghost use Rattle.edit_strings.specs.Exchanged.{entry_edits, field_edits, value_edits};
 ghost use Rattle.edit_strings.specs.Expanded.{ExpandIsRefused, IsExpandError, IsExpanded, definition_graph, definition_index};
 ghost use Rattle.edit_strings.specs.Tables.{AreAllFieldsCut, AreUsedWritten, IsBelow, IsFieldCut, edit_as_written, expansion_by, index_in, lists_of};

@@ -8,7 +8,7 @@ use Rattle.edit_entries.specs.Documents.{Document}
 use Rattle.edit_entries.specs.Edits.{edited_all}
 use Rattle.edit_entries.specs.Placed.{IsPlaced}
 use Rattle.edit_entries.specs.Stretches.{AreEditsInOrder}
-use Rattle.edit_strings.proofs.ExpandFacts.{all_placed}
+use Rattle.edit_entries.proofs.AllFacts.{all_placed}
 use Rattle.edit_convert.specs.Conversions.{defines_month, edits_of_file}
 use Rattle.edit_convert.specs.Tables.{edit_in_bytes}
 use Rattle.edit_convert.proofs.ConvertedFacts.{converted_answer, file_edits_in_order}

@@ -1,7 +1,8 @@
 use Rattle.std.proofs.Common.{◌++◌, map, ap, ◌∙◌}
 use Rattle.bib_syntax.specs.Reading.{EntryReading}
 use Rattle.bib_syntax.specs.Views.{entry_reading_of, field_of}
-use Rattle.edit_convert.specs.Conversions.{divides_date, free_names, joined_date, other_names, part_edits}
+use Rattle.edit_convert.specs.Conversions.{divides_date, free_names, joined_date, other_names}
+use Rattle.edit_entries.specs.Changes.{part_edits}
 use Rattle.edit_convert.specs.Tables.{edit_in_bytes}
 use Rattle.edit_convert.proofs.EntryEditFacts.{entry_edited}
 use Rattle.edit_convert.proofs.converting.push_entry_edits.Goals as goal

@@ -1,6 +1,6 @@
 use Rattle.std.proofs.Common.{◌≡◌, drop, map}
 use Rattle.bib_syntax.specs.Views.{entry_reading_of, field_of}
-use Rattle.edit_format.specs.Cuts.{AreGapsCut}
+use Rattle.edit_entries.specs.Cuts.{AreGapsCut}
 use Rattle.edit_format.specs.Formatted.{has_comment, has_percent_between}
 use Rattle.edit_format.proofs.comments.has_comment.Given as goal
 

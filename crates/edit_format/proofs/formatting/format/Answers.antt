@@ -4,10 +4,10 @@ use Rattle.std.specs.String.{string_bytes}
 use Rattle.bib_syntax.specs.Grammar.{IsRawReading}
 use Rattle.bib_syntax.specs.Reading.{EntryReading, FileReading}
 use Rattle.bib_syntax.specs.Views.{entry_reading_of}
-use Rattle.edit_format.specs.Cuts.{AreEntriesCut}
+use Rattle.edit_entries.specs.Cuts.{AreEntriesCut}
 use Rattle.edit_format.specs.Formatted.{IsReadAlike, line_end_of, rest_in_style, says_in_order, text_in_style}
 use Rattle.edit_format.specs.declared.style.Style.{Style}
-use Rattle.edit_format.proofs.CutFacts.{document_cut}
+use Rattle.edit_entries.proofs.CutFacts.{document_cut}
 use Rattle.edit_format.proofs.FileFacts.{text_read}
 use Rattle.edit_format.proofs.formatting.format.Goals as goal
 

@@ -1,7 +1,7 @@
 use Rattle.std.proofs.Common.{◌≡◌, ◌++◌, None, drop, map}
 use Rattle.std.specs.String.{string_bytes}
 use Rattle.bib_syntax.specs.Views.{entry_reading_of}
-use Rattle.edit_format.specs.Cuts.{AreEntriesCut}
+use Rattle.edit_entries.specs.Cuts.{AreEntriesCut}
 use Rattle.edit_format.specs.Formatted as styled
 use Rattle.edit_format.proofs.formatting.with_entries.Given as goal
 

@@ -2,7 +2,7 @@ use Rattle.std.proofs.Common.{◌≡◌, ◌++◌, drop, map}
 use Rattle.std.specs.List.{AllByRecursion, flat_map}
 use Rattle.std.specs.String.{string_bytes}
 use Rattle.bib_syntax.specs.Views.{field_of}
-use Rattle.edit_format.specs.Cuts.{ArePiecesCut}
+use Rattle.edit_entries.specs.Cuts.{ArePiecesCut}
 use Rattle.edit_format.specs.Formatted.{field_laid_out}
 use Rattle.edit_format.specs.Unlisted.{name_texts, unlisted}
 use Rattle.edit_format.proofs.order.push_unlisted.Given as goal

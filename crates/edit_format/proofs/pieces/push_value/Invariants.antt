@@ -2,7 +2,7 @@ use Rattle.std.proofs.Common.{◌≡◌, ◌++◌, codes, cond, drop, map}
 use Rattle.std.specs.List.{AllByRecursion}
 use Rattle.std.specs.String.{string_bytes}
 use Rattle.bib_syntax.specs.Views.{piece_of}
-use Rattle.edit_format.specs.Cuts.{IsPieceCut}
+use Rattle.edit_entries.specs.Cuts.{IsPieceCut}
 use Rattle.edit_format.specs.Delimited.{piece_as_written}
 use Rattle.edit_format.specs.Formatted.{value_laid_out}
 use Rattle.edit_format.proofs.pieces.push_value.Given as goal

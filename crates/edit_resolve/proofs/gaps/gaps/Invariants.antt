@@ -1,5 +1,5 @@
 use Rattle.std.proofs.Common.{◌≡◌, ◌++◌, drop, map}
-use Rattle.edit_format.specs.Cuts.{AreEntriesCut}
+use Rattle.edit_entries.specs.Cuts.{AreEntriesCut}
 use Rattle.edit_resolve.specs.Resolutions.{round_entries}
 use Rattle.edit_strings.specs.Collecting.{lent_texts}
 use Rattle.bib_syntax.specs.Views.{entry_reading_of}

@@ -1,6 +1,6 @@
 use Rattle.std.proofs.Common.{◌≡◌, map, sym, ap, ◌∙◌, subst}
-use Rattle.edit_format.specs.Cuts.{AreEntriesCut}
-use Rattle.edit_format.proofs.CutFacts.{document_cut}
+use Rattle.edit_entries.specs.Cuts.{AreEntriesCut}
+use Rattle.edit_entries.proofs.CutFacts.{document_cut}
 use Rattle.bib_syntax.specs.Views.{entry_reading_of}
 use Rattle.edit_resolve.proofs.gaps.gaps_of.Goals as goal
 

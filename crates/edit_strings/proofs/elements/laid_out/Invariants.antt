@@ -1,7 +1,7 @@
 use Rattle.std.proofs.Common.{◌≡◌, ◌++◌, [], codes, cond, drop, map}
 use Rattle.std.specs.List.{AllByRecursion}
 use Rattle.std.specs.String.{string_bytes}
-use Rattle.edit_format.specs.Cuts.{IsPieceCut}
+use Rattle.edit_entries.specs.Cuts.{IsPieceCut}
 use Rattle.edit_format.specs.Delimited.{piece_as_written}
 use Rattle.edit_format.specs.Formatted.{value_laid_out}
 use Rattle.edit_format.specs.declared.style.Delimiters.TheVariants.{Keep}

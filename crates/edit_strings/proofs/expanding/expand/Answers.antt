@@ -7,7 +7,7 @@ use Rattle.bib_syntax.specs.Views.{entry_reading_of, field_of}
 use Rattle.edit_entries.specs.Documents.{Document}
 use Rattle.edit_entries.specs.Edits.{edited_all}
 use Rattle.edit_entries.specs.Stretches.{AreEditsInOrder}
-use Rattle.edit_format.specs.Cuts.{IsPieceCut}
+use Rattle.edit_entries.specs.Cuts.{IsPieceCut}
 use Rattle.edit_strings.specs.Expanded.{definition_graph, definition_index}
 use Rattle.edit_strings.specs.Tables.{AreUsedWritten, AreAllFieldsCut, edit_as_written, index_in, lists_of}
 use Rattle.edit_strings.proofs.ExpandFacts.{edits_are, entries_cut, expanded, in_order, index_is, lists_cut}

@@ -1,7 +1,7 @@
 use Rattle.std.proofs.Common.{◌≡◌, map, sym, ap, ◌∙◌, subst}
 use Rattle.std.specs.List.{AllByRecursion}
 use Rattle.bib_syntax.specs.Views.{field_of, piece_of}
-use Rattle.edit_format.specs.Cuts.{IsPieceCut}
+use Rattle.edit_entries.specs.Cuts.{IsPieceCut}
 use Rattle.edit_strings.specs.Expanded.{elements}
 use Rattle.edit_strings.specs.Tables.{index_in, lists_of, lent_pieces, written_by}
 use Rattle.edit_strings.proofs.WrittenFacts.{written_by_all}

@@ -12,7 +12,7 @@ use Rattle.bib_text.proofs.PlaceFacts.{ahead_char, ahead_run, ahead_then}
 use Rattle.bib_syntax.specs.Reading.{Part, EntryReading, FieldReading, FileReading}
 use Rattle.bib_syntax.specs.Grammar.{BlockKind, block_kind}
 use Rattle.bib_syntax.proofs.FieldFacts.{ahead_elements}
-use Rattle.edit_entries.specs.Edits.{Edit, edited, edited_all, moved_place, moved_part, moved_field, moved_entry, moved_file}
+use Rattle.edit_entries.specs.Edits.{Edit, edited, edited_all, moved_place, moved_part, moved_field, moved_entry, moved_file, placeless}
 use Rattle.edit_entries.specs.Documents.{CanBeName, Document, IsDocument, entry_edited, field_edit, field_limit}
 use Rattle.edit_entries.proofs.AgreementFacts.{Agrees, AgreesIn, agrees_before, edited_agrees, get_set_other, get_set_same, moved_agrees}
 use Rattle.edit_entries.proofs.EditFacts.{moved_after, moved_before}
@@ -20,10 +20,9 @@ use Rattle.edit_entries.proofs.MovedFacts.{exchanged}
 use Rattle.edit_entries.proofs.RenamedFacts.{key_placed}
 use Rattle.edit_entries.proofs.SplitFacts.{split_fields, split_file}
 use Rattle.edit_entries.proofs.UnsetFacts.{ends_before, field_removed_read, fields_placed, limit_past}
-use Rattle.edit_strings.specs.Exchanged.{placeless}
-use Rattle.edit_strings.proofs.ExchangedFacts.{file_placeless}
-use Rattle.edit_convert.proofs.KindFacts.{IsWithin, kind_exchanged_read, kind_stretch, with_kind}
-use Rattle.edit_convert.proofs.PutFacts.{Begins, fields_put, put_at, put_is}
+use Rattle.edit_entries.proofs.PlacelessFacts.{file_placeless}
+use Rattle.edit_entries.proofs.KindFacts.{IsWithin, kind_exchanged_read, kind_stretch, with_kind}
+use Rattle.edit_entries.proofs.PutFacts.{Begins, fields_put, put_at, put_is}
 use Rattle.bib_text.proofs.ListFacts.{get_here}
 
 -- ---- what is known where the edits from a place on are made
@@ -322,12 +321,12 @@ field_span d k e j f read here there =
 
 -- an entry with other fields in the place of one agrees with what it was up to that field
 put_agrees : (d : Document) (edit : Edit) (k : ℕ) (e entry : EntryReading) (j : ℕ) (f : FieldReading)
-    (news : List FieldReading) → IsDocument d → edit.start < edit.end → edit.start ≡ f.name.start
+    (news : List FieldReading) → IsDocument d → edit.start < edit.end → edit.start < f.value.end
     → slice_get d.says.entries k ≡ Some e → slice_get e.fields j ≡ Some f → AgreesIn edit.start e entry
     → AgreesIn edit.start e
     (record (moved_entry (moved_place edit) entry)
     { fields = put_at j news (map (moved_field (moved_place edit)) entry.fields) })
-put_agrees d edit k e entry j f news read some start here there a =
+put_agrees d edit k e entry j f news read some inside here there a =
     let moved = moved_agrees d edit k e entry read some here a in
     record {
       key = moved.key;
@@ -348,7 +347,7 @@ put_agrees d edit k e entry j f news read some start here there a =
                     omega (
                       arith,
                       below,
-                      start,
+                      inside,
                       span.0,
                       span.1,
                       span.2,
@@ -361,7 +360,7 @@ put_agrees d edit k e entry j f news read some start here there a =
                     let same : i ≡ j = omega arith in
                     let is : Some x ≡ Some f = sym found ∙ ap (slice_get e.fields) same ∙ there in
                     let x_is : x ≡ f = cc in
-                    omega (arith, below, start, span.0, span.1, span.2, ap (λ y. y.value.end) x_is))
+                    omega (arith, below, inside, ap (λ y. y.value.end) x_is))
               ]
         ]
 
@@ -386,7 +385,8 @@ none_put (x ∷ xs) (suc j) = ap (λ l. x ∷ l) (none_put xs j)
 
 -- an edit of a field puts other fields in its place, wherever the field stands in a document that agrees with this one up to its end
 pub record IsPut (d : Document) (f : FieldReading) (edit : Edit) (news : List FieldReading) : Type 0 where
-  pub start : edit.start ≡ f.name.start
+  pub start : f.name.start ≤ edit.start
+  pub inside : edit.start < f.value.end
   pub read : (at k : ℕ) (after : Document) (entry : EntryReading) (j : ℕ) → f.value.end ≤ at → Agrees at d after
       → IsDocument after → slice_get after.says.entries k ≡ Some entry → slice_get entry.fields j ≡ Some f
       → (made : List FieldReading) × (map (moved_field (λ n. 0)) made ≡ map (moved_field (λ n. 0)) news)
@@ -397,7 +397,7 @@ field_stepped : (d : Document) (edits : List Edit) (before others : List EntryRe
     (fb now fs : List FieldReading) (f g : FieldReading) (edit : Edit) (news given : List FieldReading)
     → IsDocument d → slice_get d.says.entries (length before) ≡ Some e
     → slice_get e.fields (length fb) ≡ Some f → p.fields ≡ fb ++ f ∷ now
-    → (made : Made d edits (before ++ p ∷ others) f.value.end) → edit.start ≡ f.name.start
+    → (made : Made d edits (before ++ p ∷ others) f.value.end) → f.name.start ≤ edit.start → edit.start < f.value.end
     → slice_get made.after.says.entries (length before) ≡ Some entry
     → map (moved_field (λ n. 0)) given ≡ map (moved_field (λ n. 0)) news → IsWithin edit made.after.text
     → IsDocument (fields_put made.after edit (length before) entry (length fb) given)
@@ -405,22 +405,22 @@ field_stepped : (d : Document) (edits : List Edit) (before others : List EntryRe
     → g.name.start ≡ f.name.start
     → MadeFrom d (edit ∷ edits) (before ++ (record p { fields = fb ++ (news ++ now) }) ∷ others) f.name.start
     (length before) (length fb) (f ∷ fs)
-field_stepped d edits before others e p entry fb now fs f g edit news given read here there fields made start found
-    alike within step first begins =
+field_stepped d edits before others e p entry fb now fs f g edit news given read here there fields made start inside
+    found alike within step first begins =
     let k : ℕ = length before in
     let j : ℕ = length fb in
     let move = moved_place edit in
     let span = field_span d k e j f read here there in
     let some = within.some in
-    let earlier = agrees_before f.value.end edit.start d made.after (omega (arith, start, span.0, span.1, span.2)) made.agrees in
+    let earlier = agrees_before f.value.end edit.start d made.after (omega (arith, inside)) made.agrees in
     let in_entry = earlier.entries k e here in
     let entries_same : Some in_entry.0 ≡ Some entry = sym in_entry.1 ∙ found in
     let entry_is : in_entry.0 ≡ entry = cc in
-    let agrees = put_agrees d edit k e entry j f given read some start here there (subst (AgreesIn edit.start e) entry_is in_entry.2) in
+    let agrees = put_agrees d edit k e entry j f given read some inside here there (subst (AgreesIn edit.start e) entry_is in_entry.2) in
     let entry' : EntryReading = record (moved_entry move entry) { fields = put_at j given (map (moved_field move) entry.fields) } in
     let placed = edited_agrees d made.after edit k e entry' read earlier some within.within here agrees in
     let kept = λ (below : e.kind.end ≤ edit.start).
-    let kind = made.kinds k e here (omega (arith, start, span.0, span.1, span.2)) in
+    let kind = made.kinds k e here (omega (arith, below, inside)) in
     let kinds_same : Some kind.0 ≡ Some entry = sym kind.1 ∙ found in
     let kind_is : kind.0 ≡ entry = cc in
     ap (λ x. moved_part move x.kind) (sym kind_is) ∙ ap (moved_part move) kind.2
@@ -428,7 +428,7 @@ field_stepped d edits before others e p entry fb now fs f g edit news given read
     (moved_before edit e.kind.end (omega (arith, some))) in
     let kinds =
     kinds_edited d made.after edit k e entry' read
-    (λ i x there below. made.kinds i x there (omega (arith, start, span.0, span.1, span.2))) some here kept in
+    (λ i x there below. made.kinds i x there (omega (arith, below, inside))) some here kept in
     let result : Document = fields_put made.after edit k entry j given in
     let moved_here : slice_get (map (moved_entry move) made.after.says.entries) k ≡ Some (moved_entry move entry) =
     slice_get-map (moved_entry move) made.after.says.entries k ∙ ap (option_map (moved_entry move)) found in
@@ -437,8 +437,8 @@ field_stepped d edits before others e p entry fb now fs f g edit news given read
         after = result;
         read = step;
         text = ap (edited edit) made.text;
-        agrees = subst (λ n. Agrees n d result) start placed;
-        kinds = subst (λ n. KindsAgree n d result) start kinds;
+        agrees = agrees_before edit.start f.name.start d result start placed;
+        kinds = λ i x there below. kinds i x there (omega (arith, below, start));
         alike = put_alike d made.after edit before others p made.alike entry fb now f news given found fields alike;
       };
       first = record {
@@ -471,7 +471,7 @@ field_made d edits before others e p fb now fs f edit news read here there field
     slice_get-map (moved_field (moved_place edit)) entry.fields j
     ∙ ap (option_map (moved_field (moved_place edit))) there' in
     field_stepped d edits before others e p entry fb now fs f starts.first edit news step.0 read here there fields made
-    put.start found.1 step.1 step.2 step.3
+    put.start put.inside found.1 step.1 step.2 step.3
     (ap (λ l. slice_get (put_at j l all) j) starts.are
     ∙ get_put_first all starts.first (moved_field (moved_place edit) f) starts.others j moved_there)
     starts.start
@@ -502,6 +502,7 @@ field_gone d edits before others e p fb now fs f g read here there fields from =
     let removed : ℕ → Edit → List FieldReading → Document =
     λ (n : ℕ) (x : Edit) (l : List FieldReading).
     entry_edited made.after x n (record (moved_entry (moved_place x) entry) { fields = l }) in
+    let span = field_span d k e j f read here there in
     let taken = field_removed_read made.after k entry j f made.read found.1 there' in
     let old : Edit = field_edit entry j f in
     let as_put : IsDocument (fields_put made.after old k entry j []) =
@@ -515,5 +516,5 @@ field_gone d edits before others e p fb now fs f g read here there fields from =
     slice_get-map (moved_field (moved_place edit)) entry.fields (suc j)
     ∙ ap (option_map (moved_field (moved_place edit))) next in
     field_stepped d edits before others e p entry fb now (g ∷ fs) f (moved_field (moved_place edit) stands.field) edit
-    [] [] read here there fields made refl found.1 refl (record { some = some; within = within }) step
+    [] [] read here there fields made (omega arith) (omega (arith, span.0, span.1, span.2)) found.1 refl (record { some = some; within = within }) step
     (get_put_none all j ∙ moved_next) (omega (arith, moved_after edit stands.field.name.start (omega (arith, stands.start)), stands.start))

@@ -24,9 +24,9 @@ use Rattle.edit_entries.proofs.SplitFacts.{FieldsAfter, ahead_file_before, ahead
 use Rattle.edit_entries.proofs.MovedFacts.{char_within}
 use Rattle.edit_entries.proofs.EntryFacts.{goes, field_edited_read}
 use Rattle.edit_entries.proofs.ValueFacts.{elements_opens, value_some}
-use Rattle.edit_format.proofs.ElementFacts.{Ending}
-use Rattle.edit_format.proofs.StandsFacts.{Stands}
-use Rattle.edit_strings.specs.Exchanged.{NewValue}
+use Rattle.edit_entries.proofs.ElementFacts.{Ending}
+use Rattle.edit_entries.proofs.StandsFacts.{Stands}
+use Rattle.edit_entries.specs.Changes.{NewValue}
 
 -- ---- bytes that are read as elements
 

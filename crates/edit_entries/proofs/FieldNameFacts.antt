@@ -17,9 +17,9 @@ use Rattle.edit_entries.proofs.SplitFacts.{FieldsBefore, ahead_fields_after, ahe
 use Rattle.edit_entries.proofs.MovedFacts.{char_within}
 use Rattle.edit_entries.proofs.EntryFacts.{goes}
 use Rattle.edit_entries.proofs.ValueFacts.{run_stands}
-use Rattle.edit_convert.proofs.KindFacts.{IsWithin}
-use Rattle.edit_convert.proofs.PutFacts.{NewFields, fields_put, fields_put_read}
-use Rattle.edit_convert.proofs.StandFacts.{name_stands}
+use Rattle.edit_entries.proofs.KindFacts.{IsWithin}
+use Rattle.edit_entries.proofs.PutFacts.{NewFields, fields_put, fields_put_read}
+use Rattle.edit_entries.proofs.NameStandsFacts.{name_stands}
 
 -- another name in the place of a field's
 abbrev pub name_stretch : FieldReading → List ℕ → Edit

@@ -19,8 +19,8 @@ use Rattle.bib_syntax.specs.Grammar.{File as file}
 use Rattle.bib_syntax.proofs.FieldFacts.{ahead_identifier, ahead_element, ahead_field, ahead_gap, ahead_fields}
 use Rattle.bib_syntax.proofs.FileFacts.{ahead_head}
 use Rattle.edit_entries.proofs.SplitFacts.{EntryBlock, ahead_file_before}
-use Rattle.edit_format.specs.Cuts.{AreEntriesCut, AreGapsCut, ArePiecesCut, CanBeCut, IsEntryCut, IsPieceCut}
-use Rattle.edit_format.proofs.SplitFacts.{ByEntries, by_entries}
+use Rattle.edit_entries.specs.Cuts.{AreEntriesCut, AreGapsCut, ArePiecesCut, CanBeCut, IsEntryCut, IsPieceCut}
+use Rattle.edit_entries.proofs.ByEntriesFacts.{ByEntries, by_entries}
 use Rattle.bib_text.proofs.BoundaryFacts.{char_boundary}
 
 -- ---- a character stands where a rule begins that another character ends

@@ -26,17 +26,17 @@ use Rattle.edit_entries.proofs.MovedFacts.{char_within}
 use Rattle.edit_entries.proofs.SplitFacts.{FieldsBefore, ahead_fields_before, ahead_file_before, split_fields, split_file}
 use Rattle.edit_entries.proofs.ValueFacts.{elements_opens}
 use Rattle.edit_entries.proofs.ZoneFacts.{Inside, char_there, inside, run_there, stops_there, there}
-use Rattle.edit_format.proofs.ElementFacts.{Ending}
-use Rattle.edit_format.proofs.StandsFacts.{Stands, ascii, first_part, last_part, past}
-use Rattle.edit_strings.specs.Tables.{IsTrimmed}
-use Rattle.edit_strings.proofs.NewValueFacts.{CanBeRead, after_ending}
-use Rattle.edit_strings.proofs.StandingFacts.{element_stands}
-use Rattle.edit_convert.specs.Conversions.{field_stretch}
-use Rattle.edit_convert.specs.Dates.{NewField, field_reading, new_field_text, more_field_texts}
-use Rattle.edit_convert.proofs.KindFacts.{IsWithin}
-use Rattle.edit_convert.proofs.MadeFacts.{IsPut}
-use Rattle.edit_convert.proofs.PutFacts.{Begins, NewFields, fields_put, fields_put_read, new_opens}
-use Rattle.edit_convert.proofs.StandFacts.{name_stands}
+use Rattle.edit_entries.proofs.ElementFacts.{Ending}
+use Rattle.edit_entries.proofs.StandsFacts.{Stands, ascii, first_part, last_part, past}
+use Rattle.edit_entries.specs.Changes.{IsTrimmed}
+use Rattle.edit_entries.proofs.NewValueFacts.{CanBeRead, after_ending}
+use Rattle.edit_entries.proofs.ElementStandsFacts.{element_stands}
+use Rattle.edit_entries.specs.Changes.{field_stretch}
+use Rattle.edit_entries.specs.Changes.{NewField, field_reading, new_field_text, more_field_texts}
+use Rattle.edit_entries.proofs.KindFacts.{IsWithin}
+use Rattle.edit_entries.proofs.MadeFacts.{IsPut}
+use Rattle.edit_entries.proofs.PutFacts.{Begins, NewFields, fields_put, fields_put_read, new_opens}
+use Rattle.edit_entries.proofs.NameStandsFacts.{name_stands}
 
 -- ---- one of them
 
@@ -267,5 +267,5 @@ module _ (d : Document) (f : FieldReading) (n : NewField) (ns : List NewField) (
         x.begins,
       )
 
-  pub divided_put : IsPut d f edit (map field_reading (n ∷ ns))
-  divided_put = record { start = refl; read = divided_read }
+  pub divided_put : f.value.start < f.value.end → IsPut d f edit (map field_reading (n ∷ ns))
+  divided_put some = record { start = omega arith; inside = omega (arith, ordered, some); read = divided_read }

@@ -1,7 +1,7 @@
 -- Where the names of types and the fields of a file stand: one after another, and where each may be cut out.
 use Rattle.std.proofs.Common.{inl, inr, ◌≡◌, ℕ, ◌+◌, Bool, true, false, cond, length, ◌<◌, ◌≤◌, List, [], ◌∷◌, ◌++◌, sym, ap, ◌∙◌, subst, arith, append_assoc, Option, Some, None}
-use Rattle.std.specs.Str.{IsCharBoundary, trim_end}
-use Rattle.std.specs.List.{AllByRecursion, list_any}
+use Rattle.std.specs.Str.{IsCharBoundary}
+use Rattle.std.specs.List.{AllByRecursion}
 use Rattle.std.proofs.lemmas.Str.{len_utf8_bounds}
 use Rattle.std.specs.Char.{is_whitespace}
 use Rattle.bib_text.specs.Places.{Place, place, CharAt, Run}
@@ -11,17 +11,14 @@ use Rattle.bib_syntax.specs.Reading.{FieldReading, EntryReading, FileReading, Pa
 use Rattle.bib_syntax.specs.Grammar.{Field, Fields, File, Identifier, longest}
 use Rattle.bib_syntax.specs.Grammar.{Fields as fields}
 use Rattle.bib_syntax.specs.Grammar.{File as file}
-use Rattle.bib_syntax.proofs.FieldFacts.{ahead_elements, ahead_field, ahead_gap, ahead_identifier}
+use Rattle.bib_syntax.proofs.FieldFacts.{ahead_field, ahead_gap, ahead_identifier}
 use Rattle.bib_syntax.proofs.FileFacts.{ahead_block, ahead_head, ahead_line_comment}
-use Rattle.edit_entries.specs.Documents.{value_stretch}
 use Rattle.edit_entries.specs.Edits.{Edit}
 use Rattle.edit_entries.specs.Stretches.{AreEditsInOrder}
 use Rattle.edit_entries.proofs.SplitFacts.{EntryBlock, entry_block, one_entry}
-use Rattle.edit_entries.proofs.ValueFacts.{run_stands}
-use Rattle.edit_strings.proofs.TrimmedFacts.{IsFieldPlaced}
-use Rattle.edit_convert.specs.Conversions.{FieldChange, date_field, field_change, edits_of_field, edits_of_fields, edits_of_file, field_stretch, going_out, is_date_part, new_type, part_edits, written_sides}
-use Rattle.edit_convert.specs.Dates.{new_field_text}
-use Rattle.bib_tables.specs.declared.dialects.Dialect.{Dialect}
+use Rattle.edit_entries.proofs.ValueFacts.{elements_opens, run_stands}
+use Rattle.edit_entries.specs.Changes.{EntryChange, FieldChange, edits_of_entries, edits_of_field, edits_of_fields, field_stretch, going_out, more_field_texts, new_field_text, part_edits, value_end}
+use Rattle.edit_entries.proofs.TrimmedFacts.{IsFieldPlaced, edits_earlier}
 use Rattle.bib_text.proofs.BoundaryFacts.{run_boundary, char_boundary}
 
 -- a part that isn't empty, and where it may be cut out
@@ -34,7 +31,7 @@ pub record IsCut (text : List ℕ) (p : Part) : Type 0 where
 pub record IsIn (text : List ℕ) (f : FieldReading) : Type 0 where
   pub name : IsCut text f.name
   pub ordered : f.name.end ≤ f.value.start
-  pub value : f.value.start ≤ f.value.end
+  pub value : f.value.start < f.value.end
 
 -- fields, from a place up to another
 abbrev pub AreFieldsIn : List ℕ → ℕ → List FieldReading → ℕ → Type 0
@@ -79,12 +76,13 @@ name_cut text {u} {v} {w} {x} {p} same i white char =
 field_in : (text : List ℕ) {u v : Place} {f : FieldReading} → u.text ≡ text → Field longest u f v
     → (u.at ≤ f.name.start) × IsIn text f × (f.value.end ≤ v.at)
 field_in text same field =
-    let to_value = ahead_then (ahead_run field.white.run) (ahead_then (ahead_char field.sign) (ahead_run field.white'.run)) in (
+    let to_value = ahead_then (ahead_run field.white.run) (ahead_then (ahead_char field.sign) (ahead_run field.white'.run)) in
+    let opens = elements_opens field.elements in (
       omega (arith, ap (λ p. p.start) field.name.reading),
       record {
         name = name_cut text same field.name field.white.run field.sign;
         ordered = omega (arith, ap (λ p. p.end) field.name.reading, to_value.at, field.starts);
-        value = omega (arith, field.starts, (ahead_elements field.elements).at, field.ends);
+        value = omega (arith, field.starts, opens.ahead.at, opens.here.next, (len_utf8_bounds opens.char).0, field.ends);
       },
       omega (arith, field.ends),
     )
@@ -141,11 +139,6 @@ file_in text {u} same (file.block {v = v} {first = first} {rest = rest} b x) =
 
 -- ---- the edits stand one after another
 
-edits_earlier : (text : List ℕ) (at less : ℕ) (edits : List Edit) → less ≤ at → AreEditsInOrder text at edits
-    → AreEditsInOrder text less edits
-edits_earlier text at less [] small order = tt
-edits_earlier text at less (edit ∷ edits) small order = (omega (arith, order.0), order.1, order.2, order.3, order.4)
-
 part_in_order : (text : List ℕ) (at : ℕ) (p : Part) (new : Option (List ℕ)) (more : List Edit) → at ≤ p.start
     → IsCut text p → AreEditsInOrder text p.end more → AreEditsInOrder text at (part_edits p new ++ more)
 part_in_order text at p None more before cut order = edits_earlier text p.end at more (omega (arith, cut.some)) order
@@ -161,39 +154,27 @@ first_in : (text : List ℕ) (at end : ℕ) (fs : List FieldReading) → AreFiel
 first_in text at end [] order = (omega arith, order)
 first_in text at end (f ∷ fs) order = (order.0, (omega arith, order.1, order.2))
 
-stretch_in_order : (text : List ℕ) (at : ℕ) (f : FieldReading) (bytes : List ℕ) (more : List Edit) → at ≤ f.name.start
-    → IsIn text f → IsFieldPlaced text f → AreEditsInOrder text f.value.end more
-    → AreEditsInOrder text at (field_stretch text f bytes ∷ more)
-stretch_in_order text at f bytes more before is placed order =
-    let end : ℕ = f.value.start + length (trim_end (value_stretch text f)) in (
+-- an edit that ends where a value does, but for white space
+stretch_in_order : (text : List ℕ) (at start : ℕ) (f : FieldReading) (bytes : List ℕ) (more : List Edit) → at ≤ start
+    → start ≤ f.value.start → IsCharBoundary text start → IsFieldPlaced text f → AreEditsInOrder text f.value.end more
+    → AreEditsInOrder text at ((record { start = start; end = value_end text f; bytes = bytes }) ∷ more)
+stretch_in_order text at start f bytes more before ordered cut placed order =
+    let end : ℕ = value_end text f in (
       before,
-      omega (arith, is.name.some, is.ordered),
-      is.name.start,
+      omega arith,
+      cut,
       run_boundary {u = place text end} {v = place text f.value.end} placed.trimmed placed.placed.end,
       edits_earlier text f.value.end end more (ahead_run placed.trimmed).at order,
     )
 
-joined_in_order : (text : List ℕ) (at end : ℕ) (f : FieldReading) (fs : List FieldReading) (bytes : List ℕ)
-    (another : Bool) (more : List Edit) → at ≤ f.name.start → IsIn text f → IsFieldPlaced text f
-    → AreFieldsIn text f.value.end fs end → AreEditsInOrder text (first_place f.value.end fs) more
-    → AreEditsInOrder text at (cond another (going_out f fs) (field_stretch text f bytes ∷ []) ++ more)
-joined_in_order text at end f [] bytes true more before is placed fields order =
-    edits_earlier text f.value.end at more (omega (arith, is.name.some, is.ordered, is.value)) order
-joined_in_order text at end f (g ∷ gs) bytes true more before is placed fields order =
-    (before, omega (arith, is.name.some, is.ordered, is.value, fields.0), is.name.start, fields.1.name.start, order)
-joined_in_order text at end f fs bytes false more before is placed fields order =
-    stretch_in_order text at f bytes more before is placed
-    (edits_earlier text (first_place f.value.end fs) f.value.end more (first_in text f.value.end end fs fields).0
-    order)
-
-field_in_order : (text : List ℕ) (at end : ℕ) (f : FieldReading) (fs : List FieldReading) (change : Option FieldChange)
+field_in_order : (text : List ℕ) (at end : ℕ) (f : FieldReading) (fs : List FieldReading) (change : FieldChange)
     (more : List Edit) → at ≤ f.name.start → IsIn text f → IsFieldPlaced text f
     → AreFieldsIn text f.value.end fs end → AreEditsInOrder text (first_place f.value.end fs) more
     → AreEditsInOrder text at (edits_of_field text f fs change ++ more)
-field_in_order text at end f fs None more before is placed fields order =
+field_in_order text at end f fs FieldChange.stays more before is placed fields order =
     edits_earlier text (first_place f.value.end fs) at more
     (omega (arith, is.name.some, is.ordered, is.value, (first_in text f.value.end end fs fields).0)) order
-field_in_order text at end f fs (Some (FieldChange.renamed name)) more before is placed fields order = (
+field_in_order text at end f fs (FieldChange.renamed name) more before is placed fields order = (
   before,
   omega (arith, is.name.some),
   is.name.start,
@@ -201,33 +182,49 @@ field_in_order text at end f fs (Some (FieldChange.renamed name)) more before is
   edits_earlier text (first_place f.value.end fs) f.name.end more
       (omega (arith, is.ordered, is.value, (first_in text f.value.end end fs fields).0)) order,
 )
-field_in_order text at end f fs (Some (FieldChange.divided sides)) more before is placed fields order =
-    stretch_in_order text at f (written_sides sides) more before is placed
+field_in_order text at end f fs (FieldChange.valued new) more before is placed fields order =
+    stretch_in_order text at f.value.start f new.bytes more (omega (arith, is.name.some, is.ordered)) (omega arith)
+    placed.placed.start placed
     (edits_earlier text (first_place f.value.end fs) f.value.end more (first_in text f.value.end end fs fields).0
     order)
-field_in_order text at end f fs (Some (FieldChange.joined date)) more before is placed fields order =
-    joined_in_order text at end f fs (new_field_text (date_field date)) (list_any is_date_part fs) more before is placed fields order
+field_in_order text at end f fs (FieldChange.replaced n ns) more before is placed fields order =
+    stretch_in_order text at f.name.start f (new_field_text n ++ more_field_texts ns) more before
+    (omega (arith, is.name.some, is.ordered)) is.name.start placed
+    (edits_earlier text (first_place f.value.end fs) f.value.end more (first_in text f.value.end end fs fields).0
+    order)
+field_in_order text at end f [] FieldChange.gone more before is placed fields order =
+    edits_earlier text f.value.end at more (omega (arith, is.name.some, is.ordered, is.value)) order
+field_in_order text at end f (g ∷ gs) FieldChange.gone more before is placed fields order =
+    (before, omega (arith, is.name.some, is.ordered, is.value, fields.0), is.name.start, fields.1.name.start, order)
 
-fields_in_order : (change : FieldReading → Option FieldChange) (text : List ℕ) (at end : ℕ) (fs : List FieldReading)
+fields_in_order : (text : List ℕ) (at end : ℕ) (fs : List FieldReading) (changes : List FieldChange)
     (more : List Edit) → AreFieldsIn text at fs end → AllByRecursion (IsFieldPlaced text) fs
     → AreEditsInOrder text end more
-    → AreEditsInOrder text at (edits_of_fields change text fs ++ more)
-fields_in_order change text at end [] more order all rest = edits_earlier text end at more order rest
-fields_in_order change text at end (f ∷ fs) more order all rest =
-    let others : List Edit = edits_of_fields change text fs in
-    subst (AreEditsInOrder text at) (sym (append_assoc (edits_of_field text f fs (change f)) others more))
-    (field_in_order text at end f fs (change f) (others ++ more) order.0 order.1 all.0 order.2
-    (fields_in_order change text (first_place f.value.end fs) end fs more
+    → AreEditsInOrder text at (edits_of_fields text fs changes ++ more)
+fields_in_order text at end [] changes more order all rest = edits_earlier text end at more order rest
+fields_in_order text at end (f ∷ fs) [] more order all rest =
+    edits_earlier text end at more (omega (arith, span text at end (f ∷ fs) order)) rest
+  where
+    span : (text : List ℕ) (at end : ℕ) (fs : List FieldReading) → AreFieldsIn text at fs end → at ≤ end
+    span text at end [] order = order
+    span text at end (f ∷ fs) order =
+        omega (arith, order.0, order.1.name.some, order.1.ordered, order.1.value, span text f.value.end end fs order.2)
+fields_in_order text at end (f ∷ fs) (change ∷ changes) more order all rest =
+    let others : List Edit = edits_of_fields text fs changes in
+    subst (AreEditsInOrder text at) (sym (append_assoc (edits_of_field text f fs change) others more))
+    (field_in_order text at end f fs change (others ++ more) order.0 order.1 all.0 order.2
+    (fields_in_order text (first_place f.value.end fs) end fs changes more
     (first_in text f.value.end end fs order.2).1 all.1 rest))
 
-pub edits_in_order : (dialect : Dialect) (defines : Bool) (text : List ℕ) (at : ℕ) (es : List EntryReading)
+pub edits_in_order : (changes : EntryReading → EntryChange) (text : List ℕ) (at : ℕ) (es : List EntryReading)
     → AreEntriesIn text at es → AllByRecursion (λ e. AllByRecursion (IsFieldPlaced text) e.fields) es
-    → AreEditsInOrder text at (edits_of_file dialect defines text es)
-edits_in_order dialect defines text at [] order all = tt
-edits_in_order dialect defines text at (e ∷ es) order all =
-    let fields : List Edit = edits_of_fields (field_change dialect defines text e) text e.fields in
-    let more : List Edit = edits_of_file dialect defines text es in
-    subst (AreEditsInOrder text at) (sym (append_assoc (part_edits e.kind (new_type dialect e)) fields more))
-    (part_in_order text at e.kind (new_type dialect e) (fields ++ more) order.1 order.2
-    (fields_in_order (field_change dialect defines text e) text e.kind.end order.0 e.fields more order.3 all.0
-    (edits_in_order dialect defines text order.0 es order.4 all.1)))
+    → AreEditsInOrder text at (edits_of_entries changes text es)
+edits_in_order changes text at [] order all = tt
+edits_in_order changes text at (e ∷ es) order all =
+    let change : EntryChange = changes e in
+    let fields : List Edit = edits_of_fields text e.fields change.fields in
+    let more : List Edit = edits_of_entries changes text es in
+    subst (AreEditsInOrder text at) (sym (append_assoc (part_edits e.kind change.kind) fields more))
+    (part_in_order text at e.kind change.kind (fields ++ more) order.1 order.2
+    (fields_in_order text e.kind.end order.0 e.fields change.fields more order.3 all.0
+    (edits_in_order changes text order.0 es order.4 all.1)))

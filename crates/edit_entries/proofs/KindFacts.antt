@@ -16,7 +16,7 @@ use Rattle.edit_entries.proofs.SplitFacts.{EntryBlock, ahead_file_before, block_
 use Rattle.edit_entries.proofs.MovedFacts.{char_within}
 use Rattle.edit_entries.proofs.EntryFacts.{entry_edited_read, goes}
 use Rattle.edit_entries.proofs.ValueFacts.{run_stands}
-use Rattle.edit_convert.proofs.StandFacts.{name_stands}
+use Rattle.edit_entries.proofs.NameStandsFacts.{name_stands}
 
 -- another name in the place of that of an entry's type
 abbrev pub kind_stretch : EntryReading → List ℕ → Edit

@@ -18,7 +18,7 @@ use Rattle.edit_entries.specs.Edits.{moved_part}
 use Rattle.edit_entries.proofs.ZoneFacts.{Frame, Zone, Inside, there, inside_between, char_there, run_there, longest_there, part_there}
 use Rattle.edit_entries.proofs.GrammarFacts.{below_char}
 use Rattle.edit_entries.proofs.MovedFacts.{char_within}
-use Rattle.edit_format.proofs.StandsFacts.{Stands, between_stands, joined, stands_between, stands_char}
+use Rattle.edit_entries.proofs.StandsFacts.{Stands, between_stands, joined, stands_between, stands_char}
 
 -- ---- what may stand after an element
 
