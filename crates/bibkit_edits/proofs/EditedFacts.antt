@@ -54,10 +54,10 @@ order_made order d new is read = record {
 -- a text with its abbreviations replaced by their texts is an outcome of `Expand`
 pub expansion_made : (d : Document) (new : List ℕ) → IsExpanded d new → IsEdited (IsWrittenOut d) new
 expansion_made d new made = record {
-  document = record { text = new; says = made.read.tells };
+  document = record { text = new; says = made.changed.read.tells };
   outcome = made;
   is = refl;
-  read = made.read.read;
+  read = made.changed.read.read;
 }
 
 -- a text with abbreviations for repeated texts is an outcome of `Collect`

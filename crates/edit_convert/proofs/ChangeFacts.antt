@@ -6,7 +6,7 @@ use Rattle.bib_syntax.specs.Reading.{EntryReading, FieldReading}
 use Rattle.edit_entries.specs.Documents.{CanBeName, has_name}
 use Rattle.bib_tables.specs.declared.dialects.Dialect.{Dialect}
 use Rattle.edit_strings.specs.Collected.{single_text}
-use Rattle.edit_convert.specs.Conversions.{FieldChange, change_of, date_field, divides_date, exchanged_date, field_change, is_date_part, joined_among, joined_date, new_field_name, value_sides}
+use Rattle.edit_convert.specs.Conversions.{Exchanged, date_field, divides_date, exchanged_date, exchanged_field, exchanged_for, is_date_part, joined_among, joined_date, new_field_name, value_sides}
 use Rattle.edit_convert.specs.Dates.{Sides, from_names, more_fields, to_fields, side_year}
 use Rattle.edit_convert.proofs.DateFacts.{AreKnown, date_known, sides_put}
 use Rattle.edit_entries.proofs.NewFieldFacts.{CanBePut}
@@ -14,13 +14,13 @@ use Rattle.edit_convert.proofs.JoinedFacts.{joined_put}
 use Rattle.edit_convert.proofs.NewNameFacts.{name_known}
 
 -- a name can be one, and fields can be put in
-abbrev pub CanBeMade : Option FieldChange → Type 0
+abbrev pub CanBeMade : Option Exchanged → Type 0
 CanBeMade None = Unit {0}
-CanBeMade (Some (FieldChange.renamed name)) = CanBeName name
-CanBeMade (Some (FieldChange.divided sides)) =
+CanBeMade (Some (Exchanged.renamed name)) = CanBeName name
+CanBeMade (Some (Exchanged.divided sides)) =
     CanBePut (side_year from_names sides.from)
     × AllByRecursion CanBePut (more_fields from_names sides.from ++ to_fields sides.to)
-CanBeMade (Some (FieldChange.joined date)) = CanBePut (date_field date)
+CanBeMade (Some (Exchanged.joined date)) = CanBePut (date_field date)
 
 value_known : (text : Option (List ℕ)) (sides : Sides) → value_sides text ≡ Some sides → AreKnown sides
 value_known None sides is = absurd (cc)
@@ -41,14 +41,14 @@ among_known true joined date is = is
 
 made_case : (date name : Option (List ℕ)) (sides : Option Sides)
     → ((t : List ℕ) → date ≡ Some t → CanBePut (date_field t)) → ((n : List ℕ) → name ≡ Some n → CanBeName n)
-    → ((s : Sides) → sides ≡ Some s → AreKnown s) → CanBeMade (change_of date name sides)
+    → ((s : Sides) → sides ≡ Some s → AreKnown s) → CanBeMade (exchanged_for date name sides)
 made_case (Some date) name sides joined names dates = joined date refl
 made_case None (Some name) sides joined names dates = names name refl
 made_case None None (Some sides) joined names dates = sides_put sides (dates sides refl)
 made_case None None None joined names dates = tt
 
 pub change_known : (dialect : Dialect) (defines : Bool) (text : List ℕ) (e : EntryReading) (f : FieldReading)
-    → CanBeMade (field_change dialect defines text e f)
+    → CanBeMade (exchanged_field dialect defines text e f)
 change_known dialect defines text e f =
     let joined : Option (List ℕ) = joined_date dialect defines text e.fields in
     made_case (joined_among joined f) (new_field_name dialect e f) (exchanged_date dialect e f)

@@ -6,9 +6,8 @@ use Rattle.std.specs.List.{AllByRecursion, list_all, slice_split}
 use Rattle.std.proofs.lemmas.Bool.{and_from, and_parts}
 use Rattle.std.proofs.lemmas.Bool.Decides.{nat_tests}
 use Rattle.std.proofs.lemmas.List.{drop-drop, drop_at, take_all, take_at}
-use Rattle.bib_text.specs.Braces.{Parts}
+use Rattle.bib_text.specs.Braces.{Parts, is_plain}
 use Rattle.bib_text.specs.Braces.{Parts as parts}
-use Rattle.bib_text.specs.Braces.{is_plain}
 use Rattle.bib_text.specs.Enums.{value_named}
 use Rattle.bib_text.specs.Places.{place, between}
 use Rattle.bib_syntax.specs.Reading.{Part}

@@ -8,9 +8,9 @@ use Rattle.edit_entries.specs.Edits.{Edit}
 use Rattle.bib_tables.specs.declared.dialects.Dialect.{Dialect}
 use Rattle.bib_tables.specs.EntryType.{entry_type_of}
 use Rattle.bib_tables.specs.declared.mechanics.EntryType.{EntryType}
-use Rattle.edit_convert.specs.Conversions.{change_of, date_among, divides_date, edits_of_entry, edits_of_fields, free_names, joined_among, joined_date, other_name, other_names, other_type}
-use Rattle.edit_entries.specs.Changes.{part_edits}
-use Rattle.edit_convert.specs.Tables.{change_edits, lent_names}
+use Rattle.edit_convert.specs.Conversions.{date_among, divides_date, exchanged_for, field_changes, free_names, joined_among, joined_date, other_name, other_names, other_type}
+use Rattle.edit_entries.specs.Changes.{edits_of_fields, part_edits}
+use Rattle.edit_convert.specs.Tables.{change_edits, conversion_edits, lent_names}
 use Rattle.edit_convert.specs.declared.changes.Changes.{Changes}
 
 pub entry_edited : {A E : Type 0} (r : Result A E) (old mid new : List Edit) (dialect : Dialect) (defines : Bool)
@@ -20,7 +20,7 @@ pub entry_edited : {A E : Type 0} (r : Result A E) (old mid new : List Edit) (di
     → changes.divides ≡ divides_date dialect e.fields
     → option_map string_bytes changes.joined ≡ joined_date dialect defines text e.fields
     → mid ≡ old ++ part_edits e.kind (other_type dialect kind) → OnOk r (new ≡ mid ++ change_edits changes text fields)
-    → OnOk r (new ≡ old ++ edits_of_entry dialect defines text e)
+    → OnOk r (new ≡ old ++ conversion_edits dialect defines text e)
 entry_edited (Err x) old mid new dialect defines text e kind changes fields kind_is fields_are names_are divides_is
     joined_is mid_is new_is =
     _
@@ -28,8 +28,9 @@ entry_edited (Ok x) old mid new dialect defines text e kind changes fields kind_
     let type_edits : EntryType → List Edit = λ (k : EntryType). part_edits e.kind (other_type dialect k) in
     let edits : Option (List ℕ) → List (List ℕ × List ℕ) → Bool → List Edit =
     λ (date : Option (List ℕ)) (names : List (List ℕ × List ℕ)) (divides : Bool).
-    edits_of_fields (λ f. change_of (joined_among date f) (other_name names f.name.text) (date_among divides f))
-    text e.fields in
+    edits_of_fields text e.fields
+    (field_changes (λ f. exchanged_for (joined_among date f) (other_name names f.name.text) (date_among divides f))
+    e.fields) in
     let date : Option (List ℕ) = joined_date dialect defines text e.fields in
     new_is ∙ ap (λ fs. mid ++ change_edits changes text fs) fields_are ∙ ap (λ m. m ++ change_edits changes text e.fields) mid_is
     ∙ append_assoc old (type_edits kind) (change_edits changes text e.fields)

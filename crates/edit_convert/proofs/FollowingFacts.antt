@@ -4,24 +4,30 @@ use Rattle.std.specs.Prelude.{◌&&◌}
 use Rattle.std.proofs.lemmas.List.{drop_more}
 use Rattle.bib_syntax.specs.Reading.{FieldReading}
 use Rattle.edit_entries.specs.Edits.{Edit}
-use Rattle.edit_convert.specs.Conversions.{FieldChange, can_all_go_out, can_go_out, edits_of_field, edits_of_fields}
+use Rattle.edit_entries.specs.Changes.{edits_of_field, edits_of_fields}
+use Rattle.edit_convert.specs.Conversions.{Exchanged, can_all_go_out, can_go_out, field_change, field_changes}
+
+-- the edits of some fields, given what takes the place of each
+abbrev edits_from : (FieldReading → Option Exchanged) → List ℕ → List FieldReading → List Edit
+edits_from exchanged text fields = edits_of_fields text fields (field_changes exchanged fields)
 
 module _ {A : Type 0} (view : A → FieldReading) (xs : List A) (i : ℕ) (x : A) (within : i < length xs) (is : x ≡ get_or xs i x) where
   left : map view (drop i xs) ≡ view x ∷ map view (drop (i + 1) xs)
   left = ap (map view) (drop_more xs i x within ∙ ap (λ y. y ∷ drop (i + 1) xs) (sym is))
 
   -- the edits of one more were added
-  pub edits_step : (change : FieldReading → Option FieldChange) (text : List ℕ) (following : List A)
+  pub edits_step : (exchanged : FieldReading → Option Exchanged) (text : List ℕ) (following : List A)
       (old new all : List Edit) → following ≡ drop (i + 1) xs
-      → new ≡ old ++ edits_of_field text (view x) (map view following) (change (view x))
-      → old ++ edits_of_fields change text (map view (drop i xs)) ≡ all
-      → new ++ edits_of_fields change text (map view (drop (i + 1) xs)) ≡ all
-  edits_step change text following old new all are added so_far =
+      → new ≡ old ++ edits_of_field text (view x) (map view following) (field_change (map view following) (exchanged (view x)))
+      → old ++ edits_from exchanged text (map view (drop i xs)) ≡ all
+      → new ++ edits_from exchanged text (map view (drop (i + 1) xs)) ≡ all
+  edits_step exchanged text following old new all are added so_far =
       let rest : List FieldReading = map view (drop (i + 1) xs) in
-      let here : List A → List Edit = λ (l : List A). edits_of_field text (view x) (map view l) (change (view x)) in
-      ap (λ l. l ++ edits_of_fields change text rest) (added ∙ ap (λ l. old ++ here l) are)
-      ∙ append_assoc old (here (drop (i + 1) xs)) (edits_of_fields change text rest)
-      ∙ ap (λ l. old ++ edits_of_fields change text l) (sym left) ∙ so_far
+      let here : List A → List Edit =
+      λ (l : List A). edits_of_field text (view x) (map view l) (field_change (map view l) (exchanged (view x))) in
+      ap (λ l. l ++ edits_from exchanged text rest) (added ∙ ap (λ l. old ++ here l) are)
+      ∙ append_assoc old (here (drop (i + 1) xs)) (edits_from exchanged text rest)
+      ∙ ap (λ l. old ++ edits_from exchanged text l) (sym left) ∙ so_far
 
   -- one more can go out, or can't
   pub goes_step : (text : List ℕ) (following : List A) (can all : Bool) → following ≡ drop (i + 1) xs

@@ -8,8 +8,7 @@ use Rattle.edit_entries.specs.Documents.{CanBeName}
 use Rattle.bib_tables.specs.EntryType.{entry_type_name, entry_type_of}
 use Rattle.bib_tables.specs.declared.mechanics.EntryType.{EntryType}
 use Rattle.bib_tables.specs.declared.mechanics.EntryType.TheVariants.{Article, Book, Booklet, InBook, InCollection, InProceedings, Manual, MastersThesis, PhdThesis, Misc, Proceedings, TechReport, Unpublished, MvBook, BookInBook, SuppBook, Periodical, SuppPeriodical, Collection, MvCollection, SuppCollection, Reference, MvReference, InReference, MvProceedings, Report, Patent, Thesis, Online, Software, Dataset, Set, XData, Unknown}
-use Rattle.bib_tables.specs.Dialects.{kind_in}
-use Rattle.bib_tables.specs.Dialects.{biblatex_names, names_in}
+use Rattle.bib_tables.specs.Dialects.{kind_in, biblatex_names, names_in}
 use Rattle.bib_tables.specs.declared.dialects.Dialect.{Dialect}
 use Rattle.bib_tables.specs.declared.dialects.Dialect.TheVariants.{Biblatex, Bibtex}
 use Rattle.edit_strings.specs.Collecting.{is_plain_name}

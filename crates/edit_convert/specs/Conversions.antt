@@ -1,23 +1,19 @@
 -- Meaning: words of public contracts.
 -- A file with the types of entries and the fields that BibLaTeX has, or BibTeX. Values stay as they stand.
 use Rattle.std.specs.Prelude.{◌≡◌, ◌+◌, ◌==◌, ◌&&◌, ℕ, Bool, true, false, not, ◌||◌, if◌then◌else◌, List, [], ◌∷◌, ◌++◌, codes, filter, length, map, nat_lt, bytes_eq, Option, Some, None}
-use Rattle.std.specs.Str.{trim_end}
 use Rattle.std.specs.List.{find, flat_map, list_any}
 use Rattle.bib_syntax.specs.Grammar.{is_word}
 use Rattle.bib_syntax.specs.Reading.{Part, FieldReading, EntryReading, FileReading}
 use Rattle.bib_tables.specs.EntryType.{entry_type_name, entry_type_of}
 use Rattle.bib_tables.specs.declared.mechanics.EntryType.{EntryType}
 use Rattle.bib_tables.specs.declared.mechanics.EntryType.TheVariants.{Unknown}
-use Rattle.bib_tables.specs.Dialects.{kind_in}
-use Rattle.bib_tables.specs.Dialects.{biblatex_names, names_in}
+use Rattle.bib_tables.specs.Dialects.{kind_in, biblatex_names, names_in}
 use Rattle.bib_tables.specs.declared.dialects.Dialect.{Dialect}
 use Rattle.bib_tables.specs.declared.dialects.Dialect.TheVariants.{Biblatex, Bibtex}
-use Rattle.edit_entries.specs.Documents.{Document, has_name, value_stretch}
-use Rattle.edit_entries.specs.Edits.{Edit, edited_all}
+use Rattle.edit_entries.specs.Documents.{Document, has_name}
 use Rattle.edit_format.specs.Formatted.{has_percent}
 use Rattle.edit_strings.specs.Collected.{single_text}
-use Rattle.edit_entries.specs.Changes.{IsReadPlaceless}
-use Rattle.edit_entries.specs.Changes.{NewField, field_reading, new_field_text, more_field_texts}
+use Rattle.edit_entries.specs.Changes.{EntryChange, FieldChange, IsChanged, NewField}
 use Rattle.edit_convert.specs.Dates.{Sides, braced_field, date_sides, from_names, more_fields, part_names, to_fields, side_year}
 use Rattle.edit_convert.specs.Joined.{is_month_name, joined_text, month_value}
 
@@ -162,111 +158,55 @@ defines_month abbreviations = list_any (λ f. is_month_name f.name.text) abbrevi
 abbrev pub joined_among : Option (List ℕ) → FieldReading → Option (List ℕ)
 joined_among joined f = if is_date_part f then joined else None
 
--- what a field gives way to: another name, fields of a date's parts, or with the other parts one date
-pub data FieldChange : Type 0 where
-  renamed : List ℕ → FieldChange
-  divided : Sides → FieldChange
-  joined : List ℕ → FieldChange
+-- what takes the place of a field: the field with another name, fields of a date's parts, or with the other parts one date
+pub data Exchanged : Type 0 where
+  renamed : List ℕ → Exchanged
+  divided : Sides → Exchanged
+  joined : List ℕ → Exchanged
 
--- the change to a date, or else to another name, or else to the parts of a date, if there is one
-abbrev pub change_of : Option (List ℕ) → Option (List ℕ) → Option Sides → Option FieldChange
-change_of (Some date) name sides = Some (FieldChange.joined date)
-change_of None (Some name) sides = Some (FieldChange.renamed name)
-change_of None None (Some sides) = Some (FieldChange.divided sides)
-change_of None None None = None
+-- a date, or else another name, or else the parts of a date, if there is one of them
+abbrev pub exchanged_for : Option (List ℕ) → Option (List ℕ) → Option Sides → Option Exchanged
+exchanged_for (Some date) name sides = Some (Exchanged.joined date)
+exchanged_for None (Some name) sides = Some (Exchanged.renamed name)
+exchanged_for None None (Some sides) = Some (Exchanged.divided sides)
+exchanged_for None None None = None
 
--- what an entry's field gives way to, if it does, in a text that defines an abbreviation of a month or doesn't
-abbrev pub field_change : Dialect → Bool → List ℕ → EntryReading → FieldReading → Option FieldChange
-field_change dialect defines text e f =
-    change_of (joined_among (joined_date dialect defines text e.fields) f) (new_field_name dialect e f)
+-- what takes the place of an entry's field, if anything does, in a text that defines an abbreviation of a month or doesn't
+abbrev pub exchanged_field : Dialect → Bool → List ℕ → EntryReading → FieldReading → Option Exchanged
+exchanged_field dialect defines text e f =
+    exchanged_for (joined_among (joined_date dialect defines text e.fields) f) (new_field_name dialect e f)
     (exchanged_date dialect e f)
-
--- the edit of a part of a text that gives way to another text, if it does
-abbrev pub part_edits : Part → Option (List ℕ) → List Edit
-part_edits p None = []
-part_edits p (Some new) = record { start = p.start; end = p.end; bytes = new } ∷ []
-
--- the fields of a date's parts as they are written
-abbrev pub written_sides : Sides → List ℕ
-written_sides sides =
-    new_field_text (side_year from_names sides.from)
-    ++ more_field_texts (more_fields from_names sides.from ++ to_fields sides.to)
-
--- the edit of a field up to the white space after its value
-abbrev pub field_stretch : List ℕ → FieldReading → List ℕ → Edit
-field_stretch text f bytes = record { start = f.name.start; end = f.value.start + length (trim_end (value_stretch text f)); bytes = bytes }
-
--- the edit that takes a field out, up to the field after it
-abbrev pub going_out : FieldReading → List FieldReading → List Edit
-going_out f [] = []
-going_out f (g ∷ gs) = record { start = f.name.start; end = g.name.start; bytes = [] } ∷ []
 
 -- the field of a date
 abbrev pub date_field : List ℕ → NewField
 date_field date = braced_field (codes "date") date
 
--- the edit of a field that gives way, if it does: of its name, or of all of it; the last part of a date gives way to the date, and
--- the parts before it go out
-abbrev pub edits_of_field : List ℕ → FieldReading → List FieldReading → Option FieldChange → List Edit
-edits_of_field text f following None = []
-edits_of_field text f following (Some (FieldChange.renamed name)) = record { start = f.name.start; end = f.name.end; bytes = name } ∷ []
-edits_of_field text f following (Some (FieldChange.divided sides)) = field_stretch text f (written_sides sides) ∷ []
-edits_of_field text f following (Some (FieldChange.joined date)) =
-    if list_any is_date_part following then going_out f following
-    else field_stretch text f (new_field_text (date_field date)) ∷ []
+-- what becomes of a field before others, given what takes its place: the last part of a date gives way to the date, and the parts
+-- before it go out
+abbrev pub field_change : List FieldReading → Option Exchanged → FieldChange
+field_change following None = FieldChange.stays
+field_change following (Some (Exchanged.renamed name)) = FieldChange.renamed name
+field_change following (Some (Exchanged.divided sides)) =
+    FieldChange.replaced (side_year from_names sides.from) (more_fields from_names sides.from ++ to_fields sides.to)
+field_change following (Some (Exchanged.joined date)) =
+    if list_any is_date_part following then FieldChange.gone else FieldChange.replaced (date_field date) []
 
--- the edits of some fields one after another, by what each gives way to
-abbrev pub edits_of_fields : (FieldReading → Option FieldChange) → List ℕ → List FieldReading → List Edit
-edits_of_fields change text [] = []
-edits_of_fields change text (f ∷ fs) = edits_of_field text f fs (change f) ++ edits_of_fields change text fs
+-- what becomes of some fields one after another, given what takes the place of each
+abbrev pub field_changes : (FieldReading → Option Exchanged) → List FieldReading → List FieldChange
+field_changes exchanged [] = []
+field_changes exchanged (f ∷ fs) = field_change fs (exchanged f) ∷ field_changes exchanged fs
 
--- the edits of an entry: of the name of its type, and of its fields
-abbrev pub edits_of_entry : Dialect → Bool → List ℕ → EntryReading → List Edit
-edits_of_entry dialect defines text e =
-    part_edits e.kind (new_type dialect e) ++ edits_of_fields (field_change dialect defines text e) text e.fields
+-- what becomes of an entry for a dialect, in a text that defines an abbreviation of a month or doesn't
+abbrev pub conversion : Dialect → Bool → List ℕ → EntryReading → EntryChange
+conversion dialect defines text e = record {
+  kind = new_type dialect e;
+  fields = field_changes (exchanged_field dialect defines text e) e.fields;
+}
 
--- the edits of some entries
-abbrev pub edits_of_file : Dialect → Bool → List ℕ → List EntryReading → List Edit
-edits_of_file dialect defines text entries = flat_map (edits_of_entry dialect defines text) entries
-
--- a document's text with the types and the fields that a dialect has
-abbrev pub text_converted : Dialect → Document → List ℕ
-text_converted dialect d = edited_all (edits_of_file dialect (defines_month d.says.abbreviations) d.text d.says.entries) d.text
-
--- a part with another text, if it gives way to one
-abbrev pub with_other_text : Part → Option (List ℕ) → Part
-with_other_text p None = p
-with_other_text p (Some new) = record p { text = new }
-
--- what stands in the place of a field before others
-abbrev pub field_converted : FieldReading → List FieldReading → Option FieldChange → List FieldReading
-field_converted f following None = f ∷ []
-field_converted f following (Some (FieldChange.renamed name)) = (record f { name = record f.name { text = name } }) ∷ []
-field_converted f following (Some (FieldChange.divided sides)) =
-    field_reading (side_year from_names sides.from)
-    ∷ map field_reading (more_fields from_names sides.from ++ to_fields sides.to)
-field_converted f following (Some (FieldChange.joined date)) =
-    if list_any is_date_part following then [] else field_reading (date_field date) ∷ []
-
--- what stands in the place of some fields, by what each gives way to
-abbrev pub fields_converted : (FieldReading → Option FieldChange) → List FieldReading → List FieldReading
-fields_converted change [] = []
-fields_converted change (f ∷ fs) = field_converted f fs (change f) ++ fields_converted change fs
-
--- an entry with the type and the fields that a dialect has for it
-abbrev pub entry_converted : Dialect → Bool → List ℕ → EntryReading → EntryReading
-entry_converted dialect defines text e =
-    record e {
-      kind = with_other_text e.kind (new_type dialect e);
-      fields = fields_converted (field_change dialect defines text e) e.fields;
-    }
-
--- what a document says, with the types and the fields that a dialect has
-abbrev pub file_converted : Dialect → Document → FileReading
-file_converted dialect d =
-    record d.says { entries = map (entry_converted dialect (defines_month d.says.abbreviations) d.text) d.says.entries }
+-- what becomes of the entries of a document for a dialect
+abbrev pub document_conversion : Dialect → Document → EntryReading → EntryChange
+document_conversion dialect d = conversion dialect (defines_month d.says.abbreviations) d.text
 
 -- a text is a document's with the types and the fields of a dialect, and is read so
-pub record IsConverted (dialect : Dialect) (d : Document) (text : List ℕ) : Type 0 where
-  pub is : text ≡ text_converted dialect d
-  pub read : IsReadPlaceless (file_converted dialect d) text
+abbrev pub IsConverted : Dialect → Document → List ℕ → Type 0
+IsConverted dialect d text = IsChanged (document_conversion dialect d) d text

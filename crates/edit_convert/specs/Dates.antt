@@ -11,12 +11,7 @@ use Rattle.bib_dates.specs.Dates.{date_of}
 use Rattle.bib_dates.specs.Readings.{readable_value}
 use Rattle.edit_entries.specs.Documents.{in_braces, text_at}
 use Rattle.edit_strings.specs.Collected.{name_value}
-use Rattle.edit_entries.specs.Changes.{NewValue}
-
--- a field that is put in: its name, and its value
-pub record NewField : Type 0 where
-  pub name : List ℕ
-  pub value : NewValue
+use Rattle.edit_entries.specs.Changes.{NewField, more_field_texts, new_field_text}
 
 -- a field whose value is a text in braces
 abbrev pub braced_field : List ℕ → List ℕ → NewField
@@ -25,18 +20,6 @@ braced_field name text = record { name = name; value = record { bytes = in_brace
 -- a field whose value is an abbreviation
 abbrev pub bare_field : List ℕ → List ℕ → NewField
 bare_field name abbreviation = record { name = name; value = name_value abbreviation }
-
--- a field as it is written
-abbrev pub new_field_text : NewField → List ℕ
-new_field_text n = n.name ++ (codes " = " ++ n.value.bytes)
-
--- fields as they are written after another one
-abbrev pub more_field_texts : List NewField → List ℕ
-more_field_texts fields = flat_map (λ n. codes ", " ++ new_field_text n) fields
-
--- what a field that is put in is read as, but for places
-abbrev pub field_reading : NewField → FieldReading
-field_reading n = record { name = text_at 0 n.name; value = record { pieces = n.value.pieces; start = 0; end = 0 } }
 
 -- the numbers of the months, each with the abbreviation that stands for it
 abbrev pub month_abbreviations : List (List ℕ × List ℕ)
@@ -146,3 +129,9 @@ side_year names side = braced_field names.year side.year
 abbrev pub to_fields : Option Side → List NewField
 to_fields None = []
 to_fields (Some side) = side_year to_names side ∷ more_fields to_names side
+
+-- the fields of a date's parts as they are written
+abbrev pub written_sides : Sides → List ℕ
+written_sides sides =
+    new_field_text (side_year from_names sides.from)
+    ++ more_field_texts (more_fields from_names sides.from ++ to_fields sides.to)

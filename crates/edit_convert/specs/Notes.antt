@@ -8,7 +8,7 @@ use Rattle.bib_tables.specs.EntryType.{entry_type_of}
 use Rattle.bib_tables.specs.declared.dialects.Dialect.{Dialect}
 use Rattle.bib_tables.specs.declared.dialects.Dialect.TheVariants.{Biblatex, Bibtex}
 use Rattle.edit_entries.specs.Documents.{Document, has_name}
-use Rattle.edit_convert.specs.Conversions.{FieldChange, defines_month, field_change, other_name, other_names}
+use Rattle.edit_convert.specs.Conversions.{Exchanged, defines_month, exchanged_field, other_name, other_names}
 use Rattle.edit_convert.specs.declared.notes.Note.{Note}
 use Rattle.edit_convert.specs.declared.notes.NoteKind.{NoteKind}
 use Rattle.edit_convert.specs.declared.notes.NoteKind.TheVariants.{DateStays, MonthStays, NameIsThere, NotRead}
@@ -44,14 +44,14 @@ stays_note dialect (Some other) f = Some NameIsThere
 stays_note dialect None f = dialect_note dialect f
 
 -- what is to know of a field, given what it gives way to
-abbrev pub change_note : Dialect → Option FieldChange → Option (List ℕ) → FieldReading → Option NoteKind
+abbrev pub change_note : Dialect → Option Exchanged → Option (List ℕ) → FieldReading → Option NoteKind
 change_note dialect (Some change) other f = None
 change_note dialect None other f = stays_note dialect other f
 
 -- what is to know of an entry's field, in a text that defines an abbreviation of a month or doesn't
 abbrev pub field_note : Dialect → Bool → List ℕ → EntryReading → FieldReading → Option NoteKind
 field_note dialect defines text e f =
-    change_note dialect (field_change dialect defines text e f)
+    change_note dialect (exchanged_field dialect defines text e f)
     (other_name (other_names dialect (entry_type_of e.kind.text)) f.name.text) f
 
 -- what comes of each element and its index, one after another, of a list whose first element has an index

@@ -1,21 +1,18 @@
 -- Machinery: words of private contracts.
 -- Names, dates and edits, as the code has them.
-use Rattle.std.specs.Prelude.{ℕ, List, map, Option}
+use Rattle.std.specs.Prelude.{ℕ, Bool, List, map, Option}
 use Rattle.std.specs.Borrow.{Bor}
 use Rattle.std.specs.Option.{option_map}
 use Rattle.std.specs.String.{string_bytes}
-use Rattle.bib_syntax.specs.Reading.{FieldReading}
+use Rattle.bib_syntax.specs.Reading.{EntryReading, FieldReading}
 use Rattle.edit_entries.specs.Edits as edits
-use Rattle.edit_convert.specs.Conversions.{FieldChange, change_of, date_among, edits_of_fields, joined_among, other_name}
+use Rattle.bib_tables.specs.declared.dialects.Dialect.{Dialect}
+use Rattle.edit_entries.specs.Changes.{edits_of_entry, edits_of_fields}
+use Rattle.edit_convert.specs.Conversions.{Exchanged, conversion, date_among, exchanged_for, field_changes, joined_among, other_name}
 use Rattle.edit_convert.specs.Dates as dates
 use Rattle.edit_convert.specs.declared.changes.Changes.{Changes}
 use Rattle.edit_convert.specs.declared.dates.Side.{Side}
 use Rattle.edit_convert.specs.declared.dates.Sides.{Sides}
-use Rattle.edit_convert.specs.declared.editing.Edit.{Edit}
-
--- an edit, by the bytes of its text
-abbrev pub edit_in_bytes : Edit → edits.Edit
-edit_in_bytes e = record { start = e.start; end = e.end; bytes = string_bytes e.text }
 
 -- names beside others, by their bytes
 abbrev pub lent_names : List (Bor (List ℕ) × Bor (List ℕ)) → List (List ℕ × List ℕ)
@@ -33,12 +30,16 @@ side_as_written side = record { year = side.year.now; month = lent_text side.mon
 abbrev pub sides_as_written : Sides → dates.Sides
 sides_as_written sides = record { from = side_as_written sides.from; to = option_map side_as_written sides.to }
 
--- what a field gives way to, by what gives way in its entry
-abbrev pub change_by : Changes → FieldReading → Option FieldChange
-change_by changes f =
-    change_of (joined_among (option_map string_bytes changes.joined) f)
+-- what takes the place of a field, by what gives way in its entry
+abbrev pub exchanged_by : Changes → FieldReading → Option Exchanged
+exchanged_by changes f =
+    exchanged_for (joined_among (option_map string_bytes changes.joined) f)
     (other_name (lent_names changes.names.items) f.name.text) (date_among changes.divides f)
 
 -- the edits of some fields, by what gives way in their entry
 abbrev pub change_edits : Changes → List ℕ → List FieldReading → List edits.Edit
-change_edits changes text fields = edits_of_fields (change_by changes) text fields
+change_edits changes text fields = edits_of_fields text fields (field_changes (exchanged_by changes) fields)
+
+-- the edits of an entry for a dialect, in a text that defines an abbreviation of a month or doesn't
+abbrev pub conversion_edits : Dialect → Bool → List ℕ → EntryReading → List edits.Edit
+conversion_edits dialect defines text e = edits_of_entry text e (conversion dialect defines text e)

@@ -7,15 +7,17 @@ ghost use Rattle.std.specs.String.{string_bytes};
 ghost use Rattle.bib_syntax.specs.Reading.{FieldReading};
 ghost use Rattle.bib_syntax.specs.Views.{entry_reading_of, field_of, part_of};
 ghost use Rattle.edit_entries.specs.Placed.{IsPlaced};
-ghost use Rattle.edit_convert.specs.Conversions.{FieldChange, IsConverted, date_among, edits_of_entry, edits_of_field, edits_of_file};
-ghost use Rattle.edit_entries.specs.Changes.{going_out, part_edits};
+ghost use Rattle.edit_convert.specs.Conversions.{Exchanged, IsConverted, conversion, date_among, field_change};
+ghost use Rattle.edit_entries.specs.Changes.{edits_of_entries, edits_of_field, going_out, part_edits};
 ghost use Rattle.edit_convert.specs.Conversions as spec;
-ghost use Rattle.edit_convert.specs.Tables.{change_by, change_edits, edit_in_bytes, lent_text};
+ghost use Rattle.edit_entries.specs.EditList.{edit_of};
+ghost use Rattle.edit_convert.specs.Tables.{change_edits, conversion_edits, exchanged_by, lent_text};
 
 use crate::changes::{Changes, changes_of};
 use crate::dates::{written_date, written_sides};
-use crate::editing::{Edit, edited_all};
-use crate::fields::{exchanged_date, has_part, is_date_part, value_end};
+use edit_entries::editing::{Edit, edited_all};
+use edit_entries::values::value_end;
+use crate::fields::{exchanged_date, has_part, is_date_part};
 use crate::joining::defines_month;
 use crate::names::{other_name, other_type};
 use bib_syntax::raw::{Pair, RawEntry};
@@ -32,7 +34,7 @@ fn push_part_edit(
     part: &Spanned<&str>,
     other: Option<&str>,
 ) -> Result<(), AllocError>
-    ensures { OnOk result (map edit_in_bytes edits.new.items ≡ map edit_in_bytes edits.old.items ++ part_edits (part_of part.now) (lent_text other.entry)) }
+    ensures { OnOk result (map edit_of edits.new.items ≡ map edit_of edits.old.items ++ part_edits (part_of part.now) (lent_text other.entry)) }
 {
     let Some(text) = other else {
         return Ok(());
@@ -54,8 +56,8 @@ fn push_date_edit(
     field: &Pair<'_>,
 ) -> Result<(), AllocError>
     requires { IsPlaced text.now (field_of field.now) }
-    ensures { (following : List FieldReading) → OnOk result (map edit_in_bytes edits.new.items ≡ map edit_in_bytes edits.old.items ++
-        edits_of_field text.now (field_of field.now) following (spec.change_of None None (date_among divides (field_of field.now)))) }
+    ensures { (following : List FieldReading) → OnOk result (map edit_of edits.new.items ≡ map edit_of edits.old.items ++
+        edits_of_field text.now (field_of field.now) following (field_change following (spec.exchanged_for None None (date_among divides (field_of field.now))))) }
 {
     let Some(sides) = exchanged_date(alloc, divides, field)? else {
         return Ok(());
@@ -75,7 +77,7 @@ fn push_removal(
     field: &Pair<'_>,
     following: &[Pair<'_>],
 ) -> Result<(), AllocError>
-    ensures { OnOk result (map edit_in_bytes edits.new.items ≡ map edit_in_bytes edits.old.items ++ going_out (field_of field.now) (map field_of following.now)) }
+    ensures { OnOk result (map edit_of edits.new.items ≡ map edit_of edits.old.items ++ going_out (field_of field.now) (map field_of following.now)) }
 {
     let [next, ..] = following else {
         return Ok(());
@@ -98,8 +100,8 @@ fn push_joined_edit(
     following: &[Pair<'_>],
 ) -> Result<(), AllocError>
     requires { IsPlaced text.now (field_of field.now) }
-    ensures { OnOk result (map edit_in_bytes edits.new.items ≡ map edit_in_bytes edits.old.items ++
-        edits_of_field text.now (field_of field.now) (map field_of following.now) (Some (FieldChange.joined date.now))) }
+    ensures { OnOk result (map edit_of edits.new.items ≡ map edit_of edits.old.items ++
+        edits_of_field text.now (field_of field.now) (map field_of following.now) (field_change (map field_of following.now) (Some (Exchanged.joined date.now)))) }
 {
     if has_part(following) {
         return push_removal(edits, alloc, field, following);
@@ -135,8 +137,8 @@ fn push_field_edit(
     following: &[Pair<'_>],
 ) -> Result<(), AllocError>
     requires { IsPlaced text.now (field_of field.now) }
-    ensures { OnOk result (map edit_in_bytes edits.new.items ≡ map edit_in_bytes edits.old.items ++
-        edits_of_field text.now (field_of field.now) (map field_of following.now) (change_by changes.now (field_of field.now))) }
+    ensures { OnOk result (map edit_of edits.new.items ≡ map edit_of edits.old.items ++
+        edits_of_field text.now (field_of field.now) (map field_of following.now) (field_change (map field_of following.now) (exchanged_by changes.now (field_of field.now)))) }
 {
     if let Some(date) = joined_among(&changes.joined, field) {
         return push_joined_edit(edits, alloc, text, date, field, following);
@@ -156,7 +158,7 @@ fn push_field_edits(
     fields: &[Pair<'_>],
 ) -> Result<(), AllocError>
     requires { AllByRecursion (IsPlaced text.now) (map field_of fields.now) }
-    ensures { OnOk result (map edit_in_bytes edits.new.items ≡ map edit_in_bytes edits.old.items ++ change_edits changes.now text.now (map field_of fields.now)) }
+    ensures { OnOk result (map edit_of edits.new.items ≡ map edit_of edits.old.items ++ change_edits changes.now text.now (map field_of fields.now)) }
 {
     'fields: for (at, field) in fields.iter().enumerate() {
         push_field_edit(edits, alloc, text, changes, field, &fields[at + 1..])?;
@@ -174,7 +176,7 @@ fn push_entry_edits(
     entry: &Spanned<RawEntry<'_>>,
 ) -> Result<(), AllocError>
     requires { AllByRecursion (IsPlaced text.now) (entry_reading_of entry.now).fields }
-    ensures { OnOk result (map edit_in_bytes edits.new.items ≡ map edit_in_bytes edits.old.items ++ edits_of_entry dialect defines text.now (entry_reading_of entry.now)) }
+    ensures { OnOk result (map edit_of edits.new.items ≡ map edit_of edits.old.items ++ conversion_edits dialect defines text.now (entry_reading_of entry.now)) }
 {
     let kind = EntryType::new(alloc, entry.v.kind.v)?;
     push_part_edit(edits, alloc, &entry.v.kind, other_type(dialect, &kind))?;
@@ -192,7 +194,7 @@ fn edits(
     entries: &[Spanned<RawEntry<'_>>],
 ) -> Result<Vec<Edit>, AllocError>
     requires { AllByRecursion (λ e. AllByRecursion (IsPlaced text.now) e.fields) (map entry_reading_of entries.now) }
-    ensures { IfOk result (λ made. map edit_in_bytes made.items ≡ edits_of_file dialect defines text.now (map entry_reading_of entries.now)) }
+    ensures { IfOk result (λ made. map edit_of made.items ≡ edits_of_entries (conversion dialect defines text.now) text.now (map entry_reading_of entries.now)) }
 {
     let mut edits = Vec::new(alloc);
     'entries: for entry in entries {

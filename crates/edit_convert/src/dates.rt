@@ -249,7 +249,7 @@ fn push_side(out: &mut String, prefix: &str, side: &Side<'_>) -> Result<(), Allo
 
 // The fields of a date's parts as they are written.
 pub(crate) fn written_sides(alloc: Global, sides: &Sides<'_>) -> Result<String, AllocError>
-    ensures { IfOk result (λ text. string_bytes text ≡ conversions.written_sides (sides_as_written sides.now)) }
+    ensures { IfOk result (λ text. string_bytes text ≡ spec.written_sides (sides_as_written sides.now)) }
 {
     let mut out = String::new(alloc);
     push_side(&mut out, "", &sides.from)?;

@@ -1,12 +1,10 @@
 //! Fields of entries: their values, and those that are dates or parts of dates.
 
-ghost use Rattle.std.specs.Prelude.{◌≡◌, ◌+◌, IfOk, length, map};
+ghost use Rattle.std.specs.Prelude.{◌≡◌, IfOk, map};
 ghost use Rattle.std.specs.List.{find, list_any};
 ghost use Rattle.std.specs.Option.{option_map};
-ghost use Rattle.std.specs.Str.{trim_end};
 ghost use Rattle.bib_syntax.specs.Views.{field_of, piece_of};
-ghost use Rattle.edit_entries.specs.Documents.{has_name, value_stretch};
-ghost use Rattle.edit_entries.specs.Placed.{IsPlaced};
+ghost use Rattle.edit_entries.specs.Documents.{has_name};
 ghost use Rattle.edit_strings.specs.Collected as values;
 ghost use Rattle.edit_convert.specs.Conversions as spec;
 ghost use Rattle.edit_strings.specs.Collecting.{lent_texts};
@@ -18,16 +16,6 @@ use bib_syntax::raw::{Pair, RawChunk, is_word};
 use bib_tables::dialects::Dialect;
 use bib_text::spanned::Spanned;
 use std::alloc::{AllocError, Global};
-
-// Where a value ends, but for the white space after it.
-pub(crate) fn value_end(text: &str, field: &Pair<'_>) -> usize
-    requires { IsPlaced text.now (field_of field.now) }
-    ensures { result ≡ (field_of field.now).value.start + length (trim_end (value_stretch text.now (field_of field.now))) }
-{
-    let start = field.value.span.start;
-    let value = &text[start..field.value.span.end];
-    start + value.trim_end().len()
-}
 
 // The text that elements are, if they are one literal.
 pub(crate) fn single_text<'s>(pieces: &[Spanned<RawChunk<'s>>]) -> Option<&'s str>

@@ -12,7 +12,6 @@
 mod changes;
 pub mod converting;
 mod dates;
-mod editing;
 mod fields;
 mod joining;
 pub mod laws;

@@ -9,7 +9,7 @@ ghost use Rattle.edit_convert.specs.Conversions as conversions;
 ghost use Rattle.edit_convert.specs.Notes as spec;
 ghost use Rattle.edit_convert.specs.Notes.{file_notes, indexed, note_at};
 ghost use Rattle.edit_convert.specs.Rules.{rules_note};
-ghost use Rattle.edit_convert.specs.Tables.{change_by, lent_names, lent_text};
+ghost use Rattle.edit_convert.specs.Tables.{exchanged_by, lent_names, lent_text};
 
 use crate::changes::{Changes, changes_of};
 use crate::fields::{exchanged_date, is_date_part};
@@ -150,7 +150,7 @@ fn rules_of(
 
 // Whether a field gives way.
 fn gives_way(alloc: Global, changes: &Changes, field: &Pair<'_>) -> Result<bool, AllocError>
-    ensures { IfOk result (λ gives. gives ≡ is_some (change_by changes.now (field_of field.now))) }
+    ensures { IfOk result (λ gives. gives ≡ is_some (exchanged_by changes.now (field_of field.now))) }
 {
     if is_date_part(field) && changes.joined.is_some() {
         return Ok(true);

@@ -7,7 +7,8 @@ use Rattle.bib_text.proofs.PlaceFacts.{ahead_run}
 use Rattle.bib_syntax.specs.Reading.{EntryReading}
 use Rattle.edit_entries.specs.Edits.{Edit}
 use Rattle.edit_entries.specs.References.{Change, change_edit, key_change, reference_changes, renaming}
-use Rattle.edit_entries.specs.Stretches.{AreChangesInOrder, AreEditsInOrder, EndsInWhite}
+use Rattle.edit_entries.specs.EditList.{AreEditsInOrder}
+use Rattle.edit_entries.specs.Stretches.{AreChangesInOrder, EndsInWhite}
 use Rattle.edit_entries.specs.declared.errors.EditError.{EditError}
 use Rattle.edit_entries.specs.declared.errors.EditError.TheVariants.{NotInBraces, OutOfMemory}
 

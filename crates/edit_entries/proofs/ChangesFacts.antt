@@ -10,7 +10,7 @@ use Rattle.edit_entries.specs.Changes.{EntryChange, FieldChange, IsChanged, IsRe
 use Rattle.edit_entries.specs.Documents.{CanBeName, Document, IsDocument}
 use Rattle.edit_entries.specs.Edits.{Edit, moved_field, moved_piece, moved_place, placeless}
 use Rattle.edit_entries.specs.Placed.{IsPlaced}
-use Rattle.edit_entries.specs.Stretches.{AreEditsInOrder}
+use Rattle.edit_entries.specs.EditList.{AreEditsInOrder}
 use Rattle.edit_entries.proofs.AgreementFacts.{Agrees, agrees_before, agrees_self, same_run}
 use Rattle.edit_entries.proofs.AllFacts.{OfFields, all_placed, fields_weaker}
 use Rattle.edit_entries.proofs.EditFacts.{moved_before}
@@ -219,7 +219,9 @@ module _ (d : Document) (changes : EntryReading → EntryChange) (read : IsDocum
       let later : List Edit = edits_of_entries changes d.text es in
       let more = entries_made (before ++ e ∷ []) es order.0 can.1 (whole ∙ sym (append_assoc before (e ∷ []) es)) order.4 all.1 in
       let made = subst (λ xs. Made d later xs order.0) (append_assoc before (e ∷ []) others) more in
-      let fields = fields_made before es others later e [] e.fields change.fields e.kind.end order.0 can.0.fields whole refl order.3 all.0 made in
+      let fields =
+      fields_made before es others later e [] e.fields change.fields e.kind.end order.0 can.0.fields whole refl order.3
+      all.0 made in
       subst (λ es'. Made d es' (before ++ changed e ∷ others) at)
       (sym (append_assoc (part_edits e.kind change.kind) edits later))
       (kind_case before es others (edits ++ later) e now at change.kind can.0.kind whole order.1

@@ -516,5 +516,6 @@ field_gone d edits before others e p fb now fs f g read here there fields from =
     slice_get-map (moved_field (moved_place edit)) entry.fields (suc j)
     ∙ ap (option_map (moved_field (moved_place edit))) next in
     field_stepped d edits before others e p entry fb now (g ∷ fs) f (moved_field (moved_place edit) stands.field) edit
-    [] [] read here there fields made (omega arith) (omega (arith, span.0, span.1, span.2)) found.1 refl (record { some = some; within = within }) step
+    [] [] read here there fields made (omega arith) (omega (arith, span.0, span.1, span.2)) found.1 refl
+    (record { some = some; within = within }) step
     (get_put_none all j ∙ moved_next) (omega (arith, moved_after edit stands.field.name.start (omega (arith, stands.start)), stands.start))

@@ -28,11 +28,9 @@ use Rattle.edit_entries.proofs.ValueFacts.{elements_opens}
 use Rattle.edit_entries.proofs.ZoneFacts.{Inside, char_there, inside, run_there, stops_there, there}
 use Rattle.edit_entries.proofs.ElementFacts.{Ending}
 use Rattle.edit_entries.proofs.StandsFacts.{Stands, ascii, first_part, last_part, past}
-use Rattle.edit_entries.specs.Changes.{IsTrimmed}
+use Rattle.edit_entries.specs.Changes.{IsTrimmed, field_stretch, NewField, field_reading, new_field_text, more_field_texts}
 use Rattle.edit_entries.proofs.NewValueFacts.{CanBeRead, after_ending}
 use Rattle.edit_entries.proofs.ElementStandsFacts.{element_stands}
-use Rattle.edit_entries.specs.Changes.{field_stretch}
-use Rattle.edit_entries.specs.Changes.{NewField, field_reading, new_field_text, more_field_texts}
 use Rattle.edit_entries.proofs.KindFacts.{IsWithin}
 use Rattle.edit_entries.proofs.MadeFacts.{IsPut}
 use Rattle.edit_entries.proofs.PutFacts.{Begins, NewFields, fields_put, fields_put_read, new_opens}

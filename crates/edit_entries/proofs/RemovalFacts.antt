@@ -9,7 +9,8 @@ use Rattle.std.proofs.lemmas.Option.{slice_get-map}
 use Rattle.bib_syntax.specs.Reading.{FieldReading, EntryReading}
 use Rattle.edit_entries.specs.Edits.{Edit, edited, edited_all, moved_place, moved_field, moved_entry}
 use Rattle.edit_entries.specs.Documents.{Document, FieldUnset, FieldsRemoved, HasEntry, IsDocument, IsEdited, field_edit, field_limit, field_removed, has_name, positions}
-use Rattle.edit_entries.specs.Stretches.{AreEditsInOrder, removals}
+use Rattle.edit_entries.specs.EditList.{AreEditsInOrder}
+use Rattle.edit_entries.specs.Stretches.{removals}
 use Rattle.edit_entries.proofs.EditFacts.{moved_after, moved_before}
 use Rattle.edit_entries.proofs.AgreementFacts.{field_stays, get_set_same}
 use Rattle.edit_entries.proofs.ChangeListFacts.{earlier}

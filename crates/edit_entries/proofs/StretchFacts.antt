@@ -2,7 +2,7 @@
 use Rattle.std.proofs.Common.{◌≡◌, ℕ, ◌+◌, ◌-◌, ◌≤◌, List, [], ◌∷◌, ◌++◌, length, take, drop, sym, ap, ◌∙◌, arith, append_assoc}
 use Rattle.std.proofs.lemmas.List.{take_at, drop_at, drop-take, take-take, take-append-drop, length-take-le}
 use Rattle.edit_entries.specs.Edits.{Edit, edited_all}
-use Rattle.edit_entries.specs.Stretches.{AreEditsInOrder}
+use Rattle.edit_entries.specs.EditList.{AreEditsInOrder}
 
 -- the text from a place on, with edits made after it
 abbrev pub rest_edited : ℕ → List Edit → List ℕ → List ℕ

@@ -10,7 +10,7 @@ use Rattle.edit_entries.specs.Changes.{IsTrimmed}
 use Rattle.edit_entries.specs.Documents.{value_stretch}
 use Rattle.edit_entries.specs.Edits.{Edit}
 use Rattle.edit_entries.specs.Placed.{IsPlaced}
-use Rattle.edit_entries.specs.Stretches.{AreEditsInOrder}
+use Rattle.edit_entries.specs.EditList.{AreEditsInOrder}
 use Rattle.edit_entries.proofs.TrimFacts.{white_rest}
 
 -- ---- where a value's stretch ends

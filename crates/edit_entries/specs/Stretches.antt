@@ -3,25 +3,12 @@
 use Rattle.std.specs.Prelude.{◌≡◌, ℕ, suc, ◌≤◌, if◌then◌else◌, List, [], ◌∷◌, ◌++◌, slice_get, Some, ⊤}
 use Rattle.std.specs.Char.{is_whitespace}
 use Rattle.std.specs.Str.{IsCharBoundary}
-use Rattle.std.specs.String.{string_bytes}
 use Rattle.bib_text.specs.Places.{Run, place}
 use Rattle.bib_syntax.specs.Reading.{EntryReading, FieldReading}
 use Rattle.edit_entries.specs.Documents.{field_edit, has_name}
 use Rattle.edit_entries.specs.Edits as edits
 use Rattle.edit_entries.specs.Placed.{IsPlaced}
 use Rattle.edit_entries.specs.References.{Change, change_edit}
-use Rattle.edit_entries.specs.declared.editing.Edit.{Edit}
-
--- an edit, by the bytes of its text
-abbrev pub edit_of : Edit → edits.Edit
-edit_of e = record { start = e.start; end = e.end; bytes = string_bytes e.text }
-
--- edits whose stretches stand one after another in a text from a place on, each where it may be cut out
-abbrev pub AreEditsInOrder : List ℕ → ℕ → List edits.Edit → Type 0
-AreEditsInOrder text at [] = ⊤
-AreEditsInOrder text at (edit ∷ rest) =
-    (at ≤ edit.start) × (edit.start ≤ edit.end) × IsCharBoundary text edit.start × IsCharBoundary text edit.end
-    × AreEditsInOrder text edit.end rest
 
 -- where the value of each of some fields may be cut out of a text
 abbrev pub AreValuesPlaced : List ℕ → List FieldReading → Type 0

@@ -4,16 +4,19 @@ ghost use Rattle.std.specs.Prelude.{◌≡◌, ◌≤◌, IfOk, map};
 ghost use Rattle.std.specs.Str.{IsCharBoundary};
 ghost use Rattle.std.specs.String.{string_bytes};
 ghost use Rattle.edit_entries.specs.Edits as spec;
-ghost use Rattle.edit_entries.specs.Stretches.{AreEditsInOrder, edit_of};
+ghost use Rattle.edit_entries.specs.EditList.{AreEditsInOrder, edit_of};
 
 use std::alloc::{AllocError, Global};
 
-// Another text in the place of a stretch.
+/// Another text in the place of a stretch of a text.
 #[derive(Debug, Drop)]
-pub(crate) struct Edit {
-    pub(crate) start: usize,
-    pub(crate) end: usize,
-    pub(crate) text: String,
+pub struct Edit {
+    /// The byte offset where the stretch begins.
+    pub start: usize,
+    /// The byte offset where it ends.
+    pub end: usize,
+    /// The text that takes its place.
+    pub text: String,
 }
 
 // A text with other bytes in a stretch.
@@ -36,8 +39,8 @@ pub(crate) fn edited(
     Ok(new)
 }
 
-// The text with each of these edits made.
-pub(crate) fn edited_all(alloc: Global, text: &str, edits: &[Edit]) -> Result<String, AllocError>
+/// Returns the text with each of these edits made. Their stretches stand in order, and don't overlap. The only error is out of memory.
+pub fn edited_all(alloc: Global, text: &str, edits: &[Edit]) -> Result<String, AllocError>
     requires { AreEditsInOrder text.now 0 (map edit_of edits.now) }
     ensures { IfOk result (λ new. string_bytes new ≡ spec.edited_all (map edit_of edits.now) text.now) }
 {

@@ -15,7 +15,7 @@
 mod adding;
 mod braces;
 pub mod document;
-mod editing;
+pub mod editing;
 pub mod errors;
 mod joining;
 mod keys;
@@ -26,4 +26,4 @@ mod references;
 mod removing;
 mod renaming;
 mod setting;
-mod values;
+pub mod values;

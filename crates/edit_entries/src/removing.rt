@@ -11,7 +11,7 @@ ghost use Rattle.edit_entries.specs.Documents as documents;
 ghost use Rattle.edit_entries.specs.Edits as edits;
 ghost use Rattle.edit_entries.specs.Placed.{IsEntryPlaced};
 ghost use Rattle.edit_entries.specs.Stretches as stretches;
-ghost use Rattle.edit_entries.specs.Stretches.{AreEditsInOrder, edit_of};
+ghost use Rattle.edit_entries.specs.EditList.{AreEditsInOrder, edit_of};
 
 use crate::editing::{Edit, edited, edited_all};
 use bib_syntax::raw::{Pair, RawEntry, is_word};

@@ -8,7 +8,8 @@ ghost use Rattle.edit_entries.specs.Documents.{CanBeKey, value_edit};
 ghost use Rattle.edit_entries.specs.Edits as spec;
 ghost use Rattle.edit_entries.specs.Placed.{IsPlaced};
 ghost use Rattle.edit_entries.specs.References.{CanBeMade, Change, change_edit, key_change, reference_changes, renamed_value, renaming, value_change};
-ghost use Rattle.edit_entries.specs.Stretches.{AreChangesInOrder, AreEntriesPlaced, AreValuesPlaced, EndsInWhite, edit_of};
+ghost use Rattle.edit_entries.specs.EditList.{edit_of};
+ghost use Rattle.edit_entries.specs.Stretches.{AreChangesInOrder, AreEntriesPlaced, AreValuesPlaced, EndsInWhite};
 ghost use Rattle.edit_entries.specs.declared.errors.EditError.TheVariants.{NotInBraces, OutOfMemory};
 
 use crate::braces::in_braces;

@@ -5,7 +5,7 @@ use Rattle.std.specs.List.{AllByRecursion}
 use Rattle.std.specs.Str.{IsUtf8}
 use Rattle.std.proofs.lemmas.List.{take_all}
 use Rattle.bib_text.specs.Places.{place, between}
-use Rattle.bib_syntax.specs.Reading.{Part, Piece, FileReading}
+use Rattle.bib_syntax.specs.Reading.{Part, Piece, FileReading, EntryReading}
 use Rattle.bib_syntax.specs.Reading.Piece.{abbreviation}
 use Rattle.std.specs.Option.{option_map}
 use Rattle.bib_syntax.specs.Grammar.{Element, Identifier, IsRawReading, longest}
@@ -14,26 +14,19 @@ use Rattle.edit_entries.specs.Placed.{IsPlaced}
 use Rattle.edit_strings.specs.Collected.{AreNewNames, FirstOnes, AreMadeAbbreviations, IsNewName, RepeatsInBraces, collection, definition_lines, line_readings, name_value, named_text, named_texts, text_index, text_value, with_definitions}
 use Rattle.edit_strings.specs.Collected.{AreNewNames as new_names}
 use Rattle.edit_strings.specs.Collected.{FirstOnes as ones}
-use Rattle.edit_strings.specs.Exchanged.{Exchange, file_exchanged, text_exchanged}
-use Rattle.edit_entries.specs.Changes.{IsReadPlaceless, NewValue}
-use Rattle.edit_strings.proofs.ElementFacts.{IsElement, can_be_read}
-use Rattle.edit_strings.proofs.ExchangedFacts.{CanBeExchanged, exchanged_read}
+use Rattle.edit_strings.specs.Exchanged.{Exchange, exchanges}
+use Rattle.edit_entries.specs.Changes.{file_changed, text_changed, IsReadPlaceless, NewValue}
+use Rattle.edit_strings.proofs.ElementFacts.{IsElement, can_be_read, IsValue, file_stands, is_cut}
+use Rattle.edit_strings.proofs.ExchangedFacts.{CanBeExchanged, exchange_in_order, exchanged_read}
 use Rattle.edit_entries.proofs.AllFacts.{all_placed, all_weaker, fields_weaker}
-use Rattle.bib_syntax.specs.Reading.{EntryReading}
 use Rattle.edit_entries.specs.Edits.{Edit}
-use Rattle.edit_entries.specs.Stretches.{AreEditsInOrder}
+use Rattle.edit_entries.specs.EditList.{AreEditsInOrder}
 use Rattle.edit_entries.specs.Cuts.{IsPieceCut}
 use Rattle.edit_strings.specs.Collecting.{collection_by}
-use Rattle.edit_strings.specs.Exchanged.{entry_edits}
+use Rattle.edit_strings.specs.Tables.{entry_edits, AreAllFieldsCut, IsBelow, IsFieldCut}
 use Rattle.edit_strings.specs.Expanded.{Index, elements}
-use Rattle.edit_strings.specs.Tables.{AreAllFieldsCut, IsBelow, IsFieldCut}
-use Rattle.edit_strings.proofs.ElementFacts.{IsValue, file_stands, is_cut}
-use Rattle.edit_strings.proofs.OrderFacts.{file_ordered}
-use Rattle.edit_entries.proofs.TrimmedFacts.{IsFieldPlaced}
-use Rattle.edit_strings.proofs.TrimmedFacts.{edits_in_order}
 use Rattle.edit_strings.proofs.LineFacts.{lines_read, with_placeless}
 use Rattle.edit_entries.proofs.NewValueFacts.{CanBeRead}
-use Rattle.edit_entries.proofs.TrimmedFacts.{trimmed_known}
 use Rattle.bib_text.proofs.ListFacts.{all_push}
 use Rattle.edit_strings.proofs.WrittenFacts.{last_below}
 
@@ -99,11 +92,7 @@ all_cut d read = fields_weaker (IsPlaced d.text) (IsValue d.text) (IsFieldCut d.
 -- the edits of values stand one after another
 pub edits_ordered : (d : Document) (exchange : Exchange) → IsDocument d → IsUtf8 d.text
     → AreEditsInOrder d.text 0 (entry_edits exchange d.text d.says.entries)
-edits_ordered d exchange read utf8 =
-    edits_in_order exchange d.text 0 d.says.entries (file_ordered read)
-    (fields_weaker (IsPlaced d.text) (IsPlaced d.text) (IsFieldPlaced d.text)
-    (λ f placed again. record { placed = placed; trimmed = trimmed_known d.text f utf8 placed }) d.says.entries
-    (all_placed d read) (all_placed d read))
+edits_ordered d exchange read utf8 = exchange_in_order d exchange read utf8
 
 -- the indices of texts are below the count of their names
 pub index_known : (index : Index) (texts : List (List ℕ)) (count : ℕ) → index ≡ text_index texts → count ≡ length texts
@@ -143,24 +132,23 @@ module _ (d : Document) (read : IsDocument d) (utf8 : IsUtf8 d.text) (fields tex
 
   pub collected_read : (least : ℕ) (text : List ℕ)
       → FirstOnes (RepeatsInBraces least (named_texts fields d.says.entries)) (named_texts fields d.says.entries) texts
-      → text ≡ definition_lines names texts ++ text_exchanged exchange d
-      → IsReadPlaceless (with_definitions (line_readings names texts) (file_exchanged exchange d.says)) text
+      → text ≡ definition_lines names texts ++ text_changed (exchanges exchange) d
+      → IsReadPlaceless (with_definitions (line_readings names texts) (file_changed (exchanges exchange) d.says)) text
   collected_read least text chosen is =
-      let exchanged = exchanged_read d exchange read
-      (fields_weaker (IsPlaced d.text) (IsPlaced d.text) (CanBeExchanged d.text exchange)
-      (λ f placed again.
-      record {
-        trimmed = trimmed_known d.text f utf8 placed;
-        can = λ value. by_text value (named_text fields f);
-      }) d.says.entries (all_placed d read) (all_placed d read)) in
-      let made : Document = record { text = text_exchanged exchange d; says = exchanged.tells } in
+      let exchanged = exchanged_read d exchange read utf8
+      (fields_weaker (IsPlaced d.text) (IsPlaced d.text) (CanBeExchanged exchange)
+      (λ f placed again value. by_text value (named_text fields f)) d.says.entries (all_placed d read) (all_placed d read)) in
+      let made : Document = record { text = text_changed (exchanges exchange) d; says = exchanged.tells } in
       let lines = lines_read names texts made (all_weaker (IsNewName d.says) CanBeName (λ n x. x.can) names (names_new d.says new))
       (all_weaker (RepeatsInBraces least (named_texts fields d.says.entries)) CanStandInBraces (λ t x. x.can) texts
       (ones_chosen (RepeatsInBraces least (named_texts fields d.says.entries)) chosen)) exchanged.read in
       record {
         tells = lines.tells;
         read = subst (λ t. IsRawReading t lines.tells) (sym is) lines.read;
-        alike = lines.alike ∙ with_placeless (line_readings names texts) exchanged.tells (file_exchanged exchange d.says) exchanged.alike;
+        alike =
+            lines.alike
+            ∙ with_placeless (line_readings names texts) exchanged.tells (file_changed (exchanges exchange) d.says)
+            exchanged.alike;
       }
 
 -- what the call that collects texts answers
@@ -168,7 +156,7 @@ pub collected_answer : {S E : Type 0} (bytes : S → List ℕ) (r : Result S E) 
     (fields texts names : List (List ℕ)) (least : ℕ) → IsDocument d → IsUtf8 d.text → length names ≡ length texts
     → AreNewNames d.says names
     → FirstOnes (RepeatsInBraces (max least 2) (named_texts fields d.says.entries)) (named_texts fields d.says.entries) texts
-    → IfOk r (λ new. bytes new ≡ definition_lines names texts ++ text_exchanged (collection fields texts names) d)
+    → IfOk r (λ new. bytes new ≡ definition_lines names texts ++ text_changed (exchanges (collection fields texts names)) d)
     → IfOk r (λ new. AreMadeAbbreviations d fields least (bytes new))
 collected_answer bytes (Err e) d fields texts names least read utf8 as_many new chosen text = _
 collected_answer bytes (Ok made) d fields texts names least read utf8 as_many new chosen text = record {

@@ -12,21 +12,19 @@ use Rattle.bib_syntax.specs.Reading.{Piece, FieldReading, EntryReading}
 use Rattle.edit_entries.specs.Documents.{Document, IsDocument}
 use Rattle.edit_entries.specs.Edits.{Edit, edited_all}
 use Rattle.edit_entries.specs.Placed.{IsPlaced}
-use Rattle.edit_entries.specs.Stretches.{AreEditsInOrder}
+use Rattle.edit_entries.specs.EditList.{AreEditsInOrder}
 use Rattle.edit_entries.proofs.ValueFacts.{field_placed}
 use Rattle.edit_entries.specs.Cuts.{IsPieceCut}
-use Rattle.edit_strings.specs.Exchanged.{Exchange, entry_edits, file_exchanged}
-use Rattle.edit_entries.specs.Changes.{IsReadPlaceless, NewValue}
+use Rattle.edit_strings.specs.Exchanged.{Exchange, exchanges}
+use Rattle.edit_entries.specs.Changes.{file_changed, text_changed, IsReadPlaceless, NewValue}
+use Rattle.edit_strings.specs.Tables.{entry_edits, AreAllFieldsCut, AreUsedWritten, IsBelow, IsFieldCut, HasMark, expansion_by, lent_pieces, lists_of, values_of, written_by}
 use Rattle.edit_strings.specs.Expanded.{Index, IsExpanded, WritesOut, definition_graph, definition_index, definition_references, elements, has_defined, laid_out}
 use Rattle.bib_collections.specs.Rows.{rows}
 use Rattle.bib_collections.proofs.Rows.{length-rows}
-use Rattle.edit_strings.specs.Tables.{AreAllFieldsCut, AreUsedWritten, IsBelow, IsFieldCut, HasMark, expansion_by, lent_pieces, lists_of, values_of, written_by}
 use Rattle.edit_strings.proofs.ElementFacts.{AreValues, IsElement, IsSome, IsValue, can_be_read, file_stands, is_cut}
-use Rattle.edit_strings.proofs.ExchangedFacts.{CanBeExchanged, exchanged_read}
+use Rattle.edit_strings.proofs.ExchangedFacts.{CanBeExchanged, edits_are_changes, exchange_in_order, exchanged_read}
+use Rattle.edit_entries.proofs.AllFacts.{all_placed, all_weaker, fields_weaker}
 use Rattle.edit_entries.proofs.NewValueFacts.{CanBeRead}
-use Rattle.edit_strings.proofs.OrderFacts.{file_ordered}
-use Rattle.edit_entries.proofs.TrimmedFacts.{IsFieldPlaced, trimmed_known}
-use Rattle.edit_strings.proofs.TrimmedFacts.{edits_in_order}
 use Rattle.edit_strings.proofs.WrittenFacts.{all_by_index, elements_all, index_below, known_written, length-graph, written_all, written_some}
 
 -- ---- what the code has
@@ -135,11 +133,7 @@ module _ (d : Document) (read : IsDocument d) (written : List (List Piece))
 
   module _ (utf8 : IsUtf8 d.text) where
     pub in_order : AreEditsInOrder d.text 0 (entry_edits exchange d.text d.says.entries)
-    in_order =
-        edits_in_order exchange d.text 0 d.says.entries (file_ordered read)
-        (fields_weaker (IsPlaced d.text) (IsPlaced d.text) (IsFieldPlaced d.text)
-        (λ f placed again. record { placed = placed; trimmed = trimmed_known d.text f utf8 placed }) d.says.entries
-        (all_placed d read) (all_placed d read))
+    in_order = exchange_in_order d exchange read utf8
 
     pub expanded : (text : List ℕ) → text ≡ edited_all (entry_edits exchange d.text d.says.entries) d.text → IsExpanded d text
     expanded text is = record {
@@ -148,13 +142,14 @@ module _ (d : Document) (read : IsDocument d) (written : List (List Piece))
           fields_weaker IsUsed IsUsed (λ f. WritesOut defined (elements f) (written_as f))
           (λ f marked again. known_written defined d.says.entries written (elements f) known marked) d.says.entries
           known.fields known.fields;
-      is = is;
-      read = subst (IsReadPlaceless (file_exchanged exchange d.says)) (sym is)
-          (exchanged_read d exchange read
-          (fields_weaker (IsFieldCut d.text) (λ f. IsValue d.text f × IsUsed f) (CanBeExchanged d.text exchange)
-          (λ f cut both.
-          record { trimmed = trimmed_known d.text f utf8 cut.placed; can = value_read f both.0 both.1 })
-          d.says.entries entries_cut
-          (fields_weaker (IsValue d.text) IsUsed (λ f. IsValue d.text f × IsUsed f) (λ f value marked. (value, marked))
-          d.says.entries values.entries known.fields)));
+      changed =
+          let whole : text ≡ text_changed (exchanges exchange) d =
+          is ∙ ap (λ es. edited_all es d.text) (edits_are_changes exchange d.text d.says.entries) in
+          record {
+            is = whole;
+            read = subst (IsReadPlaceless (file_changed (exchanges exchange) d.says)) (sym whole)
+                (exchanged_read d exchange read utf8
+                (fields_weaker (IsValue d.text) IsUsed (CanBeExchanged exchange) value_read d.says.entries values.entries
+                known.fields));
+          };
     }

@@ -6,9 +6,7 @@ pub mod LetterFacts
 pub mod LineFacts
 pub mod ListFacts
 pub mod NameFacts
-pub mod OrderFacts
 pub mod StandingFacts
 pub mod TextFacts
-pub mod TrimmedFacts
 pub mod UsedFacts
 pub mod WrittenFacts

@@ -15,14 +15,13 @@ use Rattle.bib_syntax.specs.Grammar.{Body as body}
 use Rattle.bib_syntax.specs.Grammar.{File as file}
 use Rattle.bib_syntax.proofs.LawFacts.{start_not_white}
 use Rattle.edit_entries.specs.Documents.{CanBeName, CanStandInBraces, Document, IsDocument, in_braces, joined_documents, text_at}
-use Rattle.edit_entries.specs.Edits.{moved_field}
+use Rattle.edit_entries.specs.Edits.{moved_field, placeless}
 use Rattle.edit_entries.proofs.EditFacts.{ascii_stands, piece_frame, rest_stands, text_stands, zone_piece}
 use Rattle.edit_entries.proofs.JoinedFacts.{documents_joined}
 use Rattle.edit_entries.proofs.ValueFacts.{braced_stands}
 use Rattle.edit_entries.proofs.ZoneFacts.{Inside, char_there, inside_between, run_there}
 use Rattle.edit_strings.specs.Collected.{string_line, definition_lines, line_readings, with_definitions}
 use Rattle.edit_entries.specs.Changes.{IsReadPlaceless}
-use Rattle.edit_entries.specs.Edits.{placeless}
 use Rattle.edit_entries.proofs.PlacelessFacts.{file_placeless}
 
 -- ---- the parts of a line

@@ -16,10 +16,9 @@ use Rattle.bib_tables.specs.declared.months.Month.{Month}
 use Rattle.bib_tables.specs.declared.months.Month.TheVariants.{January, February, March, April, May, June, July, August, September, October, November, December}
 use Rattle.bib_syntax.specs.Characters.{is_id_continue, is_id_start}
 use Rattle.bib_syntax.specs.Grammar.{Identifier, NoDigit, is_word, longest}
-use Rattle.bib_syntax.specs.Reading.{part}
+use Rattle.bib_syntax.specs.Reading.{part, FileReading}
 use Rattle.edit_entries.specs.Documents.{CanBeName}
 use Rattle.edit_entries.proofs.EditFacts.{ascii_stands}
-use Rattle.bib_syntax.specs.Reading.{FileReading}
 use Rattle.edit_strings.specs.Collected.{AreNewNames, is_month, is_one_in_any_case, names_of_file}
 use Rattle.edit_strings.specs.Collecting.{has_lowercase, IsBounded, IsFresh, is_plain_byte, is_plain_name, is_taken}
 use Rattle.edit_strings.specs.declared.taken.Taken.{Taken}

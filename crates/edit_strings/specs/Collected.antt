@@ -10,8 +10,8 @@ use Rattle.bib_syntax.specs.Reading.{Piece, FieldReading, EntryReading, FileRead
 use Rattle.bib_syntax.specs.Reading.Piece.{literal, abbreviation}
 use Rattle.bib_queries.specs.Needed.{is_listed}
 use Rattle.edit_entries.specs.Documents.{CanBeName, CanStandInBraces, Document, has_name, last_position, text_at}
-use Rattle.edit_strings.specs.Exchanged.{Exchange, file_exchanged, text_exchanged}
-use Rattle.edit_entries.specs.Changes.{IsReadPlaceless, NewValue}
+use Rattle.edit_strings.specs.Exchanged.{Exchange, exchanges}
+use Rattle.edit_entries.specs.Changes.{file_changed, text_changed, IsReadPlaceless, NewValue}
 use Rattle.edit_strings.specs.Expanded.{Index, elements}
 
 -- the text that elements are, if they are one literal
@@ -149,5 +149,7 @@ pub record AreMadeAbbreviations (d : Document) (fields : List (List ℕ)) (least
   pub chosen : FirstOnes (RepeatsInBraces (max least 2) (named_texts fields d.says.entries)) (named_texts fields d.says.entries) texts
   pub as_many : length names ≡ length texts
   pub are_new : AreNewNames d.says names
-  pub is : text ≡ definition_lines names texts ++ text_exchanged (collection fields texts names) d
-  pub read : IsReadPlaceless (with_definitions (line_readings names texts) (file_exchanged (collection fields texts names) d.says)) text
+  pub is : text ≡ definition_lines names texts ++ text_changed (exchanges (collection fields texts names)) d
+  pub read :
+      IsReadPlaceless (with_definitions (line_readings names texts) (file_changed (exchanges (collection fields texts names)) d.says))
+      text

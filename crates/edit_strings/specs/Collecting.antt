@@ -1,6 +1,6 @@
 -- Machinery: words of private contracts.
 -- Texts, how often they stand, and names that are taken, as the code has them.
-use Rattle.std.specs.Prelude.{◌==◌, if◌then◌else◌, encode_utf8_all, filter, take, ◌≡◌, ℕ, ◌≤◌, ◌||◌, ◌&&◌, Bool, true, false, List, [], ◌∷◌, length, map}
+use Rattle.std.specs.Prelude.{◌==◌, if◌then◌else◌, encode_utf8_all, filter, take, ◌≡◌, ℕ, ◌≤◌, ◌||◌, ◌&&◌, Bool, true, false, List, [], ◌∷◌, length, map, String}
 use Rattle.std.specs.Borrow.{Bor}
 use Rattle.std.specs.BTreeMap.{BTreeMap, get_by}
 use Rattle.std.specs.BTreeSet.{contains_text}
@@ -11,7 +11,6 @@ use Rattle.std.specs.Cmp.Lexicographic.{slice_cmp}
 use Rattle.std.specs.List.{list_all}
 use Rattle.std.specs.Option.{option_map_or}
 use Rattle.std.specs.Ordering.{nat_cmp}
-use Rattle.std.specs.Prelude.{String}
 use Rattle.std.specs.Global.{Global}
 use Rattle.std.specs.String.{string_bytes}
 use Rattle.edit_strings.specs.Collected.{is_month, named_text, text_value}

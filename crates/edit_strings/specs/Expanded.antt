@@ -9,8 +9,8 @@ use Rattle.edit_entries.specs.Documents.{Document, last_position}
 use Rattle.edit_format.specs.Delimited.{piece_as_written}
 use Rattle.edit_format.specs.Formatted.{value_laid_out}
 use Rattle.edit_format.specs.declared.style.Delimiters.TheVariants.{Keep}
-use Rattle.edit_strings.specs.Exchanged.{Exchange, file_exchanged, text_exchanged}
-use Rattle.edit_entries.specs.Changes.{IsReadPlaceless}
+use Rattle.edit_strings.specs.Exchanged.{Exchange, exchanges}
+use Rattle.edit_entries.specs.Changes.{IsChanged}
 use Rattle.edit_strings.specs.declared.errors.ExpandError.{ExpandError}
 use Rattle.edit_strings.specs.declared.errors.ExpandError.TheVariants.{Cycle, OutOfMemory}
 
@@ -74,12 +74,11 @@ AreWrittenOut says written =
 abbrev pub document_expansion : Document → (FieldReading → List Piece) → Exchange
 document_expansion d written = expansion d.text (definition_index d.says.abbreviations) written
 
--- a text is a document's with its abbreviations written out, and is read so
+-- a text is a document's with its abbreviations written out, and is read so: no other value changes
 pub record IsExpanded (d : Document) (text : List ℕ) : Type 0 where
   pub written : FieldReading → List Piece
   pub each : AreWrittenOut d.says written
-  pub is : text ≡ text_exchanged (document_expansion d written) d
-  pub read : IsReadPlaceless (file_exchanged (document_expansion d written) d.says) text
+  pub changed : IsChanged (exchanges (document_expansion d written)) d text
 
 -- an index as a list, if there is one
 abbrev pub index_list : Option ℕ → List ℕ

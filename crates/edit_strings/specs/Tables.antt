@@ -3,34 +3,35 @@
 use Rattle.std.specs.Prelude.{◌≡◌, ℕ, ◌+◌, ◌<◌, Bool, true, false, if◌then◌else◌, replicate, IfSome, List, [], ◌∷◌, fold, length, map, slice_index_or, slice_set, Option, Some, None}
 use Rattle.std.specs.Borrow.{Bor}
 use Rattle.std.specs.BTreeMap.{BTreeMap, get_by}
-use Rattle.std.specs.Char.{is_whitespace}
 use Rattle.std.specs.Cmp.Lexicographic.{slice_cmp}
 use Rattle.std.specs.Global.{Vec}
 use Rattle.std.specs.List.{All, AllByRecursion, flat_map}
 use Rattle.std.specs.Ordering.{nat_cmp}
-use Rattle.std.specs.Str.{trim_end}
 use Rattle.std.specs.String.{string_bytes}
-use Rattle.bib_text.specs.Places.{Run, place}
 use Rattle.bib_text.specs.declared.spanned.Spanned.{Spanned}
 use Rattle.bib_collections.specs.Graph.{Graph, refs_of}
 use Rattle.bib_syntax.specs.Reading.{Piece, EntryReading, FieldReading}
 use Rattle.bib_syntax.specs.Views.{piece_of}
 use Rattle.bib_syntax.specs.declared.raw.RawChunk.{RawChunk}
-use Rattle.edit_entries.specs.Documents.{value_stretch}
+use Rattle.edit_entries.specs.Changes.{NewValue, value_stretch_edit}
 use Rattle.edit_entries.specs.Edits as edits
 use Rattle.edit_entries.specs.Placed.{IsPlaced}
 use Rattle.edit_entries.specs.Cuts.{IsPieceCut}
 use Rattle.edit_strings.specs.Exchanged.{Exchange}
 use Rattle.edit_strings.specs.Expanded.{definition_index, definition_references, Index, WritesOut, elements, elements_at, expansion, piece_index}
-use Rattle.edit_strings.specs.declared.editing.Edit.{Edit}
 
--- an edit, by the bytes of its text
-abbrev pub edit_as_written : Edit → edits.Edit
-edit_as_written e = record { start = e.start; end = e.end; bytes = string_bytes e.text }
+-- the edit of a field, if its value is exchanged
+abbrev pub value_edits : List ℕ → FieldReading → Option NewValue → List edits.Edit
+value_edits text f None = []
+value_edits text f (Some new) = value_stretch_edit text f new.bytes ∷ []
 
--- a value's stretch ends where white space begins that goes on to the value's end
-abbrev pub IsTrimmed : List ℕ → FieldReading → Type 0
-IsTrimmed text f = Run is_whitespace (place text (f.value.start + length (trim_end (value_stretch text f)))) (place text f.value.end)
+-- the edit of each of some fields whose value is exchanged
+abbrev pub field_edits : Exchange → List ℕ → List FieldReading → List edits.Edit
+field_edits exchange text fields = flat_map (λ f. value_edits text f (exchange f)) fields
+
+-- the edit of each field of some entries whose value is exchanged
+abbrev pub entry_edits : Exchange → List ℕ → List EntryReading → List edits.Edit
+entry_edits exchange text entries = flat_map (λ e. field_edits exchange text e.fields) entries
 
 -- a field's value, and its elements, may be cut out of a text
 pub record IsFieldCut (text : List ℕ) (f : FieldReading) : Type 0 where

@@ -8,15 +8,17 @@ ghost use Rattle.bib_syntax.specs.Views.{entry_reading_of, field_of, file_of};
 ghost use Rattle.edit_strings.specs.Collected as spec;
 ghost use Rattle.edit_strings.specs.Collected.{AreNewNames, AreMadeAbbreviations, string_line, definition_lines, text_index};
 ghost use Rattle.edit_strings.specs.Collecting.{collection_by, lent_texts, string_texts};
-ghost use Rattle.edit_strings.specs.Exchanged.{entry_edits, field_edits, text_exchanged, value_edits};
-ghost use Rattle.edit_strings.specs.Tables.{AreAllFieldsCut, IsBelow, IsFieldCut, edit_as_written, index_in};
+ghost use Rattle.edit_strings.specs.Exchanged.{exchanges};
+ghost use Rattle.edit_entries.specs.Changes.{text_changed};
+ghost use Rattle.edit_strings.specs.Tables.{entry_edits, field_edits, value_edits, AreAllFieldsCut, IsBelow, IsFieldCut, index_in};
+ghost use Rattle.edit_entries.specs.EditList.{edit_of};
 
 use crate::collected::collected_texts;
-use crate::editing::{Edit, edited_all};
+use edit_entries::editing::{Edit, edited_all};
 use crate::naming::new_names;
 use crate::taken::Taken;
 use crate::texts::{counts, named_text, named_texts};
-use crate::values::value_end;
+use edit_entries::values::value_end;
 use bib_syntax::raw::{Pair, RawBibliography, RawEntry};
 use bib_text::spanned::Spanned;
 use edit_entries::document::RawDocument;
@@ -52,7 +54,7 @@ fn push_edit(
 ) -> Result<(), AllocError>
     requires below { IsBelow (length collection.now.names.items) (index_in collection.now.indices) }
     requires cut { IsFieldCut text.now (field_of field.now) }
-    ensures { OnOk result (map edit_as_written edits.new.items ≡ map edit_as_written edits.old.items ++
+    ensures { OnOk result (map edit_of edits.new.items ≡ map edit_of edits.old.items ++
         value_edits text.now (field_of field.now) ((collection_by (lent_texts fields.now) (index_in collection.now.indices) (string_texts collection.now.names.items)) (field_of field.now))) }
 {
     let Some(value) = named_text(fields, field) else {
@@ -80,7 +82,7 @@ fn push_edits(
 ) -> Result<(), AllocError>
     requires below { IsBelow (length collection.now.names.items) (index_in collection.now.indices) }
     requires cut { AllByRecursion (IsFieldCut text.now) (map field_of among.now) }
-    ensures { OnOk result (map edit_as_written edits.new.items ≡ map edit_as_written edits.old.items ++
+    ensures { OnOk result (map edit_of edits.new.items ≡ map edit_of edits.old.items ++
         field_edits (collection_by (lent_texts fields.now) (index_in collection.now.indices) (string_texts collection.now.names.items)) text.now (map field_of among.now)) }
 {
     'fields: for field in among {
@@ -99,7 +101,7 @@ fn edits(
 ) -> Result<Vec<Edit>, AllocError>
     requires below { IsBelow (length collection.now.names.items) (index_in collection.now.indices) }
     requires cut { AreAllFieldsCut text.now (map entry_reading_of entries.now) }
-    ensures { IfOk result (λ made. map edit_as_written made.items ≡ entry_edits (collection_by (lent_texts fields.now) (index_in collection.now.indices) (string_texts collection.now.names.items)) text.now (map entry_reading_of entries.now)) }
+    ensures { IfOk result (λ made. map edit_of made.items ≡ entry_edits (collection_by (lent_texts fields.now) (index_in collection.now.indices) (string_texts collection.now.names.items)) text.now (map entry_reading_of entries.now)) }
 {
     let mut edits = Vec::new(alloc);
     'entries: for entry in entries {
@@ -161,7 +163,7 @@ fn with_collection(
     requires index { index_in collection.now.indices ≡ text_index (lent_texts texts.now) }
     requires count { length collection.now.names.items ≡ length texts.now }
     ensures { IfOk result (λ new. string_bytes new ≡ definition_lines (string_texts collection.now.names.items) (lent_texts texts.now) ++
-        text_exchanged (spec.collection (lent_texts fields.now) (lent_texts texts.now) (string_texts collection.now.names.items)) (record { text = text.now; says = file_of raw.now })) }
+        text_changed (exchanges (spec.collection (lent_texts fields.now) (lent_texts texts.now) (string_texts collection.now.names.items))) (record { text = text.now; says = file_of raw.now })) }
 {
     let made = edits(alloc, text, fields, collection, &raw.entries)?;
     let edited = edited_all(alloc, text, &made)?;

@@ -6,16 +6,16 @@ ghost use Rattle.std.specs.String.{string_bytes};
 ghost use Rattle.bib_collections.specs.Graph.{HasNoCycle};
 ghost use Rattle.bib_syntax.specs.Views.{entry_reading_of, field_of};
 ghost use Rattle.edit_entries.specs.Cuts.{IsPieceCut};
-ghost use Rattle.edit_strings.specs.Exchanged.{entry_edits, field_edits, value_edits};
+ghost use Rattle.edit_strings.specs.Tables.{entry_edits, field_edits, value_edits, AreAllFieldsCut, AreUsedWritten, IsBelow, IsFieldCut, expansion_by, index_in, lists_of};
 ghost use Rattle.edit_strings.specs.Expanded.{ExpandIsRefused, IsExpandError, IsExpanded, definition_graph, definition_index};
-ghost use Rattle.edit_strings.specs.Tables.{AreAllFieldsCut, AreUsedWritten, IsBelow, IsFieldCut, edit_as_written, expansion_by, index_in, lists_of};
+ghost use Rattle.edit_entries.specs.EditList.{edit_of};
 
 use crate::definitions::{definition_indices, definition_values, graph, has_defined};
-use crate::editing::{Edit, edited_all};
+use edit_entries::editing::{Edit, edited_all};
 use crate::elements::laid_out;
 use crate::errors::ExpandError;
 use crate::used::used;
-use crate::values::value_end;
+use edit_entries::values::value_end;
 use crate::written::{Elements, written_by, written_in_order};
 use bib_collections::worklist::{OrderError, topological_order};
 use bib_syntax::raw::{Pair, RawEntry};
@@ -42,7 +42,7 @@ fn push_expansion<'a, 's>(
     requires below { IsBelow (length names.now.written.items) (index_in names.now.indices) }
     requires written { AllByRecursion (AllByRecursion (IsPieceCut names.now.text.now)) (lists_of names.now.written.items) }
     requires field { IsFieldCut names.now.text.now (field_of field.now) }
-    ensures { OnOk result (map edit_as_written edits.new.items ≡ map edit_as_written edits.old.items ++
+    ensures { OnOk result (map edit_of edits.new.items ≡ map edit_of edits.old.items ++
         value_edits names.now.text.now (field_of field.now) (expansion_by names.now.text.now (index_in names.now.indices) (lists_of names.now.written.items) (field_of field.now))) }
 {
     if !has_defined(&names.indices, &field.value.v) {
@@ -68,7 +68,7 @@ fn push_expansions<'a, 's>(
     requires below { IsBelow (length names.now.written.items) (index_in names.now.indices) }
     requires written { AllByRecursion (AllByRecursion (IsPieceCut names.now.text.now)) (lists_of names.now.written.items) }
     requires fields { AllByRecursion (IsFieldCut names.now.text.now) (map field_of fields.now) }
-    ensures { OnOk result (map edit_as_written edits.new.items ≡ map edit_as_written edits.old.items ++
+    ensures { OnOk result (map edit_of edits.new.items ≡ map edit_of edits.old.items ++
         field_edits (expansion_by names.now.text.now (index_in names.now.indices) (lists_of names.now.written.items)) names.now.text.now (map field_of fields.now)) }
 {
     'fields: for field in fields {
@@ -86,7 +86,7 @@ fn expansions<'a, 's>(
     requires below { IsBelow (length names.now.written.items) (index_in names.now.indices) }
     requires written { AllByRecursion (AllByRecursion (IsPieceCut names.now.text.now)) (lists_of names.now.written.items) }
     requires entries { AreAllFieldsCut names.now.text.now (map entry_reading_of entries.now) }
-    ensures { IfOk result (λ edits. map edit_as_written edits.items ≡
+    ensures { IfOk result (λ edits. map edit_of edits.items ≡
         entry_edits (expansion_by names.now.text.now (index_in names.now.indices) (lists_of names.now.written.items)) names.now.text.now (map entry_reading_of entries.now)) }
 {
     let mut edits = Vec::new(alloc);

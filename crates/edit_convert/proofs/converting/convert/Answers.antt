@@ -7,11 +7,12 @@ use Rattle.bib_syntax.specs.Views.{entry_reading_of, field_of}
 use Rattle.edit_entries.specs.Documents.{Document}
 use Rattle.edit_entries.specs.Edits.{edited_all}
 use Rattle.edit_entries.specs.Placed.{IsPlaced}
-use Rattle.edit_entries.specs.Stretches.{AreEditsInOrder}
+use Rattle.edit_entries.specs.EditList.{AreEditsInOrder, edit_of}
 use Rattle.edit_entries.proofs.AllFacts.{all_placed}
-use Rattle.edit_convert.specs.Conversions.{defines_month, edits_of_file}
-use Rattle.edit_convert.specs.Tables.{edit_in_bytes}
-use Rattle.edit_convert.proofs.ConvertedFacts.{converted_answer, file_edits_in_order}
+use Rattle.edit_entries.specs.Changes.{edits_of_entries}
+use Rattle.edit_convert.specs.Conversions.{conversion, defines_month, document_conversion}
+use Rattle.edit_entries.proofs.ChangesFacts.{changed_answer, changes_in_order}
+use Rattle.edit_convert.proofs.ConvertedFacts.{conversion_can}
 use Rattle.edit_convert.proofs.converting.convert.Goals as goal
 
 pub edits-requires : goal.edits-requires
@@ -31,19 +32,22 @@ edited_all-requires c =
     ∙ ap (λ f. defines_month f.abbreviations) c.raw-raw.ensures.says in
     let entries : map entry_reading_of c.deref-2.result.now ≡ d.says.entries =
     ap (map entry_reading_of) c.deref-2.ensures.value ∙ ap (λ f. f.entries) c.raw-raw.ensures.says in
-    let edits : map edit_in_bytes c.deref-3.result.now
-    ≡ edits_of_file c.args.dialect (defines_month d.says.abbreviations) d.text d.says.entries =
-    ap (map edit_in_bytes) c.deref-3.ensures.value ∙ c.in_ok-edits.ensures
-    ∙ ap (λ b. edits_of_file c.args.dialect b c.text-text.result.now (map entry_reading_of c.deref-2.result.now))
+    let edits : map edit_of c.deref-3.result.now
+    ≡ edits_of_entries (document_conversion c.args.dialect d) d.text d.says.entries =
+    ap (map edit_of) c.deref-3.ensures.value ∙ c.in_ok-edits.ensures
+    ∙ ap
+    (λ b.
+    edits_of_entries (conversion c.args.dialect b c.text-text.result.now) c.text-text.result.now
+    (map entry_reading_of c.deref-2.result.now))
     defines
     ∙ ap
     (λ t.
-    edits_of_file c.args.dialect (defines_month d.says.abbreviations) t
+    edits_of_entries (conversion c.args.dialect (defines_month d.says.abbreviations) t) t
     (map entry_reading_of c.deref-2.result.now)) c.text-text.ensures
-    ∙ ap (edits_of_file c.args.dialect (defines_month d.says.abbreviations) d.text) entries in
-    subst (λ t. AreEditsInOrder t 0 (map edit_in_bytes c.deref-3.result.now)) (sym c.text-text.ensures)
+    ∙ ap (edits_of_entries (document_conversion c.args.dialect d) d.text) entries in
+    subst (λ t. AreEditsInOrder t 0 (map edit_of c.deref-3.result.now)) (sym c.text-text.ensures)
     (subst (AreEditsInOrder d.text 0) (sym edits)
-    (file_edits_in_order d c.args.dialect c.raw-raw.ensures.read (subst IsUtf8 c.text-text.ensures c.text-text.utf8)))
+    (changes_in_order d (document_conversion c.args.dialect d) c.raw-raw.ensures.read (subst IsUtf8 c.text-text.ensures c.text-text.utf8)))
 
 pub returns : goal.returns
 returns c =
@@ -53,19 +57,23 @@ returns c =
     ∙ ap (λ f. defines_month f.abbreviations) c.raw-raw.ensures.says in
     let entries : map entry_reading_of c.deref-2.result.now ≡ d.says.entries =
     ap (map entry_reading_of) c.deref-2.ensures.value ∙ ap (λ f. f.entries) c.raw-raw.ensures.says in
-    let edits : map edit_in_bytes c.deref-3.result.now
-    ≡ edits_of_file c.args.dialect (defines_month d.says.abbreviations) d.text d.says.entries =
-    ap (map edit_in_bytes) c.deref-3.ensures.value ∙ c.in_ok-edits.ensures
-    ∙ ap (λ b. edits_of_file c.args.dialect b c.text-text.result.now (map entry_reading_of c.deref-2.result.now))
+    let edits : map edit_of c.deref-3.result.now
+    ≡ edits_of_entries (document_conversion c.args.dialect d) d.text d.says.entries =
+    ap (map edit_of) c.deref-3.ensures.value ∙ c.in_ok-edits.ensures
+    ∙ ap
+    (λ b.
+    edits_of_entries (conversion c.args.dialect b c.text-text.result.now) c.text-text.result.now
+    (map entry_reading_of c.deref-2.result.now))
     defines
     ∙ ap
     (λ t.
-    edits_of_file c.args.dialect (defines_month d.says.abbreviations) t
+    edits_of_entries (conversion c.args.dialect (defines_month d.says.abbreviations) t) t
     (map entry_reading_of c.deref-2.result.now)) c.text-text.ensures
-    ∙ ap (edits_of_file c.args.dialect (defines_month d.says.abbreviations) d.text) entries in
-    converted_answer string_bytes c.edited_all.result d c.args.dialect c.raw-raw.ensures.read
+    ∙ ap (edits_of_entries (document_conversion c.args.dialect d) d.text) entries in
+    changed_answer string_bytes c.edited_all.result d (document_conversion c.args.dialect d) c.raw-raw.ensures.read
     (subst IsUtf8 c.text-text.ensures c.text-text.utf8)
+    (conversion_can c.args.dialect (defines_month d.says.abbreviations) d.text d.says.entries)
     (subst (λ es. IfOk c.edited_all.result (λ new. string_bytes new ≡ edited_all es d.text)) edits
     (subst
-    (λ t. IfOk c.edited_all.result (λ new. string_bytes new ≡ edited_all (map edit_in_bytes c.deref-3.result.now) t))
+    (λ t. IfOk c.edited_all.result (λ new. string_bytes new ≡ edited_all (map edit_of c.deref-3.result.now) t))
     c.text-text.ensures c.edited_all.ensures))

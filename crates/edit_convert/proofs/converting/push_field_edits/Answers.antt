@@ -5,7 +5,8 @@ use Rattle.bib_syntax.specs.Views.{field_of}
 use Rattle.edit_entries.specs.Edits.{Edit}
 use Rattle.edit_entries.specs.Placed.{IsPlaced}
 use Rattle.edit_strings.proofs.ListFacts.{all_step}
-use Rattle.edit_convert.specs.Tables.{change_by, change_edits, edit_in_bytes}
+use Rattle.edit_entries.specs.EditList.{edit_of}
+use Rattle.edit_convert.specs.Tables.{change_edits, exchanged_by}
 use Rattle.edit_convert.proofs.FollowingFacts.{edits_step}
 use Rattle.edit_convert.proofs.converting.push_field_edits.Goals as goal
 
@@ -24,7 +25,7 @@ fields-preserved c =
     record {
       added =
           edits_step field_of c.args.fields.now c.fields.at c.index-fields-at.result c.fields-test.true
-          c.index-fields-at.is (change_by c.args.changes.now) c.args.text.now following _ _ _ same
+          c.index-fields-at.is (exchanged_by c.args.changes.now) c.args.text.now following _ _ _ same
           c.in_ok-push_field_edit.ensures c.fields.invariant.added;
       placed =
           (all_step field_of c.args.fields.now c.fields.at c.index-fields-at.result c.fields-test.true
@@ -33,7 +34,7 @@ fields-preserved c =
 
 pub returns : goal.returns
 returns c =
-    let edits : List Edit = map edit_in_bytes c.fields.edits.items in
+    let edits : List Edit = map edit_of c.fields.edits.items in
     sym (append-nil edits)
     ∙ ap (λ fs. edits ++ change_edits c.args.changes.now c.args.text.now (map field_of fs))
     (sym (drop_all c.fields.at c.args.fields.now c.fields-test.false)) ∙ c.fields.invariant.added

@@ -1,6 +1,6 @@
 use Rattle.std.proofs.Common.{◌++◌, map, sym, ap, ◌∙◌, arith}
 use Rattle.std.proofs.lemmas.Str.{IsCharBoundary-start}
-use Rattle.edit_entries.specs.Stretches.{edit_of}
+use Rattle.edit_entries.specs.EditList.{edit_of}
 use Rattle.edit_entries.proofs.StretchFacts.{edited_is, rest_edited}
 use Rattle.edit_entries.proofs.editing.edited_all.Goals as goal
 

@@ -2,7 +2,7 @@ use Rattle.std.proofs.Common.{◌≡◌, ◌++◌, drop, map}
 use Rattle.std.specs.Str.{IsCharBoundary}
 use Rattle.std.specs.String.{string_bytes}
 use Rattle.edit_entries.specs.Edits.{edited_all}
-use Rattle.edit_entries.specs.Stretches.{AreEditsInOrder, edit_of}
+use Rattle.edit_entries.specs.EditList.{AreEditsInOrder, edit_of}
 use Rattle.edit_entries.proofs.StretchFacts.{rest_edited}
 use Rattle.edit_entries.proofs.editing.edited_all.Given as goal
 

@@ -2,7 +2,8 @@ use Rattle.std.proofs.Common.{◌≡◌, ◌++◌, map, take}
 use Rattle.std.specs.List.{AllByRecursion}
 use Rattle.bib_syntax.specs.Views.{field_of}
 use Rattle.edit_entries.specs.References.{CanBeMade, change_edit, reference_changes}
-use Rattle.edit_entries.specs.Stretches.{EndsInWhite, edit_of}
+use Rattle.edit_entries.specs.EditList.{edit_of}
+use Rattle.edit_entries.specs.Stretches.{EndsInWhite}
 use Rattle.edit_entries.proofs.renaming.push_reference_edits.Given as goal
 
 abbrev pub invariant-fields : goal.invariant-fields

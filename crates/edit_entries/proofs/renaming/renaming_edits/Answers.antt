@@ -4,7 +4,8 @@ use Rattle.std.specs.List.{AllByRecursion}
 use Rattle.std.proofs.lemmas.Result.{err_from_is_err_and}
 use Rattle.bib_syntax.specs.Views.{entry_reading_of, field_of}
 use Rattle.edit_entries.specs.References.{CanBeMade, change_edit, key_change, reference_changes, renaming}
-use Rattle.edit_entries.specs.Stretches.{AreValuesPlaced, EndsInWhite, edit_of}
+use Rattle.edit_entries.specs.EditList.{edit_of}
+use Rattle.edit_entries.specs.Stretches.{AreValuesPlaced, EndsInWhite}
 use Rattle.edit_entries.proofs.ChangeListFacts.{key_all, pushed, refused_more, renaming_at, renaming_more}
 use Rattle.edit_entries.proofs.PositionFacts.{slice_get-map}
 use Rattle.edit_entries.proofs.renaming.renaming_edits.Goals as goal

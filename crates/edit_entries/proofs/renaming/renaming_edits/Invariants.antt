@@ -2,7 +2,8 @@ use Rattle.std.proofs.Common.{◌≡◌, map, take}
 use Rattle.std.specs.List.{AllByRecursion}
 use Rattle.bib_syntax.specs.Views.{entry_reading_of}
 use Rattle.edit_entries.specs.References.{CanBeMade, change_edit, renaming}
-use Rattle.edit_entries.specs.Stretches.{EndsInWhite, edit_of}
+use Rattle.edit_entries.specs.EditList.{edit_of}
+use Rattle.edit_entries.specs.Stretches.{EndsInWhite}
 use Rattle.edit_entries.proofs.renaming.renaming_edits.Given as goal
 
 abbrev pub invariant-entries : goal.invariant-entries

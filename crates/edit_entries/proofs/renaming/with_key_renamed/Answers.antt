@@ -1,7 +1,7 @@
 use Rattle.std.proofs.Common.{map, sym, ap, ◌∙◌, subst}
 use Rattle.bib_syntax.specs.Views.{entry_reading_of}
 use Rattle.edit_entries.specs.References.{renaming}
-use Rattle.edit_entries.specs.Stretches.{AreEditsInOrder, edit_of}
+use Rattle.edit_entries.specs.EditList.{AreEditsInOrder, edit_of}
 use Rattle.edit_entries.proofs.ChangeListFacts.{in_order}
 use Rattle.edit_entries.proofs.renaming.with_key_renamed.Goals as goal
 

@@ -8,7 +8,8 @@ use Rattle.bib_syntax.specs.Views.{entry_reading_of, file_of}
 use Rattle.edit_entries.specs.Documents.{Document}
 use Rattle.edit_strings.specs.Collected.{AreNewNames, FirstOnes, RepeatsInBraces, collection, definition_lines, named_texts}
 use Rattle.edit_strings.specs.Collecting.{lent_texts, string_texts}
-use Rattle.edit_strings.specs.Exchanged.{text_exchanged}
+use Rattle.edit_strings.specs.Exchanged.{exchanges}
+use Rattle.edit_entries.specs.Changes.{text_changed}
 use Rattle.edit_strings.proofs.CollectFacts.{collected_answer}
 use Rattle.edit_strings.proofs.collecting.collect.Goals as goal
 
@@ -46,14 +47,14 @@ returns c =
     (λ made.
     string_bytes made
     ≡ definition_lines names (lent_texts ts)
-    ++ text_exchanged (collection fields (lent_texts ts) names) d)) c.deref-5.ensures.value
+    ++ text_changed (exchanges (collection fields (lent_texts ts) names)) d)) c.deref-5.ensures.value
     (subst
     (λ t.
     IfOk c.with_collection.result
     (λ made.
     string_bytes made
     ≡ definition_lines names (lent_texts c.deref-5.result.now)
-    ++ text_exchanged (collection fields (lent_texts c.deref-5.result.now) names)
+    ++ text_changed (exchanges (collection fields (lent_texts c.deref-5.result.now) names))
     (record { text = t; says = d.says }))) c.text.ensures
     (subst
     (λ s.
@@ -61,6 +62,6 @@ returns c =
     (λ made.
     string_bytes made
     ≡ definition_lines names (lent_texts c.deref-5.result.now)
-    ++ text_exchanged (collection fields (lent_texts c.deref-5.result.now) names)
+    ++ text_changed (exchanges (collection fields (lent_texts c.deref-5.result.now) names))
     (record { text = c.text.result.now; says = s })))
     c.raw-raw.ensures.says c.with_collection.ensures)))

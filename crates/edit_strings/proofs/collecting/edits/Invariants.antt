@@ -1,13 +1,13 @@
 use Rattle.std.proofs.Common.{◌≡◌, ◌++◌, drop, map}
 use Rattle.bib_syntax.specs.Views.{entry_reading_of}
 use Rattle.edit_strings.specs.Collecting.{collection_by, lent_texts, string_texts}
-use Rattle.edit_strings.specs.Exchanged.{entry_edits}
-use Rattle.edit_strings.specs.Tables.{AreAllFieldsCut, edit_as_written, index_in}
+use Rattle.edit_strings.specs.Tables.{entry_edits, AreAllFieldsCut, index_in}
+use Rattle.edit_entries.specs.EditList.{edit_of}
 use Rattle.edit_strings.proofs.collecting.edits.Given as goal
 
 abbrev pub invariant-entries : goal.invariant-entries
 invariant-entries l = record {
-  added : map edit_as_written l.edits.items
+  added : map edit_of l.edits.items
       ++ entry_edits
       (collection_by (lent_texts l.fields) (index_in l.collection.indices)
       (string_texts l.collection.names.items)) l.text

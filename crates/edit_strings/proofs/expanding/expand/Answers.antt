@@ -6,10 +6,10 @@ use Rattle.bib_collections.specs.Graph.{HasNoCycle}
 use Rattle.bib_syntax.specs.Views.{entry_reading_of, field_of}
 use Rattle.edit_entries.specs.Documents.{Document}
 use Rattle.edit_entries.specs.Edits.{edited_all}
-use Rattle.edit_entries.specs.Stretches.{AreEditsInOrder}
+use Rattle.edit_entries.specs.EditList.{AreEditsInOrder, edit_of}
 use Rattle.edit_entries.specs.Cuts.{IsPieceCut}
 use Rattle.edit_strings.specs.Expanded.{definition_graph, definition_index}
-use Rattle.edit_strings.specs.Tables.{AreUsedWritten, AreAllFieldsCut, edit_as_written, index_in, lists_of}
+use Rattle.edit_strings.specs.Tables.{AreUsedWritten, AreAllFieldsCut, index_in, lists_of}
 use Rattle.edit_strings.proofs.ExpandFacts.{edits_are, entries_cut, expanded, in_order, index_is, lists_cut}
 use Rattle.edit_strings.proofs.expanding.expand.Goals as goal
 
@@ -80,11 +80,11 @@ edited_all-requires c =
     let listed : map entry_reading_of c.deref-3.result.now ≡ d.says.entries =
     ap (map entry_reading_of) c.deref-3.ensures.value ∙ ap (λ f. f.entries) c.raw-raw.ensures.says in
     let utf8 : IsUtf8 d.text = subst IsUtf8 c.text.ensures c.text.utf8 in
-    let edits = edits_are d (lists_of c.in_ok-names.names.written.items) (map edit_as_written c.deref-4.result.now)
+    let edits = edits_are d (lists_of c.in_ok-names.names.written.items) (map edit_of c.deref-4.result.now)
     c.in_ok-names.names.text.now (index_in c.in_ok-names.names.indices) (map entry_reading_of c.deref-3.result.now)
     (c.in_ok-names.ensures.text ∙ c.text.ensures) (c.in_ok-names.ensures.index ∙ ap definition_index defined) listed
-    (ap (map edit_as_written) c.deref-4.ensures.value ∙ c.in_ok-edits.ensures) in
-    subst (λ t. AreEditsInOrder t 0 (map edit_as_written c.deref-4.result.now)) (sym c.text-2.ensures)
+    (ap (map edit_of) c.deref-4.ensures.value ∙ c.in_ok-edits.ensures) in
+    subst (λ t. AreEditsInOrder t 0 (map edit_of c.deref-4.result.now)) (sym c.text-2.ensures)
     (subst (AreEditsInOrder d.text 0) (sym edits)
     (in_order d c.raw-raw.ensures.read (lists_of c.in_ok-names.names.written.items) known utf8))
 
@@ -104,12 +104,12 @@ returns-clause-expanded c =
     let listed : map entry_reading_of c.deref-3.result.now ≡ d.says.entries =
     ap (map entry_reading_of) c.deref-3.ensures.value ∙ ap (λ f. f.entries) c.raw-raw.ensures.says in
     let utf8 : IsUtf8 d.text = subst IsUtf8 c.text.ensures c.text.utf8 in
-    let edits = edits_are d (lists_of c.in_ok-names.names.written.items) (map edit_as_written c.deref-4.result.now)
+    let edits = edits_are d (lists_of c.in_ok-names.names.written.items) (map edit_of c.deref-4.result.now)
     c.in_ok-names.names.text.now (index_in c.in_ok-names.names.indices) (map entry_reading_of c.deref-3.result.now)
     (c.in_ok-names.ensures.text ∙ c.text.ensures) (c.in_ok-names.ensures.index ∙ ap definition_index defined) listed
-    (ap (map edit_as_written) c.deref-4.ensures.value ∙ c.in_ok-edits.ensures) in
+    (ap (map edit_of) c.deref-4.ensures.value ∙ c.in_ok-edits.ensures) in
     expanded d c.raw-raw.ensures.read (lists_of c.in_ok-names.names.written.items) known utf8 (string_bytes c.in_ok-edited_all.field-0)
-    (c.in_ok-edited_all.ensures ∙ ap (λ t. edited_all (map edit_as_written c.deref-4.result.now) t) c.text-2.ensures
+    (c.in_ok-edited_all.ensures ∙ ap (λ t. edited_all (map edit_of c.deref-4.result.now) t) c.text-2.ensures
     ∙ ap (λ es. edited_all es d.text) edits)
 
 pub returns-clause-no_cycle : goal.returns-clause-no_cycle

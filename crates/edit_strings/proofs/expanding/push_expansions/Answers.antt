@@ -1,6 +1,5 @@
 use Rattle.bib_syntax.specs.Views.{field_of}
-use Rattle.edit_strings.specs.Exchanged.{value_edits}
-use Rattle.edit_strings.specs.Tables.{IsFieldCut, expansion_by, index_in, lists_of}
+use Rattle.edit_strings.specs.Tables.{value_edits, IsFieldCut, expansion_by, index_in, lists_of}
 use Rattle.edit_strings.proofs.ListFacts.{all_step, flat_step}
 use Rattle.edit_strings.proofs.expanding.push_expansions.Goals as goal
 

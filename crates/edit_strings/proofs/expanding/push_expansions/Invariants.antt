@@ -1,17 +1,17 @@
 use Rattle.std.proofs.Common.{◌≡◌, ◌++◌, drop, map}
 use Rattle.std.specs.List.{AllByRecursion}
 use Rattle.bib_syntax.specs.Views.{field_of}
-use Rattle.edit_strings.specs.Exchanged.{field_edits}
-use Rattle.edit_strings.specs.Tables.{IsFieldCut, edit_as_written, expansion_by, index_in, lists_of}
+use Rattle.edit_strings.specs.Tables.{field_edits, IsFieldCut, expansion_by, index_in, lists_of}
+use Rattle.edit_entries.specs.EditList.{edit_of}
 use Rattle.edit_strings.proofs.expanding.push_expansions.Given as goal
 
 -- what is left to add
 abbrev pub invariant-fields : goal.invariant-fields
 invariant-fields l = record {
-  added : map edit_as_written l.edits.items
+  added : map edit_of l.edits.items
       ++ field_edits (expansion_by l.names.text.now (index_in l.names.indices) (lists_of l.names.written.items))
       l.names.text.now (map field_of (drop l.field-index l.fields))
-      ≡ map edit_as_written l.initial.edits.items
+      ≡ map edit_of l.initial.edits.items
       ++ field_edits (expansion_by l.names.text.now (index_in l.names.indices) (lists_of l.names.written.items))
       l.names.text.now (map field_of l.fields);
   cut : AllByRecursion (IsFieldCut l.names.text.now) (map field_of (drop l.field-index l.fields));

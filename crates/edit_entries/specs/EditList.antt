@@ -1,0 +1,18 @@
+-- Meaning: words of public contracts.
+-- Lists of edits that are made in one go over a text.
+use Rattle.std.specs.Prelude.{ℕ, ◌≤◌, List, [], ◌∷◌, ⊤}
+use Rattle.std.specs.Str.{IsCharBoundary}
+use Rattle.std.specs.String.{string_bytes}
+use Rattle.edit_entries.specs.Edits as edits
+use Rattle.edit_entries.specs.declared.editing.Edit.{Edit}
+
+-- an edit, by the bytes of its text
+abbrev pub edit_of : Edit → edits.Edit
+edit_of e = record { start = e.start; end = e.end; bytes = string_bytes e.text }
+
+-- edits whose stretches stand one after another in a text from a place on, each where it may be cut out
+abbrev pub AreEditsInOrder : List ℕ → ℕ → List edits.Edit → Type 0
+AreEditsInOrder text at [] = ⊤
+AreEditsInOrder text at (edit ∷ rest) =
+    (at ≤ edit.start) × (edit.start ≤ edit.end) × IsCharBoundary text edit.start × IsCharBoundary text edit.end
+    × AreEditsInOrder text edit.end rest
