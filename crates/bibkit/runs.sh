@@ -517,6 +517,9 @@ run 'differences that are far from one another' 0 '--- far.bib
 -@misc{k10, t = s}
 +@misc{k10, t = {x}}
 ' strings --expand -f far.bib --diff
+# the hunk is the one that `diff -u` of GNU diffutils prints
+for key in a b c; do printf '@misc{%s,\n  title = {T},\n}\n\n' $key; done | sed '$d' >same.bib
+run 'the difference of entries with the same lines' 0 $'--- same.bib\n+++ same.bib\n@@ -2,10 +2,6 @@\n   title = {T},\n }\n \n-@misc{b,\n-  title = {T},\n-}\n-\n @misc{c,\n   title = {T},\n }\n' remove b -f same.bib --diff
 printf '@misc{a, title={A}}\n@misc{b, year=1}' >open.bib
 run 'a difference before a line without an end' 0 $'--- open.bib\n+++ open.bib\n@@ -1,2 +1,2 @@\n-@misc{a, title={A}}\n+@misc{a, title={B}}\n @misc{b, year=1}\n\\ No newline at end of file\n' set a title=B -f open.bib --diff
 run 'a difference in a line without an end' 0 $'--- open.bib\n+++ open.bib\n@@ -1,2 +1,2 @@\n @misc{a, title={A}}\n-@misc{b, year=1}\n\\ No newline at end of file\n+@misc{b, year={2}}\n\\ No newline at end of file\n' set b year=2 -f open.bib --diff

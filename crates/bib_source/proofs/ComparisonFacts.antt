@@ -1,5 +1,5 @@
 -- Facts about the old and the new side of compared lines.
-use Rattle.std.proofs.Common.{◌≡◌, ℕ, ◌+◌, ◌-◌, ◌<◌, ◌≤◌, List, [], ◌∷◌, ◌++◌, length, map, take, drop, get_or, Option, Some, None, IfSome, IsSomeAnd, refl, ap, sym, ◌∙◌, length-append, take-add, subst, arith}
+use Rattle.std.proofs.Common.{◌≡◌, ℕ, ◌+◌, ◌-◌, ◌<◌, ◌≤◌, List, [], ◌∷◌, ◌++◌, length, map, take, drop, get_or, refl, ap, sym, ◌∙◌, length-append, take-add, arith}
 use Rattle.std.specs.Borrow.{Bor}
 use Rattle.std.proofs.lemmas.List.{map-append, take_more}
 use Rattle.bib_source.specs.Comparison.{new_side, old_side}
@@ -57,15 +57,3 @@ texts_up_to lines i j low =
     let sum : i + (j - i) ≡ j = omega arith in
     sym (map-append (λ l. l.now) (take i lines) (take (j - i) (drop i lines)))
     ∙ ap (map (λ l. l.now)) (sym (take-add i (j - i) lines) ∙ ap (λ n. take n lines) sum)
-
--- a property of the line in an option is a property of `line` if both are equal
-pub of_line : (option : Option (Bor (List ℕ))) (line : List ℕ) (P : List ℕ → Type 0)
-    → IsSomeAnd option (λ other. other.now ≡ line) → IfSome option (λ other. P other.now) → P line
-of_line (Some other) line P same holds = subst P same holds
-of_line None line P same holds = absurd same
-
--- what is true if an option has a line is true, since the option has `line`
-pub at_line : (option : Option (Bor (List ℕ))) (line : List ℕ) (P : Type 0)
-    → IsSomeAnd option (λ other. other.now ≡ line) → IfSome option (λ _. P) → P
-at_line (Some other) line P same holds = holds
-at_line None line P same holds = absurd same

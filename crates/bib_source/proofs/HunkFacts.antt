@@ -1,6 +1,5 @@
 -- How hunks turn lines into other lines, hunk by hunk.
-use Rattle.std.proofs.Common.{◌≡◌, ℕ, zero, suc, ◌+◌, ◌-◌, ◌<◌, ◌≤◌, min, Bool, true, false, List, [], ◌∷◌, ◌++◌, length, take, drop, get_or, refl, ap, sym, ◌∙◌, subst, arith, append_assoc, length-append, length-drop, take-add}
-use Rattle.std.specs.Prelude.{◌||◌}
+use Rattle.std.proofs.Common.{◌≡◌, ℕ, zero, suc, ◌+◌, ◌-◌, ◌<◌, ◌≤◌, min, Bool, false, List, [], ◌∷◌, ◌++◌, length, take, drop, get_or, refl, ap, sym, ◌∙◌, subst, arith, append_assoc, length-append, length-drop, take-add}
 use Rattle.std.proofs.lemmas.Bool.{false≢true, or_parts}
 use Rattle.std.specs.List.{list_any}
 use Rattle.std.proofs.lemmas.List.{drop_more, get_or-drop, get_or-take, length-take, length-take-le}
@@ -41,7 +40,7 @@ same_sides (Removed line ∷ lines) all = absurd (false≢true (sym all.0))
 same_sides (Added line ∷ lines) all = absurd (false≢true (sym all.0))
 
 -- the lines up to `start` and from there to `end` are the lines up to `end`
-joined : (lines : List Line) (start end : ℕ) → start ≤ end → take start lines ++ take (end - start) (drop start lines) ≡ take end lines
+pub joined : (lines : List Line) (start end : ℕ) → start ≤ end → take start lines ++ take (end - start) (drop start lines) ≡ take end lines
 joined lines start end low =
     let size : start + (end - start) ≡ end = omega arith in
     sym (take-add start (end - start) lines) ∙ ap (λ n. take n lines) size
@@ -96,7 +95,7 @@ none_at p (x ∷ xs) zero d low none = (or_parts (p x) (list_any p xs) none).0
 none_at p (x ∷ xs) (suc i) d low none = none_at p xs i d (omega (arith, low)) (or_parts (p x) (list_any p xs) none).1
 
 -- a line that isn't shown hasn't changed
-unshown : (lines : List Line) (index : ℕ) (d : Line) → index < length lines → is_visible lines index ≡ false
+pub unshown : (lines : List Line) (index : ℕ) (d : Line) → index < length lines → is_visible lines index ≡ false
     → is_changed (get_or lines index d) ≡ false
 unshown lines index d within hidden =
     let count = min (length lines) (index + 4) - (index - 3) in

@@ -7,3 +7,8 @@ mod ComparisonFacts
 mod HunkFacts
 mod LineFacts
 mod NarrowFacts
+mod RunFacts
+mod EndFacts
+mod MergeFacts
+mod BetweenFacts
+mod CutFacts

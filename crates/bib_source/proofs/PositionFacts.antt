@@ -3,7 +3,7 @@ use Rattle.std.proofs.Common.{◌≡◌, ◌+◌, ◌-◌, ℕ, Bool, true, fals
 use Rattle.std.specs.List.{after_last, count_by, suffix_len, prefix_len}
 use Rattle.std.proofs.Math.Seq.{drop-length}
 use Rattle.std.proofs.lemmas.List.{reverse-append, drop-append-le}
-use Rattle.std.proofs.lemmas.List.Sums.{sum_by-append, suffix_len-le-length}
+use Rattle.std.proofs.lemmas.List.Sums.{suffix_len-le-length}
 use Rattle.bib_source.specs.Positions.{position_after, is_line_feed, begins_character}
 use Rattle.bib_text.proofs.ListFacts.{count_more}
 

@@ -1,9 +1,11 @@
 -- Meaning: words of public contracts.
 -- Hunks of a unified diff, and how they turn one text into another.
-use Rattle.std.specs.Prelude.{◌≡◌, ℕ, ◌+◌, ◌<◌, ◌≤◌, true, List, [], ◌∷◌, ◌++◌, length, Some}
-use Rattle.std.specs.List.{slice_get}
-use Rattle.bib_source.specs.Comparison.{is_changed, old_side, new_side}
+use Rattle.std.specs.Prelude.{◌≡◌, ℕ, ◌+◌, ◌<◌, ◌≤◌, true, List, [], ◌∷◌, ◌++◌, length, take, Some}
+use Rattle.std.specs.Borrow.{Bor}
+use Rattle.std.specs.List.{AllByRecursion, slice_get}
+use Rattle.bib_source.specs.Comparison.{HaveCommonEnds, is_changed, old_side, new_side}
 use Rattle.bib_source.specs.declared.comparison.Line.{Line}
+use Rattle.bib_source.specs.declared.comparison.Line.TheVariants.{Removed, Added}
 
 -- lines, and the line numbers of the first of them in the old and in the new text
 pub record Hunk : Type 0 where
@@ -24,6 +26,31 @@ pub record IsNearChange (lines : List Line) (index : ℕ) : Type 0 where
 pub record IsNarrow (hunk : Hunk) : Type 0 where
   pub some : 0 < length hunk.lines
   pub near : (index : ℕ) → index < length hunk.lines → IsNearChange hunk.lines index
+
+-- the line number in the old text of the line at `index` of a hunk, if the old text has this line
+abbrev pub old_number : Hunk → ℕ → ℕ
+old_number hunk index = hunk.old + length (old_side (take index hunk.lines))
+
+-- the line number in the new text of the line at `index` of a hunk, if the new text has this line
+abbrev pub new_number : Hunk → ℕ → ℕ
+new_number hunk index = hunk.new + length (new_side (take index hunk.lines))
+
+-- after the first `start` lines of each text, the removed lines of a hunk are among the next `removed` lines of the old text, and
+-- its added lines are among the next `added` lines of the new text
+pub record IsBetween (start removed added : ℕ) (hunk : Hunk) : Type 0 where
+  pub old : (index : ℕ) (line : Bor (List ℕ)) → slice_get hunk.lines index ≡ Some (Removed line)
+      → (start < old_number hunk index) × (old_number hunk index ≤ start + removed)
+  pub new : (index : ℕ) (line : Bor (List ℕ)) → slice_get hunk.lines index ≡ Some (Added line)
+      → (start < new_number hunk index) × (new_number hunk index ≤ start + added)
+
+-- each changed line of the hunks is after the common start of two lists of lines, and before their common end
+pub record AreBetweenEnds (old new : List (List ℕ)) (hunks : List Hunk) : Type 0 where
+  pub start : List (List ℕ)
+  pub removed : List (List ℕ)
+  pub added : List (List ℕ)
+  pub end : List (List ℕ)
+  pub ends : HaveCommonEnds old new start removed added end
+  pub between : AllByRecursion (IsBetween (length start) (length removed) (length added)) hunks
 
 -- Hunks turn a list of lines into another one. The two numbers are the line numbers of the first line of each list. Lines
 -- before a hunk are kept. The lines of its old side are replaced by those of its new side. Lines after the last hunk are kept.

@@ -4,4 +4,5 @@ pub mod Comparison
 pub mod Hunks
 pub mod Lines
 pub mod Unified
+pub mod Merging
 pub mod Visible

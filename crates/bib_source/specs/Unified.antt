@@ -4,8 +4,8 @@ use Rattle.std.specs.Prelude.{◌≡◌, ℕ, ◌-◌, List, [], ◌∷◌, ◌+
 use Rattle.std.specs.Fmt.{decimal}
 use Rattle.std.specs.List.{AllByRecursion, ends_with, flat_map}
 use lib.Dec.{eqb}
-use Rattle.bib_source.specs.Comparison.{old_side, new_side}
-use Rattle.bib_source.specs.Hunks.{Hunk, IsNarrow, Make}
+use Rattle.bib_source.specs.Comparison.{AreRuns, old_side, new_side}
+use Rattle.bib_source.specs.Hunks.{AreBetweenEnds, Hunk, IsNarrow, Make}
 use Rattle.bib_source.specs.Lines.{lines_of}
 use Rattle.bib_source.specs.declared.comparison.Line.{Line}
 use Rattle.bib_source.specs.declared.comparison.Line.TheVariants.{Context, Removed, Added}
@@ -45,11 +45,14 @@ abbrev pub unified_text : List ℕ → List Hunk → List ℕ
 unified_text name [] = []
 unified_text name (hunk ∷ hunks) = codes "--- " ++ (name ++ (codes "\n+++ " ++ (name ++ (codes "\n" ++ flat_map hunk_text (hunk ∷ hunks)))))
 
--- `text` is a unified diff from `old` to `new`: its hunks are narrow and turn the lines of `old` into those of `new`. If the
--- texts are equal, it has no hunks.
+-- `text` is a unified diff from `old` to `new`: its hunks are narrow and turn the lines of `old` into those of `new`. No line of
+-- the common start or of the common end is shown as changed. No run of changed lines begins or ends with a line that was both
+-- removed and added. If the texts are equal, there are no hunks.
 pub record IsDiff (name old new text : List ℕ) : Type 0 where
   pub hunks : List Hunk
   pub make : Make 1 1 hunks (lines_of old) (lines_of new)
   pub narrow : AllByRecursion IsNarrow hunks
+  pub between : AreBetweenEnds (lines_of old) (lines_of new) hunks
+  pub runs : AllByRecursion (λ hunk. AreRuns hunk.lines) hunks
   pub same : old ≡ new → hunks ≡ []
   pub is : text ≡ unified_text name hunks

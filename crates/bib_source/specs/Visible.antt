@@ -1,8 +1,8 @@
 -- Machinery: words of private contracts.
 -- Which lines of two compared texts are shown.
-use Rattle.std.specs.Prelude.{◌≡◌, ℕ, ◌+◌, ◌-◌, min, Bool, false, List, drop, length, take}
+use Rattle.std.specs.Prelude.{◌≡◌, ℕ, ◌+◌, ◌-◌, min, Bool, false, List, [], ◌∷◌, ◌++◌, drop, length, take}
 use Rattle.std.specs.List.{AllByRecursion, list_any}
-use Rattle.bib_source.specs.Comparison.{is_changed}
+use Rattle.bib_source.specs.Comparison.{is_changed, new_side, old_side}
 use Rattle.bib_source.specs.Hunks.{Hunk}
 use Rattle.bib_source.specs.declared.comparison.Line.{Line}
 use Rattle.bib_source.specs.declared.hunks.Hunk as code
@@ -22,3 +22,21 @@ AreContext lines = AllByRecursion (λ line. is_changed line ≡ false) lines
 -- the hunk of the code, with the lines that it borrows
 abbrev pub hunk_of : code.Hunk → Hunk
 hunk_of hunk = record { old = hunk.old; new = hunk.new; lines = hunk.lines.now }
+
+-- the last line, if there is one, is in both texts
+abbrev pub EndsInContext : List Line → Type 0
+EndsInContext lines = (before : List Line) (line : Line) → lines ≡ before ++ line ∷ [] → is_changed line ≡ false
+
+-- the first line, if there is one, is in both texts
+abbrev pub BeginsWithContext : List Line → Type 0
+BeginsWithContext lines = (line : Line) (rest : List Line) → lines ≡ line ∷ rest → is_changed line ≡ false
+
+-- the lines of a hunk are cut from `lines` between lines of both texts, and its numbers are those of its first line
+pub record IsCutOut (lines : List Line) (hunk : Hunk) : Type 0 where
+  pub before : List Line
+  pub after : List Line
+  pub is : lines ≡ before ++ (hunk.lines ++ after)
+  pub old_is : hunk.old ≡ 1 + length (old_side before)
+  pub new_is : hunk.new ≡ 1 + length (new_side before)
+  pub starts : EndsInContext before
+  pub ends : BeginsWithContext after

@@ -4,7 +4,7 @@ ghost use Rattle.std.specs.Prelude.{◌≡◌, ℕ, ◌≤◌, ◌<◌, ◌-◌,
 ghost use Rattle.std.specs.List.{AllByRecursion};
 ghost use Rattle.bib_source.specs.Comparison as comparison;
 ghost use Rattle.bib_source.specs.Comparison.{new_side, old_side};
-ghost use Rattle.bib_source.specs.Visible.{AreContext, hunk_of};
+ghost use Rattle.bib_source.specs.Visible.{AreContext, IsCutOut, hunk_of};
 ghost use Rattle.bib_source.specs.Visible as visible;
 ghost use Rattle.bib_source.specs.Hunks.{IsNarrow, Make};
 
@@ -117,6 +117,7 @@ pub(crate) fn hunks<'c, 't>(
 ) -> Result<Vec<Hunk<'c, 't>>, AllocError>
     ensures make { IfOk result (λ hunks. Make 1 1 (map hunk_of hunks.items) (old_side lines.now) (new_side lines.now)) }
     ensures narrow { IfOk result (λ hunks. AllByRecursion IsNarrow (map hunk_of hunks.items)) }
+    ensures cut { IfOk result (λ hunks. AllByRecursion (IsCutOut lines.now) (map hunk_of hunks.items)) }
 {
     let mut hunks = Vec::new(alloc);
     let mut at = 0usize;

@@ -6,14 +6,16 @@
 //!
 //! `positions` finds the line and the column of a byte.
 //!
-//! `unified_diff` prints the differences of two texts in the unified format. `lines` cuts a text into lines, and `partners`
-//! pairs equal lines of both texts. `comparison` merges the lines of both into one list by these pairs. `hunks` cuts out the
-//! changed lines and their context. Which equal lines are paired is a choice. For each choice it is proved that the hunks
-//! turn the old text into the new one.
+//! `unified_diff` prints the differences of two texts in the unified format. `lines` cuts a text into lines. `ends` finds the
+//! lines that both texts begin and end with, and `partners` pairs equal lines between them. `comparison` merges the lines of
+//! both texts into one list by these pairs. `hunks` cuts out the changed lines and their context. Which equal lines are paired
+//! is a choice. For each choice it is proved that the hunks turn the old text into the new one, that the common start and the
+//! common end aren't shown as changed, and that no run of changed lines begins or ends with a line that both texts have there.
 #![tactic(auto)]
 
 pub mod comparison;
 pub mod decoding;
+mod ends;
 mod hunks;
 pub mod laws;
 mod lines;

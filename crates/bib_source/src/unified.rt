@@ -9,7 +9,6 @@ ghost use Rattle.bib_source.specs.Unified.{IsDiff, extent, hunk_header, hunk_tex
 use crate::comparison::{Line, merge_lines};
 use crate::hunks::{Hunk, hunks, new_count, old_count};
 use crate::lines::lines;
-use crate::partners::find_partners;
 use std::alloc::{AllocError, Global};
 
 // Appends `sign` and a line.
@@ -102,8 +101,9 @@ fn with_name(alloc: Global, name: &str, hunks: &[Hunk<'_, '_>]) -> Result<String
 /// Returns the differences from `old` to `new` in the unified format, which `diff -u` prints and `patch` reads.
 ///
 /// Returns an empty text if `old` equals `new`. Otherwise returns two lines with the name of the file, and the hunks. The
-/// hunks turn `old` into `new`. Each line of a hunk is at most three lines from a changed line of the hunk. The contract
-/// leaves open which equal lines are paired if there is a choice.
+/// hunks turn `old` into `new`. Each line of a hunk is at most three lines from a changed line of the hunk. No line of the common
+/// start or of the common end of both texts is shown as changed. In each run of changed lines the removed lines are before the
+/// added ones, and these neither begin nor end with the same line. The contract leaves open which other equal lines are paired.
 ///
 /// Returns an error only if out of memory.
 pub fn unified_diff(alloc: Global, name: &str, old: &str, new: &str) -> Result<String, AllocError>
@@ -114,7 +114,6 @@ pub fn unified_diff(alloc: Global, name: &str, old: &str, new: &str) -> Result<S
     }
     let old = lines(alloc, old)?;
     let new = lines(alloc, new)?;
-    let partners = find_partners(alloc, &old, &new)?;
-    let compared = merge_lines(alloc, &old, &new, &partners)?;
+    let compared = merge_lines(alloc, &old, &new)?;
     with_name(alloc, name, &hunks(alloc, &compared)?)
 }

@@ -4,7 +4,8 @@ use Rattle.std.proofs.lemmas.List.{append-nil, length-take, map-append, take_all
 use Rattle.bib_source.specs.Comparison.{new_side, old_side}
 use Rattle.bib_source.specs.Hunks.{IsNarrow, Make}
 use Rattle.bib_source.specs.Hunks.{Make as make}
-use Rattle.bib_source.specs.Visible.{hunk_of}
+use Rattle.bib_source.specs.Visible.{IsCutOut, hunk_of}
+use Rattle.bib_source.proofs.CutFacts.{cut_of, new_up_to, old_up_to, skipped_new, skipped_old}
 use Rattle.bib_source.proofs.HunkFacts.{last_lines, next_hunk}
 use Rattle.bib_source.proofs.NarrowFacts.{narrow_run, not_shown, shown_after}
 use Rattle.bib_source.proofs.hunks.hunks.Goals as goal
@@ -31,6 +32,34 @@ hunks-preserved-in-Continue-1 c = record {
       (omega arith) c.run_end-end.ensures.within c.run_end-start.ensures.same c.hunks.invariant.ended
       (c.run_end-end.ensures.same c.run_end-start.result (omega arith) (omega arith)))
       (λ inside. not_shown _ (c.run_end-end.ensures.ended inside))));
+  cut = subst (AllByRecursion (IsCutOut c.args.lines.now))
+      (sym (ap (map hunk_of) c.in_ok-push.ensures.items ∙ map-append hunk_of c.hunks.hunks.items _))
+      (all_push (IsCutOut c.args.lines.now) (map hunk_of c.hunks.hunks.items) _ c.hunks.invariant.cut
+      (cut_of c.args.lines.now c.run_end-start.result c.run_end-end.result _ _ (omega arith) c.run_end-end.ensures.within
+      (skipped_old c.args.lines.now c.hunks.at c.run_end-start.result c.hunks.old c.run_end-start.ensures.after
+      c.run_end-start.ensures.within (c.run_end-start.ensures.hidden refl) c.hunks.invariant.old_is)
+      (skipped_new c.args.lines.now c.hunks.at c.run_end-start.result c.hunks.new c.run_end-start.ensures.after
+      c.run_end-start.ensures.within (c.run_end-start.ensures.hidden refl) c.hunks.invariant.new_is)
+      (shown_after c.args.lines.now c.hunks.at c.run_end-start.result c.run_end-end.result c.run_end-start.ensures.after
+      (omega arith) c.run_end-end.ensures.within c.run_end-start.ensures.same c.hunks.invariant.ended
+      (c.run_end-end.ensures.same c.run_end-start.result (omega arith) (omega arith)))
+      (λ inside. not_shown _ (c.run_end-end.ensures.ended inside))));
+  old_is =
+      omega (
+        arith,
+        skipped_old c.args.lines.now c.hunks.at c.run_end-start.result c.hunks.old c.run_end-start.ensures.after
+            c.run_end-start.ensures.within (c.run_end-start.ensures.hidden refl) c.hunks.invariant.old_is,
+        c.old_count.ensures.is,
+        old_up_to c.args.lines.now c.run_end-start.result c.run_end-end.result c.run_end-end.ensures.after,
+      );
+  new_is =
+      omega (
+        arith,
+        skipped_new c.args.lines.now c.hunks.at c.run_end-start.result c.hunks.new c.run_end-start.ensures.after
+            c.run_end-start.ensures.within (c.run_end-start.ensures.hidden refl) c.hunks.invariant.new_is,
+        c.new_count.ensures.is,
+        new_up_to c.args.lines.now c.run_end-start.result c.run_end-end.result c.run_end-end.ensures.after,
+      );
   ended = λ some inside. not_shown _ (c.run_end-end.ensures.ended inside);
   within = c.run_end-end.ensures.within;
   old_within =
@@ -62,6 +91,23 @@ hunks-preserved c = record {
       (c.run_end-start.ensures.hidden refl) c.hunks.invariant.make
       c.old_count.ensures.is c.new_count.ensures.is made;
   narrow = c.hunks.invariant.narrow;
+  cut = c.hunks.invariant.cut;
+  old_is =
+      omega (
+        arith,
+        skipped_old c.args.lines.now c.hunks.at c.run_end-start.result c.hunks.old c.run_end-start.ensures.after
+            c.run_end-start.ensures.within (c.run_end-start.ensures.hidden refl) c.hunks.invariant.old_is,
+        c.old_count.ensures.is,
+        old_up_to c.args.lines.now c.run_end-start.result c.run_end-end.result c.run_end-end.ensures.after,
+      );
+  new_is =
+      omega (
+        arith,
+        skipped_new c.args.lines.now c.hunks.at c.run_end-start.result c.hunks.new c.run_end-start.ensures.after
+            c.run_end-start.ensures.within (c.run_end-start.ensures.hidden refl) c.hunks.invariant.new_is,
+        c.new_count.ensures.is,
+        new_up_to c.args.lines.now c.run_end-start.result c.run_end-end.result c.run_end-end.ensures.after,
+      );
   ended = λ some inside. not_shown _ (c.run_end-end.ensures.ended inside);
   within = c.run_end-end.ensures.within;
   old_within =
