@@ -6,13 +6,14 @@ use Rattle.std.specs.Str.{IsUtf8}
 use Rattle.bib_syntax.specs.Reading.{FieldReading, EntryReading, FileReading}
 use Rattle.bib_syntax.specs.Grammar.{BlockKind, IsRawReading, block_kind}
 use Rattle.bib_text.proofs.ListFacts.{get_here}
-use Rattle.edit_entries.specs.Changes.{EntryChange, FieldChange, IsChanged, IsReadPlaceless, IsTrimmed, NewValue, edits_of_entries, edits_of_field, edits_of_fields, entry_changed, field_changed, field_stretch, fields_changed, file_changed, more_field_texts, new_field_text, part_edits, text_changed, value_stretch_edit, with_other_text}
+use Rattle.edit_entries.specs.Changes.{EntryChange, FieldChange, IsChanged, IsReadPlaceless, IsTrimmed, NewValue, edits_of_entries, edits_of_field, edits_of_fields, entry_changed, field_before, field_changed, field_stretch, fields_changed, file_changed, more_field_texts, name_edit, new_field_text, part_edits, text_changed, value_stretch_edit, with_other_text}
 use Rattle.edit_entries.specs.Documents.{CanBeName, Document, IsDocument}
 use Rattle.edit_entries.specs.Edits.{Edit, moved_field, moved_piece, moved_place, placeless}
 use Rattle.edit_entries.specs.Placed.{IsPlaced}
 use Rattle.edit_entries.specs.EditList.{AreEditsInOrder}
 use Rattle.edit_entries.proofs.AgreementFacts.{Agrees, agrees_before, agrees_self, same_run}
 use Rattle.edit_entries.proofs.AllFacts.{OfFields, all_placed, fields_weaker}
+use Rattle.edit_entries.proofs.BeforeFacts.{preceded_put}
 use Rattle.edit_entries.proofs.EditFacts.{moved_before}
 use Rattle.edit_entries.proofs.FieldNameFacts.{name_exchanged_read, name_stretch, with_name}
 use Rattle.edit_entries.proofs.MadeFacts.{IsPut, Made, MadeFrom, field_gone, field_made, kind_made, less_made, less_made_from, of_entries, stays_made}
@@ -20,6 +21,7 @@ use Rattle.edit_entries.proofs.NewFieldFacts.{CanBePut, divided_put}
 use Rattle.edit_entries.proofs.NewValueFacts.{CanBeRead}
 use Rattle.edit_entries.proofs.PartFacts.{AreEntriesIn, AreFieldsIn, IsIn, edits_in_order, file_in}
 use Rattle.edit_entries.proofs.PlacelessFacts.{file_placeless}
+use Rattle.edit_entries.proofs.StandsFacts.{AreWhite}
 use Rattle.edit_entries.proofs.TrimmedFacts.{IsFieldPlaced, trimmed_known}
 use Rattle.edit_entries.proofs.ValuePutFacts.{value_put}
 
@@ -57,10 +59,11 @@ name_put d f name can is = record {
 
 -- ---- what can be made
 
--- a field before others can have this change: a new name can be one, a new value is read wherever it stands, and a field that goes
--- out has another one after it
+-- a field before others can have this change: a new name can be one, a new value is read wherever it stands, what follows a comma is
+-- white space, and a field that is gone has another one after it
 abbrev pub CanChange : List FieldReading → FieldChange → Type 0
 CanChange following FieldChange.stays = Unit {0}
+CanChange following (FieldChange.preceded n white) = CanBePut n × AreWhite white
 CanChange following (FieldChange.renamed name) = CanBeName name
 CanChange following (FieldChange.valued new) = CanBeRead new
 CanChange following (FieldChange.replaced n ns) = CanBePut n × AllByRecursion CanBePut ns
@@ -125,6 +128,9 @@ module _ (d : Document) (changes : EntryReading → EntryChange) (read : IsDocum
       let there : slice_get e.fields (length fb) ≡ Some f = ap (λ xs. slice_get xs (length fb)) cut ∙ get_here fb f fs in
       less_made_from d later _ f.value.end at _ _ _ (omega (arith, is.name.some, is.ordered, is.value))
       (stays_made d later _ (length before) (length fb) e f fs here there from.made)
+  field_case before rest others later e fb f fs now at (FieldChange.preceded n white) can whole cut less is trimmed from =
+      put_case before rest others later e fb f fs now at (name_edit f (field_before n white)) _
+      (preceded_put d f n white can.0 can.1 is) whole cut less from
   field_case before rest others later e fb f fs now at (FieldChange.renamed name) can whole cut less is trimmed from =
       put_case before rest others later e fb f fs now at (name_stretch f name) _ (name_put d f name can is) whole cut less from
   field_case before rest others later e fb f fs now at (FieldChange.valued new) can whole cut less is trimmed from =

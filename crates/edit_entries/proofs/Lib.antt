@@ -1,6 +1,7 @@
 pub mod AddedFacts
 pub mod AgreementFacts
 pub mod AllFacts
+pub mod BeforeFacts
 pub mod ByEntriesFacts
 pub mod ChangeListFacts
 pub mod ChangedFacts

@@ -29,7 +29,7 @@ use Rattle.edit_entries.proofs.ZoneFacts.{Inside, char_there, inside, run_there,
 use Rattle.edit_entries.proofs.ElementFacts.{Ending}
 use Rattle.edit_entries.proofs.StandsFacts.{Stands, ascii, first_part, last_part, past}
 use Rattle.edit_entries.specs.Changes.{IsTrimmed, field_stretch, NewField, field_reading, new_field_text, more_field_texts}
-use Rattle.edit_entries.proofs.NewValueFacts.{CanBeRead, after_ending}
+use Rattle.edit_entries.proofs.NewValueFacts.{CanBeRead, after_ending, run_ending}
 use Rattle.edit_entries.proofs.ElementStandsFacts.{element_stands}
 use Rattle.edit_entries.proofs.KindFacts.{IsWithin}
 use Rattle.edit_entries.proofs.MadeFacts.{IsPut}
@@ -59,13 +59,13 @@ element_read {a} {b} {e} bytes x within is = λ u v w s ending over no_hash.
     }
 
 -- a field that is put in, where it stands
-record IsRead (n : NewField) (u w : Place) : Type 0 where
-  reading : FieldReading
-  field : Field longest u reading w
-  start : reading.name.start ≡ u.at
-  alike : moved_field (λ n. 0) reading ≡ moved_field (λ n. 0) (field_reading n)
+pub record IsRead (n : NewField) (u w : Place) : Type 0 where
+  pub reading : FieldReading
+  pub field : Field longest u reading w
+  pub start : reading.name.start ≡ u.at
+  pub alike : moved_field (λ n. 0) reading ≡ moved_field (λ n. 0) (field_reading n)
 
-field_read : {u v w : Place} (n : NewField) → CanBePut n → Stands u (new_field_text n) v → Ending v
+pub field_read : {u v w : Place} (n : NewField) → CanBePut n → Stands u (new_field_text n) v → Ending v
     → Longest is_whitespace v w → Stops (λ c. c == 35) w → IsRead n u w
 field_read {u} {v} {w} n can s ending over no_hash =
     let bytes : List ℕ = n.value.bytes in
@@ -167,18 +167,6 @@ fields_read {u} {v} {w} n (m ∷ ms) can all s ending over no_hash =
     }
 
 -- ---- in the place of a field
-
--- a value ends where white space stands after it
-run_ending : {u v : Place} → Run is_whitespace u v → Ending v → Ending u
-run_ending stop ending = ending
-run_ending (step {c = c} char white rest) ending = record {
-  char = c;
-  next = _;
-  here = char;
-  no_name = and_right (not (is_delimiter c) && not (is_control c)) (not (is_whitespace c)) (ap not white);
-  no_digit = grind (arith, nat_tests);
-  no_point = grind (arith, nat_tests);
-}
 
 module _ (d : Document) (f : FieldReading) (n : NewField) (ns : List NewField) (trimmed : IsTrimmed d.text f)
     (ordered : f.name.start < f.value.start) (can : CanBePut n) (all : AllByRecursion CanBePut ns) where

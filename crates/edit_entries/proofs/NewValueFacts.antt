@@ -54,7 +54,7 @@ white_ending {u} {v} {c} char white = record {
   no_point = grind (arith, nat_tests);
 }
 
-run_ending : {u v : Place} → Run is_whitespace u v → Ending v → Ending u
+pub run_ending : {u v : Place} → Run is_whitespace u v → Ending v → Ending u
 run_ending stop ending = ending
 run_ending (step char white rest) ending = white_ending char white
 

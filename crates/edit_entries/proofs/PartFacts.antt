@@ -174,6 +174,14 @@ field_in_order : (text : List ℕ) (at end : ℕ) (f : FieldReading) (fs : List 
 field_in_order text at end f fs FieldChange.stays more before is placed fields order =
     edits_earlier text (first_place f.value.end fs) at more
     (omega (arith, is.name.some, is.ordered, is.value, (first_in text f.value.end end fs fields).0)) order
+field_in_order text at end f fs (FieldChange.preceded n white) more before is placed fields order = (
+  before,
+  omega (arith, is.name.some),
+  is.name.start,
+  is.name.end,
+  edits_earlier text (first_place f.value.end fs) f.name.end more
+      (omega (arith, is.ordered, is.value, (first_in text f.value.end end fs fields).0)) order,
+)
 field_in_order text at end f fs (FieldChange.renamed name) more before is placed fields order = (
   before,
   omega (arith, is.name.some),

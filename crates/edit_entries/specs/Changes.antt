@@ -5,6 +5,7 @@ use Rattle.std.specs.Prelude.{◌≡◌, ℕ, ◌+◌, List, [], ◌∷◌, ◌+
 use Rattle.std.specs.Char.{is_whitespace}
 use Rattle.std.specs.List.{flat_map}
 use Rattle.std.specs.Str.{trim_end}
+use Rattle.bib_text.specs.Characters as char
 use Rattle.bib_text.specs.Places.{Run, place}
 use Rattle.bib_syntax.specs.Grammar.{IsRawReading}
 use Rattle.bib_syntax.specs.Reading.{Part, Piece, FieldReading, EntryReading, FileReading}
@@ -29,9 +30,11 @@ pub record NewField : Type 0 where
   pub name : List ℕ
   pub value : NewValue
 
--- what becomes of a field: it stays, has another name or another value, is replaced by one or more fields, or is gone
+-- what becomes of a field: it stays, has another name or another value, comes after a new field (with a comma and this white space
+-- between them), is replaced by one or more fields, or is gone
 pub data FieldChange : Type 0 where
   stays : FieldChange
+  preceded : NewField → List ℕ → FieldChange
   renamed : List ℕ → FieldChange
   valued : NewValue → FieldChange
   replaced : NewField → List NewField → FieldChange
@@ -61,6 +64,14 @@ new_field_text n = n.name ++ (codes " = " ++ n.value.bytes)
 abbrev pub more_field_texts : List NewField → List ℕ
 more_field_texts fields = flat_map (λ n. codes ", " ++ new_field_text n) fields
 
+-- a field as it is written before another one, with a comma and white space after it
+abbrev pub field_before : NewField → List ℕ → List ℕ
+field_before n white = new_field_text n ++ char.comma ∷ white
+
+-- a field's name with other bytes before it
+abbrev pub name_edit : FieldReading → List ℕ → Edit
+name_edit f lead = record { start = f.name.start; end = f.name.end; bytes = lead ++ f.name.text }
+
 -- another text in the place of a part of a text, if there is one
 abbrev pub part_edits : Part → Option (List ℕ) → List Edit
 part_edits p None = []
@@ -82,6 +93,7 @@ going_out f (g ∷ gs) = record { start = f.name.start; end = g.name.start; byte
 -- the edit of a field before others, by what becomes of it
 abbrev pub edits_of_field : List ℕ → FieldReading → List FieldReading → FieldChange → List Edit
 edits_of_field text f following FieldChange.stays = []
+edits_of_field text f following (FieldChange.preceded n white) = name_edit f (field_before n white) ∷ []
 edits_of_field text f following (FieldChange.renamed name) = record { start = f.name.start; end = f.name.end; bytes = name } ∷ []
 edits_of_field text f following (FieldChange.valued new) = value_stretch_edit text f new.bytes ∷ []
 edits_of_field text f following (FieldChange.replaced n ns) = field_stretch text f (new_field_text n ++ more_field_texts ns) ∷ []
@@ -119,6 +131,7 @@ field_reading n = record { name = text_at 0 n.name; value = record { pieces = n.
 -- what stands in the place of a field, by what becomes of it
 abbrev pub field_changed : FieldReading → FieldChange → List FieldReading
 field_changed f FieldChange.stays = f ∷ []
+field_changed f (FieldChange.preceded n white) = field_reading n ∷ f ∷ []
 field_changed f (FieldChange.renamed name) = (record f { name = record f.name { text = name } }) ∷ []
 field_changed f (FieldChange.valued new) = (record f { value = record f.value { pieces = new.pieces } }) ∷ []
 field_changed f (FieldChange.replaced n ns) = map field_reading (n ∷ ns)
