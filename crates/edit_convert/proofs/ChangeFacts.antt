@@ -6,7 +6,10 @@ use Rattle.bib_syntax.specs.Reading.{EntryReading, FieldReading}
 use Rattle.edit_entries.specs.Documents.{CanBeName, has_name}
 use Rattle.bib_tables.specs.declared.dialects.Dialect.{Dialect}
 use Rattle.edit_strings.specs.Collected.{single_text}
-use Rattle.edit_convert.specs.Conversions.{Exchanged, date_field, divides_date, exchanged_date, exchanged_field, exchanged_for, is_date_part, joined_among, joined_date, new_field_name, value_sides}
+use Rattle.edit_convert.specs.Conversions.{Exchanged, date_field, divides_date, exchanged_date, exchanged_field, exchanged_for, is_date_part, joined_among, joined_date, new_field_name, printed_type, typed_among, value_sides}
+use Rattle.bib_tables.specs.EntryType.{entry_type_of}
+use Rattle.edit_convert.specs.Types.{PrintedType, type_field}
+use Rattle.edit_convert.proofs.TypeFacts.{typed_put}
 use Rattle.edit_convert.specs.Dates.{Sides, from_names, more_fields, to_fields, side_year}
 use Rattle.edit_convert.proofs.DateFacts.{AreKnown, date_known, sides_put}
 use Rattle.edit_entries.proofs.NewFieldFacts.{CanBePut}
@@ -17,6 +20,7 @@ use Rattle.edit_convert.proofs.NewNameFacts.{name_known}
 abbrev pub CanBeMade : Option Exchanged → Type 0
 CanBeMade None = Unit {0}
 CanBeMade (Some (Exchanged.renamed name)) = CanBeName name
+CanBeMade (Some (Exchanged.typed text)) = CanBePut (type_field text)
 CanBeMade (Some (Exchanged.divided sides)) =
     CanBePut (side_year from_names sides.from)
     × AllByRecursion CanBePut (more_fields from_names sides.from ++ to_fields sides.to)
@@ -39,18 +43,22 @@ among_known : (b : Bool) (joined : Option (List ℕ)) (date : List ℕ) → cond
 among_known false joined date is = absurd (cc)
 among_known true joined date is = is
 
-made_case : (date name : Option (List ℕ)) (sides : Option Sides)
+made_case : (date name : Option (List ℕ)) (type : Option PrintedType) (sides : Option Sides)
     → ((t : List ℕ) → date ≡ Some t → CanBePut (date_field t)) → ((n : List ℕ) → name ≡ Some n → CanBeName n)
-    → ((s : Sides) → sides ≡ Some s → AreKnown s) → CanBeMade (exchanged_for date name sides)
-made_case (Some date) name sides joined names dates = joined date refl
-made_case None (Some name) sides joined names dates = names name refl
-made_case None None (Some sides) joined names dates = sides_put sides (dates sides refl)
-made_case None None None joined names dates = tt
+    → ((t : PrintedType) → type ≡ Some t → CanBePut (type_field t.text))
+    → ((s : Sides) → sides ≡ Some s → AreKnown s) → CanBeMade (exchanged_for date name type sides)
+made_case (Some date) name type sides joined names types dates = joined date refl
+made_case None (Some name) type sides joined names types dates = names name refl
+made_case None None (Some type) sides joined names types dates = types type refl
+made_case None None None (Some sides) joined names types dates = sides_put sides (dates sides refl)
+made_case None None None None joined names types dates = tt
 
 pub change_known : (dialect : Dialect) (defines : Bool) (text : List ℕ) (e : EntryReading) (f : FieldReading)
     → CanBeMade (exchanged_field dialect defines text e f)
 change_known dialect defines text e f =
     let joined : Option (List ℕ) = joined_date dialect defines text e.fields in
-    made_case (joined_among joined f) (new_field_name dialect e f) (exchanged_date dialect e f)
+    let kind = entry_type_of e.kind.text in
+    made_case (joined_among joined f) (new_field_name dialect e f) (typed_among (printed_type dialect kind e.fields) f)
+    (exchanged_date dialect e f)
     (λ date is. joined_put dialect defines text e.fields date (among_known (is_date_part f) joined date is))
-    (name_known dialect e f) (exchanged_known dialect e f)
+    (name_known dialect e f) (typed_put dialect kind e.fields f) (exchanged_known dialect e f)

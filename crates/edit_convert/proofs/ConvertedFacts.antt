@@ -1,12 +1,15 @@
 -- A document with the types and the fields of a dialect: its changes can be made.
-use Rattle.std.proofs.Common.{◌≡◌, ℕ, Bool, true, false, cond, List, [], ◌∷◌, refl, subst, Option, Some, None}
+use Rattle.std.proofs.Common.{◌≡◌, ℕ, Bool, true, false, cond, List, [], ◌∷◌, refl, subst, arith, Option, Some, None}
 use Rattle.std.specs.List.{AllByRecursion, list_any}
 use Rattle.bib_syntax.specs.Reading.{EntryReading, FieldReading}
 use Rattle.bib_tables.specs.declared.dialects.Dialect.{Dialect}
 use Rattle.edit_entries.specs.Changes.{FieldChange}
 use Rattle.edit_entries.proofs.ChangesFacts.{CanChange, CanEntryChange, CanFieldsChange}
 use Rattle.edit_entries.proofs.NewFieldFacts.{CanBePut}
-use Rattle.edit_convert.specs.Conversions.{Exchanged, conversion, date_field, exchanged_field, field_change, field_changes, is_date_part}
+use Rattle.bib_tables.specs.EntryType.{entry_type_of}
+use Rattle.edit_convert.specs.Conversions.{Exchanged, change_after, conversion, date_field, exchanged_field, field_change, field_changes, is_date_part, missing_type, printed_type, stays_one, waits_after}
+use Rattle.edit_convert.specs.Types.{type_field}
+use Rattle.edit_convert.proofs.TypeFacts.{missing_put, type_printed}
 use Rattle.edit_convert.proofs.ChangeFacts.{CanBeMade, change_known}
 use Rattle.edit_convert.proofs.NewNameFacts.{type_known}
 
@@ -25,22 +28,48 @@ joined_can following date false any can = (can, tt)
 field_can : (following : List FieldReading) (o : Option Exchanged) → CanBeMade o → CanChange following (field_change following o)
 field_can following None can = tt
 field_can following (Some (Exchanged.renamed name)) can = can
+field_can [] (Some (Exchanged.typed text)) can = (can, tt)
+field_can (g ∷ gs) (Some (Exchanged.typed text)) can = (g, gs, refl)
 field_can following (Some (Exchanged.divided sides)) can = can
 field_can following (Some (Exchanged.joined date)) can = joined_can following date (list_any is_date_part following) refl can
 
-fields_can : (exchanged : FieldReading → Option Exchanged) → ((f : FieldReading) → CanBeMade (exchanged f)) → (fs : List FieldReading)
-    → CanFieldsChange fs (field_changes exchanged fs)
-fields_can exchanged each [] = tt
-fields_can exchanged each (f ∷ fs) = (field_can fs (exchanged f) (each f), fields_can exchanged each fs)
+-- a value of `type` that waits can be put in
+abbrev CanWait : Option (List ℕ) → Type 0
+CanWait waiting = (value : List ℕ) → waiting ≡ Some value → CanBePut (type_field value)
+
+waiting_can : (waiting : Option (List ℕ)) (following : List FieldReading) (o : Option Exchanged) → CanWait waiting → CanBeMade o
+    → CanChange following (change_after waiting following o)
+waiting_can (Some value) following None waits can = (waits value refl, ((omega arith, refl), tt))
+waiting_can (Some value) following (Some o) waits can = field_can following (Some o) can
+waiting_can None following None waits can = tt
+waiting_can None following (Some o) waits can = field_can following (Some o) can
+
+still_waits : (waiting : Option (List ℕ)) (o : Option Exchanged) → CanWait waiting → CanWait (waits_after waiting o)
+still_waits waiting None waits value is = absurd (cc)
+still_waits waiting (Some o) waits value is = waits value is
+
+fields_can : (exchanged : FieldReading → Option Exchanged) (waiting : Option (List ℕ)) → ((f : FieldReading) → CanBeMade (exchanged f))
+    → CanWait waiting → (fs : List FieldReading) → CanFieldsChange fs (field_changes exchanged waiting fs)
+fields_can exchanged waiting each waits [] = tt
+fields_can exchanged waiting each waits (f ∷ fs) = (
+  waiting_can waiting fs (exchanged f) waits (each f),
+  fields_can exchanged (waits_after waiting (exchanged f)) each (still_waits waiting (exchanged f) waits) fs,
+)
 
 -- what becomes of entries for a dialect can be made
 pub conversion_can : (dialect : Dialect) (defines : Bool) (text : List ℕ) (es : List EntryReading)
     → AllByRecursion (λ e. CanEntryChange e (conversion dialect defines text e)) es
 conversion_can dialect defines text [] = tt
-conversion_can dialect defines text (e ∷ es) = (
-  record {
-    kind = type_known dialect e;
-    fields = fields_can (exchanged_field dialect defines text e) (change_known dialect defines text e) e.fields;
-  },
-  conversion_can dialect defines text es,
-)
+conversion_can dialect defines text (e ∷ es) =
+    let kind = entry_type_of e.kind.text in
+    let missing = missing_type dialect kind e.fields in
+    let exchanged = exchanged_field dialect defines text e in (
+      record {
+        kind =
+            type_known dialect kind (printed_type dialect kind e.fields) missing (stays_one exchanged e.fields)
+            (type_printed dialect kind e.fields);
+        fields =
+            fields_can exchanged missing (change_known dialect defines text e) (missing_put dialect kind e.fields) e.fields;
+      },
+      conversion_can dialect defines text es,
+    )

@@ -1,6 +1,6 @@
 -- The fields of a date's parts: each can be put in.
 use Rattle.std.proofs.Common.{◌≡◌, ℕ, ◌+◌, ◌-◌, ◌<◌, Bool, true, false, cond, List, [], ◌∷◌, ◌++◌, length, take, drop, refl, sym, ap, ◌∙◌, subst, arith, length-append, Option, Some, None}
-use Rattle.std.specs.Prelude.{◌&&◌, ◌==◌, bytes_eq, is_some}
+use Rattle.std.specs.Prelude.{◌&&◌, ◌==◌, bytes_eq, is_some, nat_lt}
 use Rattle.std.specs.Char.{is_ascii_digit}
 use Rattle.std.specs.List.{AllByRecursion, list_all, slice_split}
 use Rattle.std.proofs.lemmas.Bool.{and_from, and_parts}
@@ -21,22 +21,26 @@ use Rattle.edit_strings.proofs.NameFacts.{plain_can}
 use Rattle.edit_entries.proofs.NewValueFacts.{CanBeRead}
 use Rattle.bib_dates.specs.Dates.{date_of}
 use Rattle.bib_dates.specs.Readings.{readable_value}
-use Rattle.bib_dates.proofs.DatesReread.{is_date_byte}
+use Rattle.bib_dates.proofs.DatesReread.{all_more, is_date_byte}
 use Rattle.edit_convert.specs.Dates.{Side, SideNames, Sides, are_digits, braced_field, date_sides, day_fields, from_names, month_fields, month_side, month_abbreviations, more_fields, side_in, side_of, sides_of, one_side, two_sides, to_fields, to_names, side_year}
 use Rattle.edit_entries.proofs.NewFieldFacts.{CanBePut, element_read}
 use Rattle.bib_text.proofs.ListFacts.{all_append}
 
--- ---- digits and hyphens in braces
+-- ---- texts of ASCII without braces and backslashes, in braces
 
-byte_plain : (c : ℕ) → is_date_byte c ≡ true → (c < 128) × (is_plain c ≡ true)
+-- whether a byte is a character of ASCII that is neither a brace nor a backslash
+abbrev pub is_plain_ascii : ℕ → Bool
+is_plain_ascii c = nat_lt c 128 && is_plain c
+
+byte_plain : (c : ℕ) → is_plain_ascii c ≡ true → (c < 128) × (is_plain c ≡ true)
 byte_plain c digit = (grind (arith, nat_tests), grind (arith, nat_tests))
 
 bytes_parts : (whole : List ℕ) (at : ℕ) (bs rest : List ℕ) → drop at whole ≡ bs ++ rest
-    → list_all is_date_byte bs ≡ true → Parts (place whole at) (place whole (at + length bs))
+    → list_all is_plain_ascii bs ≡ true → Parts (place whole at) (place whole (at + length bs))
 bytes_parts whole at [] rest here all =
     let same : at ≡ at + 0 = omega arith in subst (λ n. Parts (place whole at) (place whole n)) same parts.none
 bytes_parts whole at (b ∷ bs) rest here all =
-    let both = and_parts (is_date_byte b) (list_all is_date_byte bs) all in
+    let both = and_parts (is_plain_ascii b) (list_all is_plain_ascii bs) all in
     let fits = byte_plain b both.0 in
     let next : at + 1 + length bs ≡ at + length (b ∷ bs) = omega arith in
     subst (λ n. Parts (place whole at) (place whole n)) next
@@ -44,9 +48,9 @@ bytes_parts whole at (b ∷ bs) rest here all =
     (bytes_parts whole (at + 1) bs rest (sym (drop-drop 1 at whole) ∙ ap (drop 1) here) both.1))
 
 -- in braces they are read as a text
-pub date_bytes_read : (text : List ℕ) → list_all is_date_byte text ≡ true
+pub plain_read : (text : List ℕ) → list_all is_plain_ascii text ≡ true
     → CanBeRead (record { bytes = in_braces text; pieces = literal (text_at 1 text) ∷ [] })
-date_bytes_read text all =
+plain_read text all =
     let whole : List ℕ = in_braces text in
     let last : ℕ = 1 + length text in
     let closing : drop last whole ≡ 125 ∷ [] = sym (drop-drop (length text) 1 whole) ∙ drop_at text (125 ∷ []) (length text) refl in
@@ -66,13 +70,21 @@ date_bytes_read text all =
     element_read {a = place whole 0} whole (Element.braced braced) (omega (arith, size))
     (ap (λ n. take n whole) all_bytes ∙ take_all (length whole) whole (omega arith))
 
+date_plain : (c : ℕ) → is_date_byte c ≡ true → is_plain_ascii c ≡ true
+date_plain c digit = grind (arith, nat_tests)
+
+-- and so are digits and hyphens
+pub date_bytes_read : (text : List ℕ) → list_all is_date_byte text ≡ true
+    → CanBeRead (record { bytes = in_braces text; pieces = literal (text_at 1 text) ∷ [] })
+date_bytes_read text all = plain_read text (all_more is_date_byte is_plain_ascii date_plain text all)
+
 digit_bytes : (text : List ℕ) → list_all is_ascii_digit text ≡ true → list_all is_date_byte text ≡ true
 digit_bytes [] all = refl
 digit_bytes (b ∷ bs) all =
     let both = and_parts (is_ascii_digit b) (list_all is_ascii_digit bs) all in
     and_from (is_date_byte b) (list_all is_date_byte bs) (rw both.0 refl) (digit_bytes bs both.1)
 
--- and digits alone are
+-- digits are, too
 digits_read : (text : List ℕ) → list_all is_ascii_digit text ≡ true
     → CanBeRead (record { bytes = in_braces text; pieces = literal (text_at 1 text) ∷ [] })
 digits_read text all = date_bytes_read text (digit_bytes text all)

@@ -10,3 +10,4 @@ mod JoinedFacts
 mod JoinedTextFacts
 mod NewNameFacts
 mod NoteFacts
+mod TypeFacts

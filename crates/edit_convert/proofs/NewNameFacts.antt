@@ -13,7 +13,9 @@ use Rattle.bib_tables.specs.declared.dialects.Dialect.{Dialect}
 use Rattle.bib_tables.specs.declared.dialects.Dialect.TheVariants.{Biblatex, Bibtex}
 use Rattle.edit_strings.specs.Collecting.{is_plain_name}
 use Rattle.edit_strings.proofs.NameFacts.{plain_can}
-use Rattle.edit_convert.specs.Conversions.{exchanged_names, is_field_there, is_unnamed_type, new_field_name, new_type, other_name, other_names}
+use Rattle.edit_convert.specs.Conversions.{exchanged_names, is_field_there, is_unnamed_type, new_field_name, other_name, other_names, other_type, type_for}
+use Rattle.edit_convert.specs.Types.{PrintedType}
+use Rattle.edit_convert.proofs.TypeFacts.{IsPrinted}
 
 -- ---- types
 
@@ -62,12 +64,22 @@ type_case false kind name same =
     let plain = type_plain kind in
     subst (λ n. CanBeName n × (block_kind n ≡ BlockKind.entry)) is ((plain_can (entry_type_name kind) plain.0).0, plain.1)
 
-pub type_known : (dialect : Dialect) (e : EntryReading) (name : List ℕ) → new_type dialect e ≡ Some name
+other_known : (dialect : Dialect) (kind : EntryType) (name : List ℕ) → other_type dialect kind ≡ Some name
     → CanBeName name × (block_kind name ≡ BlockKind.entry)
-type_known dialect e name is =
-    let kind = entry_type_of e.kind.text in
+other_known dialect kind name is =
     type_case (is_unnamed_type kind || bytes_eq (entry_type_name (kind_in dialect kind)) (entry_type_name kind))
     (kind_in dialect kind) name is
+
+pub type_known : (dialect : Dialect) (kind : EntryType) (printed : Option PrintedType) (missing : Option (List ℕ)) (stays : Bool)
+    → ((type : PrintedType) → printed ≡ Some type → IsPrinted type) → (name : List ℕ)
+    → type_for dialect kind printed missing stays ≡ Some name → CanBeName name × (block_kind name ≡ BlockKind.entry)
+type_known dialect kind (Some type) missing stays known name is =
+    let same : type.name ≡ name = cc in
+    let printed = known type refl in
+    subst (λ n. CanBeName n × (block_kind n ≡ BlockKind.entry)) same ((plain_can type.name printed.plain).0, printed.entry)
+type_known dialect kind None None stays known name is = other_known dialect kind name is
+type_known dialect kind None (Some value) true known name is = other_known dialect kind name is
+type_known dialect kind None (Some value) false known name is = absurd (cc)
 
 -- ---- names of fields
 

@@ -1,6 +1,6 @@
 -- Meaning: words of public contracts.
 -- A file with the types of entries and the fields that BibLaTeX has, or BibTeX. Values stay as they stand.
-use Rattle.std.specs.Prelude.{◌≡◌, ◌+◌, ◌==◌, ◌&&◌, ℕ, Bool, true, false, not, ◌||◌, if◌then◌else◌, List, [], ◌∷◌, ◌++◌, codes, filter, length, map, nat_lt, bytes_eq, Option, Some, None}
+use Rattle.std.specs.Prelude.{◌≡◌, ◌+◌, ◌==◌, ◌&&◌, ℕ, Bool, true, false, not, ◌||◌, if◌then◌else◌, List, [], ◌∷◌, ◌++◌, codes, filter, length, map, nat_lt, bytes_eq, is_some, Option, Some, None}
 use Rattle.std.specs.List.{find, flat_map, list_any}
 use Rattle.bib_syntax.specs.Grammar.{is_word}
 use Rattle.bib_syntax.specs.Reading.{Part, FieldReading, EntryReading, FileReading}
@@ -14,6 +14,8 @@ use Rattle.edit_entries.specs.Documents.{Document, has_name}
 use Rattle.edit_format.specs.Formatted.{has_percent}
 use Rattle.edit_strings.specs.Collected.{single_text}
 use Rattle.edit_entries.specs.Changes.{EntryChange, FieldChange, IsChanged, NewField}
+use Rattle.edit_convert.specs.Types.{PrintedType, type_by_value, type_field, type_value}
+use Rattle.bib_text.specs.Characters as char
 use Rattle.edit_convert.specs.Dates.{Sides, braced_field, date_sides, from_names, more_fields, part_names, to_fields, side_year}
 use Rattle.edit_convert.specs.Joined.{is_month_name, joined_text, month_value}
 
@@ -27,10 +29,6 @@ abbrev pub other_type : Dialect → EntryType → Option (List ℕ)
 other_type dialect kind =
     if is_unnamed_type kind || bytes_eq (entry_type_name (kind_in dialect kind)) (entry_type_name kind) then None
     else Some (entry_type_name (kind_in dialect kind))
-
--- the name that takes the place of that of an entry's type, if one does
-abbrev pub new_type : Dialect → EntryReading → Option (List ℕ)
-new_type dialect e = other_type dialect (entry_type_of e.kind.text)
 
 -- the names of fields for which a dialect has others in entries of a type, each with the other
 abbrev pub other_names : Dialect → EntryType → List (List ℕ × List ℕ)
@@ -121,6 +119,21 @@ abbrev pub literal_of : Option FieldReading → Option (List ℕ)
 literal_of None = None
 literal_of (Some f) = single_text f.value.pieces
 
+-- the type of BibTeX that an entry's type and its one field `type` stand for, if they stand for one
+abbrev pub read_type : EntryType → List FieldReading → Option PrintedType
+read_type kind fields =
+    if times_named fields (codes "type") == 1 then type_by_value kind (literal_of (find (has_name (codes "type")) fields)) else None
+
+-- the same for BibTeX; BibLaTeX has no use for it
+abbrev pub printed_type : Dialect → EntryType → List FieldReading → Option PrintedType
+printed_type Biblatex kind fields = None
+printed_type Bibtex kind fields = read_type kind fields
+
+-- the value of `type` that an entry of a type needs for BibLaTeX: if it has none
+abbrev pub missing_type : Dialect → EntryType → List FieldReading → Option (List ℕ)
+missing_type Biblatex kind fields = if is_field_there fields (codes "type") then None else type_value kind
+missing_type Bibtex kind fields = None
+
 -- the text of a month, if there is one
 abbrev pub month_of : Bool → Option FieldReading → Option (List ℕ)
 month_of defines None = None
@@ -158,50 +171,85 @@ defines_month abbreviations = list_any (λ f. is_month_name f.name.text) abbrevi
 abbrev pub joined_among : Option (List ℕ) → FieldReading → Option (List ℕ)
 joined_among joined f = if is_date_part f then joined else None
 
--- what takes the place of a field: the field with another name, fields of a date's parts, or with the other parts one date
+-- what takes the place of a field: the field with another name, what a style prints for a type, fields of a date's parts, or with the
+-- other parts one date
 pub data Exchanged : Type 0 where
   renamed : List ℕ → Exchanged
+  typed : List ℕ → Exchanged
   divided : Sides → Exchanged
   joined : List ℕ → Exchanged
 
--- a date, or else another name, or else the parts of a date, if there is one of them
-abbrev pub exchanged_for : Option (List ℕ) → Option (List ℕ) → Option Sides → Option Exchanged
-exchanged_for (Some date) name sides = Some (Exchanged.joined date)
-exchanged_for None (Some name) sides = Some (Exchanged.renamed name)
-exchanged_for None None (Some sides) = Some (Exchanged.divided sides)
-exchanged_for None None None = None
+-- a date, or else another name, or else a type, or else the parts of a date, if there is one of them
+abbrev pub exchanged_for : Option (List ℕ) → Option (List ℕ) → Option PrintedType → Option Sides → Option Exchanged
+exchanged_for (Some date) name type sides = Some (Exchanged.joined date)
+exchanged_for None (Some name) type sides = Some (Exchanged.renamed name)
+exchanged_for None None (Some type) sides = Some (Exchanged.typed type.text)
+exchanged_for None None None (Some sides) = Some (Exchanged.divided sides)
+exchanged_for None None None None = None
+
+-- a type, if a field is `type`
+abbrev pub typed_among : Option PrintedType → FieldReading → Option PrintedType
+typed_among type f = if has_name (codes "type") f then type else None
 
 -- what takes the place of an entry's field, if anything does, in a text that defines an abbreviation of a month or doesn't
 abbrev pub exchanged_field : Dialect → Bool → List ℕ → EntryReading → FieldReading → Option Exchanged
 exchanged_field dialect defines text e f =
     exchanged_for (joined_among (joined_date dialect defines text e.fields) f) (new_field_name dialect e f)
-    (exchanged_date dialect e f)
+    (typed_among (printed_type dialect (entry_type_of e.kind.text) e.fields) f) (exchanged_date dialect e f)
 
 -- the field of a date
 abbrev pub date_field : List ℕ → NewField
 date_field date = braced_field (codes "date") date
 
--- what becomes of a field before others, given what takes its place: the last part of a date gives way to the date, and the parts
--- before it go out
+-- what becomes of a field before others, given what takes its place: the last part of a date is replaced by the date, and the parts
+-- before it are gone; a type that BibTeX has is gone, and if no field follows it says what a style prints
 abbrev pub field_change : List FieldReading → Option Exchanged → FieldChange
 field_change following None = FieldChange.stays
 field_change following (Some (Exchanged.renamed name)) = FieldChange.renamed name
+field_change [] (Some (Exchanged.typed text)) = FieldChange.replaced (type_field text) []
+field_change (g ∷ gs) (Some (Exchanged.typed text)) = FieldChange.gone
 field_change following (Some (Exchanged.divided sides)) =
     FieldChange.replaced (side_year from_names sides.from) (more_fields from_names sides.from ++ to_fields sides.to)
 field_change following (Some (Exchanged.joined date)) =
     if list_any is_date_part following then FieldChange.gone else FieldChange.replaced (date_field date) []
 
--- what becomes of some fields one after another, given what takes the place of each
-abbrev pub field_changes : (FieldReading → Option Exchanged) → List FieldReading → List FieldChange
-field_changes exchanged [] = []
-field_changes exchanged (f ∷ fs) = field_change fs (exchanged f) ∷ field_changes exchanged fs
+-- the same, if a value of `type` waits for a field that stays: it comes before that one
+abbrev pub change_after : Option (List ℕ) → List FieldReading → Option Exchanged → FieldChange
+change_after (Some value) following None = FieldChange.preceded (type_field value) (char.space ∷ [])
+change_after waiting following exchanged = field_change following exchanged
+
+-- what waits after a field
+abbrev pub waits_after : Option (List ℕ) → Option Exchanged → Option (List ℕ)
+waits_after waiting None = None
+waits_after waiting (Some exchanged) = waiting
+
+-- what becomes of some fields one after another, given what takes the place of each, and a value of `type` that waits
+abbrev pub field_changes : (FieldReading → Option Exchanged) → Option (List ℕ) → List FieldReading → List FieldChange
+field_changes exchanged waiting [] = []
+field_changes exchanged waiting (f ∷ fs) =
+    change_after waiting fs (exchanged f) ∷ field_changes exchanged (waits_after waiting (exchanged f)) fs
+
+-- whether one of some fields stays
+abbrev pub stays_one : (FieldReading → Option Exchanged) → List FieldReading → Bool
+stays_one exchanged fields = list_any (λ f. not (is_some (exchanged f))) fields
+
+-- the name of the type that takes the place of an entry's, given that of BibTeX, a missing value of `type`, and whether a field
+-- stays, without which the value isn't added
+abbrev pub type_for : Dialect → EntryType → Option PrintedType → Option (List ℕ) → Bool → Option (List ℕ)
+type_for dialect kind (Some type) missing stays = Some type.name
+type_for dialect kind None None stays = other_type dialect kind
+type_for dialect kind None (Some value) stays = if stays then other_type dialect kind else None
 
 -- what becomes of an entry for a dialect, in a text that defines an abbreviation of a month or doesn't
 abbrev pub conversion : Dialect → Bool → List ℕ → EntryReading → EntryChange
-conversion dialect defines text e = record {
-  kind = new_type dialect e;
-  fields = field_changes (exchanged_field dialect defines text e) e.fields;
-}
+conversion dialect defines text e =
+    let kind = entry_type_of e.kind.text in
+    let exchanged = exchanged_field dialect defines text e in
+    let missing = missing_type dialect kind e.fields in
+    record {
+      kind = type_for dialect kind (printed_type dialect kind e.fields) missing (stays_one exchanged e.fields);
+      fields = field_changes exchanged missing e.fields;
+    }
 
 -- what becomes of the entries of a document for a dialect
 abbrev pub document_conversion : Dialect → Document → EntryReading → EntryChange

@@ -5,3 +5,4 @@ pub mod Laws
 pub mod Notes
 pub mod Rules
 pub mod Tables
+pub mod Types

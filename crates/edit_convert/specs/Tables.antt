@@ -8,7 +8,9 @@ use Rattle.bib_syntax.specs.Reading.{EntryReading, FieldReading}
 use Rattle.edit_entries.specs.Edits as edits
 use Rattle.bib_tables.specs.declared.dialects.Dialect.{Dialect}
 use Rattle.edit_entries.specs.Changes.{edits_of_entry, edits_of_fields}
-use Rattle.edit_convert.specs.Conversions.{Exchanged, conversion, date_among, exchanged_for, field_changes, joined_among, other_name}
+use Rattle.edit_convert.specs.Conversions.{Exchanged, conversion, date_among, exchanged_for, field_changes, joined_among, other_name, typed_among}
+use Rattle.edit_convert.specs.Types.{PrintedType}
+use Rattle.edit_convert.specs.declared.types.Printed.{Printed}
 use Rattle.edit_convert.specs.Dates as dates
 use Rattle.edit_convert.specs.declared.changes.Changes.{Changes}
 use Rattle.edit_convert.specs.declared.dates.Side.{Side}
@@ -30,15 +32,20 @@ side_as_written side = record { year = side.year.now; month = lent_text side.mon
 abbrev pub sides_as_written : Sides → dates.Sides
 sides_as_written sides = record { from = side_as_written sides.from; to = option_map side_as_written sides.to }
 
+-- a type of BibTeX, by the bytes of its texts
+abbrev pub printed_of : Option Printed → Option PrintedType
+printed_of printed = option_map (λ p. let type : PrintedType = record { name = p.name.now; text = p.text.now } in type) printed
+
 -- what takes the place of a field, by what gives way in its entry
 abbrev pub exchanged_by : Changes → FieldReading → Option Exchanged
 exchanged_by changes f =
     exchanged_for (joined_among (option_map string_bytes changes.joined) f)
-    (other_name (lent_names changes.names.items) f.name.text) (date_among changes.divides f)
+    (other_name (lent_names changes.names.items) f.name.text) (typed_among (printed_of changes.printed) f)
+    (date_among changes.divides f)
 
--- the edits of some fields, by what gives way in their entry
-abbrev pub change_edits : Changes → List ℕ → List FieldReading → List edits.Edit
-change_edits changes text fields = edits_of_fields text fields (field_changes (exchanged_by changes) fields)
+-- the edits of some fields, by what gives way in their entry and a value of `type` that waits
+abbrev pub change_edits : Changes → Option (List ℕ) → List ℕ → List FieldReading → List edits.Edit
+change_edits changes waiting text fields = edits_of_fields text fields (field_changes (exchanged_by changes) waiting fields)
 
 -- the edits of an entry for a dialect, in a text that defines an abbreviation of a month or doesn't
 abbrev pub conversion_edits : Dialect → Bool → List ℕ → EntryReading → List edits.Edit

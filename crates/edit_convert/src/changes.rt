@@ -5,21 +5,23 @@ ghost use Rattle.std.specs.Option.{option_map};
 ghost use Rattle.std.specs.String.{string_bytes};
 ghost use Rattle.bib_syntax.specs.Views.{field_of};
 ghost use Rattle.edit_convert.specs.Conversions as spec;
-ghost use Rattle.edit_convert.specs.Tables.{lent_names};
+ghost use Rattle.edit_convert.specs.Tables.{lent_names, printed_of};
 
 use crate::fields::divides_date;
 use crate::joining::joined_date;
 use crate::names::exchanged_names;
+use crate::types::{Printed, printed_type};
 use bib_syntax::raw::Pair;
 use bib_tables::dialects::Dialect;
 use bib_tables::mechanics::EntryType;
 use std::alloc::{AllocError, Global};
 
-// What gives way in an entry: names of fields, each with the one that takes its place, perhaps its date to fields of the date's
-// parts, and perhaps these to a date with this text.
+// What changes in an entry: names of fields, each with the one that takes its place, perhaps its `type` to a type of BibTeX, perhaps
+// its date to fields of the date's parts, and perhaps these to a date with this text.
 #[derive(Drop)]
 pub(crate) struct Changes {
     pub(crate) names: Vec<(&'static str, &'static str)>,
+    pub(crate) printed: Option<Printed>,
     pub(crate) divides: bool,
     pub(crate) joined: Option<String>,
 }
@@ -34,11 +36,13 @@ pub(crate) fn changes_of(
     fields: &[Pair<'_>],
 ) -> Result<Changes, AllocError>
     ensures names { IfOk result (λ changes. lent_names changes.names.items ≡ spec.free_names (map field_of fields.now) (spec.other_names dialect kind.now)) }
+    ensures printed { IfOk result (λ changes. printed_of changes.printed ≡ spec.printed_type dialect kind.now (map field_of fields.now)) }
     ensures divides { IfOk result (λ changes. changes.divides ≡ spec.divides_date dialect (map field_of fields.now)) }
     ensures joined { IfOk result (λ changes. option_map string_bytes changes.joined ≡ spec.joined_date dialect defines text.now (map field_of fields.now)) }
 {
     Ok(Changes {
         names: exchanged_names(alloc, dialect, kind, fields)?,
+        printed: printed_type(dialect, kind, fields),
         divides: divides_date(dialect, fields),
         joined: joined_date(alloc, dialect, defines, text, fields)?,
     })

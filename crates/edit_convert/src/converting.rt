@@ -1,6 +1,6 @@
 //! Files with the types and the fields of a dialect.
 
-ghost use Rattle.std.specs.Prelude.{◌≡◌, ◌++◌, IfOk, List, OnOk, None, Some, map};
+ghost use Rattle.std.specs.Prelude.{◌≡◌, ◌++◌, ℕ, IfOk, List, OnOk, None, Some, map};
 ghost use Rattle.std.specs.List.{AllByRecursion};
 ghost use Rattle.std.specs.Option.{option_map};
 ghost use Rattle.std.specs.String.{string_bytes};
@@ -11,16 +11,18 @@ ghost use Rattle.edit_convert.specs.Conversions.{Exchanged, IsConverted, convers
 ghost use Rattle.edit_entries.specs.Changes.{edits_of_entries, edits_of_field, going_out, part_edits};
 ghost use Rattle.edit_convert.specs.Conversions as spec;
 ghost use Rattle.edit_entries.specs.EditList.{edit_of};
-ghost use Rattle.edit_convert.specs.Tables.{change_edits, conversion_edits, exchanged_by, lent_text};
+ghost use Rattle.edit_convert.specs.Tables.{change_edits, conversion_edits, exchanged_by, lent_text, printed_of};
 
 use crate::changes::{Changes, changes_of};
-use crate::dates::{written_date, written_sides};
+use crate::dates::{written_date, written_sides, written_type};
 use edit_entries::editing::{Edit, edited_all};
 use edit_entries::values::value_end;
 use crate::fields::{exchanged_date, has_part, is_date_part};
 use crate::joining::defines_month;
 use crate::names::{other_name, other_type};
-use bib_syntax::raw::{Pair, RawEntry};
+use crate::notes::gives_way;
+use crate::types::{Printed, missing_type};
+use bib_syntax::raw::{Pair, RawEntry, is_word};
 use bib_tables::dialects::Dialect;
 use bib_tables::mechanics::EntryType;
 use bib_text::spanned::Spanned;
@@ -57,7 +59,7 @@ fn push_date_edit(
 ) -> Result<(), AllocError>
     requires { IsPlaced text.now (field_of field.now) }
     ensures { (following : List FieldReading) → OnOk result (map edit_of edits.new.items ≡ map edit_of edits.old.items ++
-        edits_of_field text.now (field_of field.now) following (field_change following (spec.exchanged_for None None (date_among divides (field_of field.now))))) }
+        edits_of_field text.now (field_of field.now) following (field_change following (spec.exchanged_for None None None (date_among divides (field_of field.now))))) }
 {
     let Some(sides) = exchanged_date(alloc, divides, field)? else {
         return Ok(());
@@ -127,7 +129,62 @@ fn joined_among<'c>(joined: &'c Option<String>, field: &Pair<'_>) -> Option<&'c 
     }
 }
 
-// Adds the edit of a field that gives way, if it does.
+// Adds the edit of a field `type` that is a type of BibTeX: it is gone, or says what a style prints if no field follows.
+fn push_type_edit(
+    edits: &mut Vec<Edit>,
+    alloc: Global,
+    text: &str,
+    printed: &str,
+    field: &Pair<'_>,
+    following: &[Pair<'_>],
+) -> Result<(), AllocError>
+    requires { IsPlaced text.now (field_of field.now) }
+    ensures { OnOk result (map edit_of edits.new.items ≡ map edit_of edits.old.items ++
+        edits_of_field text.now (field_of field.now) (map field_of following.now) (field_change (map field_of following.now) (Some (Exchanged.typed printed.now)))) }
+{
+    if !following.is_empty() {
+        return push_removal(edits, alloc, field, following);
+    }
+    edits.push(Edit {
+        start: field.key.span.start,
+        end: value_end(text, field),
+        text: written_type(alloc, printed)?,
+    })?;
+    Ok(())
+}
+
+// The type of BibTeX, if a field is `type`.
+fn typed_among(printed: Option<Printed>, field: &Pair<'_>) -> Option<Printed>
+    ensures { printed_of result ≡ spec.typed_among (printed_of printed) (field_of field.now) }
+{
+    if is_word(field.key.v, "type") {
+        printed
+    } else {
+        None
+    }
+}
+
+// Adds the edit of a field that keeps its name, if something takes its place.
+fn push_value_edit(
+    edits: &mut Vec<Edit>,
+    alloc: Global,
+    text: &str,
+    changes: &Changes,
+    field: &Pair<'_>,
+    following: &[Pair<'_>],
+) -> Result<(), AllocError>
+    requires { IsPlaced text.now (field_of field.now) }
+    ensures { OnOk result (map edit_of edits.new.items ≡ map edit_of edits.old.items ++
+        edits_of_field text.now (field_of field.now) (map field_of following.now)
+        (field_change (map field_of following.now) (spec.exchanged_for None None (spec.typed_among (printed_of changes.now.printed) (field_of field.now)) (date_among changes.now.divides (field_of field.now))))) }
+{
+    match typed_among(changes.printed, field) {
+        Some(printed) => push_type_edit(edits, alloc, text, printed.text, field, following),
+        None => push_date_edit(edits, alloc, text, changes.divides, field),
+    }
+}
+
+// Adds the edit of a field, if something takes its place.
 fn push_field_edit(
     edits: &mut Vec<Edit>,
     alloc: Global,
@@ -145,25 +202,109 @@ fn push_field_edit(
     }
     match other_name(&changes.names, field.key.v) {
         Some(name) => push_part_edit(edits, alloc, &field.key, Some(name)),
-        None => push_date_edit(edits, alloc, text, changes.divides, field),
+        None => push_value_edit(edits, alloc, text, changes, field, following),
     }
 }
 
-// Adds the edit of each field that gives way.
+// Adds the edit of a field that stays, with a field `type` before it.
+fn push_missing_type(
+    edits: &mut Vec<Edit>,
+    alloc: Global,
+    field: &Pair<'_>,
+    value: &str,
+) -> Result<(), AllocError>
+    ensures { OnOk result ((text : List ℕ) (following : List FieldReading) → map edit_of edits.new.items ≡ map edit_of edits.old.items ++
+        edits_of_field text (field_of field.now) following (spec.change_after (Some value.now) following None)) }
+{
+    let mut text = written_type(alloc, value)?;
+    text.push_str(", ")?;
+    text.push_str(field.key.v)?;
+    edits.push(Edit {
+        start: field.key.span.start,
+        end: field.key.span.end,
+        text,
+    })?;
+    Ok(())
+}
+
+// Adds the edit of a field, if something takes its place, or if it stays and a value of `type` waits. Returns what still waits.
+fn push_waiting_edit(
+    edits: &mut Vec<Edit>,
+    alloc: Global,
+    text: &str,
+    changes: &Changes,
+    waiting: Option<&'static str>,
+    field: &Pair<'_>,
+    following: &[Pair<'_>],
+) -> Result<Option<&'static str>, AllocError>
+    requires { IsPlaced text.now (field_of field.now) }
+    ensures edits { OnOk result (map edit_of edits.new.items ≡ map edit_of edits.old.items ++
+        edits_of_field text.now (field_of field.now) (map field_of following.now)
+        (spec.change_after (lent_text waiting.entry) (map field_of following.now) (exchanged_by changes.now (field_of field.now)))) }
+    ensures waits { IfOk result (λ waits. lent_text waits ≡ spec.waits_after (lent_text waiting.entry) (exchanged_by changes.now (field_of field.now))) }
+{
+    let Some(value) = waiting else {
+        push_field_edit(edits, alloc, text, changes, field, following)?;
+        return Ok(None);
+    };
+    if gives_way(alloc, changes, field)? {
+        push_field_edit(edits, alloc, text, changes, field, following)?;
+        return Ok(waiting);
+    }
+    push_missing_type(edits, alloc, field, value)?;
+    Ok(None)
+}
+
+// Adds the edits of fields, where a value of `type` may wait for the first that stays.
 fn push_field_edits(
     edits: &mut Vec<Edit>,
     alloc: Global,
     text: &str,
     changes: &Changes,
+    missing: Option<&'static str>,
     fields: &[Pair<'_>],
 ) -> Result<(), AllocError>
     requires { AllByRecursion (IsPlaced text.now) (map field_of fields.now) }
-    ensures { OnOk result (map edit_of edits.new.items ≡ map edit_of edits.old.items ++ change_edits changes.now text.now (map field_of fields.now)) }
+    ensures { OnOk result (map edit_of edits.new.items ≡ map edit_of edits.old.items ++ change_edits changes.now (lent_text missing.entry) text.now (map field_of fields.now)) }
 {
+    let mut waiting = missing;
     'fields: for (at, field) in fields.iter().enumerate() {
-        push_field_edit(edits, alloc, text, changes, field, &fields[at + 1..])?;
+        waiting = push_waiting_edit(edits, alloc, text, changes, waiting, field, &fields[at + 1..])?;
     }
     Ok(())
+}
+
+// Returns whether one of some fields stays.
+fn stays_one(alloc: Global, changes: &Changes, fields: &[Pair<'_>]) -> Result<bool, AllocError>
+    ensures { IfOk result (λ stays. stays ≡ spec.stays_one (exchanged_by changes.now) (map field_of fields.now)) }
+{
+    'fields: for field in fields {
+        if !gives_way(alloc, changes, field)? {
+            return Ok(true);
+        }
+    }
+    Ok(false)
+}
+
+// Returns the name of the type that takes the place of an entry's.
+fn new_type(
+    alloc: Global,
+    dialect: Dialect,
+    kind: &EntryType,
+    changes: &Changes,
+    missing: Option<&'static str>,
+    fields: &[Pair<'_>],
+) -> Result<Option<&'static str>, AllocError>
+    ensures { IfOk result (λ name. lent_text name ≡ spec.type_for dialect kind.now (printed_of changes.now.printed) (lent_text missing.entry)
+        (spec.stays_one (exchanged_by changes.now) (map field_of fields.now))) }
+{
+    if let Some(printed) = changes.printed {
+        return Ok(Some(printed.name));
+    }
+    if missing.is_some() && !stays_one(alloc, changes, fields)? {
+        return Ok(None);
+    }
+    Ok(other_type(dialect, kind))
 }
 
 // Adds the edits of an entry: of the name of its type, and of its fields.
@@ -179,10 +320,12 @@ fn push_entry_edits(
     ensures { OnOk result (map edit_of edits.new.items ≡ map edit_of edits.old.items ++ conversion_edits dialect defines text.now (entry_reading_of entry.now)) }
 {
     let kind = EntryType::new(alloc, entry.v.kind.v)?;
-    push_part_edit(edits, alloc, &entry.v.kind, other_type(dialect, &kind))?;
     let fields = &entry.v.fields;
     let changes = changes_of(alloc, dialect, defines, text, &kind, fields)?;
-    push_field_edits(edits, alloc, text, &changes, fields)
+    let missing = missing_type(dialect, &kind, fields);
+    let other = new_type(alloc, dialect, &kind, &changes, missing, fields)?;
+    push_part_edit(edits, alloc, &entry.v.kind, other)?;
+    push_field_edits(edits, alloc, text, &changes, missing, fields)
 }
 
 // The edits of entries of a text that defines an abbreviation of a month or doesn't.

@@ -12,6 +12,7 @@ ghost use Rattle.edit_convert.specs.Conversions as conversions;
 ghost use Rattle.edit_convert.specs.Dates as spec;
 ghost use Rattle.edit_convert.specs.Dates.{bare_field, braced_field, more_fields, month_abbreviations, names_after, side_year};
 ghost use Rattle.edit_entries.specs.Changes.{new_field_text, more_field_texts};
+ghost use Rattle.edit_convert.specs.Types.{type_field};
 ghost use Rattle.edit_strings.specs.Collecting.{lent_texts};
 ghost use Rattle.edit_convert.specs.Tables.{lent_text, side_as_written, sides_as_written};
 
@@ -267,5 +268,14 @@ pub(crate) fn written_date(alloc: Global, date: &str) -> Result<String, AllocErr
 {
     let mut out = String::new(alloc);
     push_braced(&mut out, "", "date", date)?;
+    Ok(out)
+}
+
+// The field `type` with a text as it is written.
+pub(crate) fn written_type(alloc: Global, text: &str) -> Result<String, AllocError>
+    ensures { IfOk result (λ written. string_bytes written ≡ new_field_text (type_field text.now)) }
+{
+    let mut out = String::new(alloc);
+    push_braced(&mut out, "", "type", text)?;
     Ok(out)
 }

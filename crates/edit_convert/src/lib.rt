@@ -17,3 +17,4 @@ mod joining;
 pub mod laws;
 mod names;
 pub mod notes;
+mod types;

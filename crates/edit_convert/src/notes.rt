@@ -9,7 +9,7 @@ ghost use Rattle.edit_convert.specs.Conversions as conversions;
 ghost use Rattle.edit_convert.specs.Notes as spec;
 ghost use Rattle.edit_convert.specs.Notes.{file_notes, indexed, note_at};
 ghost use Rattle.edit_convert.specs.Rules.{rules_note};
-ghost use Rattle.edit_convert.specs.Tables.{exchanged_by, lent_names, lent_text};
+ghost use Rattle.edit_convert.specs.Tables.{exchanged_by, lent_names, lent_text, printed_of};
 
 use crate::changes::{Changes, changes_of};
 use crate::fields::{exchanged_date, is_date_part};
@@ -136,6 +136,7 @@ fn rules_of(
     ensures dialect { IfOk result (λ rules. rules.dialect ≡ dialect) }
     ensures names { IfOk result (λ rules. lent_names rules.names.now ≡ conversions.other_names dialect (entry_type_of entry.now.kind.v.now)) }
     ensures free { IfOk result (λ rules. lent_names rules.changes.names.items ≡ conversions.free_names (map field_of entry.now.fields.items) (conversions.other_names dialect (entry_type_of entry.now.kind.v.now))) }
+    ensures printed { IfOk result (λ rules. printed_of rules.changes.printed ≡ conversions.printed_type dialect (entry_type_of entry.now.kind.v.now) (map field_of entry.now.fields.items)) }
     ensures divides { IfOk result (λ rules. rules.changes.divides ≡ conversions.divides_date dialect (map field_of entry.now.fields.items)) }
     ensures joined { IfOk result (λ rules. option_map string_bytes rules.changes.joined ≡ conversions.joined_date dialect defines text.now (map field_of entry.now.fields.items)) }
 {
@@ -148,14 +149,17 @@ fn rules_of(
     })
 }
 
-// Whether a field gives way.
-fn gives_way(alloc: Global, changes: &Changes, field: &Pair<'_>) -> Result<bool, AllocError>
+// Whether something takes the place of a field.
+pub(crate) fn gives_way(alloc: Global, changes: &Changes, field: &Pair<'_>) -> Result<bool, AllocError>
     ensures { IfOk result (λ gives. gives ≡ is_some (exchanged_by changes.now (field_of field.now))) }
 {
     if is_date_part(field) && changes.joined.is_some() {
         return Ok(true);
     }
     if other_name(&changes.names, field.key.v).is_some() {
+        return Ok(true);
+    }
+    if is_word(field.key.v, "type") && changes.printed.is_some() {
         return Ok(true);
     }
     Ok(exchanged_date(alloc, changes.divides, field)?.is_some())

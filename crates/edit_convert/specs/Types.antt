@@ -1,0 +1,38 @@
+-- Meaning: words of public contracts.
+-- Types of BibTeX that are other types of BibLaTeX with a value of the field `type`, as Biber reads them: a Master's thesis is a
+-- thesis with `type = {mathesis}` (BibLaTeX manual, "Type Aliases").
+use Rattle.std.specs.Prelude.{ℕ, List, [], ◌∷◌, codes, Option, Some, None}
+use Rattle.bib_text.specs.Enums.{value_named}
+use Rattle.bib_tables.specs.declared.mechanics.EntryType.{EntryType}
+use Rattle.bib_tables.specs.declared.mechanics.EntryType.TheVariants.{MastersThesis, PhdThesis, Report, TechReport, Thesis}
+use Rattle.edit_entries.specs.Changes.{NewField}
+use Rattle.edit_convert.specs.Dates.{braced_field}
+
+-- the value of `type` that says of which type of BibTeX a thesis or a report is
+abbrev pub type_value : EntryType → Option (List ℕ)
+type_value MastersThesis = Some (codes "mathesis")
+type_value PhdThesis = Some (codes "phdthesis")
+type_value TechReport = Some (codes "techreport")
+type_value kind = None
+
+-- a type of BibTeX, and what its standard styles print for it
+pub record PrintedType : Type 0 where
+  pub name : List ℕ
+  pub text : List ℕ
+
+-- the types of BibTeX that values of `type` stand for in entries of a type
+abbrev pub types_by_value : EntryType → List (List ℕ × PrintedType)
+types_by_value Thesis =
+    (codes "mathesis", record { name = codes "mastersthesis"; text = codes "Master's thesis" })
+    ∷ (codes "phdthesis", record { name = codes "phdthesis"; text = codes "PhD thesis" }) ∷ []
+types_by_value Report = (codes "techreport", record { name = codes "techreport"; text = codes "Technical Report" }) ∷ []
+types_by_value kind = []
+
+-- the type of BibTeX that a type and a value of `type` stand for
+abbrev pub type_by_value : EntryType → Option (List ℕ) → Option PrintedType
+type_by_value kind None = None
+type_by_value kind (Some value) = value_named (types_by_value kind) value
+
+-- a field `type` with a text
+abbrev pub type_field : List ℕ → NewField
+type_field text = braced_field (codes "type") text

@@ -1,0 +1,120 @@
+//! Types of BibTeX that BibLaTeX has as other types with a value of the field `type`.
+
+ghost use Rattle.std.specs.Prelude.{◌≡◌, Some, map};
+ghost use Rattle.bib_tables.specs.declared.mechanics.EntryType.{EntryType};
+ghost use Rattle.bib_syntax.specs.Views.{field_of};
+ghost use Rattle.edit_convert.specs.Conversions as conversions;
+ghost use Rattle.edit_convert.specs.Tables.{lent_text, printed_of};
+ghost use Rattle.edit_convert.specs.Types as spec;
+
+use crate::fields::{count_named, first_named, single_text};
+use crate::names::has_field;
+use bib_syntax::raw::Pair;
+use bib_tables::dialects::Dialect;
+use bib_tables::mechanics::EntryType;
+
+// A type of BibTeX, and what its standard styles print for it.
+#[derive(Clone, Copy)]
+pub(crate) struct Printed {
+    pub(crate) name: &'static str,
+    pub(crate) text: &'static str,
+}
+
+// Returns the value of `type` that says of which type of BibTeX a thesis or a report is.
+fn type_value(kind: &EntryType) -> Option<&'static str>
+    ensures { lent_text result ≡ spec.type_value kind.now }
+{
+    match kind {
+        EntryType::MastersThesis => Some("mathesis"),
+        EntryType::PhdThesis => Some("phdthesis"),
+        EntryType::TechReport => Some("techreport"),
+        _ => None,
+    }
+}
+
+// Returns the type of BibTeX that a value of `type` stands for in a thesis.
+fn thesis_by_value(value: &str) -> Option<Printed>
+    ensures { printed_of result ≡ spec.type_by_value EntryType.Thesis (Some value.now) }
+{
+    match value {
+        "mathesis" => Some(Printed {
+            name: "mastersthesis",
+            text: "Master's thesis",
+        }),
+        "phdthesis" => Some(Printed {
+            name: "phdthesis",
+            text: "PhD thesis",
+        }),
+        _ => None,
+    }
+}
+
+// Returns the type of BibTeX that a value of `type` stands for in a report.
+fn report_by_value(value: &str) -> Option<Printed>
+    ensures { printed_of result ≡ spec.type_by_value EntryType.Report (Some value.now) }
+{
+    match value {
+        "techreport" => Some(Printed {
+            name: "techreport",
+            text: "Technical Report",
+        }),
+        _ => None,
+    }
+}
+
+// Returns the type of BibTeX that a type and a value of `type` stand for.
+fn type_by_value(kind: &EntryType, value: &str) -> Option<Printed>
+    ensures { printed_of result ≡ spec.type_by_value kind.now (Some value.now) }
+{
+    match kind {
+        EntryType::Thesis => thesis_by_value(value),
+        EntryType::Report => report_by_value(value),
+        _ => None,
+    }
+}
+
+// Returns the type of BibTeX that an entry's type and its one field `type` stand for, if they stand for one.
+fn read_type(kind: &EntryType, fields: &[Pair<'_>]) -> Option<Printed>
+    ensures { printed_of result ≡ conversions.read_type kind.now (map field_of fields.now) }
+{
+    if count_named(fields, "type") != 1 {
+        return None;
+    }
+    let field = first_named(fields, "type")?;
+    let value = single_text(&field.value.v)?;
+    type_by_value(kind, value)
+}
+
+// Returns the same for BibTeX; BibLaTeX has no use for it.
+pub(crate) fn printed_type(
+    dialect: Dialect,
+    kind: &EntryType,
+    fields: &[Pair<'_>],
+) -> Option<Printed>
+    ensures { printed_of result ≡ conversions.printed_type dialect kind.now (map field_of fields.now) }
+{
+    match dialect {
+        Dialect::Biblatex => None,
+        Dialect::Bibtex => read_type(kind, fields),
+    }
+}
+
+// Returns the value of `type` that an entry of a type needs for BibLaTeX, if it has none.
+pub(crate) fn missing_type(
+    dialect: Dialect,
+    kind: &EntryType,
+    fields: &[Pair<'_>],
+) -> Option<&'static str>
+    ensures { lent_text result ≡ conversions.missing_type dialect kind.now (map field_of fields.now) }
+{
+    match dialect {
+        Dialect::Biblatex => {
+            if has_field(fields, "type") {
+                None
+            } else {
+                type_value(kind)
+            }
+        }
+        Dialect::Bibtex => None,
+    }
+}
