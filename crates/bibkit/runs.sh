@@ -927,7 +927,7 @@ run 'BibTeX' 0 '@string{aw = {Addison-Wesley}}
 run_messages 'fields that stay are named' 0 $'convert.bib:4:10: note: xdata stays, though no standard style of BibTeX reads it\n' convert --to bibtex convert.bib
 run 'BibLaTeX' 0 "$(cat convert.bib)"$'\n' convert --to biblatex convert.bib
 printf '@phdthesis{p, school={S}, Journal="J", journaltitle={K}}\n' >thesis.bib
-run 'a thesis of BibLaTeX' 0 $'@thesis{p, institution={S}, Journal="J", journaltitle={K}}\n' convert --to biblatex thesis.bib
+run 'a thesis of BibLaTeX' 0 $'@thesis{p, institution={S}, type = {phdthesis}, Journal="J", journaltitle={K}}\n' convert --to biblatex thesis.bib
 run_messages 'a name that is there' 0 $'thesis.bib:1:27: note: Journal stays, since the entry has the field that takes its place\n' convert --to biblatex thesis.bib
 printf '@misc{a,\n  year = {2020},\n  month = may,\n  title = {A},\n}\n@misc{b, year = 1999, month = {Fall}}\n' >months.bib
 run 'a year and a month' 0 $'@misc{a,\n  date = {2020-05},\n  title = {A},\n}\n@misc{b, year = 1999, month = {Fall}}\n' convert --to biblatex months.bib

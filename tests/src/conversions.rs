@@ -4,7 +4,7 @@
 use edit_convert::converting::convert;
 use edit_convert::notes::{NoteKind, notes};
 use edit_entries::document::RawDocument;
-use bib_entry::write::Dialect;
+use bib_tables::dialects::Dialect;
 use std::alloc::{AllocError, Global};
 use crate::support::rows::Calls;
 

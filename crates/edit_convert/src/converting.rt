@@ -354,6 +354,11 @@ fn edits(
 /// For BibTeX `journaltitle` and `location` become `journal` and `address`, and in an entry whose own type is a thesis's `institution`
 /// becomes `school`. A name stays where the entry has a field with the other one.
 ///
+/// For BibLaTeX a Master's thesis, a PhD thesis and a technical report without a field `type` get `type = {mathesis}`, `{phdthesis}`
+/// or `{techreport}`, as Biber reads them, before the first field that doesn't change; if each field changes, the name of the type
+/// stays. For BibTeX a thesis or report with one field `type` of these values becomes that type, and the field is removed. If it is
+/// the last field, it says what the standard styles print: `Master's thesis`, `PhD thesis` or `Technical Report`.
+///
 /// For BibTeX the field `date` gives way to `year`, and where they are there `month`, as an abbreviation, and `day`, of a range to
 /// `endyear`, `endmonth` and `endday` too: where its value is one literal that is read as a date, with a year in four digits, and
 /// perhaps a month and a day in two, on each side, and the entry has one `date` and none of these fields.
