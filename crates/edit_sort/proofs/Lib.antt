@@ -1,9 +1,12 @@
+pub mod AlikeFacts
 pub mod ChainFacts
 pub mod FeedFacts
 pub mod FileFacts
+pub mod FormatFacts
 pub mod GatherFacts
 pub mod GraphFacts
 pub mod GreatestFacts
+pub mod LengthFacts
 pub mod LineFacts
 pub mod OneOrderFacts
 pub mod OrderFacts

@@ -1,6 +1,6 @@
 -- Whether an element of a list passes a test.
 use Rattle.std.proofs.Common.{◌≡◌, ℕ, ◌+◌, ◌<◌, Bool, true, false, List, [], ◌∷◌, ◌++◌, get_or, length, map, take, refl, sym, ap, ◌∙◌}
-use Rattle.std.specs.Prelude.{◌||◌}
+use Rattle.std.specs.Prelude.{◌&&◌, ◌||◌}
 use Rattle.std.specs.List.{AllByRecursion, Contains, list_any}
 use Rattle.std.proofs.lemmas.List.{map-append, take_more}
 use Rattle.std.proofs.lemmas.List.Folds.{list_any-append, list_any_at}
@@ -62,3 +62,18 @@ any_where P p q (x ∷ xs) same all =
 pub any_through : {A : Type 0} (p : A → Bool) (g : A → A) (xs : List A) → ((x : A) → p (g x) ≡ p x) → list_any p (map g xs) ≡ list_any p xs
 any_through p g [] same = refl
 any_through p g (x ∷ xs) same = ap (λ b. b || list_any p (map g xs)) (same x) ∙ ap (λ b. p x || b) (any_through p g xs same)
+
+-- the first elements and one more, each as a function gives it
+pub taken_more : {A B : Type 0} (f : A → B) (xs : List A) (i : ℕ) (x : A) → i < length xs → x ≡ get_or xs i x
+    → map f (take (i + 1) xs) ≡ map f (take i xs) ++ f x ∷ []
+taken_more f xs i x within is =
+    ap (map f) (take_more xs i x within ∙ ap (λ e. take i xs ++ e ∷ []) (sym is)) ∙ map-append f (take i xs) (x ∷ [])
+
+-- one more test of two
+pub one_more_or : (a s o t : Bool) → ((a || (s && t)) || (o && t)) ≡ (a || ((s || o) && t))
+one_more_or true s o t = refl
+one_more_or false true true true = refl
+one_more_or false true true false = refl
+one_more_or false true false true = refl
+one_more_or false true false false = refl
+one_more_or false false o t = refl

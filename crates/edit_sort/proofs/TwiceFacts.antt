@@ -1,12 +1,10 @@
 -- Entries that were sorted are in order.
 use Rattle.std.proofs.Common.{◌≡◌, inl, inr, ℕ, zero, suc, ◌+◌, ◌-◌, ◌^◌, ◌<◌, ◌≤◌, Bool, true, false, cond, List, [], ◌∷◌, ◌++◌, Option, Some, None, drop, get_or, length, map, refl, sym, ap, ap₂, ◌∙◌, subst, arith}
-use Rattle.std.specs.Prelude.{◌==◌, ◌&&◌, ◌||◌, codes}
+use Rattle.std.specs.Prelude.{◌==◌, ◌||◌}
 use Rattle.std.specs.Cmp.{nat_cmp_is}
 use Rattle.std.specs.List.{AllByRecursion, list_any}
 use Rattle.std.specs.List.Sorted.{IsSorted}
-use Rattle.std.specs.Option.{option_map_or}
 use Rattle.std.specs.Ordering.{is_lt, nat_cmp, ordering_then}
-use Rattle.std.specs.Str.{str_eq_ignore_ascii_case}
 use Rattle.std.specs.declared.cmp.Ordering.{Ordering}
 use Rattle.std.specs.declared.cmp.Ordering.TheVariants.{Less, Equal, Greater}
 use Rattle.std.proofs.lemmas.Bool.{cases_lt}
@@ -15,23 +13,22 @@ use Rattle.std.proofs.lemmas.List.Elements.{All-from_recursion, recursion_from_A
 use Rattle.std.proofs.lemmas.List.Folds.{list_any-append}
 use Rattle.std.proofs.lemmas.List.Sorted.{All-permutation, IsPermutation-map, length_permutation, list_any-IsPermutation}
 use Rattle.std.proofs.Math.ListN.{get_or-map}
-use Rattle.bib_syntax.specs.Grammar.{IsRawReading, is_word}
-use Rattle.bib_syntax.specs.Reading.{Piece, FieldReading, EntryReading, FileReading}
-use Rattle.bib_syntax.specs.Reading.Piece.{literal, abbreviation}
+use Rattle.bib_syntax.specs.Grammar.{IsRawReading}
+use Rattle.bib_syntax.specs.Reading.{EntryReading, FileReading}
 use Rattle.bib_syntax.specs.Recovery.{has_byte}
 use Rattle.bib_syntax.proofs.FileFacts.{file_same}
 use Rattle.edit_entries.specs.Documents.{Document, IsDocument}
-use Rattle.edit_entries.specs.Edits.{moved_entry, moved_field, moved_piece}
-use Rattle.edit_sort.specs.Sorted.{AreEntriesInOrder, IsSortedText, Item, after_blank_line, begins_run, comment_in, crossref, gap_before, greatest, has_block_sign, has_chain, item_cmp, items, names_key, near_comment, one_text, rank, refers_to, space_in, text_in_order, without_white}
+use Rattle.edit_entries.specs.Edits.{moved_entry}
+use Rattle.edit_sort.specs.Sorted.{AreEntriesInOrder, IsSortedText, Item, after_blank_line, begins_run, comment_in, gap_before, has_block_sign, item_cmp, items, near_comment, rank, space_in, text_in_order, without_white}
 use Rattle.edit_sort.specs.Steps.{items_from, run_after, spaces_from}
+use Rattle.edit_sort.proofs.AlikeFacts.{PassAlike, head_same, moved_keeps, rank_alike, rank_kept, rest_same}
 use Rattle.edit_sort.proofs.FeedFacts.{clear_of}
 use Rattle.edit_sort.proofs.FileFacts.{AreLaid, length-items, read_in_order}
-use Rattle.edit_sort.proofs.GreatestFacts.{greatest_same}
 use Rattle.edit_sort.proofs.OneOrderFacts.{IsNotAfter, starts_in_order, up_from}
 use Rattle.edit_sort.proofs.ParentFacts.{known_items, IsKnown}
 use Rattle.edit_sort.proofs.PlainFacts.{or_right}
 use Rattle.edit_sort.proofs.SameOrderFacts.{AreUp, same_order}
-use Rattle.edit_sort.proofs.SetFacts.{any_same, any_through, or_none}
+use Rattle.edit_sort.proofs.SetFacts.{any_through, or_none}
 use Rattle.edit_sort.proofs.StaysFacts.{gap_whole, in_order_stays, white_end}
 use Rattle.edit_sort.proofs.StepFacts.{items_are, listed, listed_order}
 
@@ -213,56 +210,14 @@ same_places all text places index at run (e ∷ es) (p ∷ ps) is size =
 
 -- ---- ranks
 
-one_text_moved : (move : ℕ → ℕ) (ps : List Piece) → one_text (map (moved_piece move) ps) ≡ one_text ps
-one_text_moved move [] = refl
-one_text_moved move (abbreviation p ∷ rest) = refl
-one_text_moved move (literal p ∷ []) = refl
-one_text_moved move (literal p ∷ other ∷ rest) = refl
-
-crossref_moved : (move : ℕ → ℕ) (f : FieldReading) → crossref (moved_field move f) ≡ crossref f
-crossref_moved move f = ap (λ o. cond (is_word f.name.text (codes "crossref")) o None) (one_text_moved move f.value.pieces)
-
-refers_moved : (key : List ℕ) (move : ℕ → ℕ) (e : EntryReading) → refers_to key (moved_entry move e) ≡ refers_to key e
-refers_moved key move e =
-    any_through (names_key key) (moved_field move) e.fields
-    (λ f. ap (λ o. option_map_or (λ named. str_eq_ignore_ascii_case named key) o false) (crossref_moved move f))
-
-chain_moved : (all : List EntryReading) (move : ℕ → ℕ) (n : ℕ) (e : EntryReading) → has_chain all n (moved_entry move e) ≡ has_chain all n e
-chain_moved all move zero e = refl
-chain_moved all move (suc n) e = refl
-
-rank_moved : (all : List EntryReading) (move : ℕ → ℕ) (e : EntryReading) → rank all (moved_entry move e) ≡ rank all e
-rank_moved all move e =
-    greatest_same (λ n. has_chain all n (moved_entry move e)) (λ n. has_chain all n e) (length all) (λ n. chain_moved all move n e)
-
--- entries pass the same tests, apart from tests of positions
-abbrev PassAlike : List EntryReading → List EntryReading → Type 0
-PassAlike all all' =
-    (p : EntryReading → Bool) → ((e : EntryReading) → p (moved_entry (λ n. 0) e) ≡ p e) → list_any p all' ≡ list_any p all
-
-chain_alike : (all all' : List EntryReading) → PassAlike all all' → (n : ℕ) (e : EntryReading) → has_chain all' n e ≡ has_chain all n e
-chain_alike all all' alike zero e = refl
-chain_alike all all' alike (suc n) e =
-    any_same (λ child. refers_to e.key.text child && has_chain all' n child)
-    (λ child. refers_to e.key.text child && has_chain all n child) all'
-    (λ child. ap (λ b. refers_to e.key.text child && b) (chain_alike all all' alike n child))
-    ∙ alike (λ child. refers_to e.key.text child && has_chain all n child)
-    (λ child.
-    ap₂ (λ a b. a && b) (refers_moved e.key.text (λ m. 0) child) (chain_moved all (λ m. 0) n child))
-
-rank_alike : (all all' : List EntryReading) → PassAlike all all' → length all' ≡ length all → (e : EntryReading) → rank all' e ≡ rank all e
-rank_alike all all' alike size e =
-    greatest_same (λ n. has_chain all' n e) (λ n. has_chain all n e) (length all') (λ n. chain_alike all all' alike n e)
-    ∙ ap (greatest (λ n. has_chain all n e)) size
-
-abbrev without_places : List EntryReading → List EntryReading
-without_places es = map (moved_entry (λ n. 0)) es
-
 entries_are : (all : List EntryReading) (text places : List ℕ) (index at run : ℕ)
     (es : List EntryReading) → map (λ i. i.entry) (items_from all text places index at run es) ≡ es
 entries_are all text places index at run [] = refl
 entries_are all text places index at run (e ∷ es) =
     ap (λ l. e ∷ l) (entries_are all text places (index + 1) (e.end + 1) (run_after run (gap_before text at e)) es)
+
+abbrev without_places : List EntryReading → List EntryReading
+without_places es = map (moved_entry (λ n. 0)) es
 
 -- a test of the entries in another order
 any_alike : (d : Document) (places : List ℕ) (order : List Item) (es : List EntryReading)
@@ -272,17 +227,12 @@ any_alike d places order es in_order alike p same =
     let m = moved_entry (λ n. 0) in
     let ordered = map (λ (i : Item). i.entry) order in
     let all = map (λ (i : Item). i.entry) (listed d places) in
-    sym (any_through p m es same) ∙ ap (list_any p) alike ∙ any_through p m ordered same
+    sym (any_through p m es (same m (moved_keeps (λ n. 0)))) ∙ ap (list_any p) alike
+    ∙ any_through p m ordered (same m (moved_keeps (λ n. 0)))
     ∙ sym
     (list_any-IsPermutation p all ordered
     (IsPermutation-map (λ i. i.entry) (listed d places) order (listed_order d places order in_order).permutation))
     ∙ ap (list_any p) (entries_are d.says.entries d.text places 0 0 0 d.says.entries)
-
-head_same : {A : Type 0} (x y : A) (xs ys : List A) → x ∷ xs ≡ y ∷ ys → x ≡ y
-head_same x y xs ys is = cc
-
-rest_same : {A : Type 0} (x y : A) (xs ys : List A) → x ∷ xs ≡ y ∷ ys → xs ≡ ys
-rest_same x y xs ys is = cc
 
 same_ranks : (all all' : List EntryReading) (text places : List ℕ) (index at run : ℕ)
     (es : List EntryReading) (order : List Item) → ((e : EntryReading) → rank all' e ≡ rank all e)
@@ -296,8 +246,8 @@ same_ranks all all' text places index at run (e ∷ es) (i ∷ order) ranks alik
     let head : m e ≡ m i.entry = head_same (m e) (m i.entry) (without_places es) (without_places (map (λ j. j.entry) order)) alike in
     let rest = rest_same (m e) (m i.entry) (without_places es) (without_places (map (λ j. j.entry) order)) alike in
     let here : rank all' e ≡ i.rank =
-    sym (rank_moved all' (λ n. 0) e) ∙ ap (rank all') head ∙ rank_moved all' (λ n. 0) i.entry ∙ ranks i.entry
-    ∙ sym known.0.ranked in
+    sym (rank_kept all' m (moved_keeps (λ n. 0)) e) ∙ ap (rank all') head ∙ rank_kept all' m (moved_keeps (λ n. 0)) i.entry
+    ∙ ranks i.entry ∙ sym known.0.ranked in
     ap (λ n. n ∷ map (λ j. j.rank) (items_from all' text places (index + 1) (e.end + 1) (run_after run (gap_before text at e)) es)) here
     ∙ ap (λ l. i.rank ∷ l)
     (same_ranks all all' text places (index + 1) (e.end + 1) (run_after run (gap_before text at e)) es order ranks
@@ -318,7 +268,7 @@ not_less Equal Equal Equal s s' up last = ap is_lt last
 same_at : {B : Type 0} (f : Item → B) (xs ys : List Item) (n : ℕ) (d : Item) → map f xs ≡ map f ys → f (get_or xs n d) ≡ f (get_or ys n d)
 same_at f xs ys n d same = sym (get_or-map f xs n d) ∙ ap (λ l. get_or l n (f d)) same ∙ get_or-map f ys n d
 
-sorted_as : (xs ys : List Item) → map (λ i. i.run) xs ≡ map (λ i. i.run) ys
+pub sorted_as : (xs ys : List Item) → map (λ i. i.run) xs ≡ map (λ i. i.run) ys
     → map (λ i. i.rank) xs ≡ map (λ i. i.rank) ys → map (λ i. i.place) xs ≡ map (λ i. i.place) ys
     → ((k j : ℕ) (i : Item) → k < j → j < length xs → (get_or xs k i).entry.start < (get_or xs j i).entry.start)
     → IsSorted item_cmp ys → IsSorted item_cmp xs
@@ -345,10 +295,11 @@ sorted_as xs ys runs ranks places rise sorted k d from within =
     (nat_cmp y'.entry.start y.entry.start) (nat_cmp x'.entry.start x.entry.start)
     (sorted k d from (omega (arith, size))) last
 
-pub twice_is_once : (d : Document) (places : List ℕ) (order : List Item) (again : FileReading) (new : List ℕ)
+-- a sorted text is in order by the places of its items
+pub sorted_in_order : (d : Document) (places : List ℕ) (order : List Item) (again : FileReading)
     → IsDocument d → AreEntriesInOrder (items d places) order → IsRawReading (text_in_order d order) again
-    → IsSortedText (record { text = text_in_order d order; says = again }) (map (λ i. i.place) order) new → new ≡ text_in_order d order
-twice_is_once d places order again new read in_order read' sorted =
+    → IsSorted item_cmp (items (record { text = text_in_order d order; says = again }) (map (λ i. i.place) order))
+sorted_in_order d places order again read in_order read' =
     let text = text_in_order d order in
     let d' : Document = record { text = text; says = again } in
     let places' = map (λ (i : Item). i.place) order in
@@ -383,5 +334,11 @@ twice_is_once d places order again new read in_order read' sorted =
     let named =
     ap (map (λ (i : Item). i.place)) (items_are d' places')
     ∙ same_places again.entries text places' 0 0 0 again.entries places' refl (as_long ∙ sym (length-map order (λ i. i.place))) in
-    in_order_stays d' places' new read'
-    (sorted_as (items d' places') order runs ranks named (starts_in_order d' places' read') in_order.sorted) sorted
+    sorted_as (items d' places') order runs ranks named (starts_in_order d' places' read') in_order.sorted
+
+pub twice_is_once : (d : Document) (places : List ℕ) (order : List Item) (again : FileReading) (new : List ℕ)
+    → IsDocument d → AreEntriesInOrder (items d places) order → IsRawReading (text_in_order d order) again
+    → IsSortedText (record { text = text_in_order d order; says = again }) (map (λ i. i.place) order) new → new ≡ text_in_order d order
+twice_is_once d places order again new read in_order read' sorted =
+    in_order_stays (record { text = text_in_order d order; says = again }) (map (λ i. i.place) order) new read'
+    (sorted_in_order d places order again read in_order read') sorted

@@ -42,6 +42,14 @@ fn crossref<'s>(field: &Pair<'s>) -> Option<&'s str>
     }
 }
 
+// Returns a key in lowercase.
+fn lowercase(alloc: Global, key: &str) -> Result<Text, AllocError>
+    ensures { IfOk result (λ lower. lower ≡ str_to_ascii_lowercase key.now) }
+{
+    let lower = key.to_ascii_lowercase(alloc)?;
+    Ok(Text::from_string(lower))
+}
+
 // Returns the keys of entries in lowercase. Each points to the index of an entry with that key.
 pub(crate) fn key_indices(
     alloc: Global,
@@ -51,8 +59,8 @@ pub(crate) fn key_indices(
 {
     let mut names = Claims::new(alloc);
     'entries: for (index, entry) in entries.iter().enumerate() {
-        let key = entry.v.key.v.to_ascii_lowercase(alloc)?;
-        names.claim(Text::from_string(key), index)?;
+        let key = lowercase(alloc, entry.v.key.v)?;
+        names.claim(key, index)?;
     }
     Ok(names)
 }
@@ -61,8 +69,8 @@ pub(crate) fn key_indices(
 fn index_of(alloc: Global, names: &Claims, key: &str) -> Result<Option<usize>, AllocError>
     ensures { IfOk result (λ index. index ≡ get names.now (str_to_ascii_lowercase key.now)) }
 {
-    let lower = key.to_ascii_lowercase(alloc)?;
-    Ok(names.get(&lower))
+    let lower = lowercase(alloc, key)?;
+    Ok(names.get(lower.as_str()))
 }
 
 // Returns the owner of each entry: the index that its key points to.

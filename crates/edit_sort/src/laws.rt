@@ -5,6 +5,8 @@ ghost use Rattle.std.specs.List.Sorted.{IsSorted};
 ghost use Rattle.bib_syntax.specs.Grammar.{IsRawReading};
 ghost use Rattle.bib_syntax.specs.Reading.{FileReading};
 ghost use Rattle.edit_entries.specs.Documents.{Document, IsDocument};
+ghost use Rattle.edit_format.specs.Formatted.{text_in_style};
+ghost use Rattle.edit_format.specs.declared.style.Style.{Style};
 ghost use Rattle.edit_sort.specs.Sorted.{AreEntriesInOrder, IsAfterCycle, IsSortedText, Item, item_cmp, items, refers_to, text_in_order};
 
 /// The entries of a document have one order.
@@ -24,6 +26,14 @@ pub fn twice_is_once()
     ensures { (d : Document) (places : List ℕ) (order : List Item) (again : FileReading) (new : List ℕ) → IsDocument d →
         AreEntriesInOrder (items d places) order → IsRawReading (text_in_order d order) again →
         IsSortedText (record { text = text_in_order d order; says = again }) (map (λ i. i.place) order) new → new ≡ text_in_order d order }
+{}
+
+/// A text that is sorted and then laid out in a style doesn't change when it is sorted again by the same places.
+pub fn formatted_stays()
+    ensures { (style : Style) (d : Document) (places : List ℕ) (order : List Item) (again : FileReading) (after : Document) (new : List ℕ) →
+        IsDocument d → AreEntriesInOrder (items d places) order → IsRawReading (text_in_order d order) again → IsDocument after →
+        after.text ≡ text_in_style style (text_in_order d order) again → IsSortedText after (map (λ i. i.place) order) new →
+        new ≡ after.text }
 {}
 
 /// Sorting keeps the run at each index, so no entry moves over an at sign between entries.
