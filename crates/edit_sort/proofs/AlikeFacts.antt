@@ -1,5 +1,5 @@
 -- Ranks of entries in files that are alike: positions, the case of names, and the order of fields don't count.
-use Rattle.std.proofs.Common.{◌≡◌, ℕ, zero, suc, Bool, true, false, cond, List, [], ◌∷◌, ◌++◌, Option, None, length, map, refl, sym, ap, ap₂, ◌∙◌}
+use Rattle.std.proofs.Common.{◌≡◌, ℕ, zero, suc, Bool, true, false, cond, List, [], ◌∷◌, None, length, map, refl, ap, ap₂, ◌∙◌}
 use Rattle.std.specs.Prelude.{◌&&◌, ◌||◌, bytes_eq, codes, not}
 use Rattle.std.specs.List.{filter, list_any}
 use Rattle.std.specs.Option.{option_map_or}

@@ -1,6 +1,6 @@
 -- A sorted text that is laid out in a style is in order.
 use Rattle.std.proofs.Common.{◌≡◌, ℕ, suc, ◌+◌, ◌-◌, ◌≤◌, Bool, true, false, cond, List, [], ◌∷◌, ◌++◌, Option, None, Some, length, drop, take, map, refl, sym, ap, ◌∙◌, subst, arith}
-use Rattle.std.specs.Prelude.{◌==◌, ◌&&◌, ◌||◌}
+use Rattle.std.specs.Prelude.{◌==◌, ◌||◌}
 use Rattle.std.specs.Char.{is_ascii_whitespace}
 use Rattle.std.specs.List.{list_any}
 use Rattle.std.specs.List.Sorted.{IsSorted}
@@ -33,7 +33,7 @@ use Rattle.edit_sort.proofs.AlikeFacts.{PassAlike, content_keeps, head_same, ord
 use Rattle.edit_sort.proofs.OneOrderFacts.{starts_in_order}
 use Rattle.edit_sort.proofs.SetFacts.{any_through}
 use Rattle.edit_sort.proofs.StaysFacts.{in_order_stays}
-use Rattle.edit_sort.proofs.StepFacts.{items_are, listed}
+use Rattle.edit_sort.proofs.StepFacts.{items_are}
 use Rattle.edit_sort.proofs.TwiceFacts.{sorted_as, sorted_in_order}
 
 -- ---- at signs in gaps

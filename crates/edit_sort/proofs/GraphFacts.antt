@@ -1,8 +1,8 @@
 -- The longest chains in a graph, computed in a topological order of the graph without the references on cycles.
 use Rattle.std.proofs.Common.{◌≡◌, ℕ, zero, suc, ◌+◌, ◌<◌, Bool, true, false, cond, max, min, List, [], ◌∷◌, get_or, length, map, refl, sym, ap, ◌∙◌, subst, arith}
 use Rattle.std.specs.Prelude.{◌||◌}
-use Rattle.std.specs.List.{All, Contains, list_any, range_with_len}
-use Rattle.std.proofs.lemmas.List.Elements.{All-contains, All-from_get_or, All-get_or, All-nil}
+use Rattle.std.specs.List.{All, Contains, list_any}
+use Rattle.std.proofs.lemmas.List.Elements.{All-from_get_or, All-get_or, All-nil}
 use Rattle.std.proofs.lemmas.List.FromFn.{get_or-map-range_with_len, length-map-range_with_len}
 use Rattle.bib_collections.specs.Graph.{AreOnCycles, Graph, HasNoCycle, IsInRange, Leads, Solves, more, one, refs_of}
 use Rattle.bib_collections.specs.Search.{is_marked}

@@ -1,13 +1,12 @@
 -- The text after the last blank line, line by line.
-use Rattle.std.proofs.Common.{◌≡◌, ◌⊎◌, inl, inr, ℕ, suc, ◌+◌, ◌<◌, ◌≤◌, ◌-◌, Bool, true, false, cond, List, [], ◌∷◌, ◌++◌, drop, get_or, length, reverse, take, refl, sym, ap, ◌∙◌, subst, arith, append_assoc, length-append}
+use Rattle.std.proofs.Common.{◌≡◌, ◌⊎◌, inl, inr, ℕ, zero, suc, ◌+◌, ◌<◌, ◌≤◌, ◌-◌, Bool, true, false, cond, List, [], ◌∷◌, ◌++◌, drop, get_or, length, reverse, take, refl, sym, ap, ◌∙◌, subst, arith, append_assoc, length-append}
 use Rattle.std.specs.Prelude.{◌&&◌, not}
 use Rattle.std.specs.Char.{is_ascii_whitespace}
-use Rattle.std.specs.List.{after_first, before_first, list_all, position_or_len, prefix_len}
+use Rattle.std.specs.List.{after_first, before_first, list_all, position_or_len}
 use Rattle.std.proofs.lemmas.Bool.{and_parts, eqb-true, false≢true}
-use Rattle.std.proofs.lemmas.List.{append-nil, drop_at, get_or-append-add, get_or-take, get_or_append_left, get_or_default, reverse-append, reverse-reverse, take-append-drop, take_at, take_more}
-use Rattle.std.proofs.lemmas.List.Folds.{list_all-append}
-use Rattle.std.proofs.lemmas.List.Sums.{fails_before_first, passes_at_first, prefix_len-le-length, split_at_first}
-use Rattle.std.proofs.Math.Bool.{and-true}
+use Rattle.std.proofs.lemmas.List.{append-nil, drop_at, get_or-append-add, get_or-take, get_or_append_left, reverse-append, reverse-reverse, take-append-drop, take_at, take_more}
+use Rattle.std.proofs.lemmas.List.Folds.{length-prefix_len, list_all-append}
+use Rattle.std.proofs.lemmas.List.Sums.{fails_before_first, passes_at_first, split_at_first}
 use Rattle.edit_sort.specs.Sorted.{after_blank_line, is_blank_backwards, ends_blank_line, greatest, is_feed}
 use Rattle.edit_sort.specs.Steps.{kept_after}
 use Rattle.edit_sort.proofs.GreatestFacts.{greatest_passes, greatest_skip}
@@ -114,11 +113,8 @@ seen_none text = record { seen = []; is_cut = refl; whole = refl; is_kept = refl
 -- the line up to the first line feed
 line_clear : (text : List ℕ) → HasNoFeed (before_first is_feed text)
 line_clear text k within =
-    let short : k < position_or_len is_feed text = omega (arith, ap length (sized text)) in
+    let short : k < position_or_len is_feed text = omega (arith, length-prefix_len (λ b. not (is_feed b)) text) in
     ap is_feed (get_or-take (position_or_len is_feed text) text k 0 short) ∙ fails_before_first is_feed text k 0 short
-  where
-    sized : (xs : List ℕ) → before_first is_feed xs ≡ take (position_or_len is_feed xs) xs
-    sized xs = refl
 
 -- one more line
 pub seen_more : (text kept rest line after new : List ℕ) → position_or_len is_feed rest < length rest
@@ -207,6 +203,7 @@ feed_before text = by_place (greatest_passes (ends_blank_line text) (length text
     by_place (inl zero_is) = inl (ap (λ k. drop k text) zero_is)
     by_place (inr passes) =
         let found = ends_feed (take n text) passes in
-        inr
-        (found.0,
-        sym (take-append-drop n text) ∙ ap (λ l. l ++ drop n text) found.1 ∙ append_assoc found.0 (10 ∷ []) (drop n text))
+        inr (
+          found.0,
+          sym (take-append-drop n text) ∙ ap (λ l. l ++ drop n text) found.1 ∙ append_assoc found.0 (10 ∷ []) (drop n text),
+        )

@@ -1,5 +1,5 @@
 -- The gaps, spaces and items of a document, as a loop collects them, and its text, as a loop writes it.
-use Rattle.std.proofs.Common.{◌≡◌, ℕ, zero, suc, ◌+◌, Bool, true, false, cond, count_by, List, [], ◌∷◌, ◌++◌, drop, flat_map, length, map, take, zip, refl, sym, ap, ◌∙◌, subst, arith, append_assoc, length-append}
+use Rattle.std.proofs.Common.{◌≡◌, ℕ, ◌+◌, Bool, true, false, cond, count_by, List, [], ◌∷◌, ◌++◌, drop, flat_map, length, map, take, zip, refl, sym, ap, ◌∙◌, subst, arith, append_assoc, length-append}
 use Rattle.std.specs.Prelude.{◌==◌, slice_index}
 use Rattle.std.specs.List.{enumerate_from}
 use Rattle.std.proofs.lemmas.List.{take_at}
@@ -8,7 +8,7 @@ use Rattle.bib_text.specs.Characters as char
 use Rattle.bib_syntax.specs.Reading.{EntryReading}
 use Rattle.bib_syntax.specs.Recovery.{has_byte}
 use Rattle.edit_entries.specs.Documents.{Document}
-use Rattle.edit_sort.specs.Sorted.{AreEntriesInOrder, Item, comment_in, entry_bytes, gap_before, gap_starts, gaps, item_at, items, place_at, rank, rest_of, run_at, space_in, spaces_of, text_in_order}
+use Rattle.edit_sort.specs.Sorted.{AreEntriesInOrder, Item, comment_in, entry_bytes, gap_before, gaps, item_at, items, place_at, rank, rest_of, run_at, space_in, spaces_of, text_in_order}
 use Rattle.edit_sort.specs.Steps.{gaps_from, items_from, items_laid_out, place_after, run_after, spaces_from}
 
 -- ---- gaps and spaces

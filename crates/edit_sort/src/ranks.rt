@@ -40,7 +40,11 @@ fn length_at(lengths: &[usize], indices: &[usize], is_on_cycle: bool, most: usiz
     requires { All (λ r. r < length lengths.now) indices.now }
     ensures { result ≡ (if is_on_cycle then most else ranks.one_above most (map (λ r. slice_index_or lengths.now r 0) indices.now)) }
 {
-    if is_on_cycle { most } else { one_above(lengths, indices, most) }
+    if is_on_cycle {
+        most
+    } else {
+        one_above(lengths, indices, most)
+    }
 }
 
 // Returns the length of the longest chain that begins at each index, where `order` has each index after those that it refers to.

@@ -21,10 +21,12 @@ fn compared(first: &Item<'_, '_>, second: &Item<'_, '_>) -> Ordering
 {
     let by_place = first.place.cmp(&second.place);
     let by_position = first.entry.span.start.cmp(&second.entry.span.start);
-    first
-        .run
-        .cmp(&second.run)
-        .then(first.rank.cmp(&second.rank).then(by_place.then(by_position)))
+    first.run.cmp(&second.run).then(
+        first
+            .rank
+            .cmp(&second.rank)
+            .then(by_place.then(by_position)),
+    )
 }
 
 // Returns the entries in order.

@@ -1,4 +1,4 @@
-use Rattle.std.proofs.Common.{◌≡◌, map, take, refl, sym, ap, ◌∙◌, subst}
+use Rattle.std.proofs.Common.{map, take, refl, sym, ap, ◌∙◌, subst}
 use Rattle.std.specs.Prelude.{◌&&◌, ◌||◌}
 use Rattle.std.specs.List.{list_any}
 use Rattle.bib_collections.specs.Graph.{refs_of}
@@ -16,7 +16,9 @@ fields-init c = record {
 }
 
 pub add_reference-requires : goal.add_reference-requires
-add_reference-requires c = subst (λ n. AreIndicesBelow n c.args.names.now) (sym c.fields.invariant.same_length) c.requires
+add_reference-requires c = record {
+  below = subst (λ n. AreIndicesBelow n c.args.names.now) (sym c.fields.invariant.same_length) c.requires.below;
+}
 
 pub fields-preserved : goal.fields-preserved
 fields-preserved c = record {

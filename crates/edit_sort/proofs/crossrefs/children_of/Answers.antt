@@ -1,4 +1,4 @@
-use Rattle.std.proofs.Common.{◌≡◌, ◌<◌, false, get_or, length, map, take, refl, sym, ap, ◌∙◌, subst, arith}
+use Rattle.std.proofs.Common.{◌≡◌, ◌<◌, get_or, length, map, sym, ap, ◌∙◌, subst, arith}
 use Rattle.std.specs.Prelude.{◌&&◌, ◌||◌}
 use Rattle.std.specs.List.{list_any}
 use Rattle.std.proofs.lemmas.List.{get_or-map, length-map, take_all}
@@ -13,7 +13,7 @@ use Rattle.edit_sort.proofs.crossrefs.children_of.Goals as goal
 
 pub entries-init : goal.entries-init
 entries-init c = record {
-  same_length = c.in_ok-children.ensures.length ∙ c.len.ensures;
+  same_length = c.in_ok-children.ensures.length;
   children = λ test index. ap (list_any test) (c.in_ok-children.ensures.rows index);
 }
 
@@ -28,7 +28,9 @@ bounds-owners-index c =
     )
 
 pub add_references-requires : goal.add_references-requires
-add_references-requires c = subst (λ n. AreIndicesBelow n c.args.names.now) (sym c.entries.invariant.same_length) c.requires.below
+add_references-requires c = record {
+  below = subst (λ n. AreIndicesBelow n c.args.names.now) (sym c.entries.invariant.same_length) c.requires.below;
+}
 
 pub entries-preserved : goal.entries-preserved
 entries-preserved c =

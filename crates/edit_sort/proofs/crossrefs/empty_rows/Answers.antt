@@ -1,8 +1,7 @@
-use Rattle.std.proofs.Common.{◌≡◌, ℕ, List, [], length, ap, sym, ◌∙◌, arith}
+use Rattle.std.proofs.Common.{ℕ, List, [], length, ap, ◌∙◌, arith}
 use Rattle.std.proofs.lemmas.List.{map_push, replicate_more, length-replicate}
 use Rattle.std.specs.declared.alloc.Global.{Global}
 use Rattle.std.specs.declared.vec.Vec.{Vec}
-use Rattle.bib_collections.specs.Graph.{refs_of}
 use Rattle.bib_collections.specs.Rows.{rows}
 use Rattle.bib_collections.proofs.Fill.{empty_rows}
 use Rattle.bib_collections.proofs.Rows.{length-rows}

@@ -1,10 +1,10 @@
 use Rattle.std.proofs.Common.{◌≡◌, Some, map, option_map, slice_get, take, sym, ap, ◌∙◌, subst, arith, refl}
-use Rattle.std.proofs.lemmas.List.{map_push, take_all, take_more}
+use Rattle.std.proofs.lemmas.List.{take_all}
 use Rattle.std.proofs.lemmas.List.Elements.{All-nil}
 use Rattle.std.proofs.lemmas.Option.{slice_get-map, slice_get_read}
 use Rattle.std.specs.FinMap.{insert}
 use Rattle.bib_syntax.specs.Views.{entry_reading_of}
-use Rattle.edit_sort.specs.Ranks.{HaveIndices, lower_key}
+use Rattle.edit_sort.specs.Ranks.{HaveIndices}
 use Rattle.edit_sort.proofs.RankFacts.{HasIndex, have_more, indices_more, indices_none}
 use Rattle.edit_sort.proofs.SetFacts.{taken_more}
 use Rattle.edit_sort.proofs.crossrefs.key_indices.Goals as goal

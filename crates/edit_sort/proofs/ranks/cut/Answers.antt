@@ -1,4 +1,4 @@
-use Rattle.std.proofs.Common.{◌≡◌, ◌<◌, ◌≤◌, get_or, length, sym, ap, ◌∙◌, arith}
+use Rattle.std.proofs.Common.{sym, ◌∙◌, arith}
 use Rattle.bib_collections.specs.Rows.{rows}
 use Rattle.bib_collections.proofs.Rows.{length-rows}
 use Rattle.edit_sort.proofs.RowFacts.{cut_all, cut_more, cut_none}

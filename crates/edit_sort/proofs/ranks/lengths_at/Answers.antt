@@ -1,4 +1,4 @@
-use Rattle.std.proofs.Common.{◌≡◌, ◌<◌, ◌++◌, ◌∷◌, [], get_or, length, map, sym, ap, ◌∙◌}
+use Rattle.std.proofs.Common.{◌<◌, ◌++◌, ◌∷◌, ℕ, [], get_or, length, sym, ap, ◌∙◌}
 use Rattle.std.proofs.lemmas.List.{map_more}
 use Rattle.std.proofs.lemmas.List.Elements.{All-get_or}
 use Rattle.edit_sort.proofs.ranks.lengths_at.Goals as goal
@@ -9,6 +9,6 @@ bounds-lengths-r c =
 
 pub indices-preserved : goal.indices-preserved
 indices-preserved c =
-    let at = λ r. get_or c.args.lengths.now r 0 in
+    let at = λ (r : ℕ). get_or c.args.lengths.now r 0 in
     c.in_ok-push.ensures.items ∙ ap (λ l. l ++ at (get_or c.args.indices.now c.indices.r-index 0) ∷ []) c.indices.invariant
     ∙ sym (map_more at c.args.indices.now c.indices.r-index 0 c.indices-test.true)

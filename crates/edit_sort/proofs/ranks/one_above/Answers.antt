@@ -1,4 +1,4 @@
-use Rattle.std.proofs.Common.{◌≡◌, ◌<◌, ◌+◌, ℕ, [], get_or, length, map, max, drop, sym, ap, ◌∙◌, arith}
+use Rattle.std.proofs.Common.{◌<◌, get_or, length, map, max, sym, ap, ◌∙◌, arith}
 use Rattle.std.proofs.lemmas.List.{drop_all}
 use Rattle.std.proofs.lemmas.List.Elements.{All-get_or}
 use Rattle.edit_sort.specs.Ranks as ranks
@@ -15,7 +15,7 @@ bounds-lengths-r c =
 pub indices-preserved : goal.indices-preserved
 indices-preserved c =
     above_more c.args.most (λ r. get_or c.args.lengths.now r 0) c.args.indices.now c.indices.r-index c.indices.found
-    c.max.result c.indices-test.true (c.max.ensures ∙ ap (max c.indices.found) c.one_more.ensures)
+    c.max-found.result c.indices-test.true (c.max-found.ensures ∙ ap (max c.indices.found) c.one_more.ensures)
     ∙ c.indices.invariant
 
 pub returns : goal.returns

@@ -68,6 +68,12 @@ gather-requires-clause-cut c =
     subst (λ t. AreItemsCut t 0 0 (map entry_reading_of c.deref-2.result.now)) (sym c.text-text.ensures)
     (subst (λ es. AreItemsCut d.text 0 0 es) (sym listed) (document_parts d c.raw.ensures.read).cut)
 
+pub gather-requires-clause-ranks : goal.gather-requires-clause-ranks
+gather-requires-clause-ranks c =
+    let same = c.deref.ensures.value ∙ sym c.deref-2.ensures.value in
+    c.deref-3.ensures.value
+    ∙ subst (λ es. c.in_ok-ranks.ranks.items ≡ map (rank (map entry_reading_of es)) (map entry_reading_of es)) same c.in_ok-ranks.ensures
+
 pub laid_out-requires-clause-as_many : goal.laid_out-requires-clause-as_many
 laid_out-requires-clause-as_many c =
     let d = c.args.document.now in
