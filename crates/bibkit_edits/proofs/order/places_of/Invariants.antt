@@ -1,4 +1,4 @@
-use Rattle.std.proofs.Common.{◌≡◌, ◌<◌, ℕ, get_or, length, map, string_bytes}
+use Rattle.std.proofs.Common.{◌≡◌, ◌<◌, ℕ, [], get_or, length, map, string_bytes}
 use Rattle.bibkit_edits.specs.Sorting.{IsPlaceIn}
 use Rattle.bibkit_edits.proofs.order.places_of.Given as goal
 
