@@ -19,14 +19,11 @@ use std::cmp::Ordering;
 fn compared(first: &Item<'_, '_>, second: &Item<'_, '_>) -> Ordering
     ensures { result ≡ item_cmp (item_reading_of first.now) (item_reading_of second.now) }
 {
+    let by_run = first.run.cmp(&second.run);
+    let by_rank = first.rank.cmp(&second.rank);
     let by_place = first.place.cmp(&second.place);
     let by_position = first.entry.span.start.cmp(&second.entry.span.start);
-    first.run.cmp(&second.run).then(
-        first
-            .rank
-            .cmp(&second.rank)
-            .then(by_place.then(by_position)),
-    )
+    by_run.then(by_rank.then(by_place.then(by_position)))
 }
 
 // Returns the entries in order.

@@ -1,4 +1,4 @@
-use Rattle.std.proofs.Common.{map, sym, ap, ◌∙◌, subst}
+use Rattle.std.proofs.Common.{map, ap, ◌∙◌, subst}
 use Rattle.std.specs.String.{string_bytes}
 use Rattle.edit_sort.specs.Sorted.{IsReadSorted, IsSortedText}
 use Rattle.bib_syntax.specs.Views.{entry_reading_of}

@@ -1,4 +1,4 @@
-use Rattle.std.proofs.Common.{◌≡◌, ℕ, List, Bool, rules, is_lt, nat_cmp, Bor, length, map}
+use Rattle.std.proofs.Common.{ℕ, List, rules, is_lt, nat_cmp, Bor}
 use Rattle.std.specs.Cmp.Lexicographic.{slice_cmp}
 use Rattle.std.proofs.lemmas.List.Sorted.{IsPartitionPoint-from_clause}
 use Rattle.bibkit_edits.proofs.PlaceFacts.{less_first, place_from}

@@ -1,4 +1,4 @@
-use Rattle.std.proofs.Common.{◌≡◌, ◌<◌, ◌+◌, ℕ, [], get_or, length, map, string_bytes, sym, ap, ◌∙◌, subst, arith, IsPermutation}
+use Rattle.std.proofs.Common.{◌≡◌, ◌+◌, [], get_or, length, map, string_bytes, sym, ap, ◌∙◌, subst, arith, IsPermutation}
 use Rattle.std.proofs.lemmas.List.{get_or-map, length-map, length_push}
 use Rattle.bibkit_edits.specs.Sorting.{IsPlaceIn}
 use Rattle.bibkit_edits.proofs.PlaceFacts.{are_places, each_more}
