@@ -282,7 +282,7 @@ run 'a line that was broken is one where it may be' 0 $'@misc{k,\n  year = 1999,
 run 'the greatest width' 0 "$as_listed" fmt --width 1000000 options.bib
 for width in 1000001 -1 x ''; do run "a width that is none, '$width'" 2 '' fmt --width "$width" options.bib; done
 
-# entries in an order: each moves with the comment before it, and one that a crossref names comes last
+# entries in an order: each moves with the comment before it, and comes before the one that its crossref names
 cat >mixed.bib <<'BIB'
 % the file
 
@@ -321,6 +321,8 @@ printf '@misc{d,}\n@misc{c,}\n@string{s={x}}\n%% on b\n@misc{b,}\n@misc{a,}\n' >
 run 'no entry moves over a definition' 0 $'@misc{c,\n}\n@misc{d,\n}\n@string{s={x}}\n% on b\n@misc{a,\n}\n@misc{b,\n}\n' fmt --sort key barred.bib
 printf '@misc{d,}\n@string{s={x}}\n\n%% on b\n@misc{b,}\n@misc{a,}\n' >section.bib
 run 'a comment after a definition and a blank line moves' 0 $'@misc{d,\n}\n@string{s={x}}\n\n@misc{a,\n}\n% on b\n@misc{b,\n}\n' fmt --sort key section.bib
+printf '@misc{a,}\n@misc{b, crossref={A}}\n@misc{c, crossref={B}}\n@misc{d, crossref={C}}\n' >chain.bib
+run 'in a chain of references, each entry comes before the one that it names' 0 $'@misc{d,\n  crossref = {C},\n}\n@misc{c,\n  crossref = {B},\n}\n@misc{b,\n  crossref = {A},\n}\n@misc{a,\n}\n' fmt --sort key chain.bib
 printf '%% head\n\n%% a "quote"\n@misc{b,}\n@misc{a,}\n' >quoted.bib
 run 'a comment with a quote before the first entry stays' 0 $'% head\n\n% a "quote"\n@misc{a,\n}\n@misc{b,\n}\n' fmt --sort key quoted.bib
 printf '@misc{b,}\n@misc{c,}\n%% mail me@example.org\n@misc{a,}\n' >mail.bib

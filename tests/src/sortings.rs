@@ -1,6 +1,6 @@
-//! Reads rows, a call and a text in each line, and prints each with the text in order: `keys` orders entries by their keys in lowercase,
-//! and `texts` by the words after it. With `again` before it the keys of the entries of that text are printed, and with `twice` what
-//! comes of ordering that text by its keys again.
+//! Reads rows, a call and a text in each line, and prints each with the sorted text: `keys` sorts entries by their keys in lowercase, and
+//! `places` by the numbers after it. With `again` before it, prints the keys of the entries of that text. With `twice`, sorts that text by
+//! its keys again.
 
 use edit_entries::document::RawDocument;
 use edit_sort::sorting::sort_entries;
@@ -9,27 +9,42 @@ use crate::support::rows::Calls;
 
 pub struct Sortings;
 
-// What entries are ordered by.
-fn texts_of(alloc: Global, call: &str, document: &RawDocument<'_>) -> Result<Vec<String>, AllocError> {
-    let mut texts = Vec::new(alloc);
-    if call == "keys" {
-        for entry in &document.raw().entries {
-            texts.push(entry.v.key.v.to_ascii_lowercase(alloc)?)?;
-        }
-        return Ok(texts);
-    }
-    for word in call.split(' ').skip(1) {
-        texts.push(String::from_str(alloc, word)?)?;
-    }
-    Ok(texts)
+// The place of a key among keys: how many of them are less.
+fn place_of(keys: &[String], key: &str) -> usize {
+    keys.iter().filter(|other| other.as_str() < key).count()
 }
 
-// A text in order.
+// The places of entries by their keys in lowercase.
+fn places_by_key(alloc: Global, document: &RawDocument<'_>) -> Result<Vec<usize>, AllocError> {
+    let mut keys = Vec::new(alloc);
+    for entry in &document.raw().entries {
+        keys.push(entry.v.key.v.to_ascii_lowercase(alloc)?)?;
+    }
+    let mut places = Vec::new(alloc);
+    for key in &keys {
+        places.push(place_of(&keys, key.as_str()))?;
+    }
+    Ok(places)
+}
+
+// The places of entries.
+fn places_of(alloc: Global, call: &str, document: &RawDocument<'_>) -> Result<Vec<usize>, AllocError> {
+    if call == "keys" {
+        return places_by_key(alloc, document);
+    }
+    let mut places = Vec::new(alloc);
+    for word in call.split(' ').skip(1) {
+        places.push(word.parse::<usize>().unwrap_or(0))?;
+    }
+    Ok(places)
+}
+
+// A sorted text.
 fn sorted(alloc: Global, call: &str, text: &str) -> Result<String, AllocError> {
     match RawDocument::parse(alloc, text) {
         Ok(document) => {
-            let texts = texts_of(alloc, call, &document)?;
-            sort_entries(alloc, &document, &texts)
+            let places = places_of(alloc, call, &document)?;
+            sort_entries(alloc, &document, &places)
         }
         Err(_) => String::from_str(alloc, "no bibliography"),
     }
@@ -58,7 +73,7 @@ impl Calls for Sortings {
             let new = sorted(alloc, call, text)?;
             return Ok(Some(sorted(alloc, "keys", new.as_str())?));
         }
-        if call == "keys" || call == "texts" || call.starts_with("texts ") {
+        if call == "keys" || call == "places" || call.starts_with("places ") {
             return Ok(Some(sorted(alloc, call, text)?));
         }
         Ok(None)

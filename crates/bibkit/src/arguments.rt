@@ -256,7 +256,7 @@ fn style_settings<'a>(matches: &ArgMatches<'a>) -> StyleSettings<'a> {
         delimiters: matches.get_str("delimiters").and_then(delimiters_named),
         order: None,
         width: number(matches, "width").map(width_of),
-        sort: matches.get_str("sort").map(Order::named),
+        sort: matches.get_str("sort").map(Order::from_name),
     }
 }
 

@@ -20,7 +20,7 @@ use Rattle.edit_sort.specs.Sorted.{IsReadSorted, IsSortedText}
 use Rattle.edit_strings.specs.Collected.{AreMadeAbbreviations}
 use Rattle.edit_strings.specs.Expanded.{IsExpanded}
 use Rattle.bibkit_edits.specs.Edited.{AreMade, AreRefused, AreTextsCollected, IsDocumentConverted, IsEditRefused, IsInOrder, IsInStyle, IsMade, IsDocumentOf, IsResolvedDocument, IsUnresolved, IsWrittenOut, TextAdded}
-use Rattle.bibkit_edits.specs.Orders.{order_text}
+use Rattle.bibkit_edits.specs.Orders.{ArePlacesOf, order_text}
 use Rattle.edit_sort.specs.declared.order.Order.{Order}
 use Rattle.bibkit_edits.specs.Edited.AreMade.{none, next}
 use Rattle.bibkit_edits.specs.Steps.{AddsError, AddsUnread, AreFirstMade, IsTextRefused, StepIsRefused, edit_refusal, refusal_at, unless_no_memory, unresolved_refusal}
@@ -41,12 +41,11 @@ style_made style d new is alike = record {
 }
 
 -- a sorted text that parses like the sorted document is an outcome of `Sort`
-pub order_made : (order : Order) (d : Document) (new : List ℕ)
-    → IsSortedText d (map (order_text order) d.says.entries) new
-    → IsReadSorted d (map (order_text order) d.says.entries) new → IsEdited (IsInOrder order d) new
-order_made order d new is read = record {
+pub order_made : (order : Order) (d : Document) (places new : List ℕ) → ArePlacesOf (map (order_text order) d.says.entries) places
+    → IsSortedText d places new → IsReadSorted d places new → IsEdited (IsInOrder order d) new
+order_made order d places new by_texts is read = record {
   document = record { text = new; says = read.tells };
-  outcome = record { text = is; alike = record { order = read.order; in_order = read.in_order; alike = read.alike } };
+  outcome = record { places = places; by_texts = by_texts; text = is; alike = record { order = read.order; in_order = read.in_order; alike = read.alike } };
   is = refl;
   read = read.read;
 }

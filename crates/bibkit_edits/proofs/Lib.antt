@@ -1,2 +1,3 @@
 pub mod EditedFacts
 mod OrderFacts
+mod PlaceFacts

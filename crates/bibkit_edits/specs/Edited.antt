@@ -21,7 +21,7 @@ use Rattle.edit_sort.specs.Sorted.{AreEntriesInOrder, IsSortedText, Item, items,
 use Rattle.edit_strings.specs.Collected.{AreMadeAbbreviations}
 use Rattle.edit_strings.specs.Expanded.{ExpandIsRefused, IsExpanded}
 use Rattle.edit_strings.specs.declared.errors.ExpandError.TheVariants as expand_error
-use Rattle.bibkit_edits.specs.Orders.{order_text}
+use Rattle.bibkit_edits.specs.Orders.{ArePlacesOf, order_text}
 use Rattle.bibkit_edits.specs.declared.edit.Edit.{Edit}
 use Rattle.edit_sort.specs.declared.order.Order.{Order}
 use Rattle.bibkit_edits.specs.declared.edit.Edit.TheVariants.{Set, Unset, Rename, Remove, Add, Sort, Expand, Collect, ToBiblatex, ToBibtex, Resolve, Format}
@@ -45,17 +45,19 @@ pub record IsInStyle (style : Style) (d after : Document) : Type 0 where
   pub text : after.text ≡ text_in_style style d.text d.says
   pub alike : content after.says ≡ content (says_in_order style d.text d.says)
 
--- `says` is the content of a document with its entries sorted by `texts` (one for each entry), except positions
-pub record SaysSorted (d : Document) (texts : List (List ℕ)) (says : FileReading) : Type 0 where
+-- `says` is the content of a document with its entries sorted by `places` (one for each entry), except positions
+pub record SaysSorted (d : Document) (places : List ℕ) (says : FileReading) : Type 0 where
   pub order : List Item
-  pub in_order : AreEntriesInOrder (items d texts) order
+  pub in_order : AreEntriesInOrder (items d places) order
   pub alike : without_places says ≡ without_places (says_sorted d order)
 
--- `after` is the document `d` with its entries sorted: its text has the entries in that order, and its content is otherwise that
--- of `d`, except positions
+-- `after` is the document `d` with its entries sorted by their places in an order: its text has the entries in that order, and its
+-- content is otherwise that of `d`, except positions
 pub record IsInOrder (order : Order) (d after : Document) : Type 0 where
-  pub text : IsSortedText d (map (order_text order) d.says.entries) after.text
-  pub alike : SaysSorted d (map (order_text order) d.says.entries) after.says
+  pub places : List ℕ
+  pub by_texts : ArePlacesOf (map (order_text order) d.says.entries) places
+  pub text : IsSortedText d places after.text
+  pub alike : SaysSorted d places after.says
 
 -- the text of the second document is that of the first with its abbreviations replaced by their texts
 abbrev pub IsWrittenOut : Document → Document → Type 0

@@ -1,4 +1,5 @@
 pub mod Edited
 pub mod Orders
 pub mod Printing
+pub mod Sorting
 pub mod Steps

@@ -1,6 +1,8 @@
 -- Meaning: words of public contracts.
--- The texts by which entries are sorted.
-use Rattle.std.specs.Prelude.{ℕ, Bool, ◌==◌, ◌-◌, List, [], ◌∷◌, ◌++◌, bytes_eq, codes, length, take, Option, None, Some, if◌then◌else◌}
+-- The texts by which entries are sorted, and the places that they give.
+use Rattle.std.specs.Prelude.{◌≡◌, ◌<◌, ℕ, Bool, ◌==◌, ◌-◌, List, [], ◌∷◌, ◌++◌, bytes_eq, codes, length, slice_index, slice_index_or, take, Option, None, Some, if◌then◌else◌}
+use Rattle.std.specs.Cmp.Lexicographic.{slice_cmp}
+use Rattle.std.specs.Ordering.{nat_cmp}
 use Rattle.std.specs.List.{after_last, list_any}
 use Rattle.std.specs.Str.{str_to_ascii_lowercase, trim_end}
 use Rattle.bib_findings.specs.Identities.{first_person_of, year_of}
@@ -44,3 +46,10 @@ order_text order.Key e = str_to_ascii_lowercase e.key.text
 order_text order.Year e = or_last (year_of e)
 order_text order.Author e = or_last (author_text e)
 order_text order.Type e = str_to_ascii_lowercase e.kind.text
+
+-- numbers that are places of texts: two numbers compare as the texts at the same indices do
+pub record ArePlacesOf (texts : List (List ℕ)) (places : List ℕ) : Type 0 where
+  pub same_length : length places ≡ length texts
+  pub compare : (i j : ℕ) → i < length texts → j < length texts
+      → nat_cmp (slice_index places i) (slice_index places j)
+      ≡ slice_cmp nat_cmp (slice_index_or texts i []) (slice_index_or texts j [])

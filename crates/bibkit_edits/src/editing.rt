@@ -11,7 +11,7 @@ ghost use Rattle.bibkit_edits.specs.Steps.{IsTextRefused, StepIsRefused, added_r
 ghost use Rattle.edit_resolve.specs.Resolutions.{IsResolveRefused};
 
 use crate::edit::{Edit, Refusal};
-use crate::order::order_texts;
+use crate::order::order_places;
 use crate::reading::{text_after_mark, with_mark};
 use edit_convert::converting::convert;
 use edit_entries::document::RawDocument;
@@ -86,8 +86,8 @@ fn sort_document(
     ensures made { IfOk result (λ new. IsEdited (IsInOrder order document.now) (string_bytes new)) }
     ensures refused { IfErr result (λ why. why ≡ OutOfMemory) }
 {
-    let texts = order_texts(alloc, order, &document.raw().entries)?;
-    Ok(sort_entries(alloc, document, &texts)?)
+    let places = order_places(alloc, order, &document.raw().entries)?;
+    Ok(sort_entries(alloc, document, &places)?)
 }
 
 // Returns the text of a document with its abbreviations replaced by their texts.

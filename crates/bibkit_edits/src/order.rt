@@ -1,12 +1,16 @@
-//! The texts by which entries are sorted.
+//! The places of entries in an order.
 
 ghost use Rattle.std.specs.Prelude.{◌≡◌, ◌-◌, ◌≤◌, IfOk, length, map};
 ghost use Rattle.std.specs.List.{after_last};
+ghost use Rattle.std.specs.List.Sorted.{IsPermutation, IsSorted};
+ghost use Rattle.std.specs.Cmp.Lexicographic.{slice_cmp};
+ghost use Rattle.std.specs.Ordering.{nat_cmp};
 ghost use Rattle.std.specs.Str.{IsCharBoundary};
 ghost use Rattle.std.specs.String.{string_bytes};
 ghost use Rattle.bib_syntax.specs.Views.{entry_reading_of};
 ghost use Rattle.bibkit_edits.specs.Orders as orders;
-ghost use Rattle.bibkit_edits.specs.Orders.{is_word_space};
+ghost use Rattle.bibkit_edits.specs.Orders.{ArePlacesOf, is_word_space};
+ghost use Rattle.bibkit_edits.specs.Sorting.{IsPlaceIn};
 
 use bib_findings::identities::{person, year};
 use edit_sort::order::Order;
@@ -79,8 +83,8 @@ fn order_text(
     }
 }
 
-/// Returns, for each entry, the text by which it is sorted. Entries without a year or a name come last in those orders.
-pub fn order_texts(
+// Returns, for each entry, the text by which it is sorted. Entries without a year or a name come last in those orders.
+fn order_texts(
     alloc: Global,
     order: Order,
     entries: &[Spanned<RawEntry<'_>>],
@@ -92,4 +96,56 @@ pub fn order_texts(
         texts.push(order_text(alloc, order, entry)?)?;
     }
     Ok(texts)
+}
+
+// Returns texts as slices.
+fn slices<'a>(alloc: Global, texts: &'a [String]) -> Result<Vec<&'a str>, AllocError>
+    ensures { IfOk result (λ slices. map (λ s. s.now) slices.items ≡ map string_bytes texts.now) }
+{
+    let mut slices = Vec::new(alloc);
+    'texts: for text in texts {
+        slices.push(text.as_str())?;
+    }
+    Ok(slices)
+}
+
+// Returns texts sorted by their bytes.
+fn sorted_texts<'a>(mut texts: Vec<&'a str>) -> Result<Vec<&'a str>, AllocError>
+    ensures same { IfOk result (λ sorted. IsPermutation (map (λ s. s.now) texts.entry.items) (map (λ s. s.now) sorted.items)) }
+    ensures sorted { IfOk result (λ sorted. IsSorted (slice_cmp nat_cmp) (map (λ s. s.now) sorted.items)) }
+{
+    texts.sort_by(|first, second| first.cmp(second))?;
+    Ok(texts)
+}
+
+// Returns the place of a text among sorted texts: how many are less.
+fn place_in(sorted: &[&str], text: &str) -> usize
+    requires { IsSorted (slice_cmp nat_cmp) (map (λ s. s.now) sorted.now) }
+    ensures { IsPlaceIn (map (λ s. s.now) sorted.now) text.now result }
+{
+    sorted.partition_point(|other| *other < text)
+}
+
+// Returns the place of each text in their order. Equal texts have equal places.
+fn places_of(alloc: Global, texts: &[String]) -> Result<Vec<usize>, AllocError>
+    ensures { IfOk result (λ places. ArePlacesOf (map string_bytes texts.now) places.items) }
+{
+    let sorted = sorted_texts(slices(alloc, texts)?)?;
+    let mut places = Vec::new(alloc);
+    'texts: for text in texts {
+        places.push(place_in(&sorted, text.as_str()))?;
+    }
+    Ok(places)
+}
+
+/// Returns the place of each entry in an order. Entries with equal texts have equal places.
+pub fn order_places(
+    alloc: Global,
+    order: Order,
+    entries: &[Spanned<RawEntry<'_>>],
+) -> Result<Vec<usize>, AllocError>
+    ensures { IfOk result (λ places. ArePlacesOf (map (orders.order_text order) (map entry_reading_of entries.now)) places.items) }
+{
+    let texts = order_texts(alloc, order, entries)?;
+    places_of(alloc, &texts)
 }

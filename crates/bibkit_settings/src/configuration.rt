@@ -202,7 +202,7 @@ fn sort(alloc: Global, value: &Value) -> Result<Option<Option<Order>>, Configura
     if value.as_str() == Some("keep") {
         return Ok(Some(None));
     }
-    match value.as_str().and_then(Order::named) {
+    match value.as_str().and_then(Order::from_name) {
         Some(order) => Ok(Some(Some(order))),
         None => wrong(
             alloc,

@@ -25,10 +25,12 @@ use Rattle.edit_entries.proofs.CutFacts.{cut_file, cut_stood, stood}
 use Rattle.edit_entries.proofs.ByEntriesFacts.{ByEntries, by_entries}
 use Rattle.edit_entries.proofs.StandsFacts.{Stands, past}
 use Rattle.edit_sort.specs.Cuts.{AreItemsCut, IsEntryOfItemCut, IsItemCut}
-use Rattle.edit_sort.specs.Sorted.{AreEntriesInOrder, IsReadSorted, Item, comment_in, without_places, entry_bytes, gap_before, items, items_from, items_laid_out, place_after, run_after, says_sorted, space_in, spaces_from, text_in_order}
+use Rattle.edit_sort.specs.Sorted.{AreEntriesInOrder, IsReadSorted, Item, comment_in, without_places, entry_bytes, gap_before, items, says_sorted, space_in, text_in_order}
+use Rattle.edit_sort.specs.Steps.{items_from, items_laid_out, place_after, run_after, spaces_from}
 use Rattle.edit_sort.proofs.PlacelessFacts.{file_placeless}
 use Rattle.edit_sort.proofs.PlainFacts.{ahead_plain, stood_plain}
 use Rattle.edit_sort.proofs.ReadFacts.{ItemReads, SpaceReads, gap_cut, item_reads}
+use Rattle.edit_sort.proofs.StepFacts.{listed, listed_order, text_is}
 
 -- ---- the rest of a text, without entries
 
@@ -81,8 +83,8 @@ pub record FileParts (text : List ℕ) (index at : ℕ) (es : List EntryReading)
   pub befores : List FileReading
   pub rest : FileReading
   pub spaces : AllSpaces (spaces_from text index at es) befores
-  pub items : (all : List EntryReading) (texts : List (List ℕ)) (run : ℕ)
-      → AllByRecursion (ReadsItem text) (items_from all text texts index at run es)
+  pub items : (all : List EntryReading) (places : List ℕ) (run : ℕ)
+      → AllByRecursion (ReadsItem text) (items_from all text places index at run es)
   pub last : RestReads (drop (place_after at es) text) rest
   pub none : rest.entries ≡ []
   pub whole : says ≡ rejoined befores es rest
@@ -95,7 +97,7 @@ file_parts text index {u} {says} same within cut (ByEntries.last x none) =
       befores = [];
       rest = says;
       spaces = tt;
-      items = λ all texts run. tt;
+      items = λ all places run. tt;
       last = subst (λ t. RestReads (drop u.at t) says) same (rest_reads x (omega (arith, within, ap length same)));
       none = none;
       whole = refl;
@@ -159,7 +161,7 @@ file_parts text index {u} {says} same within cut
       befores = before ∷ r.befores;
       rest = r.rest;
       spaces = (subst (λ t. SpaceReads t before) (sym space_is) gap.reads, none, r.spaces);
-      items = λ all texts run. (reads, r.items all texts (run_after run (gap_before text u.at e)));
+      items = λ all places run. (reads, r.items all places (run_after run (gap_before text u.at e)));
       last = r.last;
       none = r.none;
       whole = ap (λ r'. then before (then (entry_alone e) r')) r.whole;
@@ -273,22 +275,22 @@ length-spaces : (text : List ℕ) (index at : ℕ) (es : List EntryReading) → 
 length-spaces text index at [] = refl
 length-spaces text index at (e ∷ es) = ap suc (length-spaces text (index + 1) (e.end + 1) es)
 
-pub length-items : (all : List EntryReading) (text : List ℕ) (texts : List (List ℕ)) (index at run : ℕ)
-    (es : List EntryReading) → length (items_from all text texts index at run es) ≡ length es
-length-items all text texts index at run [] = refl
-length-items all text texts index at run (e ∷ es) =
-    ap suc (length-items all text texts (index + 1) (e.end + 1) (run_after run (gap_before text at e)) es)
+pub length-items : (all : List EntryReading) (text places : List ℕ) (index at run : ℕ) (es : List EntryReading)
+    → length (items_from all text places index at run es) ≡ length es
+length-items all text places index at run [] = refl
+length-items all text places index at run (e ∷ es) =
+    ap suc (length-items all text places (index + 1) (e.end + 1) (run_after run (gap_before text at e)) es)
 
 -- ---- the whole text
 
 pub document_parts : (d : Document) → IsDocument d → FileParts d.text 0 0 d.says.entries d.says
 document_parts d read = file_parts d.text 0 {u = place d.text 0} refl (omega arith) (cut_file d.text refl read) (by_entries read)
 
-pub as_many : (d : Document) (texts : List (List ℕ)) (order : List Item) → AreEntriesInOrder (items d texts) order
+pub as_many : (d : Document) (places : List ℕ) (order : List Item) → AreEntriesInOrder (items d places) order
     → length (spaces_from d.text 0 0 d.says.entries) ≡ length order
-as_many d texts order in_order =
-    length-spaces d.text 0 0 d.says.entries ∙ sym (length-items d.says.entries d.text texts 0 0 0 d.says.entries)
-    ∙ sym (length_permutation (items d texts) order in_order.permutation)
+as_many d places order in_order =
+    length-spaces d.text 0 0 d.says.entries ∙ sym (length-items d.says.entries d.text places 0 0 0 d.says.entries)
+    ∙ sym (length_permutation (listed d places) order (listed_order d places order in_order).permutation)
 
 -- the text in another order is read
 pub record OrderRead (d : Document) (order : List Item) : Type 0 where
@@ -297,19 +299,19 @@ pub record OrderRead (d : Document) (order : List Item) : Type 0 where
   pub alike : without_places reading ≡ without_places (says_sorted d order)
   pub laid : AreLaid (text_in_order d order) 0 reading.entries (spaces_from d.text 0 0 d.says.entries) order
 
-pub read_in_order : (d : Document) (texts : List (List ℕ)) (order : List Item) → IsDocument d
-    → AreEntriesInOrder (items d texts) order → OrderRead d order
-read_in_order d texts order read in_order =
+pub read_in_order : (d : Document) (places : List ℕ) (order : List Item) → IsDocument d
+    → AreEntriesInOrder (items d places) order → OrderRead d order
+read_in_order d places order read in_order =
     let parts = document_parts d read in
     let spaces = spaces_from d.text 0 0 d.says.entries in
     let es = map (λ i. i.entry) order in
     let all = recursion_from_All (ReadsItem d.text) order
-    (All-permutation (ReadsItem d.text) (items d texts) order in_order.permutation
-    (All-from_recursion (ReadsItem d.text) (items d texts) (parts.items d.says.entries texts 0))) in
-    let size = as_many d texts order in_order in
+    (All-permutation (ReadsItem d.text) (listed d places) order (listed_order d places order in_order).permutation
+    (All-from_recursion (ReadsItem d.text) (listed d places) (parts.items d.says.entries places 0))) in
+    let size = as_many d places order in_order in
     let said =
     order_read d.text spaces parts.befores order (drop (place_after 0 d.says.entries) d.text) parts.rest
-    parts.spaces all size parts.last parts.none (place (text_in_order d order) 0) refl (omega arith) in
+    parts.spaces all size parts.last parts.none (place (text_in_order d order) 0) (text_is d order) (omega arith) in
     record {
       reading = said.reading;
       read = said.file;
@@ -322,28 +324,28 @@ read_in_order d texts order read in_order =
       laid = said.laid;
     }
 
-pub text_read : (d : Document) (texts : List (List ℕ)) (order : List Item) → IsDocument d
-    → AreEntriesInOrder (items d texts) order → IsReadSorted d texts (text_in_order d order)
-text_read d texts order read in_order =
-    let said = read_in_order d texts order read in_order in
+pub text_read : (d : Document) (places : List ℕ) (order : List Item) → IsDocument d
+    → AreEntriesInOrder (items d places) order → IsReadSorted d places (text_in_order d order)
+text_read d places order read in_order =
+    let said = read_in_order d places order read in_order in
     record { order = order; in_order = in_order; tells = said.reading; read = said.read; alike = said.alike }
 
 -- ---- where it may be cut
 
-entries_cut : (all : List EntryReading) (text : List ℕ) (texts : List (List ℕ)) (index at run : ℕ)
+entries_cut : (all : List EntryReading) (text places : List ℕ) (index at run : ℕ)
     (es : List EntryReading) → AreItemsCut text index at es
-    → AllByRecursion (IsEntryOfItemCut text) (items_from all text texts index at run es)
-entries_cut all text texts index at run [] cut = tt
-entries_cut all text texts index at run (e ∷ es) cut =
-    (cut.0.whole, entries_cut all text texts (index + 1) (e.end + 1) (run_after run (gap_before text at e)) es cut.1)
+    → AllByRecursion (IsEntryOfItemCut text) (items_from all text places index at run es)
+entries_cut all text places index at run [] cut = tt
+entries_cut all text places index at run (e ∷ es) cut =
+    (cut.0.whole, entries_cut all text places (index + 1) (e.end + 1) (run_after run (gap_before text at e)) es cut.1)
 
-pub order_cut : (d : Document) (texts : List (List ℕ)) (order : List Item) → IsDocument d
-    → AreEntriesInOrder (items d texts) order → AllByRecursion (IsEntryOfItemCut d.text) order
-order_cut d texts order read in_order =
+pub order_cut : (d : Document) (places : List ℕ) (order : List Item) → IsDocument d
+    → AreEntriesInOrder (items d places) order → AllByRecursion (IsEntryOfItemCut d.text) order
+order_cut d places order read in_order =
     recursion_from_All (IsEntryOfItemCut d.text) order
-    (All-permutation (IsEntryOfItemCut d.text) (items d texts) order in_order.permutation
-    (All-from_recursion (IsEntryOfItemCut d.text) (items d texts)
-    (entries_cut d.says.entries d.text texts 0 0 0 d.says.entries (document_parts d read).cut)))
+    (All-permutation (IsEntryOfItemCut d.text) (listed d places) order (listed_order d places order in_order).permutation
+    (All-from_recursion (IsEntryOfItemCut d.text) (listed d places)
+    (entries_cut d.says.entries d.text places 0 0 0 d.says.entries (document_parts d read).cut)))
 
 last_cut : (text : List ℕ) (index at : ℕ) (es : List EntryReading) → AreItemsCut text index at es → IsCharBoundary text (place_after at es)
 last_cut text index at [] cut = cut

@@ -6,7 +6,6 @@ use Rattle.std.specs.Ordering.{MatchOrdering, is_lt, nat_cmp, ordering_reverse, 
 use Rattle.std.specs.declared.cmp.Ordering.{Ordering}
 use Rattle.std.specs.declared.cmp.Ordering.TheVariants.{Less, Equal, Greater}
 use Rattle.std.specs.Cmp.{ranks}
-use Rattle.std.specs.Cmp.Lexicographic.{slice_cmp}
 use Rattle.std.proofs.lemmas.Bool.{cases_lt}
 use Rattle.std.proofs.lemmas.List.{get_or_default}
 use Rattle.std.proofs.lemmas.List.Elements.{All-contains_itself, recursion_from_All}
@@ -14,44 +13,46 @@ use Rattle.std.proofs.lemmas.List.Sorted.{All-permutation, IsPermutation-sym, Is
 use Rattle.bib_syntax.specs.Reading.{EntryReading}
 use Rattle.edit_entries.specs.Documents.{Document, IsDocument}
 use Rattle.edit_sort.specs.Cuts.{AreItemsCut}
-use Rattle.edit_sort.specs.Sorted.{AreEntriesInOrder, Item, gap_before, item_cmp, items, items_from, run_after}
+use Rattle.edit_sort.specs.Sorted.{AreEntriesInOrder, Item, gap_before, item_cmp, items}
+use Rattle.edit_sort.specs.Steps.{items_from, run_after}
 use Rattle.edit_sort.proofs.FileFacts.{document_parts}
 use Rattle.edit_sort.proofs.OrderFacts.{item_total}
 use Rattle.edit_sort.proofs.SameOrderFacts.{AreUp, same_order}
+use Rattle.edit_sort.proofs.StepFacts.{items_are}
 
 -- ---- each entry begins after those before it
 
-starts_above : (all : List EntryReading) (text : List ℕ) (texts : List (List ℕ)) (index at run : ℕ)
+starts_above : (all : List EntryReading) (text places : List ℕ) (index at run : ℕ)
     (es : List EntryReading) → AreItemsCut text index at es → (k : ℕ) (i : Item)
-    → k < length (items_from all text texts index at run es)
-    → at ≤ (get_or (items_from all text texts index at run es) k i).entry.start
-starts_above all text texts index at run [] cut k i within = absurd (omega arith)
-starts_above all text texts index at run (e ∷ es) cut zero i within = cut.0.gap.ordered
-starts_above all text texts index at run (e ∷ es) cut (suc k) i within =
+    → k < length (items_from all text places index at run es)
+    → at ≤ (get_or (items_from all text places index at run es) k i).entry.start
+starts_above all text places index at run [] cut k i within = absurd (omega arith)
+starts_above all text places index at run (e ∷ es) cut zero i within = cut.0.gap.ordered
+starts_above all text places index at run (e ∷ es) cut (suc k) i within =
     omega (
       arith,
       cut.0.gap.ordered,
       cut.0.some,
-      starts_above all text texts (index + 1) (e.end + 1) (run_after run (gap_before text at e)) es cut.1 k i
+      starts_above all text places (index + 1) (e.end + 1) (run_after run (gap_before text at e)) es cut.1 k i
           (omega arith),
     )
 
-starts_rise : (all : List EntryReading) (text : List ℕ) (texts : List (List ℕ)) (index at run : ℕ)
+starts_rise : (all : List EntryReading) (text places : List ℕ) (index at run : ℕ)
     (es : List EntryReading) → AreItemsCut text index at es → (k j : ℕ) (i : Item) → k < j
-    → j < length (items_from all text texts index at run es)
-    → (get_or (items_from all text texts index at run es) k i).entry.start
-    < (get_or (items_from all text texts index at run es) j i).entry.start
-starts_rise all text texts index at run [] cut k j i less within = absurd (omega arith)
-starts_rise all text texts index at run (e ∷ es) cut k zero i less within = absurd (omega arith)
-starts_rise all text texts index at run (e ∷ es) cut zero (suc j) i less within =
+    → j < length (items_from all text places index at run es)
+    → (get_or (items_from all text places index at run es) k i).entry.start
+    < (get_or (items_from all text places index at run es) j i).entry.start
+starts_rise all text places index at run [] cut k j i less within = absurd (omega arith)
+starts_rise all text places index at run (e ∷ es) cut k zero i less within = absurd (omega arith)
+starts_rise all text places index at run (e ∷ es) cut zero (suc j) i less within =
     omega (
       arith,
       cut.0.some,
-      starts_above all text texts (index + 1) (e.end + 1) (run_after run (gap_before text at e)) es cut.1 j i
+      starts_above all text places (index + 1) (e.end + 1) (run_after run (gap_before text at e)) es cut.1 j i
           (omega arith),
     )
-starts_rise all text texts index at run (e ∷ es) cut (suc k) (suc j) i less within =
-    starts_rise all text texts (index + 1) (e.end + 1) (run_after run (gap_before text at e)) es cut.1 k j i (omega arith) (omega arith)
+starts_rise all text places index at run (e ∷ es) cut (suc k) (suc j) i less within =
+    starts_rise all text places (index + 1) (e.end + 1) (run_after run (gap_before text at e)) es cut.1 k j i (omega arith) (omega arith)
 
 -- entries of a list are the same where they begin at one place
 abbrev AreOneByStart : List Item → Type 0
@@ -94,12 +95,12 @@ then_last Greater b is = absurd (cc)
 tied_start : (x y : Item) → item_cmp x y ≡ Equal → x.entry.start ≡ y.entry.start
 tied_start x y is =
     let by_start = nat_cmp x.entry.start y.entry.start in
-    let by_text = slice_cmp nat_cmp x.text y.text in
+    let by_place = nat_cmp x.place y.place in
     let by_rank = nat_cmp x.rank y.rank in
     let last : by_start ≡ Equal =
-    then_last by_text by_start
-    (then_last by_rank (ordering_then by_text by_start)
-    (then_last (nat_cmp x.run y.run) (ordering_then by_rank (ordering_then by_text by_start)) is)) in
+    then_last by_place by_start
+    (then_last by_rank (ordering_then by_place by_start)
+    (then_last (nat_cmp x.run y.run) (ordering_then by_rank (ordering_then by_place by_start)) is)) in
     subst
     (λ o.
     MatchOrdering o (x.entry.start < y.entry.start) (x.entry.start ≡ y.entry.start)
@@ -134,15 +135,19 @@ up_from (x ∷ xs) sorted = (
 
 -- ---- the entries of a document
 
-pub starts_in_order : (d : Document) (texts : List (List ℕ)) → IsDocument d → (k j : ℕ) (i : Item) → k < j
-    → j < length (items d texts) → (get_or (items d texts) k i).entry.start < (get_or (items d texts) j i).entry.start
-starts_in_order d texts read = starts_rise d.says.entries d.text texts 0 0 0 d.says.entries (document_parts d read).cut
+pub starts_in_order : (d : Document) (places : List ℕ) → IsDocument d → (k j : ℕ) (i : Item) → k < j
+    → j < length (items d places) → (get_or (items d places) k i).entry.start < (get_or (items d places) j i).entry.start
+starts_in_order d places read =
+    subst
+    (λ l. (k j : ℕ) (i : Item) → k < j → j < length l → (get_or l k i).entry.start < (get_or l j i).entry.start)
+    (sym (items_are d places))
+    (starts_rise d.says.entries d.text places 0 0 0 d.says.entries (document_parts d read).cut)
 
-pub one_order : (d : Document) (texts : List (List ℕ)) (first second : List Item) → IsDocument d
-    → AreEntriesInOrder (items d texts) first → AreEntriesInOrder (items d texts) second → first ≡ second
-one_order d texts first second read in_order in_order' =
-    let all = items d texts in
-    let one = one_by_start all (starts_in_order d texts read) in
+pub one_order : (d : Document) (places : List ℕ) (first second : List Item) → IsDocument d
+    → AreEntriesInOrder (items d places) first → AreEntriesInOrder (items d places) second → first ≡ second
+one_order d places first second read in_order in_order' =
+    let all = items d places in
+    let one = one_by_start all (starts_in_order d places read) in
     let tie =
     λ (x y : Item) (known : Contains all x) (known' : Contains all y) (up : IsNotAfter x y) (up' : IsNotAfter y x).
     one x y known known'

@@ -2,7 +2,7 @@
 use Rattle.std.proofs.Common.{◌≡◌, ◌+◌, Bool, List, [], ◌∷◌, get_or, length, map, ap, ◌∙◌, arith}
 use Rattle.std.specs.Cmp.{IsTotalOrder}
 use Rattle.std.specs.List.Sorted.{IsSortedBy}
-use Rattle.std.proofs.lemmas.Cmp.{nat_cmp_total, nat_list_cmp_total, on_total, then_total}
+use Rattle.std.proofs.lemmas.Cmp.{nat_cmp_total, on_total, then_total}
 use Rattle.std.proofs.lemmas.List.{get_or-map, length-map}
 use Rattle.edit_sort.specs.Sorted.{item_cmp}
 
@@ -10,7 +10,7 @@ pub item_total : IsTotalOrder item_cmp
 item_total =
     then_total (on_total (λ i. i.run) nat_cmp_total)
     (then_total (on_total (λ i. i.rank) nat_cmp_total)
-    (then_total (on_total (λ i. i.text) nat_list_cmp_total) (on_total (λ i. i.entry.start) nat_cmp_total)))
+    (then_total (on_total (λ i. i.place) nat_cmp_total) (on_total (λ i. i.entry.start) nat_cmp_total)))
 
 -- what is in order by what it is mapped to
 pub sorted_map : {X Y : Type 0} (f : X → Y) (lt : Y → Y → Bool) (xs : List X) → IsSortedBy (λ a b. lt (f a) (f b)) xs

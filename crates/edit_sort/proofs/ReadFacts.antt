@@ -265,7 +265,7 @@ cut_after_feed {a} {l} {m} {s} near first sign within same feed from stands clea
     }
 
 after_feed : {a s x : Place} {before : FileReading} (gap near : List ℕ) → FileBefore a before s → CharAt s 64 x
-    → s.at ≤ length a.text → gap ≡ between a s → AfterFeed gap gap near → has_block_sign near ≡ false
+    → s.at ≤ length a.text → gap ≡ between a s → AfterFeed gap near → has_block_sign near ≡ false
     → BeforeCut (without_white near) a s before
 after_feed {a} {s} {before = before} gap near first sign within is (inl same) clear =
     subst (λ t. BeforeCut (without_white t) a s before) (sym (same ∙ is))
@@ -286,11 +286,11 @@ comment_cut is_first {a} {s} {x} {before} first sign within = by_run (begins_run
     gap = between a s
 
     near : List ℕ
-    near = after_blank_line true gap gap
+    near = after_blank_line gap
 
     by_sign : (c : Bool) → has_block_sign near ≡ c → BeforeCut (cond c [] (without_white near)) a s before
     by_sign true is = stays first sign within
-    by_sign false is = after_feed gap near first sign within refl (feed_before true gap gap) is
+    by_sign false is = after_feed gap near first sign within refl (feed_before gap) is
 
     by_run : (c : Bool) → begins_run is_first gap ≡ c → BeforeCut (cond c (near_comment near) (without_white gap)) a s before
     by_run true is = by_sign (has_block_sign near) refl

@@ -1,9 +1,9 @@
--- Whether a test is passed by what a loop has seen.
-use Rattle.std.proofs.Common.{◌≡◌, ℕ, zero, suc, ◌+◌, ◌<◌, Bool, true, false, cond, List, [], ◌∷◌, ◌++◌, get_or, length, map, take, refl, sym, ap, ◌∙◌, arith}
-use Rattle.std.specs.Prelude.{◌||◌}
-use Rattle.std.specs.List.{list_any}
+-- Whether an element of a list passes a test.
+use Rattle.std.proofs.Common.{◌≡◌, ℕ, ◌+◌, ◌<◌, Bool, true, false, List, [], ◌∷◌, ◌++◌, get_or, length, map, take, refl, sym, ap, ◌∙◌}
+use Rattle.std.specs.Prelude.{◌&&◌, ◌||◌}
+use Rattle.std.specs.List.{AllByRecursion, Contains, list_any}
 use Rattle.std.proofs.lemmas.List.{map-append, take_more}
-use Rattle.std.proofs.lemmas.List.Folds.{list_any-append}
+use Rattle.std.proofs.lemmas.List.Folds.{list_any-append, list_any_at}
 
 pub or_none : (b : Bool) → (b || false) ≡ b
 or_none true = refl
@@ -13,17 +13,17 @@ pub or_assoc : (a b c : Bool) → ((a || b) || c) ≡ (a || (b || c))
 or_assoc true b c = refl
 or_assoc false b c = refl
 
--- a set with one more
-pub or_from : (b rest : Bool) → cond b true rest ≡ (rest || b)
-or_from true true = refl
-or_from true false = refl
-or_from false rest = sym (or_none rest)
-
 pub or_later : (x y : Bool) → y ≡ true → (x || y) ≡ true
 or_later true y is = refl
 or_later false y is = is
 
--- whether a test is passed by some and one more
+-- two tests are the same if each passes what the other one passes
+pub same_tests : (a b : Bool) → (a ≡ true → b ≡ true) → (b ≡ true → a ≡ true) → a ≡ b
+same_tests true b first second = sym (first refl)
+same_tests false true first second = second refl
+same_tests false false first second = refl
+
+-- the first elements, and one more
 pub any_more : {A B : Type 0} (p : B → Bool) (f : A → B) (xs : List A) (i : ℕ) (x : A) → i < length xs
     → x ≡ get_or xs i x → list_any p (map f (take (i + 1) xs)) ≡ (list_any p (map f (take i xs)) || p (f x))
 any_more p f xs i x within is =
@@ -31,9 +31,49 @@ any_more p f xs i x within is =
     ∙ ap (list_any p) (map-append f (take i xs) (x ∷ []))
     ∙ list_any-append p (map f (take i xs)) (f x ∷ []) ∙ ap (λ b. list_any p (map f (take i xs)) || b) (or_none (p (f x)))
 
--- it is passed by all if by one of them
-pub any_here : {A B : Type 0} (p : B → Bool) (f : A → B) (xs : List A) (i : ℕ) (x : A) → i < length xs
-    → x ≡ get_or xs i x → p (f x) ≡ true → list_any p (map f xs) ≡ true
-any_here p f [] i x within is passes = absurd (omega arith)
-any_here p f (y ∷ ys) zero x within is passes = ap (λ b. b || list_any p (map f ys)) (ap (λ z. p (f z)) (sym is) ∙ passes)
-any_here p f (y ∷ ys) (suc i) x within is passes = or_later (p (f y)) (list_any p (map f ys)) (any_here p f ys i x (omega arith) is passes)
+-- an element that passes
+pub any_contained : {A : Type 0} (p : A → Bool) (xs : List A) (x : A) → Contains xs x → p x ≡ true → list_any p xs ≡ true
+any_contained p xs x there passes = list_any_at p xs there.0 x there.1 (ap p there.2 ∙ passes)
+
+-- a test that is weaker
+pub any_both : {A : Type 0} (p q : A → Bool) (xs : List A) → ((x : A) → p x ≡ true → q x ≡ true) → list_any p xs ≡ true
+    → list_any q xs ≡ true
+any_both p q [] both some = some
+any_both p q (x ∷ xs) both some = by_test (p x) refl some (any_both p q xs both)
+  where
+    by_test : (b : Bool) → p x ≡ b → (b || list_any p xs) ≡ true → (list_any p xs ≡ true → list_any q xs ≡ true)
+        → (q x || list_any q xs) ≡ true
+    by_test true is some' later = ap (λ b. b || list_any q xs) (both x is)
+    by_test false is some' later = or_later (q x) (list_any q xs) (later some')
+
+-- tests that agree
+pub any_same : {A : Type 0} (p q : A → Bool) (xs : List A) → ((x : A) → p x ≡ q x) → list_any p xs ≡ list_any q xs
+any_same p q [] same = refl
+any_same p q (x ∷ xs) same = ap (λ b. b || list_any p xs) (same x) ∙ ap (λ b. q x || b) (any_same p q xs same)
+
+-- tests that agree on what is known of the elements
+pub any_where : {A : Type 0} (P : A → Type 0) (p q : A → Bool) (xs : List A) → ((x : A) → P x → p x ≡ q x)
+    → AllByRecursion P xs → list_any p xs ≡ list_any q xs
+any_where P p q [] same all = refl
+any_where P p q (x ∷ xs) same all =
+    ap (λ b. b || list_any p xs) (same x all.0) ∙ ap (λ b. q x || b) (any_where P p q xs same all.1)
+
+-- elements that change without a change of the test
+pub any_through : {A : Type 0} (p : A → Bool) (g : A → A) (xs : List A) → ((x : A) → p (g x) ≡ p x) → list_any p (map g xs) ≡ list_any p xs
+any_through p g [] same = refl
+any_through p g (x ∷ xs) same = ap (λ b. b || list_any p (map g xs)) (same x) ∙ ap (λ b. p x || b) (any_through p g xs same)
+
+-- the first elements and one more, each as a function gives it
+pub taken_more : {A B : Type 0} (f : A → B) (xs : List A) (i : ℕ) (x : A) → i < length xs → x ≡ get_or xs i x
+    → map f (take (i + 1) xs) ≡ map f (take i xs) ++ f x ∷ []
+taken_more f xs i x within is =
+    ap (map f) (take_more xs i x within ∙ ap (λ e. take i xs ++ e ∷ []) (sym is)) ∙ map-append f (take i xs) (x ∷ [])
+
+-- one more test of two
+pub one_more_or : (a s o t : Bool) → ((a || (s && t)) || (o && t)) ≡ (a || ((s || o) && t))
+one_more_or true s o t = refl
+one_more_or false true true true = refl
+one_more_or false true true false = refl
+one_more_or false true false true = refl
+one_more_or false true false false = refl
+one_more_or false false o t = refl

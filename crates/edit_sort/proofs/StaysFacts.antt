@@ -10,10 +10,12 @@ use Rattle.bib_text.specs.Places.{between, place}
 use Rattle.bib_syntax.specs.Reading.{EntryReading}
 use Rattle.edit_entries.specs.Documents.{Document, IsDocument}
 use Rattle.edit_sort.specs.Cuts.{AreItemsCut}
-use Rattle.edit_sort.specs.Sorted.{IsSortedText, after_blank_line, begins_run, comment_in, entry_bytes, gap_before, has_block_sign, item_cmp, items, items_from, items_laid_out, near_comment, place_after, run_after, space_in, spaces_from, text_in_order, without_white}
+use Rattle.edit_sort.specs.Sorted.{IsSortedText, after_blank_line, begins_run, comment_in, entry_bytes, gap_before, has_block_sign, item_cmp, items, near_comment, space_in, without_white}
+use Rattle.edit_sort.specs.Steps.{items_from, items_laid_out, place_after, run_after, spaces_from}
 use Rattle.edit_sort.proofs.FileFacts.{document_parts}
 use Rattle.edit_sort.proofs.LineFacts.{AfterFeed, feed_before}
 use Rattle.edit_sort.proofs.OneOrderFacts.{one_order}
+use Rattle.edit_sort.proofs.StepFacts.{items_are, text_is, written}
 
 -- a text ends in another
 abbrev pub EndsIn : List ℕ → List ℕ → Type 0
@@ -23,7 +25,7 @@ ends_then : (text middle rest : List ℕ) → EndsIn text middle → EndsIn midd
 ends_then text middle rest first second =
     (first.0 ++ second.0, first.1 ∙ ap (λ t. first.0 ++ t) second.1 ∙ sym (append_assoc first.0 second.0 rest))
 
-feed_end : (gap rest : List ℕ) → AfterFeed gap gap rest → EndsIn gap rest
+feed_end : (gap rest : List ℕ) → AfterFeed gap rest → EndsIn gap rest
 feed_end gap rest (inl same) = ([], sym same)
 feed_end gap rest (inr found) = (found.0 ++ 10 ∷ [], found.1 ∙ sym (append_assoc found.0 (10 ∷ []) rest))
 
@@ -34,11 +36,11 @@ pub comment_end : (is_first : Bool) (gap : List ℕ) → EndsIn gap (comment_in 
 comment_end is_first gap = by_run (begins_run is_first gap)
   where
     near : List ℕ
-    near = after_blank_line true gap gap
+    near = after_blank_line gap
 
     by_sign : (c : Bool) → EndsIn gap (cond c [] (without_white near))
     by_sign true = (gap, sym (append-nil gap))
-    by_sign false = ends_then gap near (without_white near) (feed_end gap near (feed_before true gap gap)) (white_end near)
+    by_sign false = ends_then gap near (without_white near) (feed_end gap near (feed_before gap)) (white_end near)
 
     by_run : (c : Bool) → EndsIn gap (cond c (near_comment near) (without_white gap))
     by_run true = by_sign (has_block_sign near)
@@ -64,25 +66,25 @@ stretch_whole text start end ordered =
     ∙ ap (λ t. take (end - start) (drop start text) ++ t) (sym (drop-drop (end - start) start text))
     ∙ take-append-drop (end - start) (drop start text)
 
-stays_from : (all : List EntryReading) (text : List ℕ) (texts : List (List ℕ)) (index at run : ℕ)
-    (es : List EntryReading) → AreItemsCut text index at es
-    → items_laid_out text (spaces_from text index at es) (items_from all text texts index at run es)
+stays_from : (all : List EntryReading) (text places : List ℕ) (index at run : ℕ) (es : List EntryReading) → AreItemsCut text index at es
+    → items_laid_out text (spaces_from text index at es) (items_from all text places index at run es)
     (drop (place_after at es) text) ≡ drop at text
-stays_from all text texts index at run [] cut = refl
-stays_from all text texts index at run (e ∷ es) cut =
+stays_from all text places index at run [] cut = refl
+stays_from all text places index at run (e ∷ es) cut =
     let gap = gap_before text at e in
     let space = space_in (index == 0) gap in
     let comment = comment_in (index == 0) gap in
     ap (λ t. space ++ (comment ++ (entry_bytes text e ++ t)))
-    (stays_from all text texts (index + 1) (e.end + 1) (run_after run gap) es cut.1)
+    (stays_from all text places (index + 1) (e.end + 1) (run_after run gap) es cut.1)
     ∙ ap (λ t. space ++ (comment ++ t)) (stretch_whole text e.start (e.end + 1) cut.0.whole.ordered)
     ∙ sym (append_assoc space comment (drop e.start text)) ∙ ap (λ t. t ++ drop e.start text) (gap_whole (index == 0) gap)
     ∙ stretch_whole text at e.start cut.0.gap.ordered
 
-pub in_order_stays : (d : Document) (texts : List (List ℕ)) (new : List ℕ) → IsDocument d
-    → IsSorted item_cmp (items d texts) → IsSortedText d texts new → new ≡ d.text
-in_order_stays d texts new read sorted text =
+pub in_order_stays : (d : Document) (places new : List ℕ) → IsDocument d
+    → IsSorted item_cmp (items d places) → IsSortedText d places new → new ≡ d.text
+in_order_stays d places new read sorted text =
     let same =
-    one_order d texts text.order (items d texts) read text.in_order
-    (record { permutation = IsPermutation-refl (items d texts); sorted = sorted }) in
-    text.is ∙ ap (text_in_order d) same ∙ stays_from d.says.entries d.text texts 0 0 0 d.says.entries (document_parts d read).cut
+    one_order d places text.order (items d places) read text.in_order
+    (record { permutation = IsPermutation-refl (items d places); sorted = sorted }) in
+    text.is ∙ text_is d text.order ∙ ap (written d) (same ∙ items_are d places)
+    ∙ stays_from d.says.entries d.text places 0 0 0 d.says.entries (document_parts d read).cut

@@ -1,11 +1,9 @@
--- Entries that were put in order are in order.
-use Rattle.std.proofs.Common.{◌≡◌, inl, inr, ℕ, zero, suc, ◌+◌, ◌<◌, ◌≤◌, Bool, true, false, cond, List, [], ◌∷◌, ◌++◌, Option, Some, None, drop, get_or, length, map, refl, sym, ap, ◌∙◌, subst, arith}
-use Rattle.std.specs.Prelude.{◌==◌, ◌||◌, bytes_eq, codes, slice_get}
+-- Entries that were sorted are in order.
+use Rattle.std.proofs.Common.{◌≡◌, inl, inr, ℕ, zero, suc, ◌+◌, ◌-◌, ◌^◌, ◌<◌, ◌≤◌, Bool, true, false, cond, List, [], ◌∷◌, ◌++◌, drop, get_or, length, map, refl, sym, ap, ◌∙◌, subst, arith}
+use Rattle.std.specs.Prelude.{◌==◌, ◌||◌}
 use Rattle.std.specs.Cmp.{nat_cmp_is}
-use Rattle.std.specs.Cmp.Lexicographic.{slice_cmp}
 use Rattle.std.specs.List.{AllByRecursion, list_any}
 use Rattle.std.specs.List.Sorted.{IsSorted}
-use Rattle.std.specs.Option.{option_map_or}
 use Rattle.std.specs.Ordering.{is_lt, nat_cmp, ordering_then}
 use Rattle.std.specs.declared.cmp.Ordering.{Ordering}
 use Rattle.std.specs.declared.cmp.Ordering.TheVariants.{Less, Equal, Greater}
@@ -13,24 +11,26 @@ use Rattle.std.proofs.lemmas.Bool.{cases_lt}
 use Rattle.std.proofs.lemmas.List.{length-map}
 use Rattle.std.proofs.lemmas.List.Elements.{All-from_recursion, recursion_from_All}
 use Rattle.std.proofs.lemmas.List.Folds.{list_any-append}
-use Rattle.std.proofs.lemmas.List.Sorted.{All-permutation, IsPermutation-map, list_any-IsPermutation}
+use Rattle.std.proofs.lemmas.List.Sorted.{All-permutation, IsPermutation-map, length_permutation, list_any-IsPermutation}
 use Rattle.std.proofs.Math.ListN.{get_or-map}
-use Rattle.bib_syntax.specs.Grammar.{IsRawReading, is_word}
-use Rattle.bib_syntax.specs.Reading.{Piece, FieldReading, EntryReading, FileReading}
-use Rattle.bib_syntax.specs.Reading.Piece.{literal, abbreviation}
+use Rattle.bib_syntax.specs.Grammar.{IsRawReading}
+use Rattle.bib_syntax.specs.Reading.{EntryReading, FileReading}
 use Rattle.bib_syntax.specs.Recovery.{has_byte}
 use Rattle.bib_syntax.proofs.FileFacts.{file_same}
-use Rattle.edit_entries.specs.Documents.{Document, IsDocument, is_keyed}
-use Rattle.edit_entries.specs.Edits.{moved_entry, moved_field, moved_piece}
-use Rattle.edit_sort.specs.Sorted.{AreEntriesInOrder, IsSortedText, Item, after_blank_line, begins_run, comment_in, crossref, gap_before, has_block_sign, item_cmp, items, items_from, names_key, names_one, near_comment, one_text, rank, refers_to, run_after, space_in, spaces_from, text_in_order, without_white}
+use Rattle.edit_entries.specs.Documents.{Document, IsDocument}
+use Rattle.edit_entries.specs.Edits.{moved_entry}
+use Rattle.edit_sort.specs.Sorted.{AreEntriesInOrder, IsSortedText, Item, after_blank_line, begins_run, comment_in, gap_before, has_block_sign, item_cmp, items, near_comment, rank, space_in, text_in_order, without_white}
+use Rattle.edit_sort.specs.Steps.{items_from, run_after, spaces_from}
+use Rattle.edit_sort.proofs.AlikeFacts.{PassAlike, head_same, moved_keeps, rank_alike, rank_kept, rest_same}
 use Rattle.edit_sort.proofs.FeedFacts.{clear_of}
-use Rattle.edit_sort.proofs.FileFacts.{AreLaid, read_in_order}
+use Rattle.edit_sort.proofs.FileFacts.{AreLaid, length-items, read_in_order}
 use Rattle.edit_sort.proofs.OneOrderFacts.{IsNotAfter, starts_in_order, up_from}
 use Rattle.edit_sort.proofs.ParentFacts.{known_items, IsKnown}
 use Rattle.edit_sort.proofs.PlainFacts.{or_right}
 use Rattle.edit_sort.proofs.SameOrderFacts.{AreUp, same_order}
-use Rattle.edit_sort.proofs.SetFacts.{or_none}
+use Rattle.edit_sort.proofs.SetFacts.{any_through, or_none}
 use Rattle.edit_sort.proofs.StaysFacts.{gap_whole, in_order_stays, white_end}
+use Rattle.edit_sort.proofs.StepFacts.{items_are, listed, listed_order}
 
 -- ---- runs
 
@@ -48,7 +48,7 @@ comment_clear : (is_first : Bool) (gap : List ℕ) → has_byte 64 (comment_in i
 comment_clear is_first gap = by_run (begins_run is_first gap) refl
   where
     near : List ℕ
-    near = after_blank_line true gap gap
+    near = after_blank_line gap
 
     by_sign : (c : Bool) → has_block_sign near ≡ c → has_byte 64 (cond c [] (without_white near)) ≡ false
     by_sign true is = refl
@@ -79,10 +79,10 @@ same_runs run (s ∷ ss) (x ∷ xs) [] runs runs' = absurd runs'
 same_runs run (s ∷ ss) (x ∷ xs) (y ∷ ys) runs runs' =
     ap (λ n. n ∷ map (λ i. i.run) xs) (runs.0 ∙ sym runs'.0) ∙ ap (λ l. y.run ∷ l) (same_runs (run_after run s) ss xs ys runs.1 runs'.1)
 
-old_runs : (all : List EntryReading) (text : List ℕ) (texts : List (List ℕ)) (index at run : ℕ) (es : List EntryReading)
-    → AreRuns run (spaces_from text index at es) (items_from all text texts index at run es)
-old_runs all text texts index at run [] = tt
-old_runs all text texts index at run (e ∷ es) =
+old_runs : (all : List EntryReading) (text places : List ℕ) (index at run : ℕ) (es : List EntryReading)
+    → AreRuns run (spaces_from text index at es) (items_from all text places index at run es)
+old_runs all text places index at run [] = tt
+old_runs all text places index at run (e ∷ es) =
     let gap = gap_before text at e in
     let space = space_in (index == 0) gap in
     let same : run_after run gap ≡ run_after run space =
@@ -92,37 +92,37 @@ old_runs all text texts index at run (e ∷ es) =
       subst
           (λ n.
           AreRuns n (spaces_from text (index + 1) (e.end + 1) es)
-          (items_from all text texts (index + 1) (e.end + 1) (run_after run gap) es)) same
-          (old_runs all text texts (index + 1) (e.end + 1) (run_after run gap) es),
+          (items_from all text places (index + 1) (e.end + 1) (run_after run gap) es)) same
+          (old_runs all text places (index + 1) (e.end + 1) (run_after run gap) es),
     )
 
 IsClear : Item → Type 0
 IsClear i = has_byte 64 i.comment ≡ false
 
-new_runs : (all : List EntryReading) (text : List ℕ) (texts : List (List ℕ)) (index at run : ℕ) (es : List EntryReading)
+new_runs : (all : List EntryReading) (text places : List ℕ) (index at run : ℕ) (es : List EntryReading)
     (spaces : List (List ℕ)) (order : List Item) → AreLaid text at es spaces order → AllByRecursion IsClear order
-    → AreRuns run spaces (items_from all text texts index at run es)
+    → AreRuns run spaces (items_from all text places index at run es)
 unfolding IsClear
-new_runs all text texts index at run [] [] [] laid clear = tt
-new_runs all text texts index at run [] [] (i ∷ order) laid clear = absurd laid
-new_runs all text texts index at run [] (s ∷ ss) order laid clear = absurd laid
-new_runs all text texts index at run (e ∷ es) [] order laid clear = absurd laid
-new_runs all text texts index at run (e ∷ es) (s ∷ ss) [] laid clear = absurd laid
-new_runs all text texts index at run (e ∷ es) (s ∷ ss) (i ∷ order) laid clear =
+new_runs all text places index at run [] [] [] laid clear = tt
+new_runs all text places index at run [] [] (i ∷ order) laid clear = absurd laid
+new_runs all text places index at run [] (s ∷ ss) order laid clear = absurd laid
+new_runs all text places index at run (e ∷ es) [] order laid clear = absurd laid
+new_runs all text places index at run (e ∷ es) (s ∷ ss) [] laid clear = absurd laid
+new_runs all text places index at run (e ∷ es) (s ∷ ss) (i ∷ order) laid clear =
     let gap = gap_before text at e in
     let same : run_after run gap ≡ run_after run s = ap (run_after run) laid.0 ∙ run_of_space run s i.comment clear.0 in (
       same,
-      subst (λ n. AreRuns n ss (items_from all text texts (index + 1) (e.end + 1) (run_after run gap) es)) same
-          (new_runs all text texts (index + 1) (e.end + 1) (run_after run gap) es ss order laid.1 clear.1),
+      subst (λ n. AreRuns n ss (items_from all text places (index + 1) (e.end + 1) (run_after run gap) es)) same
+          (new_runs all text places (index + 1) (e.end + 1) (run_after run gap) es ss order laid.1 clear.1),
     )
 
-clear_from : (all : List EntryReading) (text : List ℕ) (texts : List (List ℕ)) (index at run : ℕ)
-    (es : List EntryReading) → AllByRecursion IsClear (items_from all text texts index at run es)
+clear_from : (all : List EntryReading) (text places : List ℕ) (index at run : ℕ)
+    (es : List EntryReading) → AllByRecursion IsClear (items_from all text places index at run es)
 unfolding IsClear
-clear_from all text texts index at run [] = tt
-clear_from all text texts index at run (e ∷ es) = (
+clear_from all text places index at run [] = tt
+clear_from all text places index at run (e ∷ es) = (
   comment_clear (index == 0) (gap_before text at e),
-  clear_from all text texts (index + 1) (e.end + 1) (run_after run (gap_before text at e)) es,
+  clear_from all text places (index + 1) (e.end + 1) (run_after run (gap_before text at e)) es,
 )
 
 -- ---- runs never fall
@@ -131,20 +131,20 @@ run_more : (b : Bool) (run : ℕ) → run ≤ cond b (run + 1) run
 run_more true run = omega arith
 run_more false run = omega arith
 
-runs_above : (all : List EntryReading) (text : List ℕ) (texts : List (List ℕ)) (index at run low : ℕ)
+runs_above : (all : List EntryReading) (text places : List ℕ) (index at run low : ℕ)
     (es : List EntryReading) → low ≤ run
-    → AllByRecursion (λ n. low ≤ n) (map (λ i. i.run) (items_from all text texts index at run es))
-runs_above all text texts index at run low [] below = tt
-runs_above all text texts index at run low (e ∷ es) below =
+    → AllByRecursion (λ n. low ≤ n) (map (λ i. i.run) (items_from all text places index at run es))
+runs_above all text places index at run low [] below = tt
+runs_above all text places index at run low (e ∷ es) below =
     let more : low ≤ run_after run (gap_before text at e) = omega (arith, run_more (has_byte 64 (gap_before text at e)) run) in
-    (more, runs_above all text texts (index + 1) (e.end + 1) (run_after run (gap_before text at e)) low es more)
+    (more, runs_above all text places (index + 1) (e.end + 1) (run_after run (gap_before text at e)) low es more)
 
-runs_up : (all : List EntryReading) (text : List ℕ) (texts : List (List ℕ)) (index at run : ℕ) (es : List EntryReading)
-    → AreUp (λ m n. m ≤ n) (map (λ i. i.run) (items_from all text texts index at run es))
-runs_up all text texts index at run [] = tt
-runs_up all text texts index at run (e ∷ es) =
+runs_up : (all : List EntryReading) (text places : List ℕ) (index at run : ℕ) (es : List EntryReading)
+    → AreUp (λ m n. m ≤ n) (map (λ i. i.run) (items_from all text places index at run es))
+runs_up all text places index at run [] = tt
+runs_up all text places index at run (e ∷ es) =
     let next = run_after run (gap_before text at e) in
-    (runs_above all text texts (index + 1) (e.end + 1) next next es (omega arith), runs_up all text texts (index + 1) (e.end + 1) next es)
+    (runs_above all text places (index + 1) (e.end + 1) next next es (omega arith), runs_up all text places (index + 1) (e.end + 1) next es)
 
 run_below : (x y : Item) → IsNotAfter x y → x.run ≤ y.run
 run_below x y up =
@@ -154,7 +154,7 @@ run_below x y up =
           let less : nat_cmp y.run x.run ≡ Less = sym (nat_cmp_is y.run x.run Less over) in
           let rest =
           ordering_then (nat_cmp y.rank x.rank)
-          (ordering_then (slice_cmp nat_cmp y.text x.text) (nat_cmp y.entry.start x.entry.start)) in
+          (ordering_then (nat_cmp y.place x.place) (nat_cmp y.entry.start x.entry.start)) in
           let clash : true ≡ false = sym (ap (λ o. is_lt (ordering_then o rest)) less) ∙ up in
           absurd (cc)
     ]
@@ -171,131 +171,86 @@ all_units : (ns : List ℕ) → AllByRecursion (λ n. Unit {0}) ns
 all_units [] = tt
 all_units (n ∷ ns) = (tt, all_units ns)
 
-pub runs_in_order : (d : Document) (texts : List (List ℕ)) (order : List Item) → AreEntriesInOrder (items d texts) order
-    → map (λ i. i.run) (items d texts) ≡ map (λ i. i.run) order
-runs_in_order d texts order in_order =
+pub runs_in_order : (d : Document) (places : List ℕ) (order : List Item) → AreEntriesInOrder (items d places) order
+    → map (λ i. i.run) (items d places) ≡ map (λ i. i.run) order
+runs_in_order d places order in_order =
     let runs = λ (xs : List Item). map (λ i. i.run) xs in
+    let rise : AreUp (λ m n. m ≤ n) (runs (items d places)) =
+    subst (λ l. AreUp (λ m n. m ≤ n) (map (λ (i : Item). i.run) l)) (sym (items_are d places))
+    (runs_up d.says.entries d.text places 0 0 0 d.says.entries) in
     same_order (λ (n : ℕ). n) (λ n. Unit {0}) (λ m n. m ≤ n) (λ m n known known' same. same)
-    (λ m n known known' up up'. omega (arith, up, up')) (runs (items d texts)) (runs order)
-    (runs_up d.says.entries d.text texts 0 0 0 d.says.entries) (order_up order (up_from order in_order.sorted))
-    (all_units (runs (items d texts))) (all_units (runs order))
-    (IsPermutation-map (λ i. i.run) (items d texts) order in_order.permutation)
+    (λ m n known known' up up'. omega (arith, up, up')) (runs (items d places)) (runs order) rise
+    (order_up order (up_from order in_order.sorted)) (all_units (runs (items d places))) (all_units (runs order))
+    (IsPermutation-map (λ i. i.run) (items d places) order in_order.permutation)
 
--- ---- texts
+-- ---- places
 
-got_dropped : {A : Type 0} (xs : List A) (n : ℕ) (y : A) (ys : List A) → drop n xs ≡ y ∷ ys
-    → (slice_get xs n ≡ Some y) × (drop (n + 1) xs ≡ ys)
+got_dropped : (xs : List ℕ) (n y : ℕ) (ys : List ℕ) → drop n xs ≡ y ∷ ys → ((d : ℕ) → get_or xs n d ≡ y) × (drop (n + 1) xs ≡ ys)
 got_dropped [] zero y ys is = absurd (cc)
 got_dropped [] (suc n) y ys is = absurd (cc)
-got_dropped (x ∷ xs) zero y ys is = (let same : x ≡ y = cc in ap Some same, let rest : xs ≡ ys = cc in rest)
+got_dropped (x ∷ xs) zero y ys is = (λ d. let same : x ≡ y = cc in same, let rest : xs ≡ ys = cc in rest)
 got_dropped (x ∷ xs) (suc n) y ys is =
     let later = got_dropped xs n y ys is in
     let next : suc (n + 1) ≡ suc n + 1 = omega arith in
     (later.0, ap (λ m. drop m (x ∷ xs)) (sym next) ∙ later.1)
 
-same_texts : (all : List EntryReading) (text : List ℕ) (texts : List (List ℕ)) (index at run : ℕ)
-    (es : List EntryReading) (left : List (List ℕ)) → drop index texts ≡ left → length es ≡ length left
-    → map (λ i. i.text) (items_from all text texts index at run es) ≡ left
-same_texts all text texts index at run [] [] is size = refl
-same_texts all text texts index at run [] (t ∷ ts) is size = absurd (omega (arith, size))
-same_texts all text texts index at run (e ∷ es) [] is size = absurd (omega (arith, size))
-same_texts all text texts index at run (e ∷ es) (t ∷ ts) is size =
-    let here = got_dropped texts index t ts is in
-    let rest = items_from all text texts (index + 1) (e.end + 1) (run_after run (gap_before text at e)) es in
-    ap (λ o. option_map_or (λ s. s) o [] ∷ map (λ i. i.text) rest) here.0
-    ∙ ap (λ l. t ∷ l)
-    (same_texts all text texts (index + 1) (e.end + 1) (run_after run (gap_before text at e)) es ts here.1
+same_places : (all : List EntryReading) (text places : List ℕ) (index at run : ℕ) (es : List EntryReading) (left : List ℕ)
+    → drop index places ≡ left → length es ≡ length left
+    → map (λ i. i.place) (items_from all text places index at run es) ≡ left
+same_places all text places index at run [] [] is size = refl
+same_places all text places index at run [] (p ∷ ps) is size = absurd (omega (arith, size))
+same_places all text places index at run (e ∷ es) [] is size = absurd (omega (arith, size))
+same_places all text places index at run (e ∷ es) (p ∷ ps) is size =
+    let here = got_dropped places index p ps is in
+    let rest = items_from all text places (index + 1) (e.end + 1) (run_after run (gap_before text at e)) es in
+    ap (λ n. n ∷ map (λ i. i.place) rest) (here.0 (2 ^ 64 - 1))
+    ∙ ap (λ l. p ∷ l)
+    (same_places all text places (index + 1) (e.end + 1) (run_after run (gap_before text at e)) es ps here.1
     (omega (arith, size)))
 
 -- ---- ranks
 
-any_through : {A : Type 0} (p : A → Bool) (g : A → A) (xs : List A) → ((x : A) → p (g x) ≡ p x) → list_any p (map g xs) ≡ list_any p xs
-any_through p g [] same = refl
-any_through p g (x ∷ xs) same = ap (λ b. b || list_any p (map g xs)) (same x) ∙ ap (λ b. p x || b) (any_through p g xs same)
-
-any_same : {A : Type 0} (p q : A → Bool) (xs : List A) → ((x : A) → p x ≡ q x) → list_any p xs ≡ list_any q xs
-any_same p q [] same = refl
-any_same p q (x ∷ xs) same = ap (λ b. b || list_any p xs) (same x) ∙ ap (λ b. q x || b) (any_same p q xs same)
-
-one_text_moved : (move : ℕ → ℕ) (ps : List Piece) → one_text (map (moved_piece move) ps) ≡ one_text ps
-one_text_moved move [] = refl
-one_text_moved move (abbreviation p ∷ rest) = refl
-one_text_moved move (literal p ∷ []) = refl
-one_text_moved move (literal p ∷ other ∷ rest) = refl
-
-crossref_moved : (move : ℕ → ℕ) (f : FieldReading) → crossref (moved_field move f) ≡ crossref f
-crossref_moved move f = ap (λ o. cond (is_word f.name.text (codes "crossref")) o None) (one_text_moved move f.value.pieces)
-
-refers_moved : (key : List ℕ) (move : ℕ → ℕ) (e : EntryReading) → refers_to key (moved_entry move e) ≡ refers_to key e
-refers_moved key move e =
-    any_through (names_key key) (moved_field move) e.fields
-    (λ f. ap (λ o. option_map_or (λ named. bytes_eq named key) o false) (crossref_moved move f))
-
-rank_moved : (all : List EntryReading) (move : ℕ → ℕ) (e : EntryReading) → rank all (moved_entry move e) ≡ rank all e
-rank_moved all move e =
-    ap (λ b. cond (list_any (refers_to e.key.text) all) (cond b 1 2) 0)
-    (any_through (names_one all) (moved_field move) e.fields
-    (λ f. ap (λ o. option_map_or (λ named. list_any (is_keyed named) all) o false) (crossref_moved move f)))
-
-rank_alike : (all all' : List EntryReading) (e : EntryReading)
-    → ((key : List ℕ) → list_any (refers_to key) all' ≡ list_any (refers_to key) all)
-    → ((key : List ℕ) → list_any (is_keyed key) all' ≡ list_any (is_keyed key) all) → rank all' e ≡ rank all e
-rank_alike all all' e refers keyed =
-    ap (λ b. cond b (cond (list_any (names_one all') e.fields) 1 2) 0) (refers e.key.text)
-    ∙ ap (λ b. cond (list_any (refers_to e.key.text) all) (cond b 1 2) 0)
-    (any_same (names_one all') (names_one all) e.fields (λ f. by_key (crossref f)))
-  where
-    by_key : (o : Option (List ℕ))
-        → option_map_or (λ named. list_any (is_keyed named) all') o false
-        ≡ option_map_or (λ named. list_any (is_keyed named) all) o false
-    by_key (Some key) = keyed key
-    by_key None = refl
+entries_are : (all : List EntryReading) (text places : List ℕ) (index at run : ℕ)
+    (es : List EntryReading) → map (λ i. i.entry) (items_from all text places index at run es) ≡ es
+entries_are all text places index at run [] = refl
+entries_are all text places index at run (e ∷ es) =
+    ap (λ l. e ∷ l) (entries_are all text places (index + 1) (e.end + 1) (run_after run (gap_before text at e)) es)
 
 abbrev without_places : List EntryReading → List EntryReading
 without_places es = map (moved_entry (λ n. 0)) es
 
-entries_are : (all : List EntryReading) (text : List ℕ) (texts : List (List ℕ)) (index at run : ℕ)
-    (es : List EntryReading) → map (λ i. i.entry) (items_from all text texts index at run es) ≡ es
-entries_are all text texts index at run [] = refl
-entries_are all text texts index at run (e ∷ es) =
-    ap (λ l. e ∷ l) (entries_are all text texts (index + 1) (e.end + 1) (run_after run (gap_before text at e)) es)
-
--- what is asked of the entries in another order
-any_alike : (p : EntryReading → Bool) → ((e : EntryReading) → p (moved_entry (λ n. 0) e) ≡ p e)
-    → (d : Document) (texts : List (List ℕ)) (order : List Item) (es : List EntryReading)
-    → AreEntriesInOrder (items d texts) order
-    → without_places es ≡ without_places (map (λ i. i.entry) order) → list_any p es ≡ list_any p d.says.entries
-any_alike p same d texts order es in_order alike =
+-- a test of the entries in another order
+any_alike : (d : Document) (places : List ℕ) (order : List Item) (es : List EntryReading)
+    → AreEntriesInOrder (items d places) order
+    → without_places es ≡ without_places (map (λ i. i.entry) order) → PassAlike d.says.entries es
+any_alike d places order es in_order alike p same =
     let m = moved_entry (λ n. 0) in
     let ordered = map (λ (i : Item). i.entry) order in
-    let listed = map (λ (i : Item). i.entry) (items d texts) in
-    sym (any_through p m es same) ∙ ap (list_any p) alike ∙ any_through p m ordered same
-    ∙ sym (list_any-IsPermutation p listed ordered (IsPermutation-map (λ i. i.entry) (items d texts) order in_order.permutation))
-    ∙ ap (list_any p) (entries_are d.says.entries d.text texts 0 0 0 d.says.entries)
+    let all = map (λ (i : Item). i.entry) (listed d places) in
+    sym (any_through p m es (same m (moved_keeps (λ n. 0)))) ∙ ap (list_any p) alike
+    ∙ any_through p m ordered (same m (moved_keeps (λ n. 0)))
+    ∙ sym
+    (list_any-IsPermutation p all ordered
+    (IsPermutation-map (λ i. i.entry) (listed d places) order (listed_order d places order in_order).permutation))
+    ∙ ap (list_any p) (entries_are d.says.entries d.text places 0 0 0 d.says.entries)
 
-head_same : {A : Type 0} (x y : A) (xs ys : List A) → x ∷ xs ≡ y ∷ ys → x ≡ y
-head_same x y xs ys is = cc
-
-rest_same : {A : Type 0} (x y : A) (xs ys : List A) → x ∷ xs ≡ y ∷ ys → xs ≡ ys
-rest_same x y xs ys is = cc
-
-same_ranks : (all all' : List EntryReading) (text : List ℕ) (texts : List (List ℕ)) (index at run : ℕ)
+same_ranks : (all all' : List EntryReading) (text places : List ℕ) (index at run : ℕ)
     (es : List EntryReading) (order : List Item) → ((e : EntryReading) → rank all' e ≡ rank all e)
     → without_places es ≡ without_places (map (λ i. i.entry) order)
-    → AllByRecursion (IsKnown all) order → map (λ i. i.rank) (items_from all' text texts index at run es) ≡ map (λ i. i.rank) order
-same_ranks all all' text texts index at run [] [] ranks alike known = refl
-same_ranks all all' text texts index at run [] (i ∷ order) ranks alike known = absurd (cc)
-same_ranks all all' text texts index at run (e ∷ es) [] ranks alike known = absurd (cc)
-same_ranks all all' text texts index at run (e ∷ es) (i ∷ order) ranks alike known =
+    → AllByRecursion (IsKnown all) order → map (λ i. i.rank) (items_from all' text places index at run es) ≡ map (λ i. i.rank) order
+same_ranks all all' text places index at run [] [] ranks alike known = refl
+same_ranks all all' text places index at run [] (i ∷ order) ranks alike known = absurd (cc)
+same_ranks all all' text places index at run (e ∷ es) [] ranks alike known = absurd (cc)
+same_ranks all all' text places index at run (e ∷ es) (i ∷ order) ranks alike known =
     let m = moved_entry (λ n. 0) in
     let head : m e ≡ m i.entry = head_same (m e) (m i.entry) (without_places es) (without_places (map (λ j. j.entry) order)) alike in
     let rest = rest_same (m e) (m i.entry) (without_places es) (without_places (map (λ j. j.entry) order)) alike in
     let here : rank all' e ≡ i.rank =
-    sym (rank_moved all' (λ n. 0) e) ∙ ap (rank all') head ∙ rank_moved all' (λ n. 0) i.entry ∙ ranks i.entry
-    ∙ sym known.0.ranked in
-    ap (λ n. n ∷ map (λ j. j.rank) (items_from all' text texts (index + 1) (e.end + 1) (run_after run (gap_before text at e)) es)) here
+    sym (rank_kept all' m (moved_keeps (λ n. 0)) e) ∙ ap (rank all') head ∙ rank_kept all' m (moved_keeps (λ n. 0)) i.entry
+    ∙ ranks i.entry ∙ sym known.0.ranked in
+    ap (λ n. n ∷ map (λ j. j.rank) (items_from all' text places (index + 1) (e.end + 1) (run_after run (gap_before text at e)) es)) here
     ∙ ap (λ l. i.rank ∷ l)
-    (same_ranks all all' text texts (index + 1) (e.end + 1) (run_after run (gap_before text at e)) es order ranks
+    (same_ranks all all' text places (index + 1) (e.end + 1) (run_after run (gap_before text at e)) es order ranks
     rest known.1)
 
 -- ---- the order
@@ -313,11 +268,11 @@ not_less Equal Equal Equal s s' up last = ap is_lt last
 same_at : {B : Type 0} (f : Item → B) (xs ys : List Item) (n : ℕ) (d : Item) → map f xs ≡ map f ys → f (get_or xs n d) ≡ f (get_or ys n d)
 same_at f xs ys n d same = sym (get_or-map f xs n d) ∙ ap (λ l. get_or l n (f d)) same ∙ get_or-map f ys n d
 
-sorted_as : (xs ys : List Item) → map (λ i. i.run) xs ≡ map (λ i. i.run) ys
-    → map (λ i. i.rank) xs ≡ map (λ i. i.rank) ys → map (λ i. i.text) xs ≡ map (λ i. i.text) ys
+pub sorted_as : (xs ys : List Item) → map (λ i. i.run) xs ≡ map (λ i. i.run) ys
+    → map (λ i. i.rank) xs ≡ map (λ i. i.rank) ys → map (λ i. i.place) xs ≡ map (λ i. i.place) ys
     → ((k j : ℕ) (i : Item) → k < j → j < length xs → (get_or xs k i).entry.start < (get_or xs j i).entry.start)
     → IsSorted item_cmp ys → IsSorted item_cmp xs
-sorted_as xs ys runs ranks texts rise sorted k d from within =
+sorted_as xs ys runs ranks places rise sorted k d from within =
     let size : length xs ≡ length ys = sym (length-map xs (λ i. i.run)) ∙ ap length runs ∙ length-map ys (λ i. i.run) in
     let x = get_or xs k d in
     let x' = get_or xs (k + 1) d in
@@ -326,54 +281,64 @@ sorted_as xs ys runs ranks texts rise sorted k d from within =
     let last : nat_cmp x'.entry.start x.entry.start ≡ Greater =
     sym (nat_cmp_is x'.entry.start x.entry.start Greater (rise k (k + 1) d (omega arith) within)) in
     let whole =
-    λ (r r' n n' : ℕ) (t t' : List ℕ).
+    λ (r r' n n' p p' : ℕ).
     is_lt
     (ordering_then (nat_cmp r' r)
-    (ordering_then (nat_cmp n' n)
-    (ordering_then (slice_cmp nat_cmp t' t) (nat_cmp x'.entry.start x.entry.start)))) in
-    ap (λ r. whole r x'.run x.rank x'.rank x.text x'.text) (same_at (λ i. i.run) xs ys k d runs)
-    ∙ ap (λ r. whole y.run r x.rank x'.rank x.text x'.text) (same_at (λ i. i.run) xs ys (k + 1) d runs)
-    ∙ ap (λ n. whole y.run y'.run n x'.rank x.text x'.text) (same_at (λ i. i.rank) xs ys k d ranks)
-    ∙ ap (λ n. whole y.run y'.run y.rank n x.text x'.text) (same_at (λ i. i.rank) xs ys (k + 1) d ranks)
-    ∙ ap (λ t. whole y.run y'.run y.rank y'.rank t x'.text) (same_at (λ i. i.text) xs ys k d texts)
-    ∙ ap (λ t. whole y.run y'.run y.rank y'.rank y.text t) (same_at (λ i. i.text) xs ys (k + 1) d texts)
-    ∙ not_less (nat_cmp y'.run y.run) (nat_cmp y'.rank y.rank) (slice_cmp nat_cmp y'.text y.text)
+    (ordering_then (nat_cmp n' n) (ordering_then (nat_cmp p' p) (nat_cmp x'.entry.start x.entry.start)))) in
+    ap (λ r. whole r x'.run x.rank x'.rank x.place x'.place) (same_at (λ i. i.run) xs ys k d runs)
+    ∙ ap (λ r. whole y.run r x.rank x'.rank x.place x'.place) (same_at (λ i. i.run) xs ys (k + 1) d runs)
+    ∙ ap (λ n. whole y.run y'.run n x'.rank x.place x'.place) (same_at (λ i. i.rank) xs ys k d ranks)
+    ∙ ap (λ n. whole y.run y'.run y.rank n x.place x'.place) (same_at (λ i. i.rank) xs ys (k + 1) d ranks)
+    ∙ ap (λ p. whole y.run y'.run y.rank y'.rank p x'.place) (same_at (λ i. i.place) xs ys k d places)
+    ∙ ap (λ p. whole y.run y'.run y.rank y'.rank y.place p) (same_at (λ i. i.place) xs ys (k + 1) d places)
+    ∙ not_less (nat_cmp y'.run y.run) (nat_cmp y'.rank y.rank) (nat_cmp y'.place y.place)
     (nat_cmp y'.entry.start y.entry.start) (nat_cmp x'.entry.start x.entry.start)
     (sorted k d from (omega (arith, size))) last
 
-pub twice_is_once : (d : Document) (texts : List (List ℕ)) (order : List Item) (again : FileReading) (new : List ℕ)
-    → IsDocument d → AreEntriesInOrder (items d texts) order → IsRawReading (text_in_order d order) again
-    → IsSortedText (record { text = text_in_order d order; says = again }) (map (λ i. i.text) order) new → new ≡ text_in_order d order
-twice_is_once d texts order again new read in_order read' sorted =
+-- a sorted text is in order by the places of its items
+pub sorted_in_order : (d : Document) (places : List ℕ) (order : List Item) (again : FileReading)
+    → IsDocument d → AreEntriesInOrder (items d places) order → IsRawReading (text_in_order d order) again
+    → IsSorted item_cmp (items (record { text = text_in_order d order; says = again }) (map (λ i. i.place) order))
+sorted_in_order d places order again read in_order read' =
     let text = text_in_order d order in
     let d' : Document = record { text = text; says = again } in
-    let texts' = map (λ (i : Item). i.text) order in
-    let spaces = spaces_from d.text 0 0 d.says.entries in
-    let said = read_in_order d texts order read in_order in
+    let places' = map (λ (i : Item). i.place) order in
+    let all = d.says.entries in
+    let spaces = spaces_from d.text 0 0 all in
+    let said = read_in_order d places order read in_order in
     let same : again ≡ said.reading = file_same read' said.read in
     let laid : AreLaid text 0 again.entries spaces order = subst (λ r. AreLaid text 0 r.entries spaces order) (sym same) said.laid in
     let alike : without_places again.entries ≡ without_places (map (λ i. i.entry) order) =
     ap (λ r. without_places r.entries) same ∙ ap (λ r. r.entries) said.alike in
     let clear = recursion_from_All IsClear order
-    (All-permutation IsClear (items d texts) order in_order.permutation
-    (All-from_recursion IsClear (items d texts) (clear_from d.says.entries d.text texts 0 0 0 d.says.entries)))
+    (All-permutation IsClear (listed d places) order (listed_order d places order in_order).permutation
+    (All-from_recursion IsClear (listed d places) (clear_from all d.text places 0 0 0 all)))
     in
-    let runs =
-    same_runs 0 spaces (items d' texts') (items d texts)
-    (new_runs again.entries text texts' 0 0 0 again.entries spaces order laid clear)
-    (old_runs d.says.entries d.text texts 0 0 0 d.says.entries) ∙ runs_in_order d texts order in_order in
-    let ranked =
-    λ (e : EntryReading).
-    rank_alike d.says.entries again.entries e
-    (λ key. any_alike (refers_to key) (refers_moved key (λ n. 0)) d texts order again.entries in_order alike)
-    (λ key. any_alike (is_keyed key) (λ x. refl) d texts order again.entries in_order alike) in
-    let ranks =
-    same_ranks d.says.entries again.entries text texts' 0 0 0 again.entries order ranked alike
-    (known_items d texts order in_order) in
-    let size : length again.entries ≡ length texts' =
+    let runs : map (λ (i : Item). i.run) (items d' places') ≡ map (λ (i : Item). i.run) order =
+    ap (map (λ (i : Item). i.run)) (items_are d' places')
+    ∙ same_runs 0 spaces (listed d' places') (listed d places)
+    (new_runs again.entries text places' 0 0 0 again.entries spaces order laid clear)
+    (old_runs all d.text places 0 0 0 all)
+    ∙ ap (map (λ (i : Item). i.run)) (sym (items_are d places)) ∙ runs_in_order d places order in_order in
+    let as_long : length again.entries ≡ length order =
     sym (length-map again.entries (moved_entry (λ n. 0))) ∙ ap length alike
-    ∙ length-map (map (λ (i : Item). i.entry) order) (moved_entry (λ n. 0)) ∙ length-map order (λ i. i.entry)
-    ∙ sym (length-map order (λ i. i.text)) in
-    let named = same_texts again.entries text texts' 0 0 0 again.entries texts' refl size in
-    in_order_stays d' texts' new read'
-    (sorted_as (items d' texts') order runs ranks named (starts_in_order d' texts' read') in_order.sorted) sorted
+    ∙ length-map (map (λ (i : Item). i.entry) order) (moved_entry (λ n. 0)) ∙ length-map order (λ i. i.entry) in
+    let size : length again.entries ≡ length all =
+    as_long ∙ length_permutation (listed d places) order (listed_order d places order in_order).permutation
+    ∙ length-items all d.text places 0 0 0 all in
+    let ranks =
+    ap (map (λ (i : Item). i.rank)) (items_are d' places')
+    ∙ same_ranks all again.entries text places' 0 0 0 again.entries order
+    (rank_alike all again.entries (any_alike d places order again.entries in_order alike) size) alike
+    (known_items d places order in_order) in
+    let named =
+    ap (map (λ (i : Item). i.place)) (items_are d' places')
+    ∙ same_places again.entries text places' 0 0 0 again.entries places' refl (as_long ∙ sym (length-map order (λ i. i.place))) in
+    sorted_as (items d' places') order runs ranks named (starts_in_order d' places' read') in_order.sorted
+
+pub twice_is_once : (d : Document) (places : List ℕ) (order : List Item) (again : FileReading) (new : List ℕ)
+    → IsDocument d → AreEntriesInOrder (items d places) order → IsRawReading (text_in_order d order) again
+    → IsSortedText (record { text = text_in_order d order; says = again }) (map (λ i. i.place) order) new → new ≡ text_in_order d order
+twice_is_once d places order again new read in_order read' sorted =
+    in_order_stays (record { text = text_in_order d order; says = again }) (map (λ i. i.place) order) new read'
+    (sorted_in_order d places order again read in_order read') sorted

@@ -1,12 +1,12 @@
 -- Machinery: words of private contracts.
--- Where a text may be cut round its entries and the comments before them.
+-- Where a text can be cut around its entries and the comments before them.
 use Rattle.std.specs.Prelude.{ℕ, ◌+◌, ◌-◌, ◌≤◌, ◌==◌, List, [], ◌∷◌, length}
 use Rattle.std.specs.Str.{IsCharBoundary}
 use Rattle.bib_syntax.specs.Reading.{EntryReading}
 use Rattle.edit_entries.specs.Cuts.{CanBeCut}
 use Rattle.edit_sort.specs.Sorted.{Item, comment_in, gap_before}
 
--- an entry, what stays before it and its comment may be cut out of a text, from a place on
+-- an entry, the space before it and its comment can be cut out of a text, from a place on
 pub record IsItemCut (text : List ℕ) (index at : ℕ) (e : EntryReading) : Type 0 where
   pub gap : CanBeCut text at e.start
   pub some : e.start ≤ e.end
@@ -14,11 +14,11 @@ pub record IsItemCut (text : List ℕ) (index at : ℕ) (e : EntryReading) : Typ
   pub space : CanBeCut text at (e.start - length (comment_in (index == 0) (gap_before text at e)))
   pub whole : CanBeCut text e.start (e.end + 1)
 
--- entries from an index on, and what stands before each, may be cut out of a text, from a place on
+-- entries from an index on, and the gap before each, can be cut out of a text, from a place on
 abbrev pub AreItemsCut : List ℕ → ℕ → ℕ → List EntryReading → Type 0
 AreItemsCut text index at [] = IsCharBoundary text at
 AreItemsCut text index at (e ∷ es) = IsItemCut text index at e × AreItemsCut text (index + 1) (e.end + 1) es
 
--- an entry may be cut out of a text
+-- an entry can be cut out of a text
 abbrev pub IsEntryOfItemCut : List ℕ → Item → Type 0
 IsEntryOfItemCut text i = CanBeCut text i.entry.start (i.entry.end + 1)

@@ -1,4 +1,5 @@
 pub mod Cuts
 pub mod OrderNames
-pub mod Sets
+pub mod Ranks
 pub mod Sorted
+pub mod Steps

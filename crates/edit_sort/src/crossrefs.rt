@@ -1,28 +1,24 @@
-//! The keys of entries, and those that `crossref` fields name.
+//! The keys of entries, and the references between entries by `crossref`.
 
-ghost use Rattle.std.specs.Prelude.{◌≡◌, ◌||◌, ℕ, IfOk, List, OnOk, map};
+ghost use Rattle.std.specs.Prelude.{◌≡◌, ◌<◌, ◌&&◌, ◌||◌, ℕ, Bool, [], IfOk, OnOk, length, map};
+ghost use Rattle.std.specs.FinMap.{get};
 ghost use Rattle.std.specs.List.{list_any};
 ghost use Rattle.std.specs.Option.{option_map};
-ghost use Rattle.bib_syntax.specs.Reading.{EntryReading};
+ghost use Rattle.std.specs.Str.{str_to_ascii_lowercase};
+ghost use Rattle.bib_collections.specs.Graph.{refs_of};
+ghost use Rattle.bib_collections.specs.Names.{AreIndicesBelow};
+ghost use Rattle.bib_collections.specs.Rows.{rows};
 ghost use Rattle.bib_syntax.specs.Views.{entry_reading_of, field_of, piece_of};
-ghost use Rattle.edit_entries.specs.Keys.{is_key_in};
-ghost use Rattle.edit_sort.specs.Sets.{AreCrossrefsOf, AreEntryKeys, AreNamedBy};
+ghost use Rattle.edit_sort.specs.Ranks.{AreChildren, AreKeyIndices, names_index, owner, points_to};
 ghost use Rattle.edit_sort.specs.Sorted as sorted;
-ghost use Rattle.edit_sort.specs.Sorted.{names_key};
 
+use bib_collections::claims::Claims;
 use bib_syntax::raw::{Pair, RawChunk, RawEntry, is_word};
 use bib_text::spanned::Spanned;
+use bib_text::text::Text;
 use std::alloc::{AllocError, Global};
-use std::collections::BTreeSet;
 
-// The keys of entries, and the keys that their `crossref` fields name.
-#[derive(Drop)]
-pub(crate) struct Crossrefs<'s> {
-    keys: BTreeSet<&'s str>,
-    named: BTreeSet<&'s str>,
-}
-
-// The text of a value that is one literal, without the white space round it.
+// Returns the text of a value that is one literal, without white space at its ends.
 fn one_text<'s>(pieces: &[Spanned<RawChunk<'s>>]) -> Option<&'s str>
     ensures { option_map (λ text. text.now) result ≡ sorted.one_text (map piece_of pieces.now) }
 {
@@ -35,7 +31,7 @@ fn one_text<'s>(pieces: &[Spanned<RawChunk<'s>>]) -> Option<&'s str>
     }
 }
 
-// The key that a field names, if it is a `crossref`.
+// Returns the key that a field names, if the field is a `crossref`.
 fn crossref<'s>(field: &Pair<'s>) -> Option<&'s str>
     ensures { option_map (λ key. key.now) result ≡ sorted.crossref (field_of field.now) }
 {
@@ -46,101 +42,141 @@ fn crossref<'s>(field: &Pair<'s>) -> Option<&'s str>
     }
 }
 
-// The keys of entries.
-fn key_set<'s>(
-    alloc: Global,
-    entries: &[Spanned<RawEntry<'s>>],
-) -> Result<BTreeSet<&'s str>, AllocError>
-    ensures { IfOk result (AreEntryKeys (map entry_reading_of entries.now)) }
+// Returns a key in lowercase.
+fn lowercase(alloc: Global, key: &str) -> Result<Text, AllocError>
+    ensures { IfOk result (λ lower. lower ≡ str_to_ascii_lowercase key.now) }
 {
-    let mut keys = BTreeSet::new(alloc);
-    'entries: for entry in entries {
-        keys.insert(entry.v.key.v)?;
-    }
-    Ok(keys)
+    let lower = key.to_ascii_lowercase(alloc)?;
+    Ok(Text::from_string(lower))
 }
 
-// Adds the key that a field names, if it is a `crossref`.
-fn add_crossref<'s>(named: &mut BTreeSet<&'s str>, field: &Pair<'s>) -> Result<(), AllocError>
-    ensures { OnOk result ((key : List ℕ) → is_key_in named.new key ≡ (is_key_in named.old key || names_key key (field_of field.now))) }
+// Returns the keys of entries in lowercase. Each points to the index of an entry with that key.
+pub(crate) fn key_indices(
+    alloc: Global,
+    entries: &[Spanned<RawEntry<'_>>],
+) -> Result<Claims, AllocError>
+    ensures { IfOk result (AreKeyIndices (map entry_reading_of entries.now)) }
 {
-    match crossref(field) {
-        Some(key) => {
-            named.insert(key)?;
+    let mut names = Claims::new(alloc);
+    'entries: for (index, entry) in entries.iter().enumerate() {
+        let key = lowercase(alloc, entry.v.key.v)?;
+        names.claim(key, index)?;
+    }
+    Ok(names)
+}
+
+// Returns the index that a key points to, in any ASCII case, or `None` if no entry has the key.
+fn index_of(alloc: Global, names: &Claims, key: &str) -> Result<Option<usize>, AllocError>
+    ensures { IfOk result (λ index. index ≡ get names.now (str_to_ascii_lowercase key.now)) }
+{
+    let lower = lowercase(alloc, key)?;
+    Ok(names.get(lower.as_str()))
+}
+
+// Returns the owner of each entry: the index that its key points to.
+pub(crate) fn owners_of(
+    alloc: Global,
+    names: &Claims,
+    entries: &[Spanned<RawEntry<'_>>],
+) -> Result<Vec<usize>, AllocError>
+    ensures { IfOk result (λ owners. owners.items ≡ map (owner names.now) (map entry_reading_of entries.now)) }
+{
+    let mut owners = Vec::new(alloc);
+    'entries: for entry in entries {
+        let index = index_of(alloc, names, entry.v.key.v)?;
+        owners.push(index.unwrap_or(0))?;
+    }
+    Ok(owners)
+}
+
+// Adds `child` to the row of the index that a key points to, if it points to one.
+fn add_child(
+    alloc: Global,
+    names: &Claims,
+    key: &str,
+    child: usize,
+    children: &mut Vec<Vec<usize>>,
+) -> Result<(), AllocError>
+    requires below { AreIndicesBelow (length children.old.items) names.now }
+    ensures length { length children.new.items ≡ length children.old.items }
+    ensures rows { OnOk result ((test : ℕ → Bool) (index : ℕ) → list_any test (refs_of (rows children.new.items) index)
+        ≡ (list_any test (refs_of (rows children.old.items) index) || (points_to names.now index key.now && test child))) }
+{
+    match index_of(alloc, names, key)? {
+        Some(index) => {
+            children[index].push(child)?;
             Ok(())
         }
         None => Ok(()),
     }
 }
 
-// Adds the keys that fields name by a `crossref`.
-fn add_crossrefs<'s>(named: &mut BTreeSet<&'s str>, fields: &[Pair<'s>]) -> Result<(), AllocError>
-    ensures { OnOk result ((key : List ℕ) → is_key_in named.new key ≡ (is_key_in named.old key || list_any (names_key key) (map field_of fields.now))) }
+// Adds `child` to the row of the index that a field refers to, if it is a `crossref`.
+fn add_reference(
+    alloc: Global,
+    names: &Claims,
+    field: &Pair<'_>,
+    child: usize,
+    children: &mut Vec<Vec<usize>>,
+) -> Result<(), AllocError>
+    requires below { AreIndicesBelow (length children.old.items) names.now }
+    ensures length { length children.new.items ≡ length children.old.items }
+    ensures rows { OnOk result ((test : ℕ → Bool) (index : ℕ) → list_any test (refs_of (rows children.new.items) index)
+        ≡ (list_any test (refs_of (rows children.old.items) index) || (names_index names.now index (field_of field.now) && test child))) }
+{
+    match crossref(field) {
+        Some(key) => add_child(alloc, names, key, child, children),
+        None => Ok(()),
+    }
+}
+
+// Adds `child` to the row of each index that one of these fields refers to.
+fn add_references(
+    alloc: Global,
+    names: &Claims,
+    fields: &[Pair<'_>],
+    child: usize,
+    children: &mut Vec<Vec<usize>>,
+) -> Result<(), AllocError>
+    requires below { AreIndicesBelow (length children.old.items) names.now }
+    ensures length { length children.new.items ≡ length children.old.items }
+    ensures rows { OnOk result ((test : ℕ → Bool) (index : ℕ) → list_any test (refs_of (rows children.new.items) index)
+        ≡ (list_any test (refs_of (rows children.old.items) index)
+        || (list_any (names_index names.now index) (map field_of fields.now) && test child))) }
 {
     'fields: for field in fields {
-        add_crossref(named, field)?;
+        add_reference(alloc, names, field, child, children)?;
     }
     Ok(())
 }
 
-// The keys that a `crossref` of entries names.
-fn named_set<'s>(
+// Returns empty rows, as many as `count`.
+fn empty_rows(alloc: Global, count: usize) -> Result<Vec<Vec<usize>>, AllocError>
+    ensures length { IfOk result (λ found. length found.items ≡ count) }
+    ensures rows { IfOk result (λ found. (index : ℕ) → refs_of (rows found.items) index ≡ []) }
+{
+    let mut found = Vec::new(alloc);
+    'rows: for _index in 0..count {
+        found.push(Vec::new(alloc))?;
+    }
+    Ok(found)
+}
+
+// Returns a row for each index: the owners of the entries that name the key that points to this index.
+pub(crate) fn children_of(
     alloc: Global,
-    entries: &[Spanned<RawEntry<'s>>],
-) -> Result<BTreeSet<&'s str>, AllocError>
-    ensures { IfOk result (AreNamedBy (map entry_reading_of entries.now)) }
+    names: &Claims,
+    owners: &[usize],
+    entries: &[Spanned<RawEntry<'_>>],
+) -> Result<Vec<Vec<usize>>, AllocError>
+    requires below { AreIndicesBelow (length entries.now) names.now }
+    requires owners { owners.now ≡ map (owner names.now) (map entry_reading_of entries.now) }
+    ensures length { IfOk result (λ children. length children.items ≡ length entries.now) }
+    ensures rows { IfOk result (λ children. AreChildren names.now (map entry_reading_of entries.now) (rows children.items)) }
 {
-    let mut named = BTreeSet::new(alloc);
-    'entries: for entry in entries {
-        add_crossrefs(&mut named, &entry.v.fields)?;
+    let mut children = empty_rows(alloc, entries.len())?;
+    'entries: for (index, entry) in entries.iter().enumerate() {
+        add_references(alloc, names, &entry.v.fields, owners[index], &mut children)?;
     }
-    Ok(named)
-}
-
-// The keys of entries, and those that they name.
-pub(crate) fn crossrefs_of<'s>(
-    alloc: Global,
-    entries: &[Spanned<RawEntry<'s>>],
-) -> Result<Crossrefs<'s>, AllocError>
-    ensures { IfOk result (AreCrossrefsOf (map entry_reading_of entries.now)) }
-{
-    let keys = key_set(alloc, entries)?;
-    let named = named_set(alloc, entries)?;
-    Ok(Crossrefs { keys, named })
-}
-
-// Whether a field names the key of an entry.
-fn names_one(keys: &BTreeSet<&str>, field: &Pair<'_>) -> bool
-    ensures { (entries : List EntryReading) → AreEntryKeys entries keys.now → result ≡ sorted.names_one entries (field_of field.now) }
-{
-    match crossref(field) {
-        Some(key) => keys.contains(key),
-        None => false,
-    }
-}
-
-// Whether one of fields names the key of an entry.
-fn has_parent(keys: &BTreeSet<&str>, fields: &[Pair<'_>]) -> bool
-    ensures { (entries : List EntryReading) → AreEntryKeys entries keys.now → result ≡ list_any (sorted.names_one entries) (map field_of fields.now) }
-{
-    'fields: for field in fields {
-        if names_one(keys, field) {
-            return true;
-        }
-    }
-    false
-}
-
-// How far back an entry stands.
-pub(crate) fn rank(crossrefs: &Crossrefs<'_>, entry: &Spanned<RawEntry<'_>>) -> u8
-    ensures { (entries : List EntryReading) → AreCrossrefsOf entries crossrefs.now → result ≡ sorted.rank entries (entry_reading_of entry.now) }
-{
-    if !crossrefs.named.contains(entry.v.key.v) {
-        return 0;
-    }
-    if has_parent(&crossrefs.keys, &entry.v.fields) {
-        1
-    } else {
-        2
-    }
+    Ok(children)
 }

@@ -1,36 +1,37 @@
-//! What stands between two entries, and what of it moves.
+//! The gap between two entries, and the part of it that moves.
 
-ghost use Rattle.std.specs.Prelude.{◌≡◌, ◌^◌, ◌-◌, ◌<◌, true};
+ghost use Rattle.std.specs.Prelude.{◌≡◌, ◌^◌, ◌-◌, ◌<◌};
 ghost use Rattle.std.specs.Char.{is_ascii_whitespace};
 ghost use Rattle.std.specs.List.{list_all};
 ghost use Rattle.bib_text.specs.Characters as char;
 ghost use Rattle.bib_syntax.specs.Recovery.{has_byte};
 ghost use Rattle.edit_sort.specs.Sorted as sorted;
+ghost use Rattle.edit_sort.specs.Steps as steps;
 
-// Whether an at sign stands in a text.
+// Returns whether a text contains an at sign.
 fn has_at_sign(gap: &str) -> bool
     ensures { result ≡ has_byte char.at gap.now }
 {
     gap.contains('@')
 }
 
-// Whether a text is white space of ASCII alone.
+// Returns whether a text is only ASCII white space.
 fn is_blank(text: &str) -> bool
     ensures { result ≡ list_all is_ascii_whitespace text.now }
 {
     text.trim_ascii_start().is_empty()
 }
 
-// A line's end, if the line is blank, else what was kept so far.
+// Returns the text after a line if the line is blank, otherwise the text that was kept before.
 fn kept_after<'s>(line: &str, after: &'s str, kept: &'s str) -> &'s str
-    ensures { result.now ≡ sorted.kept_after (list_all is_ascii_whitespace line.now) after.now kept.now }
+    ensures { result.now ≡ steps.kept_after (list_all is_ascii_whitespace line.now) after.now kept.now }
 {
     if is_blank(line) { after } else { kept }
 }
 
-// What stands after the last blank line of a text.
+// Returns the text after the last blank line, or the whole text if it has none.
 fn after_blank_line(gap: &str) -> &str
-    ensures { result.now ≡ sorted.after_blank_line true gap.now gap.now }
+    ensures { result.now ≡ sorted.after_blank_line gap.now }
 {
     let mut kept = gap;
     let mut rest = gap;
@@ -41,28 +42,28 @@ fn after_blank_line(gap: &str) -> &str
     kept
 }
 
-// Whether a closing brace stands in a text.
+// Returns whether a text contains a closing brace.
 fn has_close_brace(text: &str) -> bool
     ensures { result ≡ has_byte char.close_brace text.now }
 {
     text.contains('}')
 }
 
-// Whether a quote stands in a text.
+// Returns whether a text contains a quote.
 fn has_quote(text: &str) -> bool
     ensures { result ≡ has_byte char.quote text.now }
 {
     text.contains('"')
 }
 
-// Whether an at sign, a closing brace or a quote stands in a text.
+// Returns whether a text contains an at sign, a closing brace or a quote.
 fn has_block_sign(text: &str) -> bool
     ensures { result ≡ sorted.has_block_sign text.now }
 {
     has_at_sign(text) || has_close_brace(text) || has_quote(text)
 }
 
-// What moves with the first entry of a run of what stands before it after the last blank line.
+// Returns the comment in the text after the last blank line of a gap at the start of a run.
 fn near_comment(near: &str) -> &str
     ensures { result.now ≡ sorted.near_comment near.now }
 {
@@ -73,14 +74,14 @@ fn near_comment(near: &str) -> &str
     }
 }
 
-// Whether a run begins with an entry: it is a file's first, or an at sign stands before it.
+// Returns whether an entry begins a run: it is the first of the file, or its gap contains an at sign.
 fn begins_run(is_first: bool, gap: &str) -> bool
     ensures { result ≡ sorted.begins_run is_first gap.now }
 {
     is_first || has_at_sign(gap)
 }
 
-// What moves with an entry of what stands before it.
+// Returns the end of a gap that moves with the entry.
 pub(crate) fn comment_in(is_first: bool, gap: &str) -> &str
     ensures { result.now ≡ sorted.comment_in is_first gap.now }
 {
@@ -91,10 +92,10 @@ pub(crate) fn comment_in(is_first: bool, gap: &str) -> &str
     }
 }
 
-// The run that an entry is of, by what stands before it.
+// Returns the run after a gap: an at sign begins another.
 pub(crate) fn run_after(run: usize, gap: &str) -> usize
     requires { run < 2 ^ 64 - 1 }
-    ensures { result ≡ sorted.run_after run gap.now }
+    ensures { result ≡ steps.run_after run gap.now }
 {
     if has_at_sign(gap) { run + 1 } else { run }
 }

@@ -1,40 +1,50 @@
-//! Laws of files with their entries in order. These functions do nothing: what they ensure is proved of the definitions alone.
+//! Laws of sorting. These functions have no code: their clauses are theorems about definitions.
 
 ghost use Rattle.std.specs.Prelude.{◌≡◌, ◌<◌, ℕ, List, Some, true, map, slice_get};
 ghost use Rattle.std.specs.List.Sorted.{IsSorted};
 ghost use Rattle.bib_syntax.specs.Grammar.{IsRawReading};
 ghost use Rattle.bib_syntax.specs.Reading.{FileReading};
 ghost use Rattle.edit_entries.specs.Documents.{Document, IsDocument};
-ghost use Rattle.edit_sort.specs.Sorted.{AreEntriesInOrder, IsSortedText, Item, item_cmp, items, refers_to, text_in_order};
+ghost use Rattle.edit_format.specs.Formatted.{text_in_style};
+ghost use Rattle.edit_format.specs.declared.style.Style.{Style};
+ghost use Rattle.edit_sort.specs.Sorted.{AreEntriesInOrder, IsAfterCycle, IsSortedText, Item, item_cmp, items, refers_to, text_in_order};
 
-/// Entries have one order.
+/// The entries of a document have one order.
 pub fn one_order()
-    ensures { (d : Document) (texts : List (List ℕ)) (first second : List Item) → IsDocument d →
-        AreEntriesInOrder (items d texts) first → AreEntriesInOrder (items d texts) second → first ≡ second }
+    ensures { (d : Document) (places : List ℕ) (first second : List Item) → IsDocument d →
+        AreEntriesInOrder (items d places) first → AreEntriesInOrder (items d places) second → first ≡ second }
 {}
 
-/// A text whose entries are in order stays as it is.
+/// A text with its entries in order doesn't change.
 pub fn in_order_stays()
-    ensures { (d : Document) (texts : List (List ℕ)) (new : List ℕ) → IsDocument d →
-        IsSorted item_cmp (items d texts) → IsSortedText d texts new → new ≡ d.text }
+    ensures { (d : Document) (places new : List ℕ) → IsDocument d →
+        IsSorted item_cmp (items d places) → IsSortedText d places new → new ≡ d.text }
 {}
 
-/// A text that comes of ordering entries stays as it is where they are ordered again by the same texts.
+/// A sorted text doesn't change when it is sorted again by the same places.
 pub fn twice_is_once()
-    ensures { (d : Document) (texts : List (List ℕ)) (order : List Item) (again : FileReading) (new : List ℕ) → IsDocument d →
-        AreEntriesInOrder (items d texts) order → IsRawReading (text_in_order d order) again →
-        IsSortedText (record { text = text_in_order d order; says = again }) (map (λ i. i.text) order) new → new ≡ text_in_order d order }
+    ensures { (d : Document) (places : List ℕ) (order : List Item) (again : FileReading) (new : List ℕ) → IsDocument d →
+        AreEntriesInOrder (items d places) order → IsRawReading (text_in_order d order) again →
+        IsSortedText (record { text = text_in_order d order; says = again }) (map (λ i. i.place) order) new → new ≡ text_in_order d order }
 {}
 
-/// Each run has its entries where it had entries: none moves over an at sign that is no entry's.
+/// A text that is sorted and then laid out in a style doesn't change when it is sorted again by the same places.
+pub fn formatted_stays()
+    ensures { (style : Style) (d : Document) (places : List ℕ) (order : List Item) (again : FileReading) (after : Document) (new : List ℕ) →
+        IsDocument d → AreEntriesInOrder (items d places) order → IsRawReading (text_in_order d order) again → IsDocument after →
+        after.text ≡ text_in_style style (text_in_order d order) again → IsSortedText after (map (λ i. i.place) order) new →
+        new ≡ after.text }
+{}
+
+/// Sorting keeps the run at each index, so no entry moves over an at sign between entries.
 pub fn runs_stay()
-    ensures { (d : Document) (texts : List (List ℕ)) (order : List Item) →
-        AreEntriesInOrder (items d texts) order → map (λ i. i.run) order ≡ map (λ i. i.run) (items d texts) }
+    ensures { (d : Document) (places : List ℕ) (order : List Item) →
+        AreEntriesInOrder (items d places) order → map (λ i. i.run) order ≡ map (λ i. i.run) (items d places) }
 {}
 
-/// An entry that a `crossref` names, and that names none itself, stands after each entry of its run that names it.
+/// In a run, an entry that a `crossref` of another entry names comes after that entry, unless it is on a cycle of references or after one.
 pub fn parents_follow()
-    ensures { (d : Document) (texts : List (List ℕ)) (order : List Item) (i j : ℕ) (parent child : Item) → AreEntriesInOrder (items d texts) order →
-        slice_get order i ≡ Some parent → slice_get order j ≡ Some child → child.run ≡ parent.run → parent.rank ≡ 2 →
-        refers_to parent.entry.key.text child.entry ≡ true → j < i }
+    ensures { (d : Document) (places : List ℕ) (order : List Item) (i j : ℕ) (parent child : Item) → AreEntriesInOrder (items d places) order →
+        slice_get order i ≡ Some parent → slice_get order j ≡ Some child → child.run ≡ parent.run →
+        refers_to parent.entry.key.text child.entry ≡ true → (IsAfterCycle d.says.entries parent.entry → ⊥) → j < i }
 {}

@@ -1,25 +1,25 @@
-//! What entries can be sorted by.
+//! The orders in which entries can be sorted.
 
 ghost use Rattle.std.specs.Prelude.{◌≡◌};
 ghost use Rattle.edit_sort.specs.OrderNames.{order_named};
 
-/// What entries are ordered by. Entries that have nothing of it come last.
+/// What entries are sorted by. Entries without it come last.
 #[derive(Debug, Clone, Copy, PartialEq, Eq)]
 pub enum Order {
-    /// Their keys, in lowercase as far as they are ASCII.
+    /// The key, with ASCII letters in lowercase.
     Key,
-    /// Their years: the fields `year`, or else the first four characters of the dates.
+    /// The field `year`, or the first four characters of the date.
     Year,
-    /// The names of their first authors, or else editors, as they stand in the file but for case and braces, family names first: what
-    /// stands before the comma or, where none stands, the last word.
+    /// The name of the first author, or of the first editor, without case and braces. The family name comes first: the part before the
+    /// comma, or the last word if there is no comma.
     Author,
-    /// Their types, in lowercase.
+    /// The entry type, in lowercase.
     Type,
 }
 
 impl Order {
-    /// The order of this name, `key`, `year`, `author` or `type`.
-    pub fn named(name: &str) -> Option<Order>
+    /// Returns the order with this name (`key`, `year`, `author` or `type`), or `None` if `name` is another word.
+    pub fn from_name(name: &str) -> Option<Order>
         ensures { result ≡ order_named name.now }
     {
         match name {

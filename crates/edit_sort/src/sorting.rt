@@ -1,33 +1,32 @@
-//! Files with their entries in an order.
+//! Sorts the entries of a file.
 
 ghost use Rattle.std.specs.Prelude.{◌≡◌, IfOk, length, drop, map};
 ghost use Rattle.std.specs.List.{AllByRecursion};
 ghost use Rattle.std.specs.Str.{IsCharBoundary};
 ghost use Rattle.std.specs.String.{string_bytes};
 ghost use Rattle.edit_sort.specs.Cuts.{IsEntryOfItemCut};
-ghost use Rattle.edit_sort.specs.Sets.{item_reading_of};
-ghost use Rattle.edit_sort.specs.Sorted as sorted;
+ghost use Rattle.edit_sort.specs.Ranks.{item_reading_of};
 ghost use Rattle.edit_sort.specs.Sorted.{AreEntriesInOrder, IsReadSorted, IsSortedText, item_cmp};
+ghost use Rattle.edit_sort.specs.Steps.{items_laid_out};
 
-use crate::crossrefs::crossrefs_of;
 use crate::items::{Item, gather};
+use crate::ranks::ranks_of;
 use edit_entries::document::RawDocument;
 use std::alloc::{AllocError, Global};
 use std::cmp::Ordering;
 
-// How two entries are ordered: by run, rank, text and place.
+// Compares two entries by run, rank, place and position in the file.
 fn compared(first: &Item<'_, '_>, second: &Item<'_, '_>) -> Ordering
     ensures { result ≡ item_cmp (item_reading_of first.now) (item_reading_of second.now) }
 {
-    let by_text = first.text.cmp(second.text);
-    let by_place = first.entry.span.start.cmp(&second.entry.span.start);
-    first
-        .run
-        .cmp(&second.run)
-        .then(first.rank.cmp(&second.rank).then(by_text.then(by_place)))
+    let by_run = first.run.cmp(&second.run);
+    let by_rank = first.rank.cmp(&second.rank);
+    let by_place = first.place.cmp(&second.place);
+    let by_position = first.entry.span.start.cmp(&second.entry.span.start);
+    by_run.then(by_rank.then(by_place.then(by_position)))
 }
 
-// Entries in order.
+// Returns the entries in order.
 fn ordered<'a, 's>(mut items: Vec<Item<'a, 's>>) -> Result<Vec<Item<'a, 's>>, AllocError>
     ensures { IfOk result (λ order. AreEntriesInOrder (map item_reading_of items.entry.items) (map item_reading_of order.items)) }
 {
@@ -35,7 +34,7 @@ fn ordered<'a, 's>(mut items: Vec<Item<'a, 's>>) -> Result<Vec<Item<'a, 's>>, Al
     Ok(items)
 }
 
-// Entries one after another, each after what stays where it comes to stand, and what stands after them all.
+// Returns the entries one after another, each after its comment and the space at its new position, and then the rest of the text.
 fn laid_out(
     alloc: Global,
     text: &str,
@@ -46,7 +45,7 @@ fn laid_out(
     requires as_many { length spaces.now ≡ length order.now }
     requires cut { AllByRecursion (IsEntryOfItemCut text.now) (map item_reading_of order.now) }
     requires end { IsCharBoundary text.now end }
-    ensures { IfOk result (λ new. string_bytes new ≡ sorted.items_laid_out text.now (map (λ s. s.now) spaces.now) (map item_reading_of order.now) (drop end text.now)) }
+    ensures { IfOk result (λ new. string_bytes new ≡ items_laid_out text.now (map (λ s. s.now) spaces.now) (map item_reading_of order.now) (drop end text.now)) }
 {
     let mut new = String::new(alloc);
     'order: for (index, item) in order.iter().enumerate() {
@@ -58,35 +57,34 @@ fn laid_out(
     Ok(new)
 }
 
-/// The text with its entries in order, by the bytes of a text for each, which is found in `texts` at the index of the entry in the file; an
-/// entry that has none there counts as if it had an empty one. Entries of which the texts are the same keep their order.
+/// Returns the text of a document with its entries sorted by `places`, which has a number for each entry, at the index of the entry in the
+/// file. An entry with a smaller number comes first. Entries with equal numbers keep their order, and entries without a number come last.
 ///
-/// Every entry stays byte for byte, and so does everything else:
+/// Each entry keeps all its bytes. Some rules come before the numbers:
 ///
-/// - No entry moves over an at sign that is no entry's, as that of an `@string`: the entries between two of these are a run, and are
-///   ordered alone.
-/// - White space of ASCII after an entry stays where it is. The rest of what stands before an entry, a comment or any other text, moves
-///   with it.
-/// - Before the first entry of a run, the file's first or one after such an at sign, only what stands there after the last blank line
-///   moves, but for white space at its start; and nothing moves if an at sign, a closing brace or a quote stands in that, since a block
-///   could end there.
-/// - An entry that a `crossref` of the file names stands after those of its run that none names, and last if it names no entry itself:
-///   BibTeX reads an entry before the one that it names. A `crossref` names an entry if its value is one text that is the entry's key, but
-///   for white space round it.
+/// - No entry moves over an at sign between entries, such as that of an `@string`. The entries between two of these are a run, and each run
+///   is sorted by itself.
+/// - ASCII white space after an entry stays. The rest of the text before an entry, such as a comment, moves with the entry.
+/// - Before the first entry of a run, only the text after the last blank line can move, without the white space at its start. It stays if
+///   it contains an at sign, a closing brace or a quote, because a block could end there.
+/// - BibTeX requires an entry before the entries that it names by `crossref`. So entries of a run are sorted by rank first. The rank of an
+///   entry is the length of the longest chain of references that leads to it, and 0 if no entry names it. An entry on a cycle of
+///   references, or after one, comes last. A `crossref` names an entry if its value is one text that is the key of the entry, in any ASCII
+///   case, with or without white space at its ends.
 ///
-/// Fails only where there is no memory.
+/// Returns an error only if out of memory.
 pub fn sort_entries(
     alloc: Global,
     document: &RawDocument<'_>,
-    texts: &[String],
+    places: &[usize],
 ) -> Result<String, AllocError>
-    ensures text { IfOk result (λ new. IsSortedText document.now (map string_bytes texts.now) (string_bytes new)) }
-    ensures read { IfOk result (λ new. IsReadSorted document.now (map string_bytes texts.now) (string_bytes new)) }
+    ensures text { IfOk result (λ new. IsSortedText document.now places.now (string_bytes new)) }
+    ensures read { IfOk result (λ new. IsReadSorted document.now places.now (string_bytes new)) }
 {
     let text = document.text();
     let entries = &document.raw().entries;
-    let crossrefs = crossrefs_of(alloc, entries)?;
-    let gathered = gather(alloc, text, entries, texts, &crossrefs)?;
+    let ranks = ranks_of(alloc, entries)?;
+    let gathered = gather(alloc, text, entries, places, &ranks)?;
     let order = ordered(gathered.items)?;
     laid_out(alloc, text, &gathered.spaces, &order, gathered.end)
 }

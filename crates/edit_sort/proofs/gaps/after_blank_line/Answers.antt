@@ -1,25 +1,18 @@
-use Rattle.std.proofs.Common.{rules, ◌≡◌, ◌+◌, ◌<◌, ℕ, true, List, Option, length, sym, ap, ◌∙◌, arith, length-drop, subst}
+use Rattle.std.proofs.Common.{rules, ◌≡◌, ◌+◌, ◌<◌, List, ℕ, Option, length, ap, arith, length-drop, subst}
 use Rattle.std.specs.Prelude.{MatchOption}
 use Rattle.std.specs.Borrow.{Bor}
-use Rattle.std.specs.List.{after_first, before_first, list_all, position_or_len}
-use Rattle.std.specs.Char.{is_ascii_whitespace}
+use Rattle.std.specs.List.{after_first, before_first, position_or_len}
 use Rattle.std.proofs.lemmas.Str.Pattern.{split_once_first}
-use Rattle.edit_sort.specs.Sorted.{after_blank_line, kept_after}
-use Rattle.edit_sort.proofs.LineFacts.{is_feed, line_ends, line_passed}
+use Rattle.edit_sort.specs.Sorted.{is_feed}
+use Rattle.edit_sort.proofs.LineFacts.{seen_all, seen_more, seen_none}
 use Rattle.edit_sort.proofs.gaps.after_blank_line.Goals as goal
 
 abbrev Found : List ℕ → Option (Bor (List ℕ) × Bor (List ℕ)) → Type 0
 Found text r = MatchOption r (position_or_len is_feed text ≡ length text)
     (λ x. (position_or_len is_feed text < length text) × (x.0.now ≡ before_first is_feed text) × (x.1.now ≡ after_first is_feed text))
 
-next_line : (text kept line after new : List ℕ)
-    → (position_or_len is_feed text < length text) × (line ≡ before_first is_feed text)
-    × (after ≡ after_first is_feed text)
-    → new ≡ kept_after (list_all is_ascii_whitespace line) after kept → after_blank_line true new after ≡ after_blank_line true kept text
-next_line text kept line after new found is =
-    ap (λ k. after_blank_line true k after) (is ∙ ap (λ l. kept_after (list_all is_ascii_whitespace l) after kept) found.1)
-    ∙ ap (λ t. after_blank_line true (kept_after (list_all is_ascii_whitespace (before_first is_feed text)) t kept) t) found.2
-    ∙ sym (line_passed true kept text found.0)
+pub lines-init : goal.lines-init
+lines-init c = record { kept_text = search rules; rest_text = search rules; seen = seen_none c.args.gap.now }
 
 pub lines-preserved : goal.lines-preserved
 lines-preserved c =
@@ -29,9 +22,9 @@ lines-preserved c =
     record {
       kept_text = c.kept_after-kept.utf8;
       rest_text = search rules;
-      left =
-          next_line c.lines.rest.now c.lines.kept.now c.in-Some.line.now c.in-Some.after.now
-          c.kept_after-kept.result.now found c.kept_after-kept.ensures ∙ c.lines.invariant.left;
+      seen =
+          seen_more c.args.gap.now c.lines.kept.now c.lines.rest.now c.in-Some.line.now c.in-Some.after.now
+          c.kept_after-kept.result.now found.0 found.1 found.2 c.kept_after-kept.ensures c.lines.invariant.seen;
     }
 
 pub lines-smaller : goal.lines-smaller
@@ -45,4 +38,4 @@ returns c =
     let found =
     subst (Found c.lines.rest.now) c.in_default.is
     (split_once_first 10 c.lines.rest.now c.split_once.result c.split_once.ensures.cases (omega arith)) in
-    sym (line_ends true c.lines.kept.now c.lines.rest.now found) ∙ c.lines.invariant.left
+    seen_all c.args.gap.now c.lines.kept.now c.lines.rest.now found c.lines.invariant.seen

@@ -1,16 +1,12 @@
-use Rattle.std.proofs.Common.{◌≡◌, length, true}
+use Rattle.std.proofs.Common.{length}
 use denote.Text.{Utf8}
 use denote.Shadow.{shadow}
-use Rattle.edit_sort.specs.Sorted as sorted
+use Rattle.edit_sort.proofs.LineFacts.{IsSeen}
 use Rattle.edit_sort.proofs.gaps.after_blank_line.Given as goal
 
--- what is left to look at
+-- the lines so far
 abbrev pub invariant-lines : goal.invariant-lines
-invariant-lines l = record {
-  kept_text : shadow (Utf8 l.kept);
-  rest_text : shadow (Utf8 l.rest);
-  left : sorted.after_blank_line true l.kept l.rest ≡ sorted.after_blank_line true l.gap l.gap;
-}
+invariant-lines l = record { kept_text : shadow (Utf8 l.kept); rest_text : shadow (Utf8 l.rest); seen : IsSeen l.gap l.kept l.rest }
 
 abbrev pub decreases-lines : goal.decreases-lines
 decreases-lines l = length l.rest

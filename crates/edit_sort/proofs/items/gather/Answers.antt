@@ -1,12 +1,13 @@
-use Rattle.std.proofs.Common.{◌≡◌, ◌+◌, ◌≤◌, ℕ, List, ◌++◌, ◌∷◌, drop, map, sym, ap, ◌∙◌, subst}
+use Rattle.std.proofs.Common.{◌≡◌, ◌+◌, ◌<◌, ◌≤◌, ℕ, List, ◌++◌, ◌∷◌, drop, get_or, length, map, sym, ap, ◌∙◌, subst, arith}
 use Rattle.std.specs.Prelude.{◌==◌}
-use Rattle.std.specs.String.{string_bytes}
+use Rattle.std.proofs.lemmas.List.{get_or-map, length-map}
 use Rattle.bib_text.specs.Characters as char
 use Rattle.bib_syntax.specs.Recovery.{has_byte}
 use Rattle.bib_syntax.specs.Views.{entry_reading_of}
 use Rattle.edit_sort.specs.Cuts.{AreItemsCut}
-use Rattle.edit_sort.specs.Sets.{item_reading_of}
-use Rattle.edit_sort.specs.Sorted.{Item, comment_in, gap_before, items_from, place_after, rank, run_after, space_in, spaces_from, text_by_index}
+use Rattle.edit_sort.specs.Ranks.{item_reading_of}
+use Rattle.edit_sort.specs.Sorted.{Item, comment_in, gap_before, place_at, rank, space_in}
+use Rattle.edit_sort.specs.Steps.{items_from, place_after, run_after, spaces_from}
 use Rattle.edit_sort.proofs.GatherFacts.{gathered_more, next_entry, run_small, space_is}
 use Rattle.edit_sort.proofs.items.gather.Goals as goal
 
@@ -14,7 +15,7 @@ pub entries-preserved : goal.entries-preserved
 entries-preserved c =
     let all = map entry_reading_of c.args.entries.now in
     let text = c.args.text.now in
-    let texts = map string_bytes c.args.texts.now in
+    let places = c.args.places.now in
     let index = c.entries.index in
     let at = c.entries.at in
     let e = entry_reading_of c.index-entries-index.result in
@@ -30,9 +31,15 @@ entries-preserved c =
     c.range.ensures.value
     ∙ space_is (index == 0) text c.range-gap.result.now c.comment_in-comment.result.now at e.start gap_is
     c.comment_in-comment.ensures cut.0.gap.ordered cut.0.gap.end_cut.0 in
+    let within : index < length c.args.entries.now = c.entries-test.true in
+    let ranked : get_or c.args.ranks.now index 0 ≡ rank all e =
+    ap (λ l. get_or l index 0) c.requires.ranks ∙ get_or-map (rank all) all index e 0 (omega (arith, length-map c.args.entries.now entry_reading_of))
+    ∙ ap (rank all)
+    (get_or-map entry_reading_of c.args.entries.now index c.index-entries-index.result e within
+    ∙ ap entry_reading_of (sym c.index-entries-index.is)) in
     let build =
-    λ (run rank : ℕ) (by comment : List ℕ).
-    let i : Item = record { run = run; rank = rank; text = by; comment = comment; entry = e } in i in
+    λ (run rank by : ℕ) (comment : List ℕ).
+    let i : Item = record { run = run; rank = rank; place = by; comment = comment; entry = e } in i in
     record {
       spaces =
           gathered_more (λ s. s.now) c.entries.spaces.items c.push.new.self.items c.range.result
@@ -41,23 +48,21 @@ entries-preserved c =
           (ap (λ es. map (λ s. s.now) c.entries.spaces.items ++ spaces_from text index at es) (sym next) ∙ c.entries.invariant.spaces);
       items =
           gathered_more item_reading_of c.entries.items.items c.push-in-entries.new.self.items _
-          (build (run_after c.entries.run gap) (rank all e) (text_by_index texts index)
-          (comment_in (index == 0) gap))
-          (items_from all text texts (index + 1) (e.end + 1) c.run_after-run.result rest)
-          (items_from all text texts 0 0 0 all) c.in_ok-push-2.ensures.items
-          (ap (λ n. build n c.rank.result c.text_at.result.now c.comment_in-comment.result.now) run_is
-          ∙ ap (λ n. build (run_after c.entries.run gap) n c.text_at.result.now c.comment_in-comment.result.now)
-          (c.rank.ensures all c.requires.known)
-          ∙ ap (λ t. build (run_after c.entries.run gap) (rank all e) t c.comment_in-comment.result.now)
-          c.text_at.ensures
-          ∙ ap (build (run_after c.entries.run gap) (rank all e) (text_by_index texts index)) comment_is)
+          (build (run_after c.entries.run gap) (rank all e) (place_at places index) (comment_in (index == 0) gap))
+          (items_from all text places (index + 1) (e.end + 1) c.run_after-run.result rest)
+          (items_from all text places 0 0 0 all) c.in_ok-push-2.ensures.items
+          (ap (λ n. build n (get_or c.args.ranks.now index 0) c.place_at.result c.comment_in-comment.result.now) run_is
+          ∙ ap (λ n. build (run_after c.entries.run gap) n c.place_at.result c.comment_in-comment.result.now) ranked
+          ∙ ap (λ n. build (run_after c.entries.run gap) (rank all e) n c.comment_in-comment.result.now)
+          c.place_at.ensures
+          ∙ ap (build (run_after c.entries.run gap) (rank all e) (place_at places index)) comment_is)
           (ap
           (λ n.
           map item_reading_of c.entries.items.items
-          ++ build (run_after c.entries.run gap) (rank all e) (text_by_index texts index)
-          (comment_in (index == 0) gap) ∷ items_from all text texts (index + 1) (e.end + 1) n rest)
+          ++ build (run_after c.entries.run gap) (rank all e) (place_at places index)
+          (comment_in (index == 0) gap) ∷ items_from all text places (index + 1) (e.end + 1) n rest)
           run_is
-          ∙ ap (λ es. map item_reading_of c.entries.items.items ++ items_from all text texts index at c.entries.run es)
+          ∙ ap (λ es. map item_reading_of c.entries.items.items ++ items_from all text places index at c.entries.run es)
           (sym next) ∙ c.entries.invariant.items);
       end = ap (place_after at) (sym next) ∙ c.entries.invariant.end;
       cut = cut.1;

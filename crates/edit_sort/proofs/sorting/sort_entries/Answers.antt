@@ -8,21 +8,23 @@ use Rattle.bib_syntax.specs.Reading.{EntryReading}
 use Rattle.bib_syntax.specs.Views.{entry_reading_of}
 use Rattle.edit_entries.specs.Documents.{Document, IsDocument}
 use Rattle.edit_sort.specs.Cuts.{AreItemsCut, IsEntryOfItemCut}
-use Rattle.edit_sort.specs.Sets.{item_reading_of}
-use Rattle.edit_sort.specs.Sorted.{AreEntriesInOrder, IsReadSorted, IsSortedText, Item, items, items_from, items_laid_out, place_after, spaces_from, text_in_order}
+use Rattle.edit_sort.specs.Ranks.{item_reading_of}
+use Rattle.edit_sort.specs.Sorted.{AreEntriesInOrder, IsReadSorted, IsSortedText, Item, items, rank, text_in_order}
+use Rattle.edit_sort.specs.Steps.{items_from, items_laid_out, place_after, spaces_from}
 use Rattle.edit_sort.proofs.FileFacts.{as_many, document_parts, end_cut, order_cut, text_read}
+use Rattle.edit_sort.proofs.StepFacts.{items_are, text_is}
 use Rattle.edit_sort.proofs.sorting.sort_entries.Goals as goal
 
 -- ---- by what the document says
 
-order_is : (d : Document) (texts : List (List ℕ)) (text : List ℕ) (entries : List EntryReading)
+order_is : (d : Document) (places text : List ℕ) (entries : List EntryReading)
     (all order order' : List Item) → text ≡ d.text → entries ≡ d.says.entries
-    → all ≡ items_from entries text texts 0 0 0 entries → order' ≡ order
-    → AreEntriesInOrder all order → AreEntriesInOrder (items d texts) order'
-order_is d texts text entries all order order' same listed is is' in_order =
+    → all ≡ items_from entries text places 0 0 0 entries → order' ≡ order
+    → AreEntriesInOrder all order → AreEntriesInOrder (items d places) order'
+order_is d places text entries all order order' same listed is is' in_order =
     subst (λ l. AreEntriesInOrder l order')
-    (is ∙ ap (λ t. items_from entries t texts 0 0 0 entries) same
-    ∙ ap (λ es. items_from es d.text texts 0 0 0 es) listed)
+    (is ∙ ap (λ t. items_from entries t places 0 0 0 entries) same
+    ∙ ap (λ es. items_from es d.text places 0 0 0 es) listed ∙ sym (items_are d places))
     (subst (λ l. AreEntriesInOrder all l) (sym is') in_order)
 
 spaces_are : (d : Document) (text : List ℕ) (entries : List EntryReading) → text ≡ d.text → entries ≡ d.says.entries
@@ -30,30 +32,31 @@ spaces_are : (d : Document) (text : List ℕ) (entries : List EntryReading) → 
 spaces_are d text entries same listed = ap (λ t. spaces_from t 0 0 entries) same ∙ ap (spaces_from d.text 0 0) listed
 
 as_many_are : {A B : Type 0} (f : A → List ℕ) (g : B → Item) (xs : List A) (ys : List B) (d : Document)
-    (texts : List (List ℕ)) → map f xs ≡ spaces_from d.text 0 0 d.says.entries
-    → AreEntriesInOrder (items d texts) (map g ys) → length xs ≡ length ys
-as_many_are f g xs ys d texts is in_order = sym (length-map xs f) ∙ ap length is ∙ as_many d texts (map g ys) in_order ∙ length-map ys g
+    (places : List ℕ) → map f xs ≡ spaces_from d.text 0 0 d.says.entries
+    → AreEntriesInOrder (items d places) (map g ys) → length xs ≡ length ys
+as_many_are f g xs ys d places is in_order = sym (length-map xs f) ∙ ap length is ∙ as_many d places (map g ys) in_order ∙ length-map ys g
 
-text_is : (d : Document) (text : List ℕ) (spaces : List (List ℕ)) (order : List Item) (end : ℕ) → text ≡ d.text
+written_is : (d : Document) (text : List ℕ) (spaces : List (List ℕ)) (order : List Item) (end : ℕ) → text ≡ d.text
     → spaces ≡ spaces_from d.text 0 0 d.says.entries → end ≡ place_after 0 d.says.entries
     → items_laid_out text spaces order (drop end text) ≡ text_in_order d order
-text_is d text spaces order end same is ends =
+written_is d text spaces order end same is ends =
     ap (λ t. items_laid_out t spaces order (drop end t)) same ∙ ap (λ ss. items_laid_out d.text ss order (drop end d.text)) is
     ∙ ap (λ n. items_laid_out d.text (spaces_from d.text 0 0 d.says.entries) order (drop n d.text)) ends
+    ∙ sym (text_is d order)
 
-sorted_is : {S E : Type 0} (bytes : S → List ℕ) (r : Result S E) (d : Document) (texts : List (List ℕ))
-    (order : List Item) (new : List ℕ) → AreEntriesInOrder (items d texts) order → new ≡ text_in_order d order
-    → IfOk r (λ s. bytes s ≡ new) → IfOk r (λ s. IsSortedText d texts (bytes s))
-sorted_is bytes (Err error) d texts order new in_order is all = _
-sorted_is bytes (Ok s) d texts order new in_order is all = record { order = order; in_order = in_order; is = all ∙ is }
+sorted_is : {S E : Type 0} (bytes : S → List ℕ) (r : Result S E) (d : Document) (places : List ℕ)
+    (order : List Item) (new : List ℕ) → AreEntriesInOrder (items d places) order → new ≡ text_in_order d order
+    → IfOk r (λ s. bytes s ≡ new) → IfOk r (λ s. IsSortedText d places (bytes s))
+sorted_is bytes (Err error) d places order new in_order is all = _
+sorted_is bytes (Ok s) d places order new in_order is all = record { order = order; in_order = in_order; is = all ∙ is }
 
-read_is : {S E : Type 0} (bytes : S → List ℕ) (r : Result S E) (d : Document) (texts : List (List ℕ))
-    (order : List Item) (new : List ℕ) → IsDocument d → AreEntriesInOrder (items d texts) order
+read_is : {S E : Type 0} (bytes : S → List ℕ) (r : Result S E) (d : Document) (places : List ℕ)
+    (order : List Item) (new : List ℕ) → IsDocument d → AreEntriesInOrder (items d places) order
     → new ≡ text_in_order d order
-    → IfOk r (λ s. bytes s ≡ new) → IfOk r (λ s. IsReadSorted d texts (bytes s))
-read_is bytes (Err error) d texts order new read in_order is all = _
-read_is bytes (Ok s) d texts order new read in_order is all =
-    subst (IsReadSorted d texts) (sym (all ∙ is)) (text_read d texts order read in_order)
+    → IfOk r (λ s. bytes s ≡ new) → IfOk r (λ s. IsReadSorted d places (bytes s))
+read_is bytes (Err error) d places order new read in_order is all = _
+read_is bytes (Ok s) d places order new read in_order is all =
+    subst (IsReadSorted d places) (sym (all ∙ is)) (text_read d places order read in_order)
 
 -- ---- the goals
 
@@ -65,33 +68,39 @@ gather-requires-clause-cut c =
     subst (λ t. AreItemsCut t 0 0 (map entry_reading_of c.deref-2.result.now)) (sym c.text-text.ensures)
     (subst (λ es. AreItemsCut d.text 0 0 es) (sym listed) (document_parts d c.raw.ensures.read).cut)
 
+pub gather-requires-clause-ranks : goal.gather-requires-clause-ranks
+gather-requires-clause-ranks c =
+    let same = c.deref.ensures.value ∙ sym c.deref-2.ensures.value in
+    c.deref-3.ensures.value
+    ∙ subst (λ es. c.in_ok-ranks.ranks.items ≡ map (rank (map entry_reading_of es)) (map entry_reading_of es)) same c.in_ok-ranks.ensures
+
 pub laid_out-requires-clause-as_many : goal.laid_out-requires-clause-as_many
 laid_out-requires-clause-as_many c =
     let d = c.args.document.now in
-    let texts = map string_bytes c.args.texts.now in
+    let places = c.args.places.now in
     let entries = map entry_reading_of c.deref-2.result.now in
     let listed : entries ≡ d.says.entries = ap (map entry_reading_of) c.deref-2.ensures.value ∙ ap (λ f. f.entries) c.raw.ensures.says in
-    let in_order = order_is d texts c.text-text.result.now entries
+    let in_order = order_is d places c.text-text.result.now entries
     (map item_reading_of c.in_ok-gathered.gathered.items.items) (map item_reading_of c.in_ok-order.order.items)
-    (map item_reading_of c.deref-4.result.now) c.text-text.ensures listed
-    c.in_ok-gathered.ensures.items (ap (map item_reading_of) c.deref-4.ensures.value) c.in_ok-order.ensures in
-    as_many_are (λ s. s.now) item_reading_of c.deref-3.result.now c.deref-4.result.now d texts
-    (ap (map (λ s. s.now)) c.deref-3.ensures.value ∙ c.in_ok-gathered.ensures.spaces
+    (map item_reading_of c.deref-5.result.now) c.text-text.ensures listed
+    c.in_ok-gathered.ensures.items (ap (map item_reading_of) c.deref-5.ensures.value) c.in_ok-order.ensures in
+    as_many_are (λ s. s.now) item_reading_of c.deref-4.result.now c.deref-5.result.now d places
+    (ap (map (λ s. s.now)) c.deref-4.ensures.value ∙ c.in_ok-gathered.ensures.spaces
     ∙ spaces_are d c.text-text.result.now entries c.text-text.ensures listed) in_order
 
 pub laid_out-requires-clause-cut : goal.laid_out-requires-clause-cut
 laid_out-requires-clause-cut c =
     let d = c.args.document.now in
-    let texts = map string_bytes c.args.texts.now in
+    let places = c.args.places.now in
     let entries = map entry_reading_of c.deref-2.result.now in
     let listed : entries ≡ d.says.entries = ap (map entry_reading_of) c.deref-2.ensures.value ∙ ap (λ f. f.entries) c.raw.ensures.says in
-    let in_order = order_is d texts c.text-text.result.now entries
+    let in_order = order_is d places c.text-text.result.now entries
     (map item_reading_of c.in_ok-gathered.gathered.items.items) (map item_reading_of c.in_ok-order.order.items)
-    (map item_reading_of c.deref-4.result.now) c.text-text.ensures listed
-    c.in_ok-gathered.ensures.items (ap (map item_reading_of) c.deref-4.ensures.value) c.in_ok-order.ensures in
-    subst (λ t. AllByRecursion (IsEntryOfItemCut t) (map item_reading_of c.deref-4.result.now))
+    (map item_reading_of c.deref-5.result.now) c.text-text.ensures listed
+    c.in_ok-gathered.ensures.items (ap (map item_reading_of) c.deref-5.ensures.value) c.in_ok-order.ensures in
+    subst (λ t. AllByRecursion (IsEntryOfItemCut t) (map item_reading_of c.deref-5.result.now))
     (sym c.text-text.ensures)
-    (order_cut d texts (map item_reading_of c.deref-4.result.now) c.raw.ensures.read in_order)
+    (order_cut d places (map item_reading_of c.deref-5.result.now) c.raw.ensures.read in_order)
 
 pub laid_out-requires-clause-end : goal.laid_out-requires-clause-end
 laid_out-requires-clause-end c =
@@ -104,39 +113,39 @@ laid_out-requires-clause-end c =
 pub returns-clause-text : goal.returns-clause-text
 returns-clause-text c =
     let d = c.args.document.now in
-    let texts = map string_bytes c.args.texts.now in
+    let places = c.args.places.now in
     let entries = map entry_reading_of c.deref-2.result.now in
-    let order = map item_reading_of c.deref-4.result.now in
+    let order = map item_reading_of c.deref-5.result.now in
     let listed : entries ≡ d.says.entries = ap (map entry_reading_of) c.deref-2.ensures.value ∙ ap (λ f. f.entries) c.raw.ensures.says in
-    let in_order = order_is d texts c.text-text.result.now entries
+    let in_order = order_is d places c.text-text.result.now entries
     (map item_reading_of c.in_ok-gathered.gathered.items.items) (map item_reading_of c.in_ok-order.order.items)
     order c.text-text.ensures listed
-    c.in_ok-gathered.ensures.items (ap (map item_reading_of) c.deref-4.ensures.value) c.in_ok-order.ensures in
+    c.in_ok-gathered.ensures.items (ap (map item_reading_of) c.deref-5.ensures.value) c.in_ok-order.ensures in
     let spaces =
-    ap (map (λ s. s.now)) c.deref-3.ensures.value ∙ c.in_ok-gathered.ensures.spaces
+    ap (map (λ s. s.now)) c.deref-4.ensures.value ∙ c.in_ok-gathered.ensures.spaces
     ∙ spaces_are d c.text-text.result.now entries c.text-text.ensures listed in
-    sorted_is string_bytes c.laid_out.result d texts order
-    (items_laid_out c.text-text.result.now (map (λ s. s.now) c.deref-3.result.now) order
+    sorted_is string_bytes c.laid_out.result d places order
+    (items_laid_out c.text-text.result.now (map (λ s. s.now) c.deref-4.result.now) order
     (drop c.in_ok-gathered.gathered.end c.text-text.result.now)) in_order
-    (text_is d c.text-text.result.now (map (λ s. s.now) c.deref-3.result.now) order c.in_ok-gathered.gathered.end
+    (written_is d c.text-text.result.now (map (λ s. s.now) c.deref-4.result.now) order c.in_ok-gathered.gathered.end
     c.text-text.ensures spaces (c.in_ok-gathered.ensures.end ∙ ap (place_after 0) listed)) c.laid_out.ensures
 
 pub returns-clause-read : goal.returns-clause-read
 returns-clause-read c =
     let d = c.args.document.now in
-    let texts = map string_bytes c.args.texts.now in
+    let places = c.args.places.now in
     let entries = map entry_reading_of c.deref-2.result.now in
-    let order = map item_reading_of c.deref-4.result.now in
+    let order = map item_reading_of c.deref-5.result.now in
     let listed : entries ≡ d.says.entries = ap (map entry_reading_of) c.deref-2.ensures.value ∙ ap (λ f. f.entries) c.raw.ensures.says in
-    let in_order = order_is d texts c.text-text.result.now entries
+    let in_order = order_is d places c.text-text.result.now entries
     (map item_reading_of c.in_ok-gathered.gathered.items.items) (map item_reading_of c.in_ok-order.order.items)
     order c.text-text.ensures listed
-    c.in_ok-gathered.ensures.items (ap (map item_reading_of) c.deref-4.ensures.value) c.in_ok-order.ensures in
+    c.in_ok-gathered.ensures.items (ap (map item_reading_of) c.deref-5.ensures.value) c.in_ok-order.ensures in
     let spaces =
-    ap (map (λ s. s.now)) c.deref-3.ensures.value ∙ c.in_ok-gathered.ensures.spaces
+    ap (map (λ s. s.now)) c.deref-4.ensures.value ∙ c.in_ok-gathered.ensures.spaces
     ∙ spaces_are d c.text-text.result.now entries c.text-text.ensures listed in
-    read_is string_bytes c.laid_out.result d texts order
-    (items_laid_out c.text-text.result.now (map (λ s. s.now) c.deref-3.result.now) order
+    read_is string_bytes c.laid_out.result d places order
+    (items_laid_out c.text-text.result.now (map (λ s. s.now) c.deref-4.result.now) order
     (drop c.in_ok-gathered.gathered.end c.text-text.result.now)) c.raw.ensures.read in_order
-    (text_is d c.text-text.result.now (map (λ s. s.now) c.deref-3.result.now) order c.in_ok-gathered.gathered.end
+    (written_is d c.text-text.result.now (map (λ s. s.now) c.deref-4.result.now) order c.in_ok-gathered.gathered.end
     c.text-text.ensures spaces (c.in_ok-gathered.ensures.end ∙ ap (place_after 0) listed)) c.laid_out.ensures

@@ -1,0 +1,139 @@
+-- The places of texts among sorted texts compare as the texts do.
+use Rattle.std.proofs.Common.{◌≡◌, inl, inr, ℕ, ◌+◌, ◌<◌, ◌≤◌, Bool, true, false, List, [], ◌∷◌, ◌++◌, get_or, length, map, refl, sym, ap, ◌∙◌, subst, arith, Less, Equal, Greater, Ordering, IsPermutation, IsSorted, IsSortedBy, Contains, is_lt, nat_cmp}
+use Rattle.std.specs.List.Sorted.{IsPartitionPoint, IsPartitionedBy}
+use Rattle.std.specs.Cmp.{nat_cmp_is}
+use Rattle.std.specs.Cmp.Lexicographic.{slice_cmp}
+use Rattle.std.specs.FinMap.{nat_cmp-IsAntisymmetric, slice_cmp-IsAntisymmetric}
+use Rattle.std.specs.Ordering.{ordering_reverse}
+use Rattle.std.proofs.lemmas.Bool.{cases_lt, false≢true}
+use Rattle.std.proofs.lemmas.Cmp.{nat_list_cmp_total}
+use Rattle.std.proofs.lemmas.List.{get_or-map, get_or_append_left, get_or_push, length-map}
+use Rattle.std.proofs.lemmas.List.Elements.{Contains-get_or}
+use Rattle.std.proofs.lemmas.List.Sorted.{Contains-permutation, ranks_by, sorted_far}
+use Rattle.bibkit_edits.specs.Orders.{ArePlacesOf}
+use Rattle.bibkit_edits.specs.Sorting.{IsPlaceIn}
+
+abbrev cmp : List ℕ → List ℕ → Ordering
+cmp = slice_cmp nat_cmp
+
+-- a text isn't less than itself
+not_below : (t : List ℕ) → is_lt (cmp t t) ≡ false
+not_below t = itself (cmp t t) (nat_list_cmp_total.antisymm t t)
+  where
+    itself : (o : Ordering) → o ≡ ordering_reverse o → is_lt o ≡ false
+    itself Less same = absurd (let clash : Less ≡ Greater = same in cc)
+    itself Equal same = refl
+    itself Greater same = refl
+
+-- a text that is less than another has a smaller place
+place_rises : (sorted : List (List ℕ)) (t u : List ℕ) (m n : ℕ) → Contains sorted t → cmp t u ≡ Less
+    → IsPlaceIn sorted t m → IsPlaceIn sorted u n → m < n
+place_rises sorted t u m n there less p q =
+    let k = there.0 in
+    let from : m ≤ k = elim (cases_lt k m) [
+      | inr past ↦ past
+      | inl before ↦
+          let below : is_lt (cmp t t) ≡ true = ap (λ x. is_lt (cmp x t)) (sym there.2) ∙ p.before k t (omega arith) before in
+          absurd (false≢true (sym (not_below t) ∙ below))
+    ] in
+    let to : k < n = elim (cases_lt k n) [
+      | inl before ↦ before
+      | inr past ↦
+          let above : is_lt (cmp t u) ≡ false = ap (λ x. is_lt (cmp x u)) (sym there.2) ∙ q.after k t past there.1 in
+          absurd (false≢true (sym above ∙ ap is_lt less))
+    ] in
+    omega arith
+
+-- a text has one place
+no_gap : (sorted : List (List ℕ)) (t : List ℕ) (m n : ℕ) → IsPlaceIn sorted t m → IsPlaceIn sorted t n → m < n → ⊥
+no_gap sorted t m n p q less =
+    false≢true (sym (p.after m t (omega arith) (omega (arith, q.small))) ∙ q.before m t (omega arith) less)
+
+one_place : (sorted : List (List ℕ)) (t : List ℕ) (m n : ℕ) → IsPlaceIn sorted t m → IsPlaceIn sorted t n → m ≡ n
+one_place sorted t m n p q =
+    elim (cases_lt m n) [
+      | inl less ↦ absurd (no_gap sorted t m n p q less)
+      | inr other ↦ elim (cases_lt n m) [ inl less ↦ absurd (no_gap sorted t n m q p less) | inr both ↦ omega arith ]
+    ]
+
+-- places compare as their texts do
+pub places_compare : (sorted : List (List ℕ)) (t u : List ℕ) (m n : ℕ) → Contains sorted t → Contains sorted u
+    → IsPlaceIn sorted t m → IsPlaceIn sorted u n → nat_cmp m n ≡ cmp t u
+places_compare sorted t u m n there there' p q = by_order (cmp t u) refl
+  where
+    by_order : (o : Ordering) → cmp t u ≡ o → nat_cmp m n ≡ o
+    by_order Less is = sym (nat_cmp_is m n Less (place_rises sorted t u m n there is p q))
+    by_order Equal is =
+        let same = slice_cmp-IsAntisymmetric nat_cmp-IsAntisymmetric t u is in
+        sym (nat_cmp_is m n Equal (one_place sorted t m n p (subst (λ x. IsPlaceIn sorted x n) (sym same) q)))
+    by_order Greater is =
+        let back : cmp u t ≡ Less = nat_list_cmp_total.antisymm u t ∙ ap ordering_reverse is in
+        sym (nat_cmp_is m n Greater (place_rises sorted u t n m there' back q p))
+
+-- a sorted list, each element as a function gives it
+pub sorted_map : {X Y : Type 0} (f : X → Y) (lt : Y → Y → Bool) (xs : List X) → IsSortedBy (λ a b. lt (f a) (f b)) xs
+    → IsSortedBy lt (map f xs)
+sorted_map f lt [] up k d from within = absurd (omega arith)
+sorted_map f lt (x ∷ xs) up k d from within =
+    let size : length (map f (x ∷ xs)) ≡ length (x ∷ xs) = length-map (x ∷ xs) f in
+    let later = get_or-map f (x ∷ xs) (k + 1) x d (omega arith) in
+    let first = get_or-map f (x ∷ xs) k x d (omega arith) in
+    ap (λ y. lt y (get_or (map f (x ∷ xs)) k d)) later ∙ ap (lt (f (get_or (x ∷ xs) (k + 1) x))) first ∙ up k x from (omega arith)
+
+less_through : (x y z : List ℕ) → is_lt (cmp y x) ≡ false → is_lt (cmp y z) ≡ true → is_lt (cmp x z) ≡ true
+less_through x y z far less = by_test (is_lt (cmp x z)) refl
+  where
+    by_test : (b : Bool) → is_lt (cmp x z) ≡ b → is_lt (cmp x z) ≡ true
+    by_test true is = is
+    by_test false is =
+        absurd (false≢true (sym ((ranks_by nat_list_cmp_total {X = List ℕ} (λ t. t)).chain y x z far is) ∙ less))
+
+-- the texts that are less than a text come first among sorted texts
+pub less_first : {X : Type 0} (f : X → List ℕ) (any : List ℕ → X) (xs : List X) (t : List ℕ) → IsSorted cmp (map f xs)
+    → IsPartitionedBy (λ x. is_lt (cmp (f x) t)) xs
+less_first f any xs t up i j d ordered within less =
+    let size : length (map f xs) ≡ length xs = length-map xs f in
+    let far =
+    sorted_far (λ x y. is_lt (cmp x y)) (ranks_by nat_list_cmp_total {X = List ℕ} (λ x. x)) (map f xs) up i j (f d) ordered (omega arith) in
+    less_through (f (get_or xs i d)) (f (get_or xs j d)) t
+    (ap (λ x. is_lt (cmp x (f (get_or xs i d)))) (sym (get_or-map f xs j d (f d) within))
+    ∙ ap (λ x. is_lt (cmp (get_or (map f xs) j (f d)) x)) (sym (get_or-map f xs i d (f d) (omega arith))) ∙ far)
+    less
+
+-- where they end is the place of the text
+pub place_from : {X : Type 0} (f : X → List ℕ) (any : List ℕ → X) (xs : List X) (t : List ℕ) (n : ℕ) → n ≤ length xs
+    → IsPartitionPoint (λ x. is_lt (cmp (f x) t) ≡ true) (λ x. is_lt (cmp (f x) t) ≡ false) xs n → IsPlaceIn (map f xs) t n
+place_from f any xs t n small parts =
+    let size : length (map f xs) ≡ length xs = length-map xs f in
+    record {
+      small = omega arith;
+      before = λ k d from below.
+          ap (λ x. is_lt (cmp x t)) (get_or-map f xs k (any d) d (omega arith)) ∙ parts.0 k (any d) from below;
+      after = λ k d from below.
+          ap (λ x. is_lt (cmp x t)) (get_or-map f xs k (any d) d (omega arith)) ∙ parts.1 k (any d) from (omega arith);
+    }
+
+-- places of texts, each found among the sorted texts, are places
+pub are_places : (texts sorted : List (List ℕ)) (places : List ℕ) → IsPermutation texts sorted → length places ≡ length texts
+    → ((k : ℕ) → k < length texts → IsPlaceIn sorted (get_or texts k []) (get_or places k 0)) → ArePlacesOf texts places
+are_places texts sorted places same size each = record {
+  same_length = size;
+  compare = λ i j within within'.
+      places_compare sorted (get_or texts i []) (get_or texts j []) (get_or places i 0) (get_or places j 0)
+      (Contains-permutation texts sorted (get_or texts i []) same (Contains-get_or texts i [] within))
+      (Contains-permutation texts sorted (get_or texts j []) same (Contains-get_or texts j [] within'))
+      (each i within) (each j within');
+}
+
+-- one more place
+pub each_more : (P : ℕ → ℕ → Type 0) (places new : List ℕ) (n i : ℕ) → length places ≡ i → new ≡ places ++ n ∷ [] → P i n
+    → ((k : ℕ) → k < i → P k (get_or places k 0)) → (k : ℕ) → k < i + 1 → P k (get_or new k 0)
+each_more P places new n i size is here before k within =
+    elim (cases_lt k i) [
+      | inl below ↦
+          subst (P k) (sym (ap (λ l. get_or l k 0) is ∙ get_or_append_left places (n ∷ []) 0 k (omega arith))) (before k below)
+      | inr at ↦
+          let same : i ≡ k = omega arith in
+          subst (λ m. P m (get_or new m 0)) same
+          (subst (P i) (sym (ap (λ l. get_or l i 0) is ∙ get_or_push places n 0 i size)) here)
+    ]
