@@ -20,7 +20,8 @@ exchanged_from date names type divides f =
     exchanged_for (joined_among date f) (other_name names f.name.text) (typed_among type f) (date_among divides f)
 
 -- what the code found of an entry
-pub record IsFound (dialect : Dialect) (defines : Bool) (text : List ℕ) (e : EntryReading) (kind : EntryType) (changes : Changes) : Type 0 where
+pub record IsFound (dialect : Dialect) (defines : Bool) (text : List ℕ) (e : EntryReading) (kind : EntryType)
+    (changes : Changes) : Type 0 where
   pub kind_is : kind ≡ entry_type_of e.kind.text
   pub names : lent_names changes.names.items ≡ free_names e.fields (other_names dialect kind)
   pub printed : printed_of changes.printed ≡ printed_type dialect kind e.fields

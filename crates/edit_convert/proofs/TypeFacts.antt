@@ -78,9 +78,15 @@ typed_put dialect kind fields f type is = by_case (has_name (codes "type") f) is
 -- ---- values of `type` that are put in
 
 kind_put : (kind : EntryType) (value : List ℕ) → type_value kind ≡ Some value → CanBePut (type_field value)
-kind_put MastersThesis value is = let same : codes "mathesis" ≡ value = cc in subst (λ t. CanBePut (type_field t)) same (text_put (codes "mathesis") refl)
-kind_put PhdThesis value is = let same : codes "phdthesis" ≡ value = cc in subst (λ t. CanBePut (type_field t)) same (text_put (codes "phdthesis") refl)
-kind_put TechReport value is = let same : codes "techreport" ≡ value = cc in subst (λ t. CanBePut (type_field t)) same (text_put (codes "techreport") refl)
+kind_put MastersThesis value is =
+    let same : codes "mathesis" ≡ value = cc in
+    subst (λ t. CanBePut (type_field t)) same (text_put (codes "mathesis") refl)
+kind_put PhdThesis value is =
+    let same : codes "phdthesis" ≡ value = cc in
+    subst (λ t. CanBePut (type_field t)) same (text_put (codes "phdthesis") refl)
+kind_put TechReport value is =
+    let same : codes "techreport" ≡ value = cc in
+    subst (λ t. CanBePut (type_field t)) same (text_put (codes "techreport") refl)
 kind_put kind value is = absurd (cc)
 
 pub missing_put : (dialect : Dialect) (kind : EntryType) (fields : List FieldReading) (value : List ℕ)

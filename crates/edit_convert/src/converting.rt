@@ -15,8 +15,6 @@ ghost use Rattle.edit_convert.specs.Tables.{change_edits, conversion_edits, exch
 
 use crate::changes::{Changes, changes_of};
 use crate::dates::{written_date, written_sides, written_type};
-use edit_entries::editing::{Edit, edited_all};
-use edit_entries::values::value_end;
 use crate::fields::{exchanged_date, has_part, is_date_part};
 use crate::joining::defines_month;
 use crate::names::{other_name, other_type};
@@ -27,6 +25,8 @@ use bib_tables::dialects::Dialect;
 use bib_tables::mechanics::EntryType;
 use bib_text::spanned::Spanned;
 use edit_entries::document::RawDocument;
+use edit_entries::editing::{Edit, edited_all};
+use edit_entries::values::value_end;
 use std::alloc::{AllocError, Global};
 
 // Adds the edit of a part of a text that gives way to another text, if it does.
@@ -269,7 +269,15 @@ fn push_field_edits(
 {
     let mut waiting = missing;
     'fields: for (at, field) in fields.iter().enumerate() {
-        waiting = push_waiting_edit(edits, alloc, text, changes, waiting, field, &fields[at + 1..])?;
+        waiting = push_waiting_edit(
+            edits,
+            alloc,
+            text,
+            changes,
+            waiting,
+            field,
+            &fields[at + 1..],
+        )?;
     }
     Ok(())
 }

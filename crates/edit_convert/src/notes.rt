@@ -150,7 +150,11 @@ fn rules_of(
 }
 
 // Whether something takes the place of a field.
-pub(crate) fn gives_way(alloc: Global, changes: &Changes, field: &Pair<'_>) -> Result<bool, AllocError>
+pub(crate) fn gives_way(
+    alloc: Global,
+    changes: &Changes,
+    field: &Pair<'_>,
+) -> Result<bool, AllocError>
     ensures { IfOk result (λ gives. gives ≡ is_some (exchanged_by changes.now (field_of field.now))) }
 {
     if is_date_part(field) && changes.joined.is_some() {

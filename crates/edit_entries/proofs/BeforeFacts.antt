@@ -215,7 +215,8 @@ preceded_put d f n white can all is = record {
           are = refl;
         } in
         let start_goes : move g.start.at ≡ edit.start = moved_before edit g.start.at (omega (arith, start_is, some)) ∙ sym start_is in
-        let news' = subst (λ m. NewFields (place (edited edit text) m) (x.reading ∷ f' ∷ []) (goes edit text g.end)) (sym start_goes) news in
+        let news' =
+        subst (λ m. NewFields (place (edited edit text) m) (x.reading ∷ f' ∷ []) (goes edit text g.end)) (sym start_goes) news in
         let alone : FileReading = record { preamble = []; entries = []; abbreviations = f ∷ [] } in
         let rest : map (moved_field (λ n. 0)) (f' ∷ []) ≡ map (moved_field (λ n. 0)) (f ∷ []) =
         ap (λ says. says.abbreviations) (file_placeless move alone) in (

@@ -14,14 +14,14 @@ ghost use Rattle.edit_strings.specs.Tables.{entry_edits, field_edits, value_edit
 ghost use Rattle.edit_entries.specs.EditList.{edit_of};
 
 use crate::collected::collected_texts;
-use edit_entries::editing::{Edit, edited_all};
 use crate::naming::new_names;
 use crate::taken::Taken;
 use crate::texts::{counts, named_text, named_texts};
-use edit_entries::values::value_end;
 use bib_syntax::raw::{Pair, RawBibliography, RawEntry};
 use bib_text::spanned::Spanned;
 use edit_entries::document::RawDocument;
+use edit_entries::editing::{Edit, edited_all};
+use edit_entries::values::value_end;
 use std::alloc::{AllocError, Global};
 use std::collections::BTreeMap;
 

@@ -11,16 +11,16 @@ ghost use Rattle.edit_strings.specs.Expanded.{ExpandIsRefused, IsExpandError, Is
 ghost use Rattle.edit_entries.specs.EditList.{edit_of};
 
 use crate::definitions::{definition_indices, definition_values, graph, has_defined};
-use edit_entries::editing::{Edit, edited_all};
 use crate::elements::laid_out;
 use crate::errors::ExpandError;
 use crate::used::used;
-use edit_entries::values::value_end;
 use crate::written::{Elements, written_by, written_in_order};
 use bib_collections::worklist::{OrderError, topological_order};
 use bib_syntax::raw::{Pair, RawEntry};
 use bib_text::spanned::Spanned;
 use edit_entries::document::RawDocument;
+use edit_entries::editing::{Edit, edited_all};
+use edit_entries::values::value_end;
 use std::alloc::{AllocError, Global};
 use std::collections::BTreeMap;
 

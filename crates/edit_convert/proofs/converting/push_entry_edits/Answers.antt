@@ -27,7 +27,8 @@ returns c =
     } in
     let missing_is : missing ≡ missing_type dialect kind e.fields =
     c.missing_type-missing.ensures ∙ ap (λ fs. missing_type dialect kind (map field_of fs)) c.deref-2.ensures.value in
-    let other_is : lent_text c.in_ok-other.other ≡ type_for dialect kind (printed_of changes.printed) missing (stays_one (exchanged_by changes) e.fields) =
+    let other_is : lent_text c.in_ok-other.other
+    ≡ type_for dialect kind (printed_of changes.printed) missing (stays_one (exchanged_by changes) e.fields) =
     c.in_ok-other.ensures
     ∙ ap (λ fs. type_for dialect kind (printed_of changes.printed) missing (stays_one (exchanged_by changes) (map field_of fs)))
     c.deref-3.ensures.value in
