@@ -371,7 +371,10 @@ refuses() {
 refuses 'no such key' 1 $'bibkit: two.bib: z: title: no entry has the key\n' set z title=A -f two.bib
 refuses 'no such key, after an edit that is made' 1 $'bibkit: two.bib: z: no entry has the key\n' remove a z -f two.bib
 refuses 'a key that is there' 1 $'bibkit: two.bib: a to b: an entry has the key already\n' rename a b -f two.bib
-refuses 'no key' 1 $'bibkit: two.bib: a to b c: the text can\'t be a key\n' rename a 'b c' -f two.bib
+no_key=$': a key for BibTeX, Biber and bibtool isn\'t empty, and has no white space, comma, quote, brace, parenthesis, `--` or any of # $ % = \\ ~\n'
+refuses 'no key' 1 "bibkit: two.bib: a to b c$no_key" rename a 'b c' -f two.bib
+refuses 'a key that Biber cuts' 1 "bibkit: two.bib: a to o'hara$no_key" rename a "o'hara" -f two.bib
+refuses 'a key of another entry in another case' 1 $'bibkit: two.bib: a to B: an entry has the key already\n' rename a B -f two.bib
 refuses 'no name of a field' 1 $'bibkit: two.bib: a: a b: the text can\'t be the name of a field\n' set a 'a b=c' -f two.bib
 refuses 'no value' 1 $'bibkit: two.bib: a: title: the value can\'t stand between braces\n' set a 'title=}' -f two.bib
 refuses 'a value that is not closed' 1 $'bibkit: two.bib: a: title: the value can\'t stand between braces\n' set a 'title=a\' -f two.bib

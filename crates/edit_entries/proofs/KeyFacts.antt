@@ -1,15 +1,20 @@
 -- Facts on the keys of entries as a set.
-use Rattle.std.proofs.Common.{◌≡◌, ◌+◌, ◌<◌, ℕ, Bool, true, false, List, [], ◌∷◌, ◌++◌, Option, Some, None, length, map, take, get_or, refl, sym, ap, ◌∙◌, cond, subst}
-use Rattle.std.specs.Prelude.{MatchBool, bytes_eq, is_some}
+use Rattle.std.proofs.Common.{◌≡◌, ◌+◌, ◌<◌, ℕ, Bool, true, false, List, [], ◌∷◌, ◌++◌, Option, Some, None, length, map, take, get_or, refl, sym, ap, ◌∙◌, cond, subst, arith}
+use Rattle.std.specs.Prelude.{MatchBool, bytes_eq, is_some, not, ◌==◌}
 use Rattle.std.specs.Bool.{OnFalse, OnTrue}
 use Rattle.std.specs.List.{AllByRecursion}
+use Rattle.std.proofs.lemmas.Bool.{and_parts, eqb-true}
 use Rattle.std.proofs.lemmas.List.{map-append, take_more}
+use Rattle.bib_text.specs.Places.{Place, Run}
+use Rattle.bib_text.specs.Places.Run.{stop, step}
+use Rattle.bib_syntax.specs.Characters.{is_key}
 use Rattle.bib_syntax.specs.Reading.{EntryReading}
 use Rattle.bib_syntax.specs.Views.{entry_reading_of}
 use Rattle.bib_syntax.specs.declared.raw.RawEntry.{RawEntry}
 use Rattle.bib_text.specs.declared.spanned.Spanned.{Spanned}
-use Rattle.edit_entries.specs.Documents.{first_position, is_keyed, next_index}
+use Rattle.edit_entries.specs.Documents.{CanBeKey, first_position, is_keyed, next_index}
 use Rattle.edit_entries.specs.Keys.{NoneHasKeyOf}
+use Rattle.edit_entries.specs.NewNames.{CanBeNewKey, is_new_key, is_special}
 
 some_next : (o : Option ℕ) → is_some (next_index o) ≡ is_some o
 some_next None = refl
@@ -87,3 +92,26 @@ on_false_more P Q false more is = more is
 pub on_no : (P Q : Type 0) (answer : Bool) → answer ≡ false → MatchBool answer P Q → Q
 on_no P Q true is known = absurd (let clash : true ≡ false = is in cc)
 on_no P Q false is known = known
+
+-- what is known where the answer is yes
+pub on_yes : (P Q : Type 0) (answer : Bool) → answer ≡ true → MatchBool answer P Q → P
+on_yes P Q true is known = known
+on_yes P Q false is known = absurd (let clash : true ≡ false = sym is in cc)
+
+-- a text that is empty, and one that isn't
+pub empty_text : (text : List ℕ) (is_empty : Bool) → is_empty ≡ (length text == 0) → is_empty ≡ true → 0 < length text → ⊥
+empty_text text is_empty is empty some =
+    let none : length text ≡ 0 = eqb-true (length text) 0 (sym is ∙ empty) in
+    absurd (omega (arith, none, some))
+
+pub some_text : (text : List ℕ) (is_empty : Bool) → is_empty ≡ (length text == 0) → is_empty ≡ false → 0 < length text
+some_text [] is_empty is filled = absurd (cc)
+some_text (b ∷ text) is_empty is filled = omega arith
+
+-- a new key is a key
+key_run : {u v : Place} → Run is_new_key u v → Run is_key u v
+key_run stop = stop
+key_run (step {c = c} char passes rest) = step char (and_parts (is_key c) (not (is_special c)) passes).0 (key_run rest)
+
+pub key_of_new : (text : List ℕ) → CanBeNewKey text → CanBeKey text
+key_of_new text can = record { some = can.some; run = key_run can.run }

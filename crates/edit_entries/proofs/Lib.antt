@@ -34,6 +34,7 @@ pub mod SetLawFacts
 pub mod SplitFacts
 pub mod StandsFacts
 pub mod StretchFacts
+mod TakenFacts
 pub mod TrimFacts
 pub mod TrimmedFacts
 pub mod UnsetFacts

@@ -1,6 +1,6 @@
 -- The changes that rename a key are of pieces that stand one after another.
 use Rattle.std.proofs.Common.{◌≡◌, ◌⊎◌, inl, inr, ℕ, zero, suc, ◌+◌, ◌<◌, ◌≤◌, Bool, true, false, cond, List, [], ◌∷◌, ◌++◌, length, map, refl, sym, ap, ◌∙◌, subst, arith, append-nil, Option, Some, None, Result, Ok, Err}
-use Rattle.std.specs.Prelude.{◌==◌, IfErr, IfOk, bytes_eq, is_some, slice_get}
+use Rattle.std.specs.Prelude.{◌==◌, IfErr, IfOk, bytes_eq, slice_get}
 use Rattle.std.specs.List.{AllByRecursion}
 use Rattle.std.specs.Str.{IsCharBoundary}
 use Rattle.std.proofs.lemmas.Bool.{eqb-true}
@@ -14,8 +14,9 @@ use Rattle.bib_syntax.specs.Grammar.{File as file}
 use Rattle.bib_syntax.proofs.FieldFacts.{ahead_elements, ahead_field, ahead_gap, ahead_identifier}
 use Rattle.bib_syntax.proofs.FileFacts.{ahead_block, ahead_head, ahead_line_comment}
 use Rattle.edit_entries.specs.Edits.{edited_all}
-use Rattle.edit_entries.specs.Documents.{CanBeKey, Document, HasEntry, IsDocument, IsEdited, first_position, is_keyed, next_index}
-use Rattle.edit_entries.specs.References.{CanBeMade, Change, IsKeyOfAnother, KeyRenamed, RenameIsRefused, change_edit, key_change, reference_changes, renamed_value, renaming, value_change}
+use Rattle.edit_entries.specs.Documents.{Document, HasEntry, IsDocument, IsEdited, first_position, is_keyed, next_index}
+use Rattle.edit_entries.specs.NewNames.{CanBeNewKey, IsNameTaken}
+use Rattle.edit_entries.specs.References.{CanBeMade, Change, KeyRenamed, RenameIsRefused, change_edit, key_change, reference_changes, renamed_value, renaming, value_change}
 use Rattle.edit_entries.specs.Stretches.{AreChangesInOrder, AreEntriesPlaced, EndsInWhite, change_end, change_start}
 use Rattle.edit_entries.specs.declared.errors.EditError.{EditError}
 use Rattle.edit_entries.specs.declared.errors.EditError.TheVariants.{NotInBraces, OutOfMemory}
@@ -174,28 +175,28 @@ apart_of d at end (Change.value f new ∷ changes) read pieces order =
 -- ---- a key is renamed
 
 -- the entry whose key is renamed has a key of some bytes
-named_some : (d : Document) (old : List ℕ) (k : ℕ) (e : EntryReading) → IsDocument d → HasEntry d old k e → CanBeKey old
+named_some : (d : Document) (old : List ℕ) (k : ℕ) (e : EntryReading) → IsDocument d → HasEntry d old k e → 0 < length old
     → (m : ℕ) (x : EntryReading) → slice_get d.says.entries m ≡ Some x → (m == k) ≡ true → x.key.start < x.key.end
-named_some d old k e read entry can m x found same =
+named_some d old k e read entry some m x found same =
     let at : m ≡ k = eqb-true m k same in
     let is : Some x ≡ Some e = sym found ∙ ap (slice_get d.says.entries) at ∙ entry.here in
     let x_is : x ≡ e = cc in
     let key : e.key.text ≡ old =
     (bytes_eq-Decides e.key.text old).0 (first_passes (is_keyed old) d.says.entries k e entry.first entry.here) in
-    subst (λ y. y.key.start < y.key.end) (sym x_is) (key_some d k e read entry.here (omega (arith, can.some, ap length key)))
+    subst (λ y. y.key.start < y.key.end) (sym x_is) (key_some d k e read entry.here (omega (arith, some, ap length key)))
 
 pieces_known : (d : Document) (old new : List ℕ) (k : ℕ) (e : EntryReading) → IsDocument d → HasEntry d old k e
-    → CanBeKey old → AllByRecursion (IsPieceOf d) (renaming old new k 0 d.says.entries)
-pieces_known d old new k e read entry can =
+    → 0 < length old → AllByRecursion (IsPieceOf d) (renaming old new k 0 d.says.entries)
+pieces_known d old new k e read entry some =
     renaming_pieces d old new k 0 d.says.entries
     (λ i x found. let same : i ≡ 0 + i = omega arith in subst (λ n. slice_get d.says.entries n ≡ Some x) same found)
-    (named_some d old k e read entry can)
+    (named_some d old k e read entry some)
 
 pub apart_known : (d : Document) (old new : List ℕ) (k : ℕ) (e : EntryReading) → IsDocument d → HasEntry d old k e
-    → CanBeKey old → AreChangesInOrder d.text 0 (renaming old new k 0 d.says.entries)
-apart_known d old new k e read entry can =
+    → 0 < length old → AreChangesInOrder d.text 0 (renaming old new k 0 d.says.entries)
+apart_known d old new k e read entry some =
     let order = file_ordered old new k 0 read in
-    apart_of d 0 order.0 (renaming old new k 0 d.says.entries) read (pieces_known d old new k e read entry can) order.1
+    apart_of d 0 order.0 (renaming old new k 0 d.says.entries) read (pieces_known d old new k e read entry some) order.1
 
 pub entries_placed : (d : Document) → IsDocument d → AreEntriesPlaced d.text d.says.entries
 entries_placed d read k e here j f there = field_placed d k e j f read here there
@@ -214,17 +215,21 @@ first_there test (e ∷ es) (suc k) found = first_there test es k (later (test e
 
 -- a key was renamed
 pub key_renamed : {S : Type 0} (bytes : S → List ℕ) (d : Document) (old new : List ℕ) (k : ℕ) (e : EntryReading)
-    (text : S) → IsDocument d → HasEntry d old k e → CanBeKey old
-    → first_position (is_keyed new) d.says.entries ≡ None
-    → AllByRecursion CanBeMade (renaming old new k 0 d.says.entries)
+    (text : S) → IsDocument d → HasEntry d old k e → 0 < length old → bytes_eq old new ≡ false → CanBeNewKey new
+    → (IsNameTaken d.says.entries k new → ⊥) → AllByRecursion CanBeMade (renaming old new k 0 d.says.entries)
     → AllByRecursion (EndsInWhite d.text) (renaming old new k 0 d.says.entries)
     → bytes text ≡ edited_all (map (change_edit d.text) (renaming old new k 0 d.says.entries)) d.text
     → IsEdited (KeyRenamed d old new) (bytes text)
-key_renamed bytes d old new k e text read entry can_old free can white is =
+key_renamed bytes d old new k e text read entry some other key free can white is =
     let made =
-    all_made d 0 (renaming old new k 0 d.says.entries) read (apart_known d old new k e read entry can_old)
-    (pieces_known d old new k e read entry can_old) can white in
-    record { document = made.after; outcome = KeyRenamed.renamed entry free made.changed; is = is ∙ sym made.text; read = made.read }
+    all_made d 0 (renaming old new k 0 d.says.entries) read (apart_known d old new k e read entry some)
+    (pieces_known d old new k e read entry some) can white in
+    record {
+      document = made.after;
+      outcome = KeyRenamed.renamed entry other key free made.changed;
+      is = is ∙ sym made.text;
+      read = made.read;
+    }
 
 -- the entry whose key was looked up
 pub entry_found : (d : Document) (listed : List EntryReading) (key : List ℕ) (k : ℕ) → listed ≡ d.says.entries
@@ -235,25 +240,18 @@ entry_found d listed key k same first =
     let found = first_there (is_keyed key) d.says.entries k first' in
     (found.0, record { first = first'; here = found.1 })
 
-pub is_taken : (d : Document) (listed : List EntryReading) (old new : List ℕ) (o : Option ℕ) → listed ≡ d.says.entries
-    → o ≡ first_position (is_keyed new) listed → is_some o ≡ true → bytes_eq old new ≡ false → IsKeyOfAnother d old new
-is_taken d listed old new None same is some other = absurd (let clash : false ≡ true = some in cc)
-is_taken d listed old new (Some k) same is some other =
-    let found = entry_found d listed new k same (sym is) in
-    record { index = k; entry = found.0; has = found.1; other = other }
-
 -- what the call that renames a key answers
 pub renamed_answer : {S : Type 0} (bytes : S → List ℕ) (d : Document) (listed : List EntryReading) (old new : List ℕ)
     (k : ℕ) (e : EntryReading) (r : Result S EditError) → IsDocument d → listed ≡ d.says.entries
-    → HasEntry d old k e → CanBeKey old
-    → first_position (is_keyed new) d.says.entries ≡ None
+    → HasEntry d old k e → 0 < length old → bytes_eq old new ≡ false → CanBeNewKey new
+    → (IsNameTaken d.says.entries k new → ⊥)
     → IfOk r (λ made. bytes made ≡ edited_all (map (change_edit d.text) (renaming old new k 0 listed)) d.text)
     → IfOk r (λ _. AllByRecursion CanBeMade (renaming old new k 0 listed))
     → IfOk r (λ _. AllByRecursion (EndsInWhite d.text) (renaming old new k 0 listed))
     → IfOk r (λ made. IsEdited (KeyRenamed d old new) (bytes made))
-renamed_answer bytes d listed old new k e (Err error) read same entry can_old free text can white = _
-renamed_answer bytes d listed old new k e (Ok made) read same entry can_old free text can white =
-    key_renamed bytes d old new k e made read entry can_old free
+renamed_answer bytes d listed old new k e (Err error) read same entry some other key free text can white = _
+renamed_answer bytes d listed old new k e (Ok made) read same entry some other key free text can white =
+    key_renamed bytes d old new k e made read entry some other key free
     (subst (λ es. AllByRecursion CanBeMade (renaming old new k 0 es)) same can)
     (subst (λ es. AllByRecursion (EndsInWhite d.text) (renaming old new k 0 es)) same white)
     (subst (λ es. bytes made ≡ edited_all (map (change_edit d.text) (renaming old new k 0 es)) d.text) same text)

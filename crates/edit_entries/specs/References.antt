@@ -1,6 +1,6 @@
 -- Meaning: words of public contracts.
 -- References to the keys of entries, and what comes of renaming a key: the entry has the new one, and so has each reference.
-use Rattle.std.specs.Prelude.{◌≡◌, ℕ, suc, ◌-◌, ◌==◌, Bool, true, false, if◌then◌else◌, List, [], ◌∷◌, ◌++◌, length, take, drop, Option, Some, None, bytes_eq, slice_get, ⊤}
+use Rattle.std.specs.Prelude.{◌≡◌, ℕ, suc, ◌-◌, ◌<◌, ◌==◌, Bool, true, false, if◌then◌else◌, List, [], ◌∷◌, ◌++◌, length, take, drop, Option, Some, None, bytes_eq, slice_get, ⊤}
 use Rattle.std.specs.List.{AllByRecursion, flat_map, join_by, list_any, slice_split}
 use Rattle.std.specs.Str.{trim, trim_end, trim_start}
 use Rattle.bib_text.specs.Characters as char
@@ -9,6 +9,7 @@ use Rattle.bib_syntax.specs.Reading.Piece.{literal, abbreviation}
 use Rattle.bib_tables.specs.ReferenceFields.{is_reference_field}
 use Rattle.edit_entries.specs.Documents.{CanBeKey, CanStandInBraces, Document, HasEntry, entry_renamed, first_position, is_keyed, value_changed, value_edit}
 use Rattle.edit_entries.specs.Edits.{Edit}
+use Rattle.edit_entries.specs.NewNames.{CanBeNewKey, IsNameTaken}
 use Rattle.edit_entries.specs.declared.errors.EditError.{EditError}
 use Rattle.edit_entries.specs.declared.errors.EditError.TheVariants.{UnknownKey, KeyIsThere, NotAKey, NotAName, NotInBraces, OutOfMemory}
 
@@ -93,20 +94,26 @@ pub data Changed (d : Document) : List Change → Document → Type 0 where
       → Changed d changes after → slice_get after.says.entries k ≡ Some e → slice_get e.fields j ≡ Some f
       → Changed d (Change.value f new ∷ changes) (value_changed after k e j f new)
 
--- what comes of renaming a key: nothing changes where it is the key already, else the entry has the new one, and so has each
--- reference to the old
+-- the outcome of renaming a key: nothing changes if it is the key already; else the entry has the new key, which can be one and is no
+-- name of another entry, and so has each reference to the old
 pub data KeyRenamed (d : Document) (old new : List ℕ) : Document → Type 0 where
   same : {k : ℕ} {e : EntryReading} → HasEntry d old k e → bytes_eq old new ≡ true → KeyRenamed d old new d
-  renamed : {k : ℕ} {e : EntryReading} {after : Document} → HasEntry d old k e
-      → first_position (is_keyed new) d.says.entries ≡ None → Changed d (renaming old new k 0 d.says.entries) after
+  renamed : {k : ℕ} {e : EntryReading} {after : Document} → HasEntry d old k e → bytes_eq old new ≡ false → CanBeNewKey new
+      → (IsNameTaken d.says.entries k new → ⊥) → Changed d (renaming old new k 0 d.says.entries) after
       → KeyRenamed d old new after
 
--- another entry has a key already
-pub record IsKeyOfAnother (d : Document) (old new : List ℕ) : Type 0 where
+-- a key is to be renamed to another text, which is a name of another entry or an alias of this one
+pub record IsNewNameTaken (d : Document) (old new : List ℕ) : Type 0 where
   pub index : ℕ
   pub entry : EntryReading
-  pub has : HasEntry d new index entry
+  pub has : HasEntry d old index entry
   pub other : bytes_eq old new ≡ false
+  pub taken : IsNameTaken d.says.entries index new
+
+-- a key is to be renamed to another text: the key is empty, or the text can't be a new key
+pub record IsNoNewKey (old new : List ℕ) : Type 0 where
+  pub other : bytes_eq old new ≡ false
+  pub cant : 0 < length old → CanBeNewKey new → ⊥
 
 -- a reference with the new key can't stand between braces
 pub record CantBeWritten (d : Document) (old new : List ℕ) : Type 0 where
@@ -118,8 +125,8 @@ pub record CantBeWritten (d : Document) (old new : List ℕ) : Type 0 where
 -- why renaming a key is refused
 abbrev pub RenameIsRefused : Document → List ℕ → List ℕ → EditError → Type 0
 RenameIsRefused d old new UnknownKey = first_position (is_keyed old) d.says.entries ≡ None
-RenameIsRefused d old new KeyIsThere = IsKeyOfAnother d old new
-RenameIsRefused d old new NotAKey = CanBeKey old → CanBeKey new → ⊥
+RenameIsRefused d old new KeyIsThere = IsNewNameTaken d old new
+RenameIsRefused d old new NotAKey = IsNoNewKey old new
 RenameIsRefused d old new NotAName = ⊥
 RenameIsRefused d old new NotInBraces = CantBeWritten d old new
 RenameIsRefused d old new OutOfMemory = ⊤

@@ -26,4 +26,5 @@ mod references;
 mod removing;
 mod renaming;
 mod setting;
+mod taken;
 pub mod values;
