@@ -6,6 +6,7 @@ pub mod ChangeListFacts
 pub mod ChangedFacts
 pub mod ChangesFacts
 pub mod CutFacts
+mod DefinitionFacts
 pub mod EditFacts
 pub mod ElementFacts
 pub mod ElementStandsFacts
@@ -17,6 +18,7 @@ mod KeyFacts
 pub mod KindFacts
 pub mod MadeFacts
 pub mod MovedFacts
+mod NameSetFacts
 pub mod NameStandsFacts
 pub mod NewFieldFacts
 pub mod NewValueFacts

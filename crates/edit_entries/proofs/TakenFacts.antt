@@ -1,5 +1,5 @@
 -- Facts on the names that entries have already.
-use Rattle.std.proofs.Common.{◌≡◌, ◌⊎◌, inl, inr, ℕ, zero, suc, ◌+◌, ◌<◌, Bool, true, false, List, [], ◌∷◌, length, map, get_or, Some, refl, sym, ap, ◌∙◌, subst, arith}
+use Rattle.std.proofs.Common.{◌≡◌, ◌⊎◌, inl, inr, ℕ, zero, suc, ◌+◌, ◌<◌, true, false, List, [], ◌∷◌, length, map, get_or, Some, refl, sym, ap, ◌∙◌, subst, arith}
 use Rattle.std.specs.Prelude.{slice_get, ◌==◌}
 use Rattle.bib_syntax.specs.Reading.{EntryReading}
 use Rattle.bib_text.proofs.ListFacts.{some_same}
@@ -16,7 +16,7 @@ below_or_same (suc j) (suc i) below =
       | inr same ↦ inr (ap suc same)
     ]
 
-within_of : {B : Type 0} (xs : List B) (j : ℕ) (b : B) → slice_get xs j ≡ Some b → j < length xs
+pub within_of : {B : Type 0} (xs : List B) (j : ℕ) (b : B) → slice_get xs j ≡ Some b → j < length xs
 within_of [] j b here = absurd (cc)
 within_of (x ∷ xs) zero b here = omega arith
 within_of (x ∷ xs) (suc j) b here = let less = within_of xs j b here in omega (arith, less)

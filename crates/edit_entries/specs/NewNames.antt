@@ -1,6 +1,6 @@
 -- Meaning: words of public contracts.
 -- New keys of entries: what they may contain, and the names that entries have already.
-use Rattle.std.specs.Prelude.{◌≡◌, ℕ, ◌<◌, Bool, true, false, not, ◌&&◌, ◌||◌, ◌==◌, if◌then◌else◌, List, length, codes, Some, bytes_eq, slice_get}
+use Rattle.std.specs.Prelude.{◌≡◌, ℕ, ◌<◌, Bool, true, not, ◌&&◌, ◌||◌, ◌==◌, if◌then◌else◌, List, length, codes, Some, slice_get}
 use Rattle.std.specs.List.{list_any}
 use Rattle.std.specs.Str.Iter.{HasSubslice}
 use Rattle.bib_text.specs.Characters as char
@@ -8,18 +8,19 @@ use Rattle.bib_text.specs.Places.{Run, place}
 use Rattle.bib_syntax.specs.Characters.{is_key}
 use Rattle.bib_syntax.specs.Grammar.{is_word}
 use Rattle.bib_syntax.specs.Reading.{EntryReading}
+use Rattle.bib_queries.specs.Known.{all_names}
 use Rattle.bib_queries.specs.Names.{aliases_of, entry_names}
 
 -- whether `c` is one of  " # $ % ' ( ) = \ { ~
-abbrev pub is_special : ℕ → Bool
-is_special c =
+abbrev pub is_unsafe_in_key : ℕ → Bool
+is_unsafe_in_key c =
     c == char.quote || c == char.hash || c == char.dollar || c == char.percent || c == char.apostrophe
     || c == char.open_parenthesis || c == char.close_parenthesis || c == char.equals || c == char.backslash
     || c == char.open_brace || c == char.tilde
 
--- whether `c` is allowed in a new key: any character of a key that isn't special
+-- whether `c` is allowed in a new key: any character of a key that is none of these
 abbrev pub is_new_key : ℕ → Bool
-is_new_key c = is_key c && not (is_special c)
+is_new_key c = is_key c && not (is_unsafe_in_key c)
 
 -- a text can be a new key: BibTeX, Biber and bibtool read it as one, and a reference to it is read as it is written
 pub record CanBeNewKey (text : List ℕ) : Type 0 where
@@ -41,3 +42,6 @@ pub record IsNameTaken (entries : List EntryReading) (replaced : ℕ) (name : Li
   pub entry : EntryReading
   pub here : slice_get entries index ≡ Some entry
   pub has : has_word (kept_names (index == replaced) entry) name ≡ true
+-- whether an entry has a name of one of these entries, in any ASCII case
+abbrev pub shares_name : List EntryReading → EntryReading → Bool
+shares_name entries e = list_any (has_word (all_names entries)) (entry_names e)

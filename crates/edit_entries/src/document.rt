@@ -10,8 +10,9 @@ ghost use Rattle.edit_entries.specs.Documents.{Document, EntriesAdded, EntriesAr
 ghost use Rattle.edit_entries.specs.References.{KeyRenamed, RenameIsRefused};
 
 use crate::adding::with_field;
+use crate::definitions::agree_on_definitions;
 use crate::errors::EditError;
-use crate::joining::{joined, shares_key};
+use crate::joining::{joined, shares_name};
 use crate::keys::can_be_new_key;
 use crate::lookup::{entry_index, entry_with, field_with};
 use crate::removing::{without_entry, without_fields};
@@ -141,14 +142,22 @@ impl<'s> RawDocument<'s> {
         with_key_renamed(alloc, self.text, &self.raw.entries, index, old, new)
     }
 
-    /// The text with that of another document after it, in a line of its own. Refused where an entry has the key of one of the
-    /// other's.
+    /// Returns the text, a line feed, and the text of another document. The edit is refused if an entry of the other document has a
+    /// name, in any ASCII case, of an entry of this one or of an earlier entry of the other, or if both documents define an
+    /// abbreviation, in any ASCII case, with different values. The names of an entry are its key and the names in its field `ids`.
     pub fn add_entries(&self, alloc: Global, more: &RawDocument<'_>) -> Result<String, EditError>
         ensures added { IfOk result (λ text. IsEdited (EntriesAdded self.now more.now) (string_bytes text)) }
         ensures refused { IfErr result (EntriesAreRefused self.now more.now) }
     {
-        if shares_key(alloc, &self.raw.entries, &more.raw.entries)? {
+        if shares_name(alloc, &self.raw.entries, &more.raw.entries)? {
             return Err(EditError::KeyIsThere);
+        }
+        if !agree_on_definitions(
+            alloc,
+            &self.raw.abbreviations,
+            &more.raw.abbreviations,
+        )? {
+            return Err(EditError::DefinitionIsThere);
         }
         Ok(joined(alloc, self.text, more.text)?)
     }

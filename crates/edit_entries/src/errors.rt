@@ -26,6 +26,9 @@ pub enum EditError {
     /// The value can't stand between braces: a brace isn't closed, or closes nothing, or a backslash hides the last brace.
     #[error("the value can't stand between braces")]
     NotInBraces,
+    /// An abbreviation is defined already, in any ASCII case, with another text: every use of it would be read anew.
+    #[error("an abbreviation is defined already with another text")]
+    DefinitionIsThere,
     /// There was no memory.
     #[error("out of memory")]
     OutOfMemory,

@@ -14,6 +14,7 @@
 
 mod adding;
 mod braces;
+mod definitions;
 pub mod document;
 pub mod editing;
 pub mod errors;

@@ -1,4 +1,4 @@
-use Rattle.std.proofs.Common.{◌∙◌, ℕ, List, true, [], cond, get_or, ap₂, sym, arith}
+use Rattle.std.proofs.Common.{◌∙◌, ℕ, List, true, [], cond, ap₂, sym, arith}
 use Rattle.std.specs.Borrow.{Bor}
 use Rattle.bib_syntax.specs.Grammar.{is_word}
 use Rattle.bib_queries.proofs.MarkFacts.{any_at, any_more}
