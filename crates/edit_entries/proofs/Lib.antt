@@ -37,6 +37,7 @@ pub mod SplitFacts
 pub mod StandsFacts
 pub mod StretchFacts
 mod TakenFacts
+mod TargetFacts
 pub mod TrimFacts
 pub mod TrimmedFacts
 pub mod UnsetFacts

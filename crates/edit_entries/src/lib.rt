@@ -28,4 +28,5 @@ mod removing;
 mod renaming;
 mod setting;
 mod taken;
+mod targets;
 pub mod values;

@@ -4,7 +4,7 @@ use Rattle.std.specs.String.{string_bytes}
 use Rattle.bib_syntax.specs.Views.{entry_reading_of, file_of}
 use Rattle.edit_entries.specs.Documents.{Document, IsEdited}
 use Rattle.edit_entries.specs.NewNames.{IsNameTaken}
-use Rattle.edit_entries.specs.References.{IsNewNameTaken, KeyRenamed, RenameIsRefused, renaming}
+use Rattle.edit_entries.specs.References.{IsNewNameTaken, KeyRenamed, RenameIsRefused, key_renaming}
 use Rattle.edit_entries.specs.Stretches.{AreChangesInOrder, AreEntriesPlaced}
 use Rattle.edit_entries.proofs.KeyFacts.{empty_text, key_of_new, on_no, on_yes, some_text}
 use Rattle.edit_entries.proofs.RenamingFacts.{apart_known, entries_placed, entry_found, renamed_answer, renamed_refusal}
@@ -73,7 +73,7 @@ with_key_renamed-requires-clause-apart c =
     subst
     (λ es.
     AreChangesInOrder c.self.inside.text.now 0
-    (renaming c.args.old.now c.args.new.now c.in-Some.index 0 (map entry_reading_of es)))
+    (key_renaming c.args.old.now c.args.new.now c.in-Some.index (map entry_reading_of es)))
     (sym c.deref-3.ensures.value)
     (apart_known d c.args.old.now c.args.new.now c.in-Some.index found.0 c.self.invariant found.1
     (some_text c.args.old.now c.is_empty.result c.is_empty.ensures c.if-is_empty.false))
