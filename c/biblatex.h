@@ -24,11 +24,12 @@ enum biblatex_status {
     BIBLATEX_NOT_UTF8 = 2,
     BIBLATEX_REFUSED = 3,       /* the text has an error, which biblatex_lint reports, or no format has the number */
     BIBLATEX_OUT_OF_MEMORY = 4,
-    BIBLATEX_UNKNOWN_KEY = 5,   /* this status and the next four: why an edit is refused */
+    BIBLATEX_UNKNOWN_KEY = 5,   /* this status and the next five: why an edit is refused */
     BIBLATEX_KEY_IS_THERE = 6,
     BIBLATEX_NOT_A_KEY = 7,
     BIBLATEX_NOT_A_NAME = 8,
-    BIBLATEX_NOT_IN_BRACES = 9  /* the braces of the value or of the new key don't match, or a backslash escapes the last one */
+    BIBLATEX_NOT_IN_BRACES = 9, /* the braces of the value or of the new key don't match, or a backslash escapes the last one */
+    BIBLATEX_DEFINITION_IS_THERE = 10   /* an added abbreviation is defined already with another text */
 };
 
 /* The formats that biblatex_recover writes. */
@@ -85,7 +86,9 @@ uint32_t biblatex_set(const uint8_t *text, size_t length, const uint8_t *key, si
 uint32_t biblatex_unset(const uint8_t *text, size_t length, const uint8_t *key, size_t key_length, const
     uint8_t *name, size_t name_length, uint8_t *out, size_t capacity, size_t *size);
 
-/* Writes the text with another key for an entry, also in the references to it. */
+/* Writes the text with another key for an entry, also in the references to it. Returns BIBLATEX_KEY_IS_THERE if another entry has
+   the new key as its key or in its field `ids`, in any ASCII case, and BIBLATEX_NOT_A_KEY if BibTeX, Biber or bibtool wouldn't read
+   it. */
 uint32_t biblatex_rename(const uint8_t *text, size_t length, const uint8_t *old_key, size_t old_key_length,
     const uint8_t *new_key, size_t new_key_length, uint8_t *out, size_t capacity, size_t *size);
 
@@ -93,8 +96,9 @@ uint32_t biblatex_rename(const uint8_t *text, size_t length, const uint8_t *old_
 uint32_t biblatex_remove(const uint8_t *text, size_t length, const uint8_t *key, size_t key_length, uint8_t
     *out, size_t capacity, size_t *size);
 
-/* Writes the text, and `added` after it on a new line. Returns BIBLATEX_KEY_IS_THERE if an entry of `added` has the key of an
-   entry of the text. */
+/* Writes the text, and `added` after it on a new line. Returns BIBLATEX_KEY_IS_THERE if an entry of `added` has the key of another
+   entry, or a name in its field `ids`, in any ASCII case, and BIBLATEX_DEFINITION_IS_THERE if `added` defines an abbreviation of the
+   text with another value. */
 uint32_t biblatex_add(const uint8_t *text, size_t length, const uint8_t *added, size_t added_length, uint8_t *out, size_t capacity,
     size_t *size);
 

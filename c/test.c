@@ -78,6 +78,8 @@ static void check_edits(void)
     check(biblatex_rename(bytes(text), strlen(text), bytes("a"), 1, bytes("b"), 1, out, sizeof out, &size) == BIBLATEX_KEY_IS_THERE && size == 77,
           "a new key that is there");
     check(biblatex_rename(bytes(text), strlen(text), bytes("a"), 1, bytes("b c"), 3, out, sizeof out, &size) == BIBLATEX_NOT_A_KEY, "a new key that is none");
+    check(biblatex_rename(bytes(text), strlen(text), bytes("a"), 1, bytes("B"), 1, out, sizeof out, &size) == BIBLATEX_KEY_IS_THERE,
+          "a new key that is there in another case");
     check(biblatex_set(bytes(text), strlen(text), bytes("a"), 1, bytes("b c"), 3, bytes("U"), 1, out, sizeof out, &size) == BIBLATEX_NOT_A_NAME,
           "a name that is none");
     check(biblatex_set(bytes(text), strlen(text), bytes("a"), 1, bytes("note"), 4, bytes("U}"), 2, out, sizeof out, &size) == BIBLATEX_NOT_IN_BRACES,
@@ -96,6 +98,8 @@ static void check_addition(void)
     size = 77;
     check(biblatex_add(bytes(text), strlen(text), bytes(text), strlen(text), out, sizeof out, &size) == BIBLATEX_KEY_IS_THERE && size == 77,
           "an addition of a key that is there is refused");
+    check(biblatex_add(bytes("@string{s={x}}"), 14, bytes("@string{S={y}}"), 14, out, sizeof out, &size) == BIBLATEX_DEFINITION_IS_THERE && size == 77,
+          "an addition of another definition is refused");
     check(biblatex_add(bytes(text), strlen(text), bytes("@misc{b"), 7, out, sizeof out, &size) == BIBLATEX_REFUSED && size == 77,
           "an addition of a text with an error is refused");
 }
@@ -153,8 +157,8 @@ static void check_buffers(void)
     uint8_t words[64];
     static const char *const said[] = {"done", "the buffer is too short", "not UTF-8", "refused", "out of memory", "no entry has the key",
         "an entry has the key already", "the text can't be a key", "the text can't be the name of a field",
-        "the value can't stand between braces", "no status"};
-    for (uint32_t status = 0; status < 11; status++) {
+        "the value can't stand between braces", "an abbreviation is defined already with another text", "no status"};
+    for (uint32_t status = 0; status < 12; status++) {
         check(biblatex_message(status, words, sizeof words, &size) == BIBLATEX_DONE && size == strlen(said[status])
                   && memcmp(words, said[status], size) == 0, "the words of each status");
     }

@@ -65,10 +65,10 @@ def unset_field(text: Text, key: str, name: str) -> Text:
 def rename_key(text: Text, old: str, new: str) -> Text:
     """Returns the text with the key `old` replaced by `new`, also in each reference to it, for example in `crossref`.
 
-    Raises an `EditError` if no entry has the key `old`, if another entry has the key `new`, or if `new` isn't a valid
-    key. An empty key can't be renamed.
+    Raises an `EditError` if no entry has the key `old`, if another entry has the key `new`, or has it in its field `ids`, in
+    any ASCII case, or if BibTeX, Biber or bibtool wouldn't read the key `new`. An empty key can't be renamed.
     """
-    # each key of a file is valid, except the empty one: if `old` isn't empty, the status is about `new`
+    # each key of a file can be renamed, except the empty one: if `old` isn't empty, the status is about `new`
     refused = new if old else old
     why = {
         **_unknown_key(old),
@@ -92,16 +92,26 @@ def _keys(text: bytes) -> frozenset[str]:
     return frozenset(call("biblatex_keys", text, capacity=len(text) + 1).decode().split("\n")[:-1])
 
 
+def _why_not_added(status: Status, text: bytes, added: bytes) -> str:
+    if status == Status.DEFINITION_IS_THERE:
+        return "an abbreviation is defined already with another text"
+    common = _keys(text) & _keys(added)
+    if common:
+        return f"an entry has the key {min(common)!r} already"
+    return "an added entry has a name of another entry"
+
+
 def add_entries(text: Text, added: Text) -> Text:
     """Returns the text, and the text `added` after it on a new line.
 
-    Raises an `EditError` if both texts have an entry with the same key, or if `added` has a syntax error or isn't UTF-8.
+    Raises an `EditError` if an added entry has the key of another entry, or a name in its field `ids`, in any ASCII case, if
+    `added` defines an abbreviation of the text with another value, or if `added` has a syntax error or isn't UTF-8.
     """
     data, more = as_bytes(text), as_bytes(added)
     try:
         return _like(text, call("biblatex_add", data, more, capacity=len(data) + len(more) + 64))
-    except EditRefused:
-        raise EditError(f"an entry has the key {min(_keys(data) & _keys(more))!r} already") from None
+    except EditRefused as refusal:
+        raise EditError(_why_not_added(refusal.status, data, more)) from None
     except (NotUtf8, Refused):
         findings = findings_with(data, SYNTAX_CODES)
     if findings:

@@ -26,6 +26,7 @@ class Status(IntEnum):
     NOT_A_KEY = 7
     NOT_A_NAME = 8
     NOT_IN_BRACES = 9
+    DEFINITION_IS_THERE = 10
 
 
 class NotUtf8(Exception):
@@ -79,7 +80,7 @@ def _raise_unless_done(name: str, status: int) -> None:
         raise Refused
     if status == Status.OUT_OF_MEMORY:
         raise MemoryError
-    if Status.UNKNOWN_KEY <= status <= Status.NOT_IN_BRACES:
+    if Status.UNKNOWN_KEY <= status <= Status.DEFINITION_IS_THERE:
         raise EditRefused(Status(status))
     if status != Status.DONE:
         raise RuntimeError(f"{name} returned the unknown status {status}")

@@ -88,9 +88,18 @@ class Refusals(unittest.TestCase):
         self.refuses(biblatex.rename_key, BOTH, "a", "b", why="an entry has the key 'b' already")
         self.refuses(biblatex.rename_key, BOTH, "a", "c d", why="'c d' can't be a key")
         self.refuses(biblatex.rename_key, BOTH, "a", "", why="'' can't be a key")
-        self.refuses(biblatex.rename_key, BOTH, "a", "c{", why="'c{' can't stand in a reference")
+        self.refuses(biblatex.rename_key, BOTH, "a", "c{", why="'c{' can't be a key")
+        self.refuses(biblatex.rename_key, BOTH, "a", "B", why="an entry has the key 'B' already")
+        text = '@misc{a, related="a,{"}'
+        self.refuses(biblatex.rename_key, text, "a", "c", why="'c' can't stand in a reference")
         self.refuses(biblatex.rename_key, "@misc{,}", "", "a", why="'' can't be a key")
         self.refuses(biblatex.add_entries, BOTH, "@misc{c,}@misc{b,}", why="an entry has the key 'b' already")
+        self.refuses(biblatex.add_entries, BOTH, "@misc{c, ids={B}}", why="an added entry has a name of another entry")
+
+    def test_an_abbreviation_that_is_defined_already(self) -> None:
+        why = "an abbreviation is defined already with another text"
+        self.refuses(biblatex.add_entries, "@string{s={x}}", "@string{S={y}}", why=why)
+        self.assertEqual(biblatex.add_entries("@string{s={x}}", '@string{s="x"}'), '@string{s={x}}\n@string{s="x"}')
 
     def test_what_is_added_has_an_error(self) -> None:
         self.refuses(biblatex.add_entries, BOTH, "@misc{c", why="what is added can't be read: 1:8: expected comma")

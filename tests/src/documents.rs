@@ -17,6 +17,7 @@ fn refusal(error: EditError) -> &'static str {
         EditError::NotAKey => "refused: not a key",
         EditError::NotAName => "refused: not a name",
         EditError::NotInBraces => "refused: not in braces",
+        EditError::DefinitionIsThere => "refused: the definition is there",
         EditError::OutOfMemory => "refused: out of memory",
     }
 }

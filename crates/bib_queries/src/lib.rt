@@ -13,7 +13,7 @@ mod cited;
 pub mod excerpts;
 pub mod known;
 pub mod laws;
-mod names;
+pub mod names;
 mod needed;
 pub mod request;
 mod sets;

@@ -154,8 +154,8 @@ pub(crate) fn push_used_in_fields<'s>(
     Ok(())
 }
 
-// Returns the names of an entry: its key, and the names in its fields `ids`.
-pub(crate) fn entry_names<'s>(
+/// Returns the names of an entry: its key, and the names in its fields `ids`. The only error is out of memory.
+pub fn entry_names<'s>(
     alloc: Global,
     entry: &Spanned<RawEntry<'s>>,
 ) -> Result<Vec<&'s str>, AllocError>

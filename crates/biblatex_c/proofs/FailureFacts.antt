@@ -86,6 +86,12 @@ edit_fails Refuses' bytes others d edit_error.NotInBraces same read because = re
   read = read;
   refused = because;
 }
+edit_fails Refuses' bytes others d edit_error.DefinitionIsThere same read because = record {
+  document = d;
+  same = same;
+  read = read;
+  refused = because;
+}
 edit_fails Refuses' bytes others d edit_error.OutOfMemory same read because = tt
 
 -- if the grammar rejects the first text, adding may fail with the status of its error
@@ -104,8 +110,10 @@ pub add_fails : (bytes added : List ℕ) (d more : Document) (why : EditError) �
     → EntriesAreRefused d more why → AddFails bytes added (status_of_edit why)
 add_fails bytes added d more edit_error.UnknownKey same read same' read' because = absurd because
 add_fails bytes added d more edit_error.KeyIsThere same read same' read' because =
-    record { document = d; more = more; same = same; read = read; same_added = same'; read_added = read'; shared = because }
+    record { document = d; more = more; same = same; read = read; same_added = same'; read_added = read'; refused = because }
 add_fails bytes added d more edit_error.NotAKey same read same' read' because = absurd because
 add_fails bytes added d more edit_error.NotAName same read same' read' because = absurd because
 add_fails bytes added d more edit_error.NotInBraces same read same' read' because = absurd because
+add_fails bytes added d more edit_error.DefinitionIsThere same read same' read' because =
+    record { document = d; more = more; same = same; read = read; same_added = same'; read_added = read'; refused = because }
 add_fails bytes added d more edit_error.OutOfMemory same read same' read' because = tt

@@ -7,7 +7,7 @@ use Rattle.biblatex.specs.Headline.{IsAcceptedText, IsBibliographyOf}
 use Rattle.biblatex.specs.Syntax.{Bibliography, Entry, FileReading, IsFile, IsRawReading, entries_text}
 use Rattle.bib_queries.specs.Answers.{lines_of_keys}
 use Rattle.bibkit_convert.specs.Converted.{end, is_first_after, texts_after}
-use Rattle.edit_entries.specs.Documents.{Document, EntriesAdded, IsDocument, IsEdited, SharesNoKey}
+use Rattle.edit_entries.specs.Documents.{Document, EntriesAdded, EntriesAreRefused, IsDocument, IsEdited}
 use Rattle.edit_entries.specs.declared.errors.EditError.{EditError}
 use Rattle.edit_entries.specs.declared.errors.EditError.TheVariants as edit_error
 use Rattle.edit_format.specs.Formatted.{text_in_style}
@@ -20,7 +20,7 @@ use Rattle.bibkit_core.specs.declared.request.Style.TheVariants as style
 use Rattle.bibkit_core.specs.declared.tally.Tally.{Tally}
 use Rattle.biblatex_c.specs.Statuses.{status_number}
 use Rattle.biblatex_c.specs.declared.status.Status.{Status}
-use Rattle.biblatex_c.specs.declared.status.Status.TheVariants.{Done, TooShort, NotUtf8, Refused, OutOfMemory, UnknownKey, KeyIsThere, NotAKey, NotAName, NotInBraces}
+use Rattle.biblatex_c.specs.declared.status.Status.TheVariants.{Done, TooShort, NotUtf8, Refused, OutOfMemory, UnknownKey, KeyIsThere, NotAKey, NotAName, NotInBraces, DefinitionIsThere}
 
 -- a call on the buffer `out` and the size `size` leaves this buffer and this size, and returns this status. `Answers` says which
 -- bytes may be its result, and `Fails` with which statuses it may fail. A result that fits is at the start of the buffer, and the
@@ -122,28 +122,30 @@ EditFails Refuses text others KeyIsThere = IsRefusedFor Refuses text edit_error.
 EditFails Refuses text others NotAKey = IsRefusedFor Refuses text edit_error.NotAKey
 EditFails Refuses text others NotAName = IsRefusedFor Refuses text edit_error.NotAName
 EditFails Refuses text others NotInBraces = IsRefusedFor Refuses text edit_error.NotInBraces
+EditFails Refuses text others DefinitionIsThere = IsRefusedFor Refuses text edit_error.DefinitionIsThere
 
 -- the second document is the first with the document of the text `added` after it
 abbrev pub WithEntriesOf : List ℕ → Document → Document → Type 0
 WithEntriesOf added document new = (more : Document) × (more.text ≡ added) × IsDocument more × EntriesAdded document more new
 
--- an entry of the text `added` has the key of an entry of `text`
-pub record AreKeysShared (text added : List ℕ) : Type 0 where
+-- adding the document of the text `added` to that of `text` may be refused with the error `why`
+pub record IsAddingRefused (text added : List ℕ) (why : EditError) : Type 0 where
   pub document : Document
   pub more : Document
   pub same : document.text ≡ text
   pub read : IsDocument document
   pub same_added : more.text ≡ added
   pub read_added : IsDocument more
-  pub shared : SharesNoKey document more → ⊥
+  pub refused : EntriesAreRefused document more why
 
 -- adding the second text to the first may fail with this status: not UTF-8 only if one of them isn't, refused only if one of them
--- isn't a file of the grammar, out of memory always, key in use only if they share a key, and no other status
+-- isn't a file of the grammar, out of memory always, key or definition in use only if adding is refused for it, and no other status
 abbrev pub AddFails : List ℕ → List ℕ → Status → Type 0
 AddFails text added NotUtf8 = AllByRecursion IsUtf8 (text ∷ added ∷ []) → ⊥
 AddFails text added Refused = IsNoFile text ⊎ IsNoFile added
 AddFails text added OutOfMemory = ⊤
-AddFails text added KeyIsThere = AreKeysShared text added
+AddFails text added KeyIsThere = IsAddingRefused text added edit_error.KeyIsThere
+AddFails text added DefinitionIsThere = IsAddingRefused text added edit_error.DefinitionIsThere
 AddFails text added _ = ⊥
 
 -- `answer` is the document of `text` laid out in the default style

@@ -7,7 +7,7 @@ use Rattle.bib_syntax.specs.declared.raw.ParseError.{ParseError}
 use Rattle.bib_syntax.specs.declared.raw.ParseErrorKind.{ParseErrorKind}
 use Rattle.bib_syntax.specs.declared.raw.ParseErrorKind.TheVariants as kind
 use Rattle.biblatex_c.specs.declared.status.Status.{Status}
-use Rattle.biblatex_c.specs.declared.status.Status.TheVariants.{Done, TooShort, NotUtf8, Refused, OutOfMemory, UnknownKey, KeyIsThere, NotAKey, NotAName, NotInBraces}
+use Rattle.biblatex_c.specs.declared.status.Status.TheVariants.{Done, TooShort, NotUtf8, Refused, OutOfMemory, UnknownKey, KeyIsThere, NotAKey, NotAName, NotInBraces, DefinitionIsThere}
 
 -- the number of a status
 abbrev pub status_number : Status → ℕ
@@ -21,6 +21,7 @@ status_number KeyIsThere = 6
 status_number NotAKey = 7
 status_number NotAName = 8
 status_number NotInBraces = 9
+status_number DefinitionIsThere = 10
 
 -- the text of the status with a number, or "no status" if no status has it
 abbrev pub status_text : ℕ → List ℕ
@@ -35,6 +36,7 @@ status_text number =
     else if number == 7 then codes "the text can't be a key"
     else if number == 8 then codes "the text can't be the name of a field"
     else if number == 9 then codes "the value can't stand between braces"
+    else if number == status_number DefinitionIsThere then codes "an abbreviation is defined already with another text"
     else codes "no status"
 
 -- the status of a call whose text fails to parse with an error of this kind
@@ -53,4 +55,5 @@ status_of_edit edit_error.KeyIsThere = KeyIsThere
 status_of_edit edit_error.NotAKey = NotAKey
 status_of_edit edit_error.NotAName = NotAName
 status_of_edit edit_error.NotInBraces = NotInBraces
+status_of_edit edit_error.DefinitionIsThere = DefinitionIsThere
 status_of_edit edit_error.OutOfMemory = OutOfMemory

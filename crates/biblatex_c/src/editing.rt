@@ -111,7 +111,7 @@ fn rename_in(alloc: Global, text: &[u8], old: &[u8], new: &[u8]) -> Result<Strin
 }
 
 /// Writes the text with `new` as the key of the first entry `old`, also in the references to it. Returns `KeyIsThere` if
-/// another entry has the key `new`.
+/// another entry has the name `new`, in any ASCII case, and `NotAKey` if BibTeX, Biber or bibtool wouldn't read the key `new`.
 #[unsafe(no_mangle)]
 pub extern "C" fn biblatex_rename(
     alloc: Global,
@@ -164,8 +164,8 @@ fn add_to(alloc: Global, text: &[u8], added: &[u8]) -> Result<String, Status>
     Ok(document.add_entries(alloc, &more)?)
 }
 
-/// Writes the text, a line feed, and the text `added`. Returns `KeyIsThere` if an entry of `added` has the key of an entry of
-/// the text.
+/// Writes the text, a line feed, and the text `added`. Returns `KeyIsThere` if an entry of `added` has a name of another entry,
+/// in any ASCII case, and `DefinitionIsThere` if `added` defines an abbreviation of the text with another value.
 #[unsafe(no_mangle)]
 pub extern "C" fn biblatex_add(
     alloc: Global,

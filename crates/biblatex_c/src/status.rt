@@ -24,18 +24,20 @@ pub enum Status {
     OutOfMemory,
     /// No entry has the key.
     UnknownKey,
-    /// An entry has the key already.
+    /// Another entry has the key already, or a name of an added entry, in any ASCII case.
     KeyIsThere,
-    /// The text can't be a key.
+    /// The text can't be a new key.
     NotAKey,
     /// The text can't be a field name.
     NotAName,
     /// The value can't be written in braces.
     NotInBraces,
+    /// An added abbreviation is defined already with another text.
+    DefinitionIsThere,
 }
 
 impl Status {
-    /// Returns the number of the status, from 0 to 9, as c/biblatex.h lists them.
+    /// Returns the number of the status, from 0 to 10, as c/biblatex.h lists them.
     pub fn number(self) -> u32
         ensures { result ≡ spec.status_number self }
     {
@@ -50,6 +52,7 @@ impl Status {
             Status::NotAKey => 7,
             Status::NotAName => 8,
             Status::NotInBraces => 9,
+            Status::DefinitionIsThere => 10,
         }
     }
 }
@@ -69,6 +72,7 @@ fn text_of(number: u32) -> &'static str
         7 => "the text can't be a key",
         8 => "the text can't be the name of a field",
         9 => "the value can't stand between braces",
+        10 => "an abbreviation is defined already with another text",
         _ => "no status",
     }
 }
@@ -112,6 +116,7 @@ impl From<EditError> for Status {
             EditError::NotAKey => Status::NotAKey,
             EditError::NotAName => Status::NotAName,
             EditError::NotInBraces => Status::NotInBraces,
+            EditError::DefinitionIsThere => Status::DefinitionIsThere,
             EditError::OutOfMemory => Status::OutOfMemory,
         }
     }

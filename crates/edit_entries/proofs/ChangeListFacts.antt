@@ -37,58 +37,58 @@ refused_more P Q e part (inr braces) = inr (braces.0, λ all. braces.1 (part all
 
 -- ---- entries one after another
 
-pub renaming-append : (old new : List ℕ) (renamed index : ℕ) (xs ys : List EntryReading)
-    → renaming old new renamed index (xs ++ ys)
-    ≡ renaming old new renamed index xs ++ renaming old new renamed (index + length xs) ys
-renaming-append old new renamed index [] ys = let same : index ≡ index + 0 = omega arith in ap (λ i. renaming old new renamed i ys) same
-renaming-append old new renamed index (x ∷ xs) ys =
+pub renaming-append : (refers : List ℕ → Bool) (new : List ℕ) (renamed index : ℕ) (xs ys : List EntryReading)
+    → renaming refers new renamed index (xs ++ ys)
+    ≡ renaming refers new renamed index xs ++ renaming refers new renamed (index + length xs) ys
+renaming-append refers new renamed index [] ys = let same : index ≡ index + 0 = omega arith in ap (λ i. renaming refers new renamed i ys) same
+renaming-append refers new renamed index (x ∷ xs) ys =
     let same : suc index + length xs ≡ index + suc (length xs) = omega arith in
-    let here : List Change = key_change (index == renamed) x new ++ reference_changes old new x.fields in
+    let here : List Change = key_change (index == renamed) x new ++ reference_changes refers new x.fields in
     ap (λ l. here ++ l)
-    (renaming-append old new renamed (suc index) xs ys
-    ∙ ap (λ i. renaming old new renamed (suc index) xs ++ renaming old new renamed i ys) same)
-    ∙ sym (append_assoc here (renaming old new renamed (suc index) xs) (renaming old new renamed (index + suc (length xs)) ys))
+    (renaming-append refers new renamed (suc index) xs ys
+    ∙ ap (λ i. renaming refers new renamed (suc index) xs ++ renaming refers new renamed i ys) same)
+    ∙ sym (append_assoc here (renaming refers new renamed (suc index) xs) (renaming refers new renamed (index + suc (length xs)) ys))
 
-module _ {A : Type 0} (view : A → EntryReading) (old new : List ℕ) (renamed : ℕ) (xs : List A) (i : ℕ) (x : A)
+module _ {A : Type 0} (view : A → EntryReading) (refers : List ℕ → Bool) (new : List ℕ) (renamed : ℕ) (xs : List A) (i : ℕ) (x : A)
     (within : i < length xs) (is : x ≡ get_or xs i x) where
   size : length (map view (take i xs)) ≡ i
   size = length-map (take i xs) view ∙ length-take-le i xs (omega arith)
 
   here : List Change
-  here = key_change (i == renamed) (view x) new ++ reference_changes old new (view x).fields
+  here = key_change (i == renamed) (view x) new ++ reference_changes refers new (view x).fields
 
   -- those of some entries and one more
-  pub renaming_more : renaming old new renamed 0 (map view (take (i + 1) xs))
-      ≡ renaming old new renamed 0 (map view (take i xs))
-      ++ (key_change (i == renamed) (view x) new ++ reference_changes old new (view x).fields)
+  pub renaming_more : renaming refers new renamed 0 (map view (take (i + 1) xs))
+      ≡ renaming refers new renamed 0 (map view (take i xs))
+      ++ (key_change (i == renamed) (view x) new ++ reference_changes refers new (view x).fields)
   renaming_more =
       let index : 0 + length (map view (take i xs)) ≡ i = omega (arith, size) in
-      ap (renaming old new renamed 0)
+      ap (renaming refers new renamed 0)
       (ap (map view) (take_more xs i x within ∙ ap (λ y. take i xs ++ y ∷ []) (sym is))
       ∙ map-append view (take i xs) (x ∷ []))
-      ∙ renaming-append old new renamed 0 (map view (take i xs)) (view x ∷ [])
-      ∙ ap (λ n. renaming old new renamed 0 (map view (take i xs)) ++ renaming old new renamed n (view x ∷ [])) index
-      ∙ ap (λ l. renaming old new renamed 0 (map view (take i xs)) ++ l)
-      (append-nil (key_change (i == renamed) (view x) new ++ reference_changes old new (view x).fields))
+      ∙ renaming-append refers new renamed 0 (map view (take i xs)) (view x ∷ [])
+      ∙ ap (λ n. renaming refers new renamed 0 (map view (take i xs)) ++ renaming refers new renamed n (view x ∷ [])) index
+      ∙ ap (λ l. renaming refers new renamed 0 (map view (take i xs)) ++ l)
+      (append-nil (key_change (i == renamed) (view x) new ++ reference_changes refers new (view x).fields))
 
   -- those of one of some entries are among those of all
-  pub renaming_at : (P : Change → Type 0) → AllByRecursion P (renaming old new renamed 0 (map view xs))
-      → AllByRecursion P (reference_changes old new (view x).fields)
+  pub renaming_at : (P : Change → Type 0) → AllByRecursion P (renaming refers new renamed 0 (map view xs))
+      → AllByRecursion P (reference_changes refers new (view x).fields)
   renaming_at P all =
       let whole : map view xs ≡ map view (take (i + 1) xs) ++ map view (drop (i + 1) xs) =
       ap (map view) (sym (take-append-drop (i + 1) xs)) ∙ map-append view (take (i + 1) xs) (drop (i + 1) xs) in
       let cut =
-      ap (renaming old new renamed 0) whole
-      ∙ renaming-append old new renamed 0 (map view (take (i + 1) xs)) (map view (drop (i + 1) xs)) in
+      ap (renaming refers new renamed 0) whole
+      ∙ renaming-append refers new renamed 0 (map view (take (i + 1) xs)) (map view (drop (i + 1) xs)) in
       let upto =
-      all_left P (renaming old new renamed 0 (map view (take (i + 1) xs)))
-      (renaming old new renamed (0 + length (map view (take (i + 1) xs))) (map view (drop (i + 1) xs)))
+      all_left P (renaming refers new renamed 0 (map view (take (i + 1) xs)))
+      (renaming refers new renamed (0 + length (map view (take (i + 1) xs))) (map view (drop (i + 1) xs)))
       (subst (AllByRecursion P) cut all) in
       let last =
-      all_right P (renaming old new renamed 0 (map view (take i xs)))
-      (key_change (i == renamed) (view x) new ++ reference_changes old new (view x).fields)
+      all_right P (renaming refers new renamed 0 (map view (take i xs)))
+      (key_change (i == renamed) (view x) new ++ reference_changes refers new (view x).fields)
       (subst (AllByRecursion P) renaming_more upto) in
-      all_right P (key_change (i == renamed) (view x) new) (reference_changes old new (view x).fields) last
+      all_right P (key_change (i == renamed) (view x) new) (reference_changes refers new (view x).fields) last
 
 -- ---- changes as edits
 

@@ -1,9 +1,8 @@
 -- A text after another: what the two say, one after the other.
-use Rattle.std.proofs.Common.{◌≡◌, inl, inr, ℕ, ◌+◌, ◌-◌, ◌<◌, ◌≤◌, List, [], ◌∷◌, ◌++◌, length, take, drop, get_or, map, refl, sym, ap, ◌∙◌, subst, arith, length-append}
+use Rattle.std.proofs.Common.{◌≡◌, inl, inr, ℕ, ◌+◌, ◌-◌, ◌≤◌, List, [], ◌∷◌, ◌++◌, length, take, drop, map, refl, sym, ap, ◌∙◌, subst, arith, length-append}
 use Rattle.std.specs.Prelude.{◌==◌, not}
-use Rattle.std.specs.List.{AllByRecursion}
 use Rattle.std.proofs.lemmas.Bool.{cases_lt}
-use Rattle.std.proofs.lemmas.List.{drop_at, drop_more, map-append, take-append-drop, take_all, take_at}
+use Rattle.std.proofs.lemmas.List.{drop_at, take_all, take_at}
 use Rattle.bib_text.specs.Places.{Place, place, CharAt}
 use Rattle.bib_text.proofs.PlaceFacts.{ahead_char, ahead_run, char_left, stops_at}
 use Rattle.bib_syntax.specs.Reading.{Piece, FieldReading, EntryReading, FileReading, then}
@@ -163,20 +162,3 @@ documents_joined d more read reads =
     from second in
     file_first d.text more.text (moved_file (λ n. n + (length d.text + 1)) more.says)
     (inside_first d.text more.text refl (omega arith)) read second'
-
--- ---- keys
-
--- what holds of each of some holds of one of them
-pub all_at : {A : Type 0} (P : A → Type 0) (xs : List A) (x : A) (ys : List A) → AllByRecursion P (xs ++ x ∷ ys) → P x
-all_at P [] x ys all = all.0
-all_at P (y ∷ xs) x ys all = all_at P xs x ys all.1
-
-pub all_here : {A B : Type 0} (view : A → B) (P : B → Type 0) (xs : List A) (i : ℕ) (x : A) → i < length xs
-    → x ≡ get_or xs i x → AllByRecursion P (map view xs) → P (view x)
-all_here view P xs i x within is all =
-    let whole : xs ≡ take i xs ++ x ∷ drop (i + 1) xs =
-    sym (take-append-drop i xs)
-    ∙ ap (λ ys. take i xs ++ ys) (drop_more xs i x within ∙ ap (λ y. y ∷ drop (i + 1) xs) (sym is)) in
-    let cut : map view xs ≡ map view (take i xs) ++ view x ∷ map view (drop (i + 1) xs) =
-    ap (map view) whole ∙ map-append view (take i xs) (x ∷ drop (i + 1) xs) in
-    all_at P (map view (take i xs)) (view x) (map view (drop (i + 1) xs)) (subst (λ l. AllByRecursion P l) cut all)

@@ -7,6 +7,7 @@ pub mod ChangeListFacts
 pub mod ChangedFacts
 pub mod ChangesFacts
 pub mod CutFacts
+mod DefinitionFacts
 pub mod EditFacts
 pub mod ElementFacts
 pub mod ElementStandsFacts
@@ -18,6 +19,7 @@ mod KeyFacts
 pub mod KindFacts
 pub mod MadeFacts
 pub mod MovedFacts
+mod NameSetFacts
 pub mod NameStandsFacts
 pub mod NewFieldFacts
 pub mod NewValueFacts
@@ -35,6 +37,8 @@ pub mod SetLawFacts
 pub mod SplitFacts
 pub mod StandsFacts
 pub mod StretchFacts
+mod TakenFacts
+mod TargetFacts
 pub mod TrimFacts
 pub mod TrimmedFacts
 pub mod UnsetFacts

@@ -1,8 +1,8 @@
 -- Meaning: words of public contracts.
 -- A bibliography's text with what it says, and what an edit makes of the two.
-use Rattle.std.specs.Prelude.{◌≡◌, ℕ, suc, ◌+◌, ◌<◌, Bool, true, false, if◌then◌else◌, List, [], ◌∷◌, ◌++◌, length, map, Option, Some, None, bytes_eq, slice_get, slice_set, codes, ⊤}
+use Rattle.std.specs.Prelude.{◌≡◌, ℕ, suc, ◌+◌, ◌<◌, Bool, true, false, if◌then◌else◌, List, [], ◌∷◌, ◌++◌, length, map, Option, Some, None, bytes_eq, slice_get, slice_set, take, codes, ⊤}
 use Rattle.std.specs.Char.{is_whitespace}
-use Rattle.std.specs.List.{AllByRecursion, remove}
+use Rattle.std.specs.List.{remove}
 use Rattle.std.specs.Option.{option_map_or}
 use Rattle.std.specs.Str.{trim_end}
 use Rattle.bib_text.specs.Places.{CharAt, Longest, Place, Run, between, place}
@@ -12,8 +12,9 @@ use Rattle.bib_syntax.specs.Grammar.{Braced, Identifier, IsRawReading, is_word, 
 use Rattle.bib_syntax.specs.Reading.{Part, Piece, FieldReading, EntryReading, FileReading, then}
 use Rattle.bib_syntax.specs.Reading.Piece.{literal, abbreviation}
 use Rattle.edit_entries.specs.declared.errors.EditError.{EditError}
-use Rattle.edit_entries.specs.declared.errors.EditError.TheVariants.{UnknownKey, KeyIsThere, NotAKey, NotAName, NotInBraces, OutOfMemory}
-use Rattle.edit_entries.specs.Edits.{Edit, edited, moved_place, moved_field, moved_entry, moved_file}
+use Rattle.edit_entries.specs.declared.errors.EditError.TheVariants.{UnknownKey, KeyIsThere, NotAKey, NotAName, NotInBraces, DefinitionIsThere, OutOfMemory}
+use Rattle.edit_entries.specs.Edits.{Edit, edited, moved_place, moved_piece, moved_field, moved_entry, moved_file}
+use Rattle.edit_entries.specs.NewNames.{shares_name}
 
 -- a text, and what it says
 pub record Document : Type 0 where
@@ -181,6 +182,7 @@ SetIsRefused d key name value KeyIsThere = ⊥
 SetIsRefused d key name value NotAKey = ⊥
 SetIsRefused d key name value NotAName = CanBeName name → ⊥
 SetIsRefused d key name value NotInBraces = CanStandInBraces value → ⊥
+SetIsRefused d key name value DefinitionIsThere = ⊥
 SetIsRefused d key name value OutOfMemory = ⊤
 
 -- an entry taken out, from its at sign up to a place after it
@@ -204,6 +206,7 @@ EntryIsRefused d key KeyIsThere = ⊥
 EntryIsRefused d key NotAKey = ⊥
 EntryIsRefused d key NotAName = ⊥
 EntryIsRefused d key NotInBraces = ⊥
+EntryIsRefused d key DefinitionIsThere = ⊥
 EntryIsRefused d key OutOfMemory = ⊤
 
 -- where the field after one begins, or else where the entry's closing brace stands
@@ -255,21 +258,39 @@ joined_documents d more = record {
   says = (then) d.says (moved_file (λ at. at + (length d.text + 1)) more.says);
 }
 
--- no entry has the key of another document's
-abbrev pub SharesNoKey : Document → Document → Type 0
-SharesNoKey d more = AllByRecursion (λ e. first_position (is_keyed e.key.text) d.says.entries ≡ None) more.says.entries
+-- no entry of the second document has a name, in any ASCII case, of an entry of the first, or of an earlier entry of the second
+abbrev pub SharesNoName : Document → Document → Type 0
+SharesNoName d more =
+    (k : ℕ) (e : EntryReading) → slice_get more.says.entries k ≡ Some e
+    → shares_name (d.says.entries ++ take k more.says.entries) e ≡ false
 
--- what comes of adding what another document has
+-- pieces without positions
+abbrev pub placeless_pieces : List Piece → List Piece
+placeless_pieces pieces = map (moved_piece (λ at. 0)) pieces
+
+-- two fields have the same value, except for positions: literals and abbreviations with the same texts
+abbrev pub HaveSameValue : FieldReading → FieldReading → Type 0
+HaveSameValue f g = placeless_pieces f.value.pieces ≡ placeless_pieces g.value.pieces
+
+-- each abbreviation that two lists of definitions define, in any ASCII case, has one value in both
+abbrev pub AgreeOnDefinitions : List FieldReading → List FieldReading → Type 0
+AgreeOnDefinitions definitions others =
+    (i j : ℕ) (f g : FieldReading) → slice_get definitions i ≡ Some f → slice_get others j ≡ Some g
+    → has_name f.name.text g ≡ true → HaveSameValue f g
+
+-- the outcome of adding a document
 pub data EntriesAdded (d more : Document) : Document → Type 0 where
-  added : SharesNoKey d more → EntriesAdded d more (joined_documents d more)
+  added : SharesNoName d more → AgreeOnDefinitions d.says.abbreviations more.says.abbreviations
+      → EntriesAdded d more (joined_documents d more)
 
 -- why adding a document is refused
 abbrev pub EntriesAreRefused : Document → Document → EditError → Type 0
 EntriesAreRefused d more UnknownKey = ⊥
-EntriesAreRefused d more KeyIsThere = SharesNoKey d more → ⊥
+EntriesAreRefused d more KeyIsThere = SharesNoName d more → ⊥
 EntriesAreRefused d more NotAKey = ⊥
 EntriesAreRefused d more NotAName = ⊥
 EntriesAreRefused d more NotInBraces = ⊥
+EntriesAreRefused d more DefinitionIsThere = AgreeOnDefinitions d.says.abbreviations more.says.abbreviations → ⊥
 EntriesAreRefused d more OutOfMemory = ⊤
 
 -- a text is what comes of an edit, and is read so

@@ -5,7 +5,7 @@ use Rattle.std.specs.Str.{IsCharBoundary}
 use Rattle.bib_syntax.specs.Reading.{EntryReading, FieldReading}
 use Rattle.edit_entries.specs.Documents.{CanBeName, CanStandInBraces, IsAfterComma, field_limit}
 use Rattle.edit_entries.specs.declared.errors.EditError.{EditError}
-use Rattle.edit_entries.specs.declared.errors.EditError.TheVariants.{UnknownKey, KeyIsThere, NotAKey, NotAName, NotInBraces, OutOfMemory}
+use Rattle.edit_entries.specs.declared.errors.EditError.TheVariants.{UnknownKey, KeyIsThere, NotAKey, NotAName, NotInBraces, DefinitionIsThere, OutOfMemory}
 
 -- where the value of a field may be cut out of a text
 pub record IsPlaced (text : List ℕ) (f : FieldReading) : Type 0 where
@@ -49,4 +49,5 @@ AddIsRefused name value KeyIsThere = ⊥
 AddIsRefused name value NotAKey = ⊥
 AddIsRefused name value NotAName = CanBeName name → ⊥
 AddIsRefused name value NotInBraces = CanStandInBraces value → ⊥
+AddIsRefused name value DefinitionIsThere = ⊥
 AddIsRefused name value OutOfMemory = ⊤

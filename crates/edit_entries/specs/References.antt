@@ -1,51 +1,58 @@
 -- Meaning: words of public contracts.
 -- References to the keys of entries, and what comes of renaming a key: the entry has the new one, and so has each reference.
-use Rattle.std.specs.Prelude.{◌≡◌, ℕ, suc, ◌-◌, ◌==◌, Bool, true, false, if◌then◌else◌, List, [], ◌∷◌, ◌++◌, length, take, drop, Option, Some, None, bytes_eq, slice_get, ⊤}
+use Rattle.std.specs.Prelude.{◌≡◌, ℕ, suc, ◌-◌, ◌<◌, ◌==◌, Bool, true, false, if◌then◌else◌, List, [], ◌∷◌, ◌++◌, length, take, drop, Option, Some, None, bytes_eq, is_some, not, ◌&&◌, ◌||◌, slice_get, ⊤}
 use Rattle.std.specs.List.{AllByRecursion, flat_map, join_by, list_any, slice_split}
 use Rattle.std.specs.Str.{trim, trim_end, trim_start}
 use Rattle.bib_text.specs.Characters as char
+use Rattle.bib_syntax.specs.Grammar.{is_word}
 use Rattle.bib_syntax.specs.Reading.{Part, Piece, FieldReading, EntryReading}
 use Rattle.bib_syntax.specs.Reading.Piece.{literal, abbreviation}
 use Rattle.bib_tables.specs.ReferenceFields.{is_reference_field}
 use Rattle.edit_entries.specs.Documents.{CanBeKey, CanStandInBraces, Document, HasEntry, entry_renamed, first_position, is_keyed, value_changed, value_edit}
 use Rattle.edit_entries.specs.Edits.{Edit}
+use Rattle.edit_entries.specs.NewNames.{CanBeNewKey, IsNameTaken}
 use Rattle.edit_entries.specs.declared.errors.EditError.{EditError}
-use Rattle.edit_entries.specs.declared.errors.EditError.TheVariants.{UnknownKey, KeyIsThere, NotAKey, NotAName, NotInBraces, OutOfMemory}
+use Rattle.edit_entries.specs.declared.errors.EditError.TheVariants.{UnknownKey, KeyIsThere, NotAKey, NotAName, NotInBraces, DefinitionIsThere, OutOfMemory}
 
 -- the elements of a comma list, with the white space round them
 abbrev pub elements_of : List ℕ → List (List ℕ)
 elements_of list = slice_split (λ c. c == char.comma) list
 
--- whether an element of a comma list is this key, but for the white space round it
-abbrev pub is_element : List ℕ → List ℕ → Bool
-is_element key element = bytes_eq (trim element) key
+-- whether a name refers to a key among entries: it is the key, or the key in another ASCII case if it is no key itself
+abbrev pub refers_to : List EntryReading → List ℕ → List ℕ → Bool
+refers_to entries key name = is_word name key && (bytes_eq name key || not (is_some (first_position (is_keyed name) entries)))
+
+-- whether an element of a comma list is a name that refers to the key, except for the white space around it
+abbrev pub is_element : (List ℕ → Bool) → List ℕ → Bool
+is_element refers element = refers (trim element)
 
 -- a text between the white space at the ends of an element
 abbrev pub between_white : List ℕ → List ℕ → List ℕ
 between_white new element = take (length element - length (trim_start element)) element ++ new ++ drop (length (trim_end element)) element
 
--- an element with another key in the place of this one
-abbrev pub renamed_element : List ℕ → List ℕ → List ℕ → List ℕ
-renamed_element old new element = if is_element old element then between_white new element else element
+-- an element with another key in the place of a name that refers to the old one
+abbrev pub renamed_element : (List ℕ → Bool) → List ℕ → List ℕ → List ℕ
+renamed_element refers new element = if is_element refers element then between_white new element else element
 
--- a comma list with another key in the place of each element that is this one
-abbrev pub renamed_list : List ℕ → List ℕ → List ℕ → List ℕ
-renamed_list old new list = join_by (renamed_element old new) (char.comma ∷ []) (elements_of list)
+-- a comma list with another key in the place of each name that refers to the old one
+abbrev pub renamed_list : (List ℕ → Bool) → List ℕ → List ℕ → List ℕ
+renamed_list refers new list = join_by (renamed_element refers new) (char.comma ∷ []) (elements_of list)
 
--- a comma list with another key in the place of this one, if it has it
-abbrev pub renamed_where_listed : List ℕ → List ℕ → List ℕ → Option (List ℕ)
-renamed_where_listed old new list = if list_any (is_element old) (elements_of list) then Some (renamed_list old new list) else None
+-- a comma list with another key in the place of each name that refers to the old one, if there is one
+abbrev pub renamed_where_listed : (List ℕ → Bool) → List ℕ → List ℕ → Option (List ℕ)
+renamed_where_listed refers new list =
+    if list_any (is_element refers) (elements_of list) then Some (renamed_list refers new list) else None
 
--- a value that is one text, with another key in the place of each reference to this one, if there is one
-abbrev pub renamed_text : List ℕ → List ℕ → List Piece → Option (List ℕ)
-renamed_text old new [] = None
-renamed_text old new (abbreviation p ∷ rest) = None
-renamed_text old new (literal p ∷ []) = renamed_where_listed old new p.text
-renamed_text old new (literal p ∷ other ∷ rest) = None
+-- a value that is one text, with another key in the place of each name that refers to the old one, if there is one
+abbrev pub renamed_text : (List ℕ → Bool) → List ℕ → List Piece → Option (List ℕ)
+renamed_text refers new [] = None
+renamed_text refers new (abbreviation p ∷ rest) = None
+renamed_text refers new (literal p ∷ []) = renamed_where_listed refers new p.text
+renamed_text refers new (literal p ∷ other ∷ rest) = None
 
--- the value of a field with another key in the place of each reference to this one, if there is one
-abbrev pub renamed_value : List ℕ → List ℕ → FieldReading → Option (List ℕ)
-renamed_value old new f = if is_reference_field f.name.text then renamed_text old new f.value.pieces else None
+-- the value of a field with another key in the place of each name that refers to the old one, if there is one
+abbrev pub renamed_value : (List ℕ → Bool) → List ℕ → FieldReading → Option (List ℕ)
+renamed_value refers new f = if is_reference_field f.name.text then renamed_text refers new f.value.pieces else None
 
 -- a change of one piece of a document: another key in the place of one, or another value of a field
 pub data Change : Type 0 where
@@ -68,8 +75,8 @@ value_change f None = []
 value_change f (Some new) = Change.value f new ∷ []
 
 -- the change of each field that refers to a key
-abbrev pub reference_changes : List ℕ → List ℕ → List FieldReading → List Change
-reference_changes old new fields = flat_map (λ f. value_change f (renamed_value old new f)) fields
+abbrev pub reference_changes : (List ℕ → Bool) → List ℕ → List FieldReading → List Change
+reference_changes refers new fields = flat_map (λ f. value_change f (renamed_value refers new f)) fields
 
 -- the change of an entry's key, if it is renamed
 abbrev pub key_change : Bool → EntryReading → List ℕ → List Change
@@ -77,11 +84,15 @@ key_change true e new = Change.key e.key new ∷ []
 key_change false e new = []
 
 -- the changes in entries, the first of which has an index, where the key of one of them is renamed
-abbrev pub renaming : List ℕ → List ℕ → ℕ → ℕ → List EntryReading → List Change
-renaming old new renamed index [] = []
-renaming old new renamed index (e ∷ rest) =
-    (key_change (index == renamed) e new ++ reference_changes old new e.fields)
-    ++ renaming old new renamed (suc index) rest
+abbrev pub renaming : (List ℕ → Bool) → List ℕ → ℕ → ℕ → List EntryReading → List Change
+renaming refers new renamed index [] = []
+renaming refers new renamed index (e ∷ rest) =
+    (key_change (index == renamed) e new ++ reference_changes refers new e.fields)
+    ++ renaming refers new renamed (suc index) rest
+
+-- the changes that rename the key of the entry at an index, and each reference to it
+abbrev pub key_renaming : List ℕ → List ℕ → ℕ → List EntryReading → List Change
+key_renaming old new renamed entries = renaming (refers_to entries old) new renamed 0 entries
 
 -- what comes of changes, made from the last to the first, so that each piece is where it was
 pub data Changed (d : Document) : List Change → Document → Type 0 where
@@ -93,33 +104,40 @@ pub data Changed (d : Document) : List Change → Document → Type 0 where
       → Changed d changes after → slice_get after.says.entries k ≡ Some e → slice_get e.fields j ≡ Some f
       → Changed d (Change.value f new ∷ changes) (value_changed after k e j f new)
 
--- what comes of renaming a key: nothing changes where it is the key already, else the entry has the new one, and so has each
--- reference to the old
+-- the outcome of renaming a key: nothing changes if it is the key already; else the entry has the new key, which can be one and is no
+-- name of another entry, and so has each reference to the old
 pub data KeyRenamed (d : Document) (old new : List ℕ) : Document → Type 0 where
   same : {k : ℕ} {e : EntryReading} → HasEntry d old k e → bytes_eq old new ≡ true → KeyRenamed d old new d
-  renamed : {k : ℕ} {e : EntryReading} {after : Document} → HasEntry d old k e
-      → first_position (is_keyed new) d.says.entries ≡ None → Changed d (renaming old new k 0 d.says.entries) after
+  renamed : {k : ℕ} {e : EntryReading} {after : Document} → HasEntry d old k e → bytes_eq old new ≡ false → CanBeNewKey new
+      → (IsNameTaken d.says.entries k new → ⊥) → Changed d (key_renaming old new k d.says.entries) after
       → KeyRenamed d old new after
 
--- another entry has a key already
-pub record IsKeyOfAnother (d : Document) (old new : List ℕ) : Type 0 where
+-- a key is to be renamed to another text, which is a name of another entry or an alias of this one
+pub record IsNewNameTaken (d : Document) (old new : List ℕ) : Type 0 where
   pub index : ℕ
   pub entry : EntryReading
-  pub has : HasEntry d new index entry
+  pub has : HasEntry d old index entry
   pub other : bytes_eq old new ≡ false
+  pub taken : IsNameTaken d.says.entries index new
+
+-- a key is to be renamed to another text: the key is empty, or the text can't be a new key
+pub record IsNoNewKey (old new : List ℕ) : Type 0 where
+  pub other : bytes_eq old new ≡ false
+  pub cant : 0 < length old → CanBeNewKey new → ⊥
 
 -- a reference with the new key can't stand between braces
 pub record CantBeWritten (d : Document) (old new : List ℕ) : Type 0 where
   pub index : ℕ
   pub entry : EntryReading
   pub has : HasEntry d old index entry
-  pub cant : AllByRecursion CanBeMade (renaming old new index 0 d.says.entries) → ⊥
+  pub cant : AllByRecursion CanBeMade (key_renaming old new index d.says.entries) → ⊥
 
 -- why renaming a key is refused
 abbrev pub RenameIsRefused : Document → List ℕ → List ℕ → EditError → Type 0
 RenameIsRefused d old new UnknownKey = first_position (is_keyed old) d.says.entries ≡ None
-RenameIsRefused d old new KeyIsThere = IsKeyOfAnother d old new
-RenameIsRefused d old new NotAKey = CanBeKey old → CanBeKey new → ⊥
+RenameIsRefused d old new KeyIsThere = IsNewNameTaken d old new
+RenameIsRefused d old new NotAKey = IsNoNewKey old new
 RenameIsRefused d old new NotAName = ⊥
 RenameIsRefused d old new NotInBraces = CantBeWritten d old new
+RenameIsRefused d old new DefinitionIsThere = ⊥
 RenameIsRefused d old new OutOfMemory = ⊤

@@ -10,13 +10,15 @@ ghost use Rattle.edit_entries.specs.Documents.{Document, EntriesAdded, EntriesAr
 ghost use Rattle.edit_entries.specs.References.{KeyRenamed, RenameIsRefused};
 
 use crate::adding::with_field;
+use crate::definitions::agree_on_definitions;
 use crate::errors::EditError;
-use crate::joining::{joined, shares_key};
-use crate::keys::can_be_key;
+use crate::joining::{joined, shares_name};
+use crate::keys::can_be_new_key;
 use crate::lookup::{entry_index, entry_with, field_with};
 use crate::removing::{without_entry, without_fields};
 use crate::renaming::with_key_renamed;
 use crate::setting::set_value;
+use crate::taken::is_name_taken;
 use bib_syntax::raw::{ParseError, RawBibliography};
 use std::alloc::Global;
 use std::marker::Model;
@@ -112,41 +114,51 @@ impl<'s> RawDocument<'s> {
         }
     }
 
-    /// The text with another key of the first entry with a key, and in each reference to it: an element of the comma list that a
-    /// field `crossref`, `xref`, `xdata`, `entryset`, `related` or `set` of any entry is, where its value is one text. It is the key,
-    /// byte for byte, but for the white space round it. A value with another key in it comes to stand in braces; joined values,
-    /// abbreviations, and keys that are written with TeX stay as they are. As it is where the new key is the old one; refused where
-    /// another entry has it, or a value with it can't stand in braces.
+    /// Returns the text with another key of the first entry with the key `old`, also in each reference to it: in the elements of the
+    /// comma lists that the fields `crossref`, `xref`, `xdata`, `entryset`, `related` and `set` of all entries are, if the value is one
+    /// text. An element refers to the entry if it is the key, or the key in another ASCII case that no entry has as its key, as
+    /// BibTeX finds keys. A value that changes is written in braces. Joined values, abbreviations, and keys that are written with
+    /// TeX stay. The text stays if `new` is `old`. The edit is refused if no entry has the key `old`, if `new` isn't a key for
+    /// BibTeX, Biber and bibtool, if it is a name of another entry or an alias of this one in any ASCII case, if `old` is empty, or
+    /// if a value that changes can't be written in braces.
     pub fn rename_key(&self, alloc: Global, old: &str, new: &str) -> Result<String, EditError>
         ensures renamed { IfOk result (λ text. IsEdited (KeyRenamed self.now old.now new.now) (string_bytes text)) }
         ensures refused { IfErr result (RenameIsRefused self.now old.now new.now) }
     {
-        if !can_be_key(old) {
-            return Err(EditError::NotAKey);
-        }
-        if !can_be_key(new) {
-            return Err(EditError::NotAKey);
-        }
         let Some(index) = entry_index(&self.raw.entries, old) else {
             return Err(EditError::UnknownKey);
         };
         if old == new {
             return Ok(String::from_str(alloc, self.text)?);
         }
-        if entry_index(&self.raw.entries, new).is_some() {
+        if old.is_empty() {
+            return Err(EditError::NotAKey);
+        }
+        if !can_be_new_key(new) {
+            return Err(EditError::NotAKey);
+        }
+        if is_name_taken(alloc, &self.raw.entries, index, new)? {
             return Err(EditError::KeyIsThere);
         }
         with_key_renamed(alloc, self.text, &self.raw.entries, index, old, new)
     }
 
-    /// The text with that of another document after it, in a line of its own. Refused where an entry has the key of one of the
-    /// other's.
+    /// Returns the text, a line feed, and the text of another document. The edit is refused if an entry of the other document has a
+    /// name, in any ASCII case, of an entry of this one or of an earlier entry of the other, or if both documents define an
+    /// abbreviation, in any ASCII case, with different values. The names of an entry are its key and the names in its field `ids`.
     pub fn add_entries(&self, alloc: Global, more: &RawDocument<'_>) -> Result<String, EditError>
         ensures added { IfOk result (λ text. IsEdited (EntriesAdded self.now more.now) (string_bytes text)) }
         ensures refused { IfErr result (EntriesAreRefused self.now more.now) }
     {
-        if shares_key(alloc, &self.raw.entries, &more.raw.entries)? {
+        if shares_name(alloc, &self.raw.entries, &more.raw.entries)? {
             return Err(EditError::KeyIsThere);
+        }
+        if !agree_on_definitions(
+            alloc,
+            &self.raw.abbreviations,
+            &more.raw.abbreviations,
+        )? {
+            return Err(EditError::DefinitionIsThere);
         }
         Ok(joined(alloc, self.text, more.text)?)
     }

@@ -12,11 +12,13 @@ pub enum EditError {
     /// No entry has the key.
     #[error("no entry has the key")]
     UnknownKey,
-    /// An entry has the key already.
+    /// Another entry has the name already, as its key or in its field `ids`, in any ASCII case; or the entry has it in its `ids`.
     #[error("an entry has the key already")]
     KeyIsThere,
-    /// The text isn't one that can be a key.
-    #[error("the text can't be a key")]
+    /// The text can't be a new key: BibTeX, Biber or bibtool wouldn't read it as one, or a reference wouldn't find it.
+    #[error(
+        "a key for BibTeX, Biber and bibtool isn't empty, and has no white space, comma, quote, brace, parenthesis, `--` or any of # $ % = \\ ~"
+    )]
     NotAKey,
     /// The text isn't one that can be a field's name.
     #[error("the text can't be the name of a field")]
@@ -24,6 +26,9 @@ pub enum EditError {
     /// The value can't stand between braces: a brace isn't closed, or closes nothing, or a backslash hides the last brace.
     #[error("the value can't stand between braces")]
     NotInBraces,
+    /// An abbreviation is defined already, in any ASCII case, with another text: every use of it would be read anew.
+    #[error("an abbreviation is defined already with another text")]
+    DefinitionIsThere,
     /// There was no memory.
     #[error("out of memory")]
     OutOfMemory,

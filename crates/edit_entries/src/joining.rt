@@ -1,60 +1,85 @@
 //! Documents one after another.
 
-ghost use Rattle.std.specs.Prelude.{◌≡◌, ◌++◌, ◌∷◌, IfOk, List, MatchBool, map};
-ghost use Rattle.std.specs.Bool.{OnFalse, OnTrue};
+ghost use Rattle.std.specs.Prelude.{◌≡◌, ◌||◌, ◌++◌, ◌∷◌, ℕ, List, IfOk, MatchBool, OnOk, map};
+ghost use Rattle.std.specs.BTreeSet.{contains_text};
+ghost use Rattle.std.specs.List.{list_any};
 ghost use Rattle.std.specs.String.{string_bytes};
 ghost use Rattle.bib_text.specs.Characters as char;
 ghost use Rattle.bib_syntax.specs.Views.{entry_reading_of};
-ghost use Rattle.bib_syntax.specs.Reading.{EntryReading};
-ghost use Rattle.edit_entries.specs.Keys.{AreKeysOf, NoneHasKeyOf};
+ghost use Rattle.edit_entries.specs.Keys.{AreNamesOf, NoneSharesName, holds_name};
+ghost use Rattle.edit_entries.specs.NewNames.{has_word};
 
+use bib_queries::names::entry_names;
 use bib_syntax::raw::RawEntry;
 use bib_text::spanned::Spanned;
 use std::alloc::{AllocError, Global};
 use std::collections::BTreeSet;
 
-// The keys of entries.
-fn key_set<'s>(
+// Inserts names into a set, in lowercase.
+fn insert_names(
     alloc: Global,
-    entries: &[Spanned<RawEntry<'s>>],
-) -> Result<BTreeSet<&'s str>, AllocError>
-    ensures { IfOk result (AreKeysOf (map entry_reading_of entries.now)) }
+    set: &mut BTreeSet<String>,
+    names: &[&str],
+) -> Result<(), AllocError>
+    ensures { OnOk result ((name : List ℕ) → holds_name (contains_text set.new) name ≡
+        (has_word (map (λ n. n.now) names.now) name || holds_name (contains_text set.old) name)) }
 {
-    let mut keys = BTreeSet::new(alloc);
-    'entries: for entry in entries {
-        keys.insert(entry.v.key.v)?;
+    'names: for name in names {
+        set.insert(name.to_ascii_lowercase(alloc)?)?;
     }
-    Ok(keys)
+    Ok(())
 }
 
-// Whether one of entries has one of these keys.
-fn has_one(keys: &BTreeSet<&str>, others: &[Spanned<RawEntry<'_>>]) -> bool
-    ensures none { OnFalse result ((entries : List EntryReading) → AreKeysOf entries keys.now → NoneHasKeyOf entries (map entry_reading_of others.now)) }
-    ensures one { OnTrue result ((entries : List EntryReading) → AreKeysOf entries keys.now → NoneHasKeyOf entries (map entry_reading_of others.now) → ⊥) }
+// Returns whether a set contains one of these names, in lowercase.
+fn has_one(alloc: Global, set: &BTreeSet<String>, names: &[&str]) -> Result<bool, AllocError>
+    ensures { IfOk result (λ has. has ≡ list_any (holds_name (contains_text set.now)) (map (λ n. n.now) names.now)) }
 {
-    'others: for entry in others {
-        if keys.contains(entry.v.key.v) {
-            return true;
+    'names: for name in names {
+        let name = name.to_ascii_lowercase(alloc)?;
+        if set.contains(name.as_str()) {
+            return Ok(true);
         }
     }
-    false
+    Ok(false)
 }
 
-// Whether one of these entries has the key of one of others.
-pub(crate) fn shares_key(
+// Returns the set of the names of entries, in lowercase.
+fn name_set(
+    alloc: Global,
+    entries: &[Spanned<RawEntry<'_>>],
+) -> Result<BTreeSet<String>, AllocError>
+    ensures { IfOk result (λ set. AreNamesOf (map entry_reading_of entries.now) (contains_text set)) }
+{
+    let mut set = BTreeSet::new(alloc);
+    'entries: for entry in entries {
+        let names = entry_names(alloc, entry)?;
+        insert_names(alloc, &mut set, &names)?;
+    }
+    Ok(set)
+}
+
+// Returns whether one of `others` has a name, in any ASCII case, of one of `entries` or of an earlier one of `others`.
+pub(crate) fn shares_name(
     alloc: Global,
     entries: &[Spanned<RawEntry<'_>>],
     others: &[Spanned<RawEntry<'_>>],
 ) -> Result<bool, AllocError>
     ensures { IfOk result (λ shares. MatchBool shares
-        (NoneHasKeyOf (map entry_reading_of entries.now) (map entry_reading_of others.now) → ⊥)
-        (NoneHasKeyOf (map entry_reading_of entries.now) (map entry_reading_of others.now))) }
+        (NoneSharesName (map entry_reading_of entries.now) (map entry_reading_of others.now) → ⊥)
+        (NoneSharesName (map entry_reading_of entries.now) (map entry_reading_of others.now))) }
 {
-    let keys = key_set(alloc, entries)?;
-    Ok(has_one(&keys, others))
+    let mut set = name_set(alloc, entries)?;
+    'others: for entry in others {
+        let names = entry_names(alloc, entry)?;
+        if has_one(alloc, &set, &names)? {
+            return Ok(true);
+        }
+        insert_names(alloc, &mut set, &names)?;
+    }
+    Ok(false)
 }
 
-// A text after another, with a line feed between them.
+// Returns a text, a line feed and another text.
 pub(crate) fn joined(alloc: Global, first: &str, second: &str) -> Result<String, AllocError>
     ensures { IfOk result (λ text. string_bytes text ≡ first.now ++ char.line_feed ∷ second.now) }
 {

@@ -14,6 +14,7 @@
 
 mod adding;
 mod braces;
+mod definitions;
 pub mod document;
 pub mod editing;
 pub mod errors;
@@ -26,4 +27,6 @@ mod references;
 mod removing;
 mod renaming;
 mod setting;
+mod taken;
+mod targets;
 pub mod values;

@@ -7,25 +7,27 @@ ghost use Rattle.std.specs.String.{string_bytes};
 ghost use Rattle.bib_syntax.specs.Views.{field_of, piece_of};
 ghost use Rattle.edit_entries.specs.References as references;
 ghost use Rattle.edit_entries.specs.References.{elements_of};
+ghost use Rattle.edit_entries.specs.Targets.{is_name_of};
 
+use crate::targets::Target;
 use bib_syntax::raw::{Pair, RawChunk};
 use bib_tables::fields::is_reference_field;
 use bib_text::spanned::Spanned;
 use std::alloc::{AllocError, Global};
 
-// Whether an element of a comma list is this key, but for the white space round it.
-fn is_element(element: &str, key: &str) -> bool
-    ensures { result ≡ references.is_element key.now element.now }
+// Returns whether an element of a comma list is a name of the target, except for the white space around it.
+fn is_element(element: &str, target: &Target<'_, '_>) -> bool
+    ensures { result ≡ references.is_element (is_name_of target.now) element.now }
 {
-    element.trim() == key
+    target.is_named(element.trim())
 }
 
-// Whether a comma list has this key.
-fn lists_key(list: &str, key: &str) -> bool
-    ensures { result ≡ list_any (references.is_element key.now) (elements_of list.now) }
+// Returns whether a comma list has a name of the target.
+fn lists_target(list: &str, target: &Target<'_, '_>) -> bool
+    ensures { result ≡ list_any (references.is_element (is_name_of target.now)) (elements_of list.now) }
 {
     'elements: for element in list.split(',') {
-        if is_element(element, key) {
+        if is_element(element, target) {
             return true;
         }
     }
@@ -45,71 +47,81 @@ fn between_white(alloc: Global, element: &str, new: &str) -> Result<String, Allo
     Ok(text)
 }
 
-// An element with another key in the place of this one.
-fn renamed_element(alloc: Global, element: &str, old: &str, new: &str) -> Result<String, AllocError>
-    ensures { IfOk result (λ text. string_bytes text ≡ references.renamed_element old.now new.now element.now) }
+// Returns an element with another key in the place of a name of the target.
+fn renamed_element(
+    alloc: Global,
+    element: &str,
+    target: &Target<'_, '_>,
+    new: &str,
+) -> Result<String, AllocError>
+    ensures { IfOk result (λ text. string_bytes text ≡ references.renamed_element (is_name_of target.now) new.now element.now) }
 {
-    if !is_element(element, old) {
+    if !is_element(element, target) {
         return String::from_str(alloc, element);
     }
     between_white(alloc, element, new)
 }
 
-// A comma list with another key in the place of each element that is this one.
-fn renamed_list(alloc: Global, list: &str, old: &str, new: &str) -> Result<String, AllocError>
-    ensures { IfOk result (λ text. string_bytes text ≡ references.renamed_list old.now new.now list.now) }
+// Returns a comma list with another key in the place of each name of the target.
+fn renamed_list(
+    alloc: Global,
+    list: &str,
+    target: &Target<'_, '_>,
+    new: &str,
+) -> Result<String, AllocError>
+    ensures { IfOk result (λ text. string_bytes text ≡ references.renamed_list (is_name_of target.now) new.now list.now) }
 {
     let mut parts = Vec::new(alloc);
     'elements: for element in list.split(',') {
-        parts.push(renamed_element(alloc, element, old, new)?)?;
+        parts.push(renamed_element(alloc, element, target, new)?)?;
     }
     parts.join(alloc, ",")
 }
 
-// A comma list with another key in the place of this one, if it has it.
+// Returns a comma list with another key in the place of each name of the target, if it has one.
 fn renamed_if_listed(
     alloc: Global,
     list: &str,
-    old: &str,
+    target: &Target<'_, '_>,
     new: &str,
 ) -> Result<Option<String>, AllocError>
-    ensures { IfOk result (λ text. option_map string_bytes text ≡ references.renamed_where_listed old.now new.now list.now) }
+    ensures { IfOk result (λ text. option_map string_bytes text ≡ references.renamed_where_listed (is_name_of target.now) new.now list.now) }
 {
-    if !lists_key(list, old) {
+    if !lists_target(list, target) {
         return Ok(None);
     }
-    Ok(Some(renamed_list(alloc, list, old, new)?))
+    Ok(Some(renamed_list(alloc, list, target, new)?))
 }
 
-// A value that is one text, with another key in the place of each reference to this one, if there is one.
+// Returns a value that is one text, with another key in the place of each name of the target, if there is one.
 fn renamed_text(
     alloc: Global,
     pieces: &[Spanned<RawChunk<'_>>],
-    old: &str,
+    target: &Target<'_, '_>,
     new: &str,
 ) -> Result<Option<String>, AllocError>
-    ensures { IfOk result (λ text. option_map string_bytes text ≡ references.renamed_text old.now new.now (map piece_of pieces.now)) }
+    ensures { IfOk result (λ text. option_map string_bytes text ≡ references.renamed_text (is_name_of target.now) new.now (map piece_of pieces.now)) }
 {
     match pieces {
         [piece] => match piece.v {
-            RawChunk::Normal(text) => renamed_if_listed(alloc, text, old, new),
+            RawChunk::Normal(text) => renamed_if_listed(alloc, text, target, new),
             RawChunk::Abbreviation(_) => Ok(None),
         },
         _ => Ok(None),
     }
 }
 
-// The value of a field with another key in the place of each reference to this one, if there is one.
+// Returns the value of a field with another key in the place of each name of the target, if there is one.
 pub(crate) fn renamed_value(
     alloc: Global,
     field: &Pair<'_>,
-    old: &str,
+    target: &Target<'_, '_>,
     new: &str,
 ) -> Result<Option<String>, AllocError>
-    ensures { IfOk result (λ text. option_map string_bytes text ≡ references.renamed_value old.now new.now (field_of field.now)) }
+    ensures { IfOk result (λ text. option_map string_bytes text ≡ references.renamed_value (is_name_of target.now) new.now (field_of field.now)) }
 {
     if !is_reference_field(field.key.v) {
         return Ok(None);
     }
-    renamed_text(alloc, &field.value.v, old, new)
+    renamed_text(alloc, &field.value.v, target, new)
 }

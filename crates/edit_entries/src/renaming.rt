@@ -7,8 +7,9 @@ ghost use Rattle.bib_syntax.specs.Views.{entry_reading_of, field_of};
 ghost use Rattle.edit_entries.specs.Documents.{CanBeKey, value_edit};
 ghost use Rattle.edit_entries.specs.Edits as spec;
 ghost use Rattle.edit_entries.specs.Placed.{IsPlaced};
-ghost use Rattle.edit_entries.specs.References.{CanBeMade, Change, change_edit, key_change, reference_changes, renamed_value, renaming, value_change};
+ghost use Rattle.edit_entries.specs.References.{CanBeMade, Change, change_edit, key_change, key_renaming, reference_changes, renamed_value, renaming, value_change};
 ghost use Rattle.edit_entries.specs.EditList.{edit_of};
+ghost use Rattle.edit_entries.specs.Targets.{is_name_of};
 ghost use Rattle.edit_entries.specs.Stretches.{AreChangesInOrder, AreEntriesPlaced, AreValuesPlaced, EndsInWhite};
 ghost use Rattle.edit_entries.specs.declared.errors.EditError.TheVariants.{NotInBraces, OutOfMemory};
 
@@ -16,6 +17,7 @@ use crate::braces::in_braces;
 use crate::editing::{Edit, edited_all};
 use crate::errors::EditError;
 use crate::references;
+use crate::targets::Target;
 use crate::values::value_end;
 use bib_syntax::raw::{Pair, RawEntry};
 use bib_text::spanned::Spanned;
@@ -47,18 +49,18 @@ fn push_reference_edit(
     alloc: Global,
     text: &str,
     field: &Pair<'_>,
-    old: &str,
+    target: &Target<'_, '_>,
     new: &str,
 ) -> Result<(), EditError>
     requires { IsPlaced text.now (field_of field.now) }
     ensures edits { OnOk result (map edit_of edits.new.items ≡
-        map edit_of edits.old.items ++ map (change_edit text.now) (value_change (field_of field.now) (renamed_value old.now new.now (field_of field.now)))) }
-    ensures can { OnOk result (AllByRecursion CanBeMade (value_change (field_of field.now) (renamed_value old.now new.now (field_of field.now)))) }
-    ensures white { OnOk result (AllByRecursion (EndsInWhite text.now) (value_change (field_of field.now) (renamed_value old.now new.now (field_of field.now)))) }
+        map edit_of edits.old.items ++ map (change_edit text.now) (value_change (field_of field.now) (renamed_value (is_name_of target.now) new.now (field_of field.now)))) }
+    ensures can { OnOk result (AllByRecursion CanBeMade (value_change (field_of field.now) (renamed_value (is_name_of target.now) new.now (field_of field.now)))) }
+    ensures white { OnOk result (AllByRecursion (EndsInWhite text.now) (value_change (field_of field.now) (renamed_value (is_name_of target.now) new.now (field_of field.now)))) }
     ensures refused { IfErr result (λ e. (e ≡ OutOfMemory) ⊎
-        ((e ≡ NotInBraces) × (AllByRecursion CanBeMade (value_change (field_of field.now) (renamed_value old.now new.now (field_of field.now))) → ⊥))) }
+        ((e ≡ NotInBraces) × (AllByRecursion CanBeMade (value_change (field_of field.now) (renamed_value (is_name_of target.now) new.now (field_of field.now))) → ⊥))) }
 {
-    match references::renamed_value(alloc, field, old, new)? {
+    match references::renamed_value(alloc, field, target, new)? {
         Some(value) => {
             let braced = in_braces(alloc, &value)?;
             Ok(push_value_edit(edits, text, field, braced)?)
@@ -73,19 +75,19 @@ fn push_reference_edits(
     alloc: Global,
     text: &str,
     fields: &[Pair<'_>],
-    old: &str,
+    target: &Target<'_, '_>,
     new: &str,
 ) -> Result<(), EditError>
     requires { AreValuesPlaced text.now (map field_of fields.now) }
     ensures edits { OnOk result (map edit_of edits.new.items ≡
-        map edit_of edits.old.items ++ map (change_edit text.now) (reference_changes old.now new.now (map field_of fields.now))) }
-    ensures can { OnOk result (AllByRecursion CanBeMade (reference_changes old.now new.now (map field_of fields.now))) }
-    ensures white { OnOk result (AllByRecursion (EndsInWhite text.now) (reference_changes old.now new.now (map field_of fields.now))) }
+        map edit_of edits.old.items ++ map (change_edit text.now) (reference_changes (is_name_of target.now) new.now (map field_of fields.now))) }
+    ensures can { OnOk result (AllByRecursion CanBeMade (reference_changes (is_name_of target.now) new.now (map field_of fields.now))) }
+    ensures white { OnOk result (AllByRecursion (EndsInWhite text.now) (reference_changes (is_name_of target.now) new.now (map field_of fields.now))) }
     ensures refused { IfErr result (λ e. (e ≡ OutOfMemory) ⊎
-        ((e ≡ NotInBraces) × (AllByRecursion CanBeMade (reference_changes old.now new.now (map field_of fields.now)) → ⊥))) }
+        ((e ≡ NotInBraces) × (AllByRecursion CanBeMade (reference_changes (is_name_of target.now) new.now (map field_of fields.now)) → ⊥))) }
 {
     'fields: for field in fields {
-        push_reference_edit(edits, alloc, text, field, old, new)?;
+        push_reference_edit(edits, alloc, text, field, target, new)?;
     }
     Ok(())
 }
@@ -119,21 +121,21 @@ fn renaming_edits(
     text: &str,
     entries: &[Spanned<RawEntry<'_>>],
     renamed: usize,
-    old: &str,
+    target: &Target<'_, '_>,
     new: &str,
 ) -> Result<Vec<Edit>, EditError>
     requires placed { AreEntriesPlaced text.now (map entry_reading_of entries.now) }
     requires key { CanBeKey new.now }
-    ensures edits { IfOk result (λ edits. map edit_of edits.items ≡ map (change_edit text.now) (renaming old.now new.now renamed 0 (map entry_reading_of entries.now))) }
-    ensures can { OnOk result (AllByRecursion CanBeMade (renaming old.now new.now renamed 0 (map entry_reading_of entries.now))) }
-    ensures white { OnOk result (AllByRecursion (EndsInWhite text.now) (renaming old.now new.now renamed 0 (map entry_reading_of entries.now))) }
+    ensures edits { IfOk result (λ edits. map edit_of edits.items ≡ map (change_edit text.now) (renaming (is_name_of target.now) new.now renamed 0 (map entry_reading_of entries.now))) }
+    ensures can { OnOk result (AllByRecursion CanBeMade (renaming (is_name_of target.now) new.now renamed 0 (map entry_reading_of entries.now))) }
+    ensures white { OnOk result (AllByRecursion (EndsInWhite text.now) (renaming (is_name_of target.now) new.now renamed 0 (map entry_reading_of entries.now))) }
     ensures refused { IfErr result (λ e. (e ≡ OutOfMemory) ⊎
-        ((e ≡ NotInBraces) × (AllByRecursion CanBeMade (renaming old.now new.now renamed 0 (map entry_reading_of entries.now)) → ⊥))) }
+        ((e ≡ NotInBraces) × (AllByRecursion CanBeMade (renaming (is_name_of target.now) new.now renamed 0 (map entry_reading_of entries.now)) → ⊥))) }
 {
     let mut edits = Vec::new(alloc);
     'entries: for (index, entry) in entries.iter().enumerate() {
         push_key_edit(&mut edits, alloc, entry, index == renamed, new)?;
-        push_reference_edits(&mut edits, alloc, text, &entry.v.fields, old, new)?;
+        push_reference_edits(&mut edits, alloc, text, &entry.v.fields, target, new)?;
     }
     Ok(edits)
 }
@@ -149,13 +151,14 @@ pub(crate) fn with_key_renamed(
 ) -> Result<String, EditError>
     requires placed { AreEntriesPlaced text.now (map entry_reading_of entries.now) }
     requires key { CanBeKey new.now }
-    requires apart { AreChangesInOrder text.now 0 (renaming old.now new.now renamed 0 (map entry_reading_of entries.now)) }
-    ensures text { IfOk result (λ made. string_bytes made ≡ spec.edited_all (map (change_edit text.now) (renaming old.now new.now renamed 0 (map entry_reading_of entries.now))) text.now) }
-    ensures can { OnOk result (AllByRecursion CanBeMade (renaming old.now new.now renamed 0 (map entry_reading_of entries.now))) }
-    ensures white { OnOk result (AllByRecursion (EndsInWhite text.now) (renaming old.now new.now renamed 0 (map entry_reading_of entries.now))) }
+    requires apart { AreChangesInOrder text.now 0 (key_renaming old.now new.now renamed (map entry_reading_of entries.now)) }
+    ensures text { IfOk result (λ made. string_bytes made ≡ spec.edited_all (map (change_edit text.now) (key_renaming old.now new.now renamed (map entry_reading_of entries.now))) text.now) }
+    ensures can { OnOk result (AllByRecursion CanBeMade (key_renaming old.now new.now renamed (map entry_reading_of entries.now))) }
+    ensures white { OnOk result (AllByRecursion (EndsInWhite text.now) (key_renaming old.now new.now renamed (map entry_reading_of entries.now))) }
     ensures refused { IfErr result (λ e. (e ≡ OutOfMemory) ⊎
-        ((e ≡ NotInBraces) × (AllByRecursion CanBeMade (renaming old.now new.now renamed 0 (map entry_reading_of entries.now)) → ⊥))) }
+        ((e ≡ NotInBraces) × (AllByRecursion CanBeMade (key_renaming old.now new.now renamed (map entry_reading_of entries.now)) → ⊥))) }
 {
-    let edits = renaming_edits(alloc, text, entries, renamed, old, new)?;
+    let target = Target::new(alloc, entries, old)?;
+    let edits = renaming_edits(alloc, text, entries, renamed, &target, new)?;
     Ok(edited_all(alloc, text, &edits)?)
 }

@@ -62,6 +62,8 @@ fn edits_into_buffers(rt: HostRuntime) {
     agrees(&rt, answer(status, &out, size), "@misc{a,}\n@misc{b,}");
     assert!(rt; add(alloc, FILE, b"@misc{b,}", &mut out, &mut size) == Status::KeyIsThere.number());
     assert!(rt; add(alloc, FILE, b"@misc{c", &mut out, &mut size) == Status::Refused.number());
+    let status = add(alloc, b"@string{s={x}}", b"@string{S={y}}", &mut out, &mut size);
+    assert!(rt; status == Status::DefinitionIsThere.number());
 }
 
 #[test]
@@ -78,6 +80,10 @@ fn says_why_edits_are_refused(rt: HostRuntime) {
     assert!(rt; no_name == Status::NotAName.number());
     let no_value = set(alloc, FILE, b"a", b"note", b"U}", &mut out, &mut size);
     assert!(rt; no_value == Status::NotInBraces.number());
+    let misread_key = rename(alloc, FILE, b"a", b"b'c", &mut out, &mut size);
+    assert!(rt; misread_key == Status::NotAKey.number());
+    let status = message(10, &mut out, &mut size);
+    agrees(&rt, answer(status, &out, size), "an abbreviation is defined already with another text");
     let status = message(9, &mut out, &mut size);
     agrees(&rt, answer(status, &out, size), "the value can't stand between braces");
 }

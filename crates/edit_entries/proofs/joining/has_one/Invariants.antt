@@ -1,11 +1,8 @@
-use Rattle.std.proofs.Common.{List, map, take}
-use Rattle.bib_syntax.specs.Reading.{EntryReading}
-use Rattle.bib_syntax.specs.Views.{entry_reading_of}
-use Rattle.edit_entries.specs.Keys.{AreKeysOf, NoneHasKeyOf}
+use Rattle.std.proofs.Common.{◌≡◌, false, map, take}
+use Rattle.std.specs.BTreeSet.{contains_text}
+use Rattle.std.specs.List.{list_any}
+use Rattle.edit_entries.specs.Keys.{holds_name}
 use Rattle.edit_entries.proofs.joining.has_one.Given as goal
 
--- none so far has one of the keys
-abbrev pub invariant-others : goal.invariant-others
-invariant-others l =
-    (entries : List EntryReading) → AreKeysOf entries l.keys
-    → NoneHasKeyOf entries (map entry_reading_of (take l.entry-index l.others))
+abbrev pub invariant-names : goal.invariant-names
+invariant-names l = list_any (holds_name (contains_text l.set)) (map (λ n. n.now) (take l.name-index l.names)) ≡ false

@@ -1,11 +1,40 @@
-use Rattle.std.proofs.Common.{◌≡◌, None, map, subst}
-use Rattle.std.specs.List.{AllByRecursion}
+use Rattle.std.proofs.Common.{◌≡◌, map, subst}
 use Rattle.std.specs.String.{string_bytes}
-use Rattle.bib_syntax.specs.Views.{entry_reading_of, file_of}
-use Rattle.edit_entries.specs.Documents.{Document, EntriesAdded, IsEdited, SharesNoKey, first_position, is_keyed, joined_documents}
+use Rattle.bib_syntax.specs.Views.{entry_reading_of, field_of, file_of}
+use Rattle.edit_entries.specs.Documents.{AgreeOnDefinitions, Document, EntriesAdded, IsEdited, SharesNoName, joined_documents}
+use Rattle.edit_entries.specs.Keys.{NoneSharesName}
 use Rattle.edit_entries.proofs.JoinedFacts.{documents_joined}
-use Rattle.edit_entries.proofs.KeyFacts.{on_no}
+use Rattle.edit_entries.proofs.KeyFacts.{on_no, on_yes}
 use Rattle.edit_entries.proofs.document.RawDocument.add_entries.Goals as goal
+
+pub returns-then-branch-clause-refused : goal.returns-then-branch-clause-refused
+returns-then-branch-clause-refused c =
+    let d : Document = record { text = c.self.inside.text.now; says = file_of c.self.inside.raw } in
+    let other : Document = record { text = c.more.inside.text.now; says = file_of c.more.inside.raw } in
+    let seen : d ≡ c.args.self.now = c.self.view_is in
+    let other_seen : other ≡ c.args.more.now = c.more.view_is in
+    let shared : SharesNoName d other → ⊥ =
+    subst (λ es. NoneSharesName (map entry_reading_of c.self.inside.raw.entries.items) (map entry_reading_of es) → ⊥)
+    c.deref-2.ensures.value
+    (subst (λ es. NoneSharesName (map entry_reading_of es) (map entry_reading_of c.deref-2.result.now) → ⊥)
+    c.deref.ensures.value
+    (on_yes _ _ c.in_ok-shares_name.field-0 c.if-branch.true c.in_ok-shares_name.ensures)) in
+    subst (λ x. SharesNoName x c.args.more.now → ⊥) seen (subst (λ y. SharesNoName d y → ⊥) other_seen shared)
+
+pub returns-then-not-branch-clause-refused : goal.returns-then-not-branch-clause-refused
+returns-then-not-branch-clause-refused c =
+    let d : Document = record { text = c.self.inside.text.now; says = file_of c.self.inside.raw } in
+    let other : Document = record { text = c.more.inside.text.now; says = file_of c.more.inside.raw } in
+    let seen : d ≡ c.args.self.now = c.self.view_is in
+    let other_seen : other ≡ c.args.more.now = c.more.view_is in
+    let differs : AgreeOnDefinitions d.says.abbreviations other.says.abbreviations → ⊥ =
+    subst (λ fs. AgreeOnDefinitions (map field_of c.self.inside.raw.abbreviations.items) (map field_of fs) → ⊥)
+    c.deref-4.ensures.value
+    (subst (λ fs. AgreeOnDefinitions (map field_of fs) (map field_of c.deref-4.result.now) → ⊥)
+    c.deref-3.ensures.value
+    (on_no _ _ c.in_ok-agree_on_definitions.field-0 c.if-not-branch.true c.in_ok-agree_on_definitions.ensures)) in
+    subst (λ x. AgreeOnDefinitions x.says.abbreviations c.args.more.now.says.abbreviations → ⊥) seen
+    (subst (λ y. AgreeOnDefinitions d.says.abbreviations y.says.abbreviations → ⊥) other_seen differs)
 
 pub returns-clause-added : goal.returns-clause-added
 returns-clause-added c =
@@ -13,20 +42,21 @@ returns-clause-added c =
     let other : Document = record { text = c.more.inside.text.now; says = file_of c.more.inside.raw } in
     let seen : d ≡ c.args.self.now = c.self.view_is in
     let other_seen : other ≡ c.args.more.now = c.more.view_is in
-    let fresh : SharesNoKey d other =
-    subst
-    (λ es.
-    AllByRecursion
-    (λ e. first_position (is_keyed e.key.text) (map entry_reading_of c.self.inside.raw.entries.items) ≡ None)
-    (map entry_reading_of es)) c.deref-2.ensures.value
-    (subst
-    (λ es.
-    AllByRecursion (λ e. first_position (is_keyed e.key.text) (map entry_reading_of es) ≡ None)
-    (map entry_reading_of c.deref-2.result.now)) c.deref.ensures.value
-    (on_no _ _ c.in_ok-shares_key.field-0 c.if-branch.false c.in_ok-shares_key.ensures)) in
+    let fresh : SharesNoName d other =
+    subst (λ es. NoneSharesName (map entry_reading_of c.self.inside.raw.entries.items) (map entry_reading_of es))
+    c.deref-2.ensures.value
+    (subst (λ es. NoneSharesName (map entry_reading_of es) (map entry_reading_of c.deref-2.result.now))
+    c.deref.ensures.value
+    (on_no _ _ c.in_ok-shares_name.field-0 c.if-branch.false c.in_ok-shares_name.ensures)) in
+    let agree : AgreeOnDefinitions d.says.abbreviations other.says.abbreviations =
+    subst (λ fs. AgreeOnDefinitions (map field_of c.self.inside.raw.abbreviations.items) (map field_of fs))
+    c.deref-4.ensures.value
+    (subst (λ fs. AgreeOnDefinitions (map field_of fs) (map field_of c.deref-4.result.now))
+    c.deref-3.ensures.value
+    (on_yes _ _ c.in_ok-agree_on_definitions.field-0 c.if-not-branch.false c.in_ok-agree_on_definitions.ensures)) in
     let edit : IsEdited (EntriesAdded d other) (string_bytes c.in_ok-joined.field-0) = record {
       document = joined_documents d other;
-      outcome = EntriesAdded.added fresh;
+      outcome = EntriesAdded.added fresh agree;
       is = c.in_ok-joined.ensures;
       read = documents_joined d other c.self.invariant c.more.invariant;
     } in

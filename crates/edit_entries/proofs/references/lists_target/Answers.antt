@@ -2,9 +2,10 @@ use Rattle.std.proofs.Common.{length, sym, ap, ◌∙◌, lit<}
 use Rattle.std.specs.List.{list_any}
 use Rattle.std.proofs.lemmas.Iterator.Consumers.{YieldsList-end, YieldsList-turn}
 use Rattle.std.proofs.lemmas.Iterator.Splits.{YieldsList-from_str_split}
+use Rattle.edit_entries.specs.Targets.{is_name_of}
 use Rattle.edit_entries.specs.References.{elements_of, is_element}
 use Rattle.edit_entries.proofs.ReferenceFacts.{any_at}
-use Rattle.edit_entries.proofs.references.lists_key.Goals as goal
+use Rattle.edit_entries.proofs.references.lists_target.Goals as goal
 
 pub returns-then-is_element : goal.returns-then-is_element
 returns-then-is_element c =
@@ -12,7 +13,7 @@ returns-then-is_element c =
     YieldsList-turn (YieldsList-from_str_split 44 c.args.list.now (lit< tt) (cc) (cc) (cc)) c.elements.yielded _
     c.elements.yielded_by _ _ c.in-Some.element c.in-Some.is c.next.ensures.steps in
     sym
-    (any_at (is_element c.args.key.now) (elements_of c.args.list.now) (length c.elements.yielded)
+    (any_at (is_element (is_name_of c.args.target.now)) (elements_of c.args.list.now) (length c.elements.yielded)
     c.in-Some.element.now turn.0 turn.1 (sym c.is_element.ensures ∙ c.if-is_element.true))
 
 pub returns : goal.returns
@@ -21,4 +22,4 @@ returns c =
     (YieldsList-end (YieldsList-from_str_split 44 c.args.list.now (lit< tt) (cc) (cc) (cc)) c.elements.yielded _
     c.elements.yielded_by _ _ c.in-None.is c.next.ensures.steps).0
     in
-    sym c.elements.invariant ∙ ap (list_any (is_element c.args.key.now)) all
+    sym c.elements.invariant ∙ ap (list_any (is_element (is_name_of c.args.target.now))) all

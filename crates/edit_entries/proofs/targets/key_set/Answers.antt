@@ -2,9 +2,9 @@ use Rattle.std.proofs.Common.{◌∙◌, ℕ, true, List, cond, sym, ap}
 use Rattle.std.specs.Prelude.{bytes_eq}
 use Rattle.std.specs.Borrow.{Bor}
 use Rattle.std.proofs.lemmas.Map.Text.{is_eq-slice_cmp}
-use Rattle.edit_entries.specs.Keys.{is_key_in}
-use Rattle.edit_entries.proofs.KeyFacts.{key_more}
-use Rattle.edit_entries.proofs.joining.key_set.Goals as goal
+use Rattle.edit_entries.specs.Targets.{is_key_in}
+use Rattle.edit_entries.proofs.TargetFacts.{key_more}
+use Rattle.edit_entries.proofs.targets.key_set.Goals as goal
 
 pub entries-preserved : goal.entries-preserved
 entries-preserved c = λ key.

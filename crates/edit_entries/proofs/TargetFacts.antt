@@ -1,0 +1,99 @@
+-- Facts on the names that refer to an entry whose key is replaced.
+use Rattle.std.proofs.Common.{◌≡◌, ◌+◌, ◌<◌, ℕ, suc, Bool, true, false, List, [], ◌∷◌, ◌++◌, Option, Some, None, length, map, take, get_or, refl, sym, ap, ap₂, ◌∙◌, cond, if◌then◌else◌}
+use Rattle.std.specs.Prelude.{bytes_eq, is_some, ◌==◌}
+use Rattle.std.specs.List.{list_any}
+use Rattle.std.specs.Str.{trim}
+use Rattle.std.proofs.lemmas.List.{map-append, take_more}
+use Rattle.bib_tables.specs.ReferenceFields.{is_reference_field}
+use Rattle.bib_text.specs.declared.spanned.Spanned.{Spanned}
+use Rattle.bib_syntax.specs.Reading.{EntryReading, FieldReading, Piece}
+use Rattle.bib_syntax.specs.Reading.Piece.{abbreviation, literal}
+use Rattle.bib_syntax.specs.Views.{entry_reading_of}
+use Rattle.bib_syntax.specs.declared.raw.RawEntry.{RawEntry}
+use Rattle.edit_entries.specs.Documents.{first_position, is_keyed, next_index}
+use Rattle.edit_entries.specs.References.{between_white, elements_of, is_element, key_change, key_renaming, reference_changes, refers_to, renamed_element, renamed_list, renamed_text, renamed_value, renamed_where_listed, renaming, value_change}
+use Rattle.edit_entries.proofs.NameSetFacts.{any_same}
+use Rattle.edit_entries.proofs.ReferenceFacts.{join_read}
+
+-- ---- the keys of entries as a set
+
+some_next : (o : Option ℕ) → is_some (next_index o) ≡ is_some o
+some_next None = refl
+some_next (Some i) = refl
+
+some_if : (here : Bool) (later : Option ℕ) → is_some (cond here (Some 0) (next_index later)) ≡ cond here true (is_some later)
+some_if true later = refl
+some_if false later = some_next later
+
+swapped : (one other rest : Bool) → cond one true (cond other true rest) ≡ cond other true (cond one true rest)
+swapped true true rest = refl
+swapped true false rest = refl
+swapped false true rest = refl
+swapped false false rest = refl
+
+-- whether a test is passed by items and one more
+first_more : {A : Type 0} (test : A → Bool) (items : List A) (item : A)
+    → is_some (first_position test (items ++ item ∷ [])) ≡ cond (test item) true (is_some (first_position test items))
+first_more test [] item = some_if (test item) None
+first_more test (first ∷ items) item =
+    some_if (test first) (first_position test (items ++ item ∷ [])) ∙ ap (cond (test first) true) (first_more test items item)
+    ∙ swapped (test first) (test item) (is_some (first_position test items))
+    ∙ ap (cond (test item) true) (sym (some_if (test first) (first_position test items)))
+
+-- whether one of some entries and one more has a key
+pub key_more : (entries : List (Spanned RawEntry)) (index : ℕ) (entry : Spanned RawEntry) (key : List ℕ)
+    → index < length entries → entry ≡ get_or entries index entry
+    → is_some (first_position (is_keyed key) (map entry_reading_of (take (index + 1) entries)))
+    ≡ cond (bytes_eq entry.v.key.v.now key) true
+    (is_some (first_position (is_keyed key) (map entry_reading_of (take index entries))))
+key_more entries index entry key within is =
+    ap (λ l. is_some (first_position (is_keyed key) (map entry_reading_of l)))
+    (take_more entries index entry within ∙ ap (λ e. take index entries ++ e ∷ []) (sym is))
+    ∙ ap (λ l. is_some (first_position (is_keyed key) l)) (map-append entry_reading_of (take index entries) (entry ∷ []))
+    ∙ first_more (is_keyed key) (map entry_reading_of (take index entries)) (entry_reading_of entry)
+
+-- ---- tests that agree
+
+module _ (f g : List ℕ → Bool) (same : (name : List ℕ) → f name ≡ g name) (new : List ℕ) where
+  element_same : (element : List ℕ) → renamed_element f new element ≡ renamed_element g new element
+  element_same element = ap (λ b. if b then between_white new element else element) (same (trim element))
+
+  elements_same : (elements : List (List ℕ)) → map (renamed_element f new) elements ≡ map (renamed_element g new) elements
+  elements_same [] = refl
+  elements_same (e ∷ es) = ap₂ (λ x xs. x ∷ xs) (element_same e) (elements_same es)
+
+  list_same : (list : List ℕ) → renamed_list f new list ≡ renamed_list g new list
+  list_same list =
+      join_read (renamed_element f new) (renamed_element g new) (44 ∷ []) (elements_of list) (elements_of list)
+      (elements_same (elements_of list))
+
+  listed_same : (list : List ℕ) → renamed_where_listed f new list ≡ renamed_where_listed g new list
+  listed_same list =
+      ap₂ (λ b l. if b then Some l else None)
+      (any_same (is_element f) (is_element g) (λ e. same (trim e)) (elements_of list)) (list_same list)
+
+  text_same : (pieces : List Piece) → renamed_text f new pieces ≡ renamed_text g new pieces
+  text_same [] = refl
+  text_same (abbreviation p ∷ rest) = refl
+  text_same (literal p ∷ []) = listed_same p.text
+  text_same (literal p ∷ other ∷ rest) = refl
+
+  value_same : (x : FieldReading) → renamed_value f new x ≡ renamed_value g new x
+  value_same x = ap (λ t. if is_reference_field x.name.text then t else None) (text_same x.value.pieces)
+
+  references_same : (fields : List FieldReading) → reference_changes f new fields ≡ reference_changes g new fields
+  references_same [] = refl
+  references_same (x ∷ xs) = ap₂ (λ o l. value_change x o ++ l) (value_same x) (references_same xs)
+
+  renaming_same : (renamed index : ℕ) (entries : List EntryReading)
+      → renaming f new renamed index entries ≡ renaming g new renamed index entries
+  renaming_same renamed index [] = refl
+  renaming_same renamed index (e ∷ es) =
+      ap₂ (λ l m. (key_change (index == renamed) e new ++ l) ++ m) (references_same e.fields)
+      (renaming_same renamed (suc index) es)
+
+-- the changes that rename a key, by a test of the names that refer to it
+pub key_renaming_by : (test : List ℕ → Bool) (old new : List ℕ) (renamed : ℕ) (entries : List EntryReading)
+    → ((name : List ℕ) → test name ≡ refers_to entries old name)
+    → renaming test new renamed 0 entries ≡ key_renaming old new renamed entries
+key_renaming_by test old new renamed entries same = renaming_same test (refers_to entries old) same new renamed 0 entries

@@ -1,0 +1,47 @@
+-- Meaning: words of public contracts.
+-- New keys of entries: what they may contain, and the names that entries have already.
+use Rattle.std.specs.Prelude.{◌≡◌, ℕ, ◌<◌, Bool, true, not, ◌&&◌, ◌||◌, ◌==◌, if◌then◌else◌, List, length, codes, Some, slice_get}
+use Rattle.std.specs.List.{list_any}
+use Rattle.std.specs.Str.Iter.{HasSubslice}
+use Rattle.bib_text.specs.Characters as char
+use Rattle.bib_text.specs.Places.{Run, place}
+use Rattle.bib_syntax.specs.Characters.{is_key}
+use Rattle.bib_syntax.specs.Grammar.{is_word}
+use Rattle.bib_syntax.specs.Reading.{EntryReading}
+use Rattle.bib_queries.specs.Known.{all_names}
+use Rattle.bib_queries.specs.Names.{aliases_of, entry_names}
+
+-- whether `c` is one of  " # $ % ' ( ) = \ { ~
+abbrev pub is_unsafe_in_key : ℕ → Bool
+is_unsafe_in_key c =
+    c == char.quote || c == char.hash || c == char.dollar || c == char.percent || c == char.apostrophe
+    || c == char.open_parenthesis || c == char.close_parenthesis || c == char.equals || c == char.backslash
+    || c == char.open_brace || c == char.tilde
+
+-- whether `c` is allowed in a new key: any character of a key that is none of these
+abbrev pub is_new_key : ℕ → Bool
+is_new_key c = is_key c && not (is_unsafe_in_key c)
+
+-- a text can be a new key: BibTeX, Biber and bibtool read it as one, and a reference to it is read as it is written
+pub record CanBeNewKey (text : List ℕ) : Type 0 where
+  pub some : 0 < length text
+  pub run : Run is_new_key (place text 0) (place text (length text))
+  pub hyphens : HasSubslice text (codes "--") → ⊥
+
+-- whether one of these names is `name`, in any ASCII case
+abbrev pub has_word : List (List ℕ) → List ℕ → Bool
+has_word names name = list_any (λ own. is_word own name) names
+
+-- the names that an entry keeps: all of them, or those in its fields `ids` if its key is replaced
+abbrev pub kept_names : Bool → EntryReading → List (List ℕ)
+kept_names is_replaced e = if is_replaced then aliases_of e.fields else entry_names e
+
+-- a new key of the entry at the index `replaced` is a name of another entry, or one in the fields `ids` of this entry
+pub record IsNameTaken (entries : List EntryReading) (replaced : ℕ) (name : List ℕ) : Type 0 where
+  pub index : ℕ
+  pub entry : EntryReading
+  pub here : slice_get entries index ≡ Some entry
+  pub has : has_word (kept_names (index == replaced) entry) name ≡ true
+-- whether an entry has a name of one of these entries, in any ASCII case
+abbrev pub shares_name : List EntryReading → EntryReading → Bool
+shares_name entries e = list_any (has_word (all_names entries)) (entry_names e)
