@@ -45,7 +45,12 @@ pub order_made : (order : Order) (d : Document) (places new : List ℕ) → AreP
     → IsSortedText d places new → IsReadSorted d places new → IsEdited (IsInOrder order d) new
 order_made order d places new by_texts is read = record {
   document = record { text = new; says = read.tells };
-  outcome = record { places = places; by_texts = by_texts; text = is; alike = record { order = read.order; in_order = read.in_order; alike = read.alike } };
+  outcome = record {
+    places = places;
+    by_texts = by_texts;
+    text = is;
+    alike = record { order = read.order; in_order = read.in_order; alike = read.alike };
+  };
   is = refl;
   read = read.read;
 }

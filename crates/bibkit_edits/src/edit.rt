@@ -3,11 +3,11 @@
 ghost use Rattle.std.specs.Prelude.{◌≡◌};
 ghost use Rattle.bibkit_edits.specs.declared.edit.Refusal.TheVariants.{OutOfMemory};
 
+use bib_syntax::raw::ParseError;
 use edit_entries::errors::EditError;
 use edit_format::style::Style;
 use edit_resolve::errors::ResolveError;
 use edit_sort::order::Order;
-use bib_syntax::raw::ParseError;
 use std::alloc::AllocError;
 
 /// One edit of a bibliography file.

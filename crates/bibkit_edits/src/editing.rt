@@ -13,10 +13,11 @@ ghost use Rattle.edit_resolve.specs.Resolutions.{IsResolveRefused};
 use crate::edit::{Edit, Refusal};
 use crate::order::order_places;
 use crate::reading::{text_after_mark, with_mark};
+use bib_syntax::raw::ParseError;
+use bib_tables::dialects::Dialect;
 use edit_convert::converting::convert;
 use edit_entries::document::RawDocument;
 use edit_entries::errors::EditError;
-use bib_tables::dialects::Dialect;
 use edit_format::formatting::format;
 use edit_format::style::Style;
 use edit_resolve::errors::ResolveError;
@@ -26,7 +27,6 @@ use edit_sort::sorting::sort_entries;
 use edit_strings::collecting::collect;
 use edit_strings::errors::ExpandError;
 use edit_strings::expanding::expand;
-use bib_syntax::raw::ParseError;
 use std::alloc::{AllocError, Global};
 
 // The reason for refusing one edit of a document.

@@ -13,9 +13,9 @@ ghost use Rattle.bibkit_edits.specs.Orders.{ArePlacesOf, is_word_space};
 ghost use Rattle.bibkit_edits.specs.Sorting.{IsPlaceIn};
 
 use bib_findings::identities::{person, year};
-use edit_sort::order::Order;
 use bib_syntax::raw::RawEntry;
 use bib_text::spanned::Spanned;
+use edit_sort::order::Order;
 use std::alloc::{AllocError, Global};
 
 // Returns the offset of the last word, in bytes: the one after the last space, or 0 without a space.

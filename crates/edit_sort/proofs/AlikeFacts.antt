@@ -107,7 +107,8 @@ content_keeps = record {
 
 -- ---- the order of fields
 
-any_split : {A : Type 0} (p q : A → Bool) (xs : List A) → (list_any p (filter q xs) || list_any p (filter (λ x. not (q x)) xs)) ≡ list_any p xs
+any_split : {A : Type 0} (p q : A → Bool) (xs : List A)
+    → (list_any p (filter q xs) || list_any p (filter (λ x. not (q x)) xs)) ≡ list_any p xs
 any_split p q [] = refl
 any_split p q (x ∷ xs) = by_test (q x) (any_split p q xs)
   where

@@ -144,7 +144,9 @@ signs_there line_end style blank_lines {a} {u} ends
       reading = then before'.reading (then (entry_alone e') later.reading);
       file = joined_file before'.file (file.block entry.block later.file);
       signs =
-          subst (λ es. SameSigns u.text u.at (es ++ e' ∷ later.reading.entries) (gaps_from a.text a.at (before.entries ++ e ∷ rest.entries)))
+          subst
+          (λ es.
+          SameSigns u.text u.at (es ++ e' ∷ later.reading.entries) (gaps_from a.text a.at (before.entries ++ e ∷ rest.entries)))
           (sym before'.none)
           (subst (λ es. SameSigns u.text u.at (e' ∷ later.reading.entries) (gaps_from a.text a.at (es ++ e ∷ rest.entries))) (sym none)
           (sign, others_there));
@@ -190,7 +192,8 @@ module _ (all all' : List EntryReading) (style : Style) (old : List ℕ) (ranked
 
   ranks_listed : (text text' places places' : List ℕ) (index index' at at' run run' : ℕ) (es es' : List EntryReading)
       → map entry_content es' ≡ map entry_content (map ordered es)
-      → map (λ i. i.rank) (items_from all' text' places' index' at' run' es') ≡ map (λ i. i.rank) (items_from all text places index at run es)
+      → map (λ i. i.rank) (items_from all' text' places' index' at' run' es')
+      ≡ map (λ i. i.rank) (items_from all text places index at run es)
   ranks_listed text text' places places' index index' at at' run run' [] [] same = refl
   ranks_listed text text' places places' index index' at at' run run' [] (e' ∷ es') same = absurd (cc)
   ranks_listed text text' places places' index index' at at' run run' (e ∷ es) [] same = absurd (cc)

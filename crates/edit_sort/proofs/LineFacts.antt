@@ -91,7 +91,8 @@ ends_inside seen line rest i within clear =
 
 -- a text without line feeds adds no blank line
 pub skipped : (seen line rest : List ℕ) (k : ℕ) → k ≤ length line → HasNoFeed line
-    → greatest (ends_blank_line (seen ++ (line ++ rest))) (length seen + k) ≡ greatest (ends_blank_line (seen ++ (line ++ rest))) (length seen)
+    → greatest (ends_blank_line (seen ++ (line ++ rest))) (length seen + k)
+    ≡ greatest (ends_blank_line (seen ++ (line ++ rest))) (length seen)
 skipped seen line rest k within clear =
     greatest_skip (ends_blank_line (seen ++ (line ++ rest))) (length seen) k
     (λ j above below.
@@ -135,7 +136,8 @@ seen_more text kept rest line after new within line_is after_is new_is s =
     let m = length s.seen + length line in
     let long : length next ≡ suc m = omega (arith, length-append s.seen (line ++ 10 ∷ []), length-append line (10 ∷ [])) in
     let ends : ends_blank_line text (suc m) ≡ list_all is_ascii_whitespace line =
-    ap (λ l. is_blank_backwards (reverse l)) (ap (take (suc m)) is_cut ∙ take_at next after (suc m) long) ∙ ends_line s.seen line clear s.whole in
+    ap (λ l. is_blank_backwards (reverse l)) (ap (take (suc m)) is_cut ∙ take_at next after (suc m) long)
+    ∙ ends_line s.seen line clear s.whole in
     let skip : greatest (ends_blank_line text) m ≡ greatest (ends_blank_line text) (length s.seen) =
     subst (λ t. greatest (ends_blank_line t) m ≡ greatest (ends_blank_line t) (length s.seen)) (sym by_parts)
     (skipped s.seen line (10 ∷ after) (length line) (omega arith) clear) in

@@ -13,7 +13,8 @@ texts-preserved c =
     let i = c.texts.text-index in
     let sorted = map (λ s. s.now) c.in_ok-sorted.sorted.items in
     let text : c.as_str.result.now ≡ get_or texts i [] =
-    c.as_str.ensures.value ∙ ap string_bytes c.text-item.is ∙ sym (get_or-map string_bytes c.args.texts.now i c.text-item.result [] c.texts-test.true) in
+    c.as_str.ensures.value ∙ ap string_bytes c.text-item.is
+    ∙ sym (get_or-map string_bytes c.args.texts.now i c.text-item.result [] c.texts-test.true) in
     let here : IsPlaceIn sorted (get_or texts i []) c.place_in.result =
     subst (λ t. IsPlaceIn sorted t c.place_in.result) text
     (subst (λ l. IsPlaceIn (map (λ s. s.now) l) c.as_str.result.now c.place_in.result) c.deref.ensures.value c.place_in.ensures) in

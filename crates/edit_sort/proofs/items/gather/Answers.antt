@@ -33,7 +33,8 @@ entries-preserved c =
     c.comment_in-comment.ensures cut.0.gap.ordered cut.0.gap.end_cut.0 in
     let within : index < length c.args.entries.now = c.entries-test.true in
     let ranked : get_or c.args.ranks.now index 0 ≡ rank all e =
-    ap (λ l. get_or l index 0) c.requires.ranks ∙ get_or-map (rank all) all index e 0 (omega (arith, length-map c.args.entries.now entry_reading_of))
+    ap (λ l. get_or l index 0) c.requires.ranks
+    ∙ get_or-map (rank all) all index e 0 (omega (arith, length-map c.args.entries.now entry_reading_of))
     ∙ ap (rank all)
     (get_or-map entry_reading_of c.args.entries.now index c.index-entries-index.result e within
     ∙ ap entry_reading_of (sym c.index-entries-index.is)) in
