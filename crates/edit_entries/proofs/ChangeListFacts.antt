@@ -40,7 +40,9 @@ refused_more P Q e part (inr braces) = inr (braces.0, λ all. braces.1 (part all
 pub renaming-append : (refers : List ℕ → Bool) (new : List ℕ) (renamed index : ℕ) (xs ys : List EntryReading)
     → renaming refers new renamed index (xs ++ ys)
     ≡ renaming refers new renamed index xs ++ renaming refers new renamed (index + length xs) ys
-renaming-append refers new renamed index [] ys = let same : index ≡ index + 0 = omega arith in ap (λ i. renaming refers new renamed i ys) same
+renaming-append refers new renamed index [] ys =
+    let same : index ≡ index + 0 = omega arith in
+    ap (λ i. renaming refers new renamed i ys) same
 renaming-append refers new renamed index (x ∷ xs) ys =
     let same : suc index + length xs ≡ index + suc (length xs) = omega arith in
     let here : List Change = key_change (index == renamed) x new ++ reference_changes refers new x.fields in

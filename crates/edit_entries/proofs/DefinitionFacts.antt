@@ -111,6 +111,7 @@ last_of {A} test (x ∷ xs) k is = by_case (last_position test xs) refl (λ i so
         → (y : A) × (slice_get (x ∷ xs) k ≡ Some y) × (test y ≡ true)
     at_first true passes found = (x, ap (slice_get (x ∷ xs)) (some_same (sym found)), passes)
     at_first false fails found = absurd (cc)
+
     by_case : (o : Option ℕ) → last_position test xs ≡ o
         → ((i : ℕ) → last_position test xs ≡ Some i → (y : A) × (slice_get xs i ≡ Some y) × (test y ≡ true))
         → or_first (test x) o ≡ Some k → (y : A) × (slice_get (x ∷ xs) k ≡ Some y) × (test y ≡ true)

@@ -16,7 +16,7 @@ use Rattle.bib_syntax.proofs.FileFacts.{ahead_block, ahead_head, ahead_line_comm
 use Rattle.edit_entries.specs.Edits.{edited_all}
 use Rattle.edit_entries.specs.Documents.{Document, HasEntry, IsDocument, IsEdited, first_position, is_keyed, next_index}
 use Rattle.edit_entries.specs.NewNames.{CanBeNewKey, IsNameTaken}
-use Rattle.edit_entries.specs.References.{CanBeMade, Change, KeyRenamed, RenameIsRefused, change_edit, key_change, key_renaming, reference_changes, refers_to, renamed_value, renaming, value_change}
+use Rattle.edit_entries.specs.References.{CanBeMade, Change, KeyRenamed, RenameIsRefused, change_edit, key_change, key_renaming, reference_changes, refers_to_key, renamed_value, renaming, value_change}
 use Rattle.edit_entries.specs.Stretches.{AreChangesInOrder, AreEntriesPlaced, EndsInWhite, change_end, change_start}
 use Rattle.edit_entries.specs.declared.errors.EditError.{EditError}
 use Rattle.edit_entries.specs.declared.errors.EditError.TheVariants.{NotInBraces, OutOfMemory}
@@ -98,7 +98,8 @@ file_ordered {u} refers new renamed index (file.block {v = v} {first = first} {r
       | inl no_entry ↦
           let others = file_ordered refers new renamed index x in
           let from = ordered_from v.at u.at others.0 (renaming refers new renamed index rest.entries) (ahead_block b).at others.1 in
-          subst (λ es. (end : ℕ) × Ordered u.at (renaming refers new renamed index (es ++ rest.entries)) end) (sym no_entry) (others.0, from)
+          subst (λ es. (end : ℕ) × Ordered u.at (renaming refers new renamed index (es ++ rest.entries)) end) (sym no_entry)
+          (others.0, from)
       | inr one ↦
           let others = file_ordered refers new renamed (suc index) x in
           let same = ap (λ r. r.entries) one.1 in
@@ -188,14 +189,14 @@ named_some d old k e read entry some m x found same =
 pieces_known : (d : Document) (old new : List ℕ) (k : ℕ) (e : EntryReading) → IsDocument d → HasEntry d old k e
     → 0 < length old → AllByRecursion (IsPieceOf d) (key_renaming old new k d.says.entries)
 pieces_known d old new k e read entry some =
-    renaming_pieces d (refers_to d.says.entries old) new k 0 d.says.entries
+    renaming_pieces d (refers_to_key d.says.entries old) new k 0 d.says.entries
     (λ i x found. let same : i ≡ 0 + i = omega arith in subst (λ n. slice_get d.says.entries n ≡ Some x) same found)
     (named_some d old k e read entry some)
 
 pub apart_known : (d : Document) (old new : List ℕ) (k : ℕ) (e : EntryReading) → IsDocument d → HasEntry d old k e
     → 0 < length old → AreChangesInOrder d.text 0 (key_renaming old new k d.says.entries)
 apart_known d old new k e read entry some =
-    let order = file_ordered (refers_to d.says.entries old) new k 0 read in
+    let order = file_ordered (refers_to_key d.says.entries old) new k 0 read in
     apart_of d 0 order.0 (key_renaming old new k d.says.entries) read (pieces_known d old new k e read entry some) order.1
 
 pub entries_placed : (d : Document) → IsDocument d → AreEntriesPlaced d.text d.says.entries

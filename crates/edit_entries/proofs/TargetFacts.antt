@@ -11,7 +11,7 @@ use Rattle.bib_syntax.specs.Reading.Piece.{abbreviation, literal}
 use Rattle.bib_syntax.specs.Views.{entry_reading_of}
 use Rattle.bib_syntax.specs.declared.raw.RawEntry.{RawEntry}
 use Rattle.edit_entries.specs.Documents.{first_position, is_keyed, next_index}
-use Rattle.edit_entries.specs.References.{between_white, elements_of, is_element, key_change, key_renaming, reference_changes, refers_to, renamed_element, renamed_list, renamed_text, renamed_value, renamed_where_listed, renaming, value_change}
+use Rattle.edit_entries.specs.References.{between_white, elements_of, is_element, key_change, key_renaming, reference_changes, refers_to_key, renamed_element, renamed_list, renamed_text, renamed_value, renamed_where_listed, renaming, value_change}
 use Rattle.edit_entries.proofs.NameSetFacts.{any_same}
 use Rattle.edit_entries.proofs.ReferenceFacts.{join_read}
 
@@ -94,6 +94,6 @@ module _ (f g : List ℕ → Bool) (same : (name : List ℕ) → f name ≡ g na
 
 -- the changes that rename a key, by a test of the names that refer to it
 pub key_renaming_by : (test : List ℕ → Bool) (old new : List ℕ) (renamed : ℕ) (entries : List EntryReading)
-    → ((name : List ℕ) → test name ≡ refers_to entries old name)
+    → ((name : List ℕ) → test name ≡ refers_to_key entries old name)
     → renaming test new renamed 0 entries ≡ key_renaming old new renamed entries
-key_renaming_by test old new renamed entries same = renaming_same test (refers_to entries old) same new renamed 0 entries
+key_renaming_by test old new renamed entries same = renaming_same test (refers_to_key entries old) same new renamed 0 entries

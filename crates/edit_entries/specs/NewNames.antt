@@ -42,6 +42,7 @@ pub record IsNameTaken (entries : List EntryReading) (replaced : ℕ) (name : Li
   pub entry : EntryReading
   pub here : slice_get entries index ≡ Some entry
   pub has : has_word (kept_names (index == replaced) entry) name ≡ true
+
 -- whether an entry has a name of one of these entries, in any ASCII case
 abbrev pub shares_name : List EntryReading → EntryReading → Bool
 shares_name entries e = list_any (has_word (all_names entries)) (entry_names e)

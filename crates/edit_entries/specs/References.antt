@@ -19,8 +19,8 @@ abbrev pub elements_of : List ℕ → List (List ℕ)
 elements_of list = slice_split (λ c. c == char.comma) list
 
 -- whether a name refers to a key among entries: it is the key, or the key in another ASCII case if it is no key itself
-abbrev pub refers_to : List EntryReading → List ℕ → List ℕ → Bool
-refers_to entries key name = is_word name key && (bytes_eq name key || not (is_some (first_position (is_keyed name) entries)))
+abbrev pub refers_to_key : List EntryReading → List ℕ → List ℕ → Bool
+refers_to_key entries key name = is_word name key && (bytes_eq name key || not (is_some (first_position (is_keyed name) entries)))
 
 -- whether an element of a comma list is a name that refers to the key, except for the white space around it
 abbrev pub is_element : (List ℕ → Bool) → List ℕ → Bool
@@ -92,7 +92,7 @@ renaming refers new renamed index (e ∷ rest) =
 
 -- the changes that rename the key of the entry at an index, and each reference to it
 abbrev pub key_renaming : List ℕ → List ℕ → ℕ → List EntryReading → List Change
-key_renaming old new renamed entries = renaming (refers_to entries old) new renamed 0 entries
+key_renaming old new renamed entries = renaming (refers_to_key entries old) new renamed 0 entries
 
 -- what comes of changes, made from the last to the first, so that each piece is where it was
 pub data Changed (d : Document) : List Change → Document → Type 0 where

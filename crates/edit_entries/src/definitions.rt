@@ -73,10 +73,7 @@ fn agrees(
 {
     let name = definition.key.v.to_ascii_lowercase(alloc)?;
     match last.get(name.as_str()) {
-        Some(index) => Ok(is_same_value(
-            &definition.value.v,
-            &others[*index].value.v,
-        )),
+        Some(index) => Ok(is_same_value(&definition.value.v, &others[*index].value.v)),
         None => Ok(true),
     }
 }

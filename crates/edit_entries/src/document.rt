@@ -153,11 +153,7 @@ impl<'s> RawDocument<'s> {
         if shares_name(alloc, &self.raw.entries, &more.raw.entries)? {
             return Err(EditError::KeyIsThere);
         }
-        if !agree_on_definitions(
-            alloc,
-            &self.raw.abbreviations,
-            &more.raw.abbreviations,
-        )? {
+        if !agree_on_definitions(alloc, &self.raw.abbreviations, &more.raw.abbreviations)? {
             return Err(EditError::DefinitionIsThere);
         }
         Ok(joined(alloc, self.text, more.text)?)

@@ -16,9 +16,7 @@ pub enum EditError {
     #[error("an entry has the key already")]
     KeyIsThere,
     /// The text can't be a new key: BibTeX, Biber or bibtool wouldn't read it as one, or a reference wouldn't find it.
-    #[error(
-        "a key for BibTeX, Biber and bibtool isn't empty, and has no white space, comma, quote, brace, parenthesis, `--` or any of # $ % = \\ ~"
-    )]
+    #[error("a key for BibTeX, Biber and bibtool isn't empty, and has no white space, comma, quote, brace, parenthesis, `--` or any of # $ % = \\ ~")]
     NotAKey,
     /// The text isn't one that can be a field's name.
     #[error("the text can't be the name of a field")]

@@ -2,7 +2,7 @@
 
 ghost use Rattle.std.specs.Prelude.{◌≡◌, ℕ, List, IfOk, map};
 ghost use Rattle.bib_syntax.specs.Views.{entry_reading_of};
-ghost use Rattle.edit_entries.specs.References.{refers_to};
+ghost use Rattle.edit_entries.specs.References.{refers_to_key};
 ghost use Rattle.edit_entries.specs.Targets.{AreKeysOf, is_name_of};
 
 use bib_syntax::raw::{RawEntry, is_word};
@@ -39,7 +39,7 @@ impl<'k, 's> Target<'k, 's> {
         key: &'k str,
     ) -> Result<Self, AllocError>
         ensures { IfOk result (λ target. (name : List ℕ) →
-            is_name_of target name ≡ refers_to (map entry_reading_of entries.now) key.now name) }
+            is_name_of target name ≡ refers_to_key (map entry_reading_of entries.now) key.now name) }
     {
         let keys = key_set(alloc, entries)?;
         Ok(Target { key, keys })

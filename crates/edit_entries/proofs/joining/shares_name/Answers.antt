@@ -37,8 +37,7 @@ others-preserved c =
     let names' = ap (map (λ n. n.now)) c.deref-in-others.ensures.value ∙ c.in_ok-names.ensures in
     let more = seen_more entry_reading_of c.args.others.now i c.entry-item.result c.others-test.true c.entry-item.is in
     let shares =
-    shared before e (map (λ n. n.now) c.deref.result.now) (contains_text c.others.set) names c.others.invariant.0 in
-    (
+    shared before e (map (λ n. n.now) c.deref.result.now) (contains_text c.others.set) names c.others.invariant.0 in (
       subst (λ l. AreNamesOf l (contains_text c.insert_names.new.set))
           (append_assoc entries (map entry_reading_of (take i c.args.others.now)) (e ∷ [])
           ∙ ap (λ l. entries ++ l) (sym more))

@@ -5,4 +5,6 @@ use Rattle.edit_entries.specs.References.{renamed_element}
 use Rattle.edit_entries.proofs.references.renamed_list.Given as goal
 
 abbrev pub invariant-elements : goal.invariant-elements
-invariant-elements l = map string_bytes l.parts.items ≡ map (λ e. renamed_element (is_name_of l.target) l.new e) (map (λ p. p.now) l.yielded)
+invariant-elements l =
+    map string_bytes l.parts.items
+    ≡ map (λ e. renamed_element (is_name_of l.target) l.new e) (map (λ p. p.now) l.yielded)

@@ -24,28 +24,30 @@ pub returns-in_err-push_reference_edits-clause-refused : goal.returns-in_err-pus
 returns-in_err-push_reference_edits-clause-refused c =
     let p = err_from_is_err_and c.from_residual-in_err-push_reference_edits.result c.from_residual-in_err-push_reference_edits.ensures.1 in
     let entry = c.index-entries-index.result in
+    let named = is_name_of c.args.target.now in
     let part =
-    λ (all : AllByRecursion CanBeMade (renaming (is_name_of c.args.target.now) c.args.new.now c.args.renamed 0 (map entry_reading_of c.args.entries.now))).
-    subst (λ fs. AllByRecursion CanBeMade (reference_changes (is_name_of c.args.target.now) c.args.new.now (map field_of fs))) (sym c.deref.ensures.value)
-    (renaming_at entry_reading_of (is_name_of c.args.target.now) c.args.new.now c.args.renamed c.args.entries.now c.entries.index entry
+    λ (all : AllByRecursion CanBeMade (renaming named c.args.new.now c.args.renamed 0 (map entry_reading_of c.args.entries.now))).
+    subst (λ fs. AllByRecursion CanBeMade (reference_changes named c.args.new.now (map field_of fs))) (sym c.deref.ensures.value)
+    (renaming_at entry_reading_of named c.args.new.now c.args.renamed c.args.entries.now c.entries.index entry
     c.entries-test.true c.index-entries-index.is CanBeMade all) in
     rw (p.1, p.2) (refused_more
-    (AllByRecursion CanBeMade (reference_changes (is_name_of c.args.target.now) c.args.new.now (map field_of c.deref.result.now)))
+    (AllByRecursion CanBeMade (reference_changes named c.args.new.now (map field_of c.deref.result.now)))
     (AllByRecursion CanBeMade
-    (renaming (is_name_of c.args.target.now) c.args.new.now c.args.renamed 0 (map entry_reading_of c.args.entries.now))) _
+    (renaming named c.args.new.now c.args.renamed 0 (map entry_reading_of c.args.entries.now))) _
     part c.in_err-push_reference_edits.ensures.refused)
 
 pub entries-preserved : goal.entries-preserved
 entries-preserved c =
+    let named = is_name_of c.args.target.now in
     let text = c.args.text.now in
     let entry = c.index-entries-index.result in
     let e = entry_reading_of entry in
-    let before = renaming (is_name_of c.args.target.now) c.args.new.now c.args.renamed 0 (map entry_reading_of (take c.entries.index c.args.entries.now)) in
+    let before = renaming named c.args.new.now c.args.renamed 0 (map entry_reading_of (take c.entries.index c.args.entries.now)) in
     let key = key_change (c.entries.index == c.args.renamed) e c.args.new.now in
-    let refs = reference_changes (is_name_of c.args.target.now) c.args.new.now e.fields in
+    let refs = reference_changes named c.args.new.now e.fields in
     let more =
     sym
-    (renaming_more entry_reading_of (is_name_of c.args.target.now) c.args.new.now c.args.renamed c.args.entries.now
+    (renaming_more entry_reading_of named c.args.new.now c.args.renamed c.args.entries.now
     c.entries.index entry c.entries-test.true c.index-entries-index.is) in
     let fields = c.deref.ensures.value in
     let added = c.in_ok-push_reference_edits.ensures in
@@ -56,12 +58,12 @@ entries-preserved c =
     ∙ ap
     (λ fs.
     map edit_of c.push_key_edit.new.edits.items
-    ++ map (change_edit text) (reference_changes (is_name_of c.args.target.now) c.args.new.now (map field_of fs)))
+    ++ map (change_edit text) (reference_changes named c.args.new.now (map field_of fs)))
     fields) in
-    let can = subst (λ fs. AllByRecursion CanBeMade (reference_changes (is_name_of c.args.target.now) c.args.new.now (map field_of fs))) fields added.can in
+    let can = subst (λ fs. AllByRecursion CanBeMade (reference_changes named c.args.new.now (map field_of fs))) fields added.can in
     let white =
     subst
-    (λ fs. AllByRecursion (EndsInWhite text) (reference_changes (is_name_of c.args.target.now) c.args.new.now (map field_of fs)))
+    (λ fs. AllByRecursion (EndsInWhite text) (reference_changes named c.args.new.now (map field_of fs)))
     fields added.white in (
       edits ∙ ap (map (change_edit text)) more,
       subst (AllByRecursion CanBeMade) more
