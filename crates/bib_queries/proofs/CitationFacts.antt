@@ -7,7 +7,8 @@ use Rattle.std.specs.Option.{option_map}
 use Rattle.std.specs.Str.Pattern.{FindsTextPrefix}
 use Rattle.std.proofs.lemmas.List.Sums.{fold-append}
 use Rattle.std.proofs.lemmas.List.Folds.{list_any-append}
-use Rattle.bib_queries.specs.Citations.{add_citation, cites_all, cites_at, cites_from, text_after_prefix}
+use Rattle.bib_queries.specs.Citations.{add_citation, cites_all, cites_at, cites_from}
+use Rattle.bib_queries.specs.Lines.{text_after_prefix}
 use Rattle.bib_queries.specs.Collecting.{IsCollected, IsSeen}
 use Rattle.bib_queries.specs.declared.citations.Citation.{Citation}
 use Rattle.bib_queries.specs.declared.citations.Collected.{Collected}

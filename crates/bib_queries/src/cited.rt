@@ -1,19 +1,21 @@
 //! Prints the cited entries of a text with everything that they refer to, transitively.
 
-ghost use Rattle.std.specs.Prelude.{◌≡◌, [], ◌++◌, map, length, if◌then◌else◌, IfOk, OnOk};
-ghost use Rattle.std.specs.List.{AllByRecursion, flat_map};
+ghost use Rattle.std.specs.Prelude.{◌≡◌, ℕ, List, [], ◌++◌, map, length, if◌then◌else◌, IfOk, OnOk};
+ghost use Rattle.std.specs.List.{AllByRecursion, flat_map, list_any};
 ghost use Rattle.std.specs.String.{string_bytes};
 ghost use Rattle.bib_syntax.specs.Recovery.{IsBlockOf};
 ghost use Rattle.bib_syntax.specs.Views.{entry_reading_of, field_of, file_of};
 ghost use Rattle.bib_queries.specs.Cited.{IsCited, IsExcerpt, definition_line, definition_text, entry_line, used_in_entries, used_in_entry};
 ghost use Rattle.bib_queries.specs.Names.{definition_node, entry_node};
 ghost use Rattle.bib_queries.specs.Needed.{AreMarks, IsNeeded, with_marks};
+ghost use Rattle.bib_queries.specs.Preambles.{ArePreambles};
 ghost use Rattle.bib_queries.specs.Standing.{IsFieldIn};
 ghost use Rattle.bib_queries.specs.Texts.{text_list};
 
-use crate::excerpts::print_if;
+use crate::excerpts::{Answer, print_if};
 use crate::names::{links_of_definitions, links_of_entries, push_used_in_fields};
 use crate::needed::mark_needed;
+use crate::preambles::print_preambles;
 use crate::request::CitedKeys;
 use bib_syntax::raw::{Pair, RawBibliography, RawEntry};
 use bib_text::spanned::Spanned;
@@ -144,22 +146,36 @@ fn print_entries(
     Ok(())
 }
 
-// Returns the cited entries and everything that they refer to, transitively. Definitions come before entries.
+// Returns whether one of the marks is true.
+fn has_mark(marks: &[bool]) -> bool
+    ensures { result ≡ list_any (λ mark. mark) marks.now }
+{
+    marks.iter().any(|mark| *mark)
+}
+
+// Returns the cited entries and everything that they refer to, transitively. Definitions come first, then the preambles of the
+// file, then entries.
 pub(crate) fn cited_text(
     alloc: Global,
     cited: &CitedKeys<'_>,
     text: &str,
     raw: &RawBibliography<'_>,
-) -> Result<String, AllocError>
+) -> Result<Answer, AllocError>
     requires entries { AllByRecursion (IsBlockOf text.now) (file_of raw.now).entries }
     requires definitions { AllByRecursion (IsFieldIn text.now) (file_of raw.now).abbreviations }
-    ensures { IfOk result (λ printed. IsExcerpt (text_list cited.now.keys) cited.now.all text.now
-        (file_of raw.now) (string_bytes printed)) }
+    requires preambles { (insides : List (List ℕ)) × ArePreambles (file_of raw.now).preamble insides }
+    ensures { IfOk result (λ answer. IsExcerpt (text_list cited.now.keys) cited.now.all text.now
+        (file_of raw.now) (string_bytes answer.text) answer.has_entry) }
 {
     let marks = cited_entries(alloc, cited, &raw.entries)?;
     let definition_marks = used_definitions(alloc, raw, &marks)?;
     let mut printed = String::new(alloc);
     print_definitions(&mut printed, text, &raw.abbreviations, &definition_marks)?;
+    print_preambles(&mut printed, raw.preamble.as_str())?;
     print_entries(&mut printed, text, &raw.entries, &marks)?;
-    Ok(printed)
+    let has_entry = has_mark(&marks);
+    Ok(Answer {
+        text: printed,
+        has_entry,
+    })
 }

@@ -10,10 +10,14 @@
 
 pub mod citations;
 mod cited;
+mod elements;
 pub mod excerpts;
 pub mod known;
 pub mod laws;
+pub mod lines;
 mod names;
 mod needed;
+mod preambles;
 pub mod request;
 mod sets;
+pub mod sources;

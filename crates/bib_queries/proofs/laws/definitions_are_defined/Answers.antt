@@ -7,7 +7,7 @@ use Rattle.bib_queries.proofs.CitedFacts.{needed_marked}
 use Rattle.bib_queries.proofs.laws.definitions_are_defined.Goals as goal
 
 pub returns : goal.returns
-returns c names all text printed says h first second name mark refers has =
+returns c names all text printed says has_entry h first second name mark refers has =
     needed_marked (used_in_entries (with_marks h.entry_marks says.entries)) (map definition_node says.abbreviations) _
     h.definition_marks first second name (length-map says.abbreviations definition_node) h.definitions mark refers
     has

@@ -7,6 +7,6 @@ use Rattle.bib_queries.proofs.CitedFacts.{asked_marked}
 use Rattle.bib_queries.proofs.laws.used_are_defined.Goals as goal
 
 pub returns : goal.returns
-returns c names all text printed says h index name used has =
+returns c names all text printed says has_entry h index name used has =
     asked_marked (used_in_entries (with_marks h.entry_marks says.entries)) (map definition_node says.abbreviations) _
     h.definition_marks index name (length-map says.abbreviations definition_node) h.definitions used has
