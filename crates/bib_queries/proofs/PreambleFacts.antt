@@ -4,7 +4,7 @@ use Rattle.std.specs.Prelude.{◌==◌, ◌&&◌, codes, encode_utf8, eqb, is_so
 use Rattle.std.specs.Char.{len_utf8}
 use Rattle.std.specs.Option.{option_map_or}
 use Rattle.std.specs.List.{AllByRecursion, flat_map, starts_with}
-use Rattle.std.proofs.lemmas.Bool.{false≢true, ne_eqb}
+use Rattle.std.proofs.lemmas.Bool.{eq-eqb, eqb-true, false≢true, ne_eqb}
 use Rattle.std.proofs.lemmas.Bool.Decides.{Decides-eqb}
 use Rattle.std.proofs.lemmas.Slice.Eq.{starts_is}
 use Rattle.std.proofs.lemmas.List.{take_at, drop_at}
@@ -195,11 +195,6 @@ closes_here (b ∷ inside) rest (suc at) within hidden is =
 abbrev hides : Bool → ℕ → Bool
 hides is_hidden b = not is_hidden && b == 92
 
--- one more byte of the text
-record GoesOn (inside : List ℕ) (is_hidden : Bool) (at : ℕ) : Type 0 where
-  within : at ≤ length inside
-  hidden : are_quotes_hidden is_hidden (drop at inside) ≡ true
-
 hidden_next : (b : ℕ) (bs : List ℕ) → (b ≡ 34 → ⊥) → are_quotes_hidden false (b ∷ bs) ≡ true → are_quotes_hidden (b == 92) bs ≡ true
 hidden_next b bs no_quote hidden = by (b == 92) refl where
   by : (slash : Bool) → (b == 92) ≡ slash → are_quotes_hidden (b == 92) bs ≡ true
@@ -224,6 +219,38 @@ goes_on (b ∷ inside) rest true zero within hidden other = (omega arith, hidden
 goes_on (b ∷ inside) rest false zero within hidden other = (omega arith, hidden_next b inside (other refl) hidden)
 goes_on (b ∷ inside) rest is_hidden (suc at) within hidden other =
     let next = goes_on inside rest is_hidden at (omega (arith, within)) hidden other in (omega (arith, next.0), next.1)
+
+-- the place in the text of a preamble
+abbrev pub IsAt : List ℕ → Bool → ℕ → Type 0
+IsAt inside is_hidden at = (at ≤ length inside) × (are_quotes_hidden is_hidden (drop at inside) ≡ true)
+
+-- a byte that is the closing quote by the test
+pub closed_at : (text inside rest : List ℕ) (is_hidden : Bool) (at : ℕ) → text ≡ inside ++ 34 ∷ rest
+    → (not is_hidden && get_or text at 0 == 34) ≡ true → IsAt inside is_hidden at → at ≡ length inside
+closed_at text inside rest true at is closes here = absurd (test_clash false closes refl)
+closed_at text inside rest false at is closes here =
+    closes_here inside rest at here.0 here.1 (sym (ap (λ t. get_or t at 0) is) ∙ eqb-true (get_or text at 0) 34 closes)
+
+-- a byte that isn't the closing quote by the test
+pub open_at : (text inside rest : List ℕ) (is_hidden hides_next : Bool) (at : ℕ) → text ≡ inside ++ 34 ∷ rest
+    → (not is_hidden && get_or text at 0 == 34) ≡ false → hides_next ≡ (not is_hidden && get_or text at 0 == 92)
+    → IsAt inside is_hidden at → IsAt inside hides_next (at + 1)
+open_at text inside rest is_hidden hides_next at is open_here hides here =
+    let byte : get_or text at 0 ≡ get_or (inside ++ 34 ∷ rest) at 0 = ap (λ t. get_or t at 0) is in
+    let other : is_hidden ≡ false → get_or (inside ++ 34 ∷ rest) at 0 ≡ 34 → ⊥ = λ shown quote.
+        test_clash (not is_hidden && get_or text at 0 == 34)
+        (ap (λ b. not b && get_or text at 0 == 34) shown ∙ eq-eqb (get_or text at 0) 34 (byte ∙ quote)) open_here in
+    let next = goes_on inside rest is_hidden at here.0 here.1 other in (
+      next.0,
+      subst (λ b. are_quotes_hidden b (drop (at + 1) inside) ≡ true)
+      (sym (hides ∙ ap (λ b. not is_hidden && b == 92) byte)) next.1,
+    )
+
+-- the closing quote is before the end of the text
+pub past_end : {A : Type 0} (text inside rest : List ℕ) (at : ℕ) → text ≡ inside ++ 34 ∷ rest → length text ≤ at
+    → at ≤ length inside → A
+past_end text inside rest at is long within =
+    absurd (omega (arith, ap length is, length-append inside (34 ∷ rest), long, within))
 
 -- ---- one preamble after another
 

@@ -1,7 +1,7 @@
 -- Meaning: words of public contracts.
 -- The citations of a document in the .aux file that LaTeX writes, or in the .bcf file that BibLaTeX writes for Biber.
-use Rattle.std.specs.Prelude.{◌≡◌, ℕ, ◌+◌, ◌==◌, ◌||◌, Bool, not, if◌then◌else◌, List, [], ◌∷◌, ◌++◌, bytes_eq, codes, filter, fold, length, map}
-use Rattle.std.specs.List.{list_any, slice_split}
+use Rattle.std.specs.Prelude.{◌≡◌, ℕ, ◌+◌, ◌==◌, ◌||◌, Bool, if◌then◌else◌, List, [], ◌∷◌, ◌++◌, bytes_eq, codes, fold, length, map}
+use Rattle.std.specs.List.{flat_map, list_any, slice_split}
 use Rattle.bib_text.specs.Characters as char
 use Rattle.bib_queries.specs.Elements.{element_keys, set_names}
 use Rattle.bib_queries.specs.Lines.{aux_cited}
@@ -9,9 +9,13 @@ use Rattle.bib_queries.specs.Needed.{is_listed}
 use Rattle.bib_queries.specs.declared.citations.Citation.{Citation}
 use Rattle.bib_queries.specs.declared.citations.Citations.{Citations}
 
+-- a key, or no key if it is among these names
+abbrev pub unlisted_key : List (List ℕ) → List ℕ → List (List ℕ)
+unlisted_key names key = if is_listed names key then [] else key ∷ []
+
 -- the keys that are not among these names
 abbrev pub unlisted_keys : List (List ℕ) → List (List ℕ) → List (List ℕ)
-unlisted_keys names keys = filter (λ key. not (is_listed names key)) keys
+unlisted_keys names keys = flat_map (unlisted_key names) keys
 
 -- the keys that an element of a control file cites, if the file defines these sets: Biber makes the entry of a set itself
 abbrev pub bcf_cited : List (List ℕ) → List ℕ → List (List ℕ)

@@ -1,6 +1,6 @@
 -- Meaning: words of public contracts.
 -- The elements of a control file of Biber (.bcf), which is XML. An element is given by the text after its `<`, up to the next `<`.
-use Rattle.std.specs.Prelude.{ℕ, ◌==◌, ◌||◌, ◌&&◌, Bool, false, if◌then◌else◌, List, [], ◌∷◌, ◌++◌, Option, Some, None, bytes_eq, codes, drop, eqb, length, nat_lt}
+use Rattle.std.specs.Prelude.{ℕ, ◌==◌, ◌||◌, Bool, false, if◌then◌else◌, List, [], ◌∷◌, ◌++◌, Option, Some, None, bytes_eq, codes, drop, eqb, length, nat_lt}
 use Rattle.std.specs.List.{after_first, before_first, flat_map, position_or_len, slice_split, starts_with}
 use Rattle.std.specs.Option.{option_and_then, option_map_or}
 use Rattle.std.specs.Str.{trim}
@@ -61,11 +61,11 @@ text_after_tag piece = after_first (λ b. b == char.greater) piece
 
 -- the tag of an element with this name, or `None` for another element
 abbrev pub tag_with_name : List ℕ → List ℕ → Option (List ℕ)
-tag_with_name name piece = if has_tag_end piece && is_tag_with name (tag piece) then Some (tag piece) else None
+tag_with_name name piece = if has_tag_end piece then (if is_tag_with name (tag piece) then Some (tag piece) else None) else None
 
 -- the text of an element with this name, or `None` for another element
 abbrev pub text_with_name : List ℕ → List ℕ → Option (List ℕ)
-text_with_name name piece = if has_tag_end piece && is_tag_with name (tag piece) then Some (text_after_tag piece) else None
+text_with_name name piece = if has_tag_end piece then (if is_tag_with name (tag piece) then Some (text_after_tag piece) else None) else None
 
 -- the text after the first place at which a text contains `part`, or `None` without one
 abbrev pub text_after_part : List ℕ → List ℕ → Option (List ℕ)

@@ -2,7 +2,7 @@
 
 ghost use Rattle.std.specs.Prelude.{◌≡◌, ◌++◌, ◌∷◌, ◌||◌, [], ℕ, List, Bool, not, false, is_some, if◌then◌else◌, map, IfOk, OnOk};
 ghost use Rattle.std.specs.BTreeMap.{get_by_text};
-ghost use Rattle.bib_queries.specs.Citations.{AreAuxCitations, AreBcfCitations, bcf_cited, cites_at, unlisted_keys};
+ghost use Rattle.bib_queries.specs.Citations.{AreAuxCitations, AreBcfCitations, bcf_cited, cites_at, unlisted_key, unlisted_keys};
 ghost use Rattle.bib_queries.specs.Collecting.{IsCollected, IsSeen, IsSetOf};
 ghost use Rattle.bib_queries.specs.Elements as element;
 ghost use Rattle.bib_queries.specs.Elements.{element_keys};
@@ -157,7 +157,7 @@ fn push_unlisted<'s>(
     key: &'s str,
 ) -> Result<(), AllocError>
     ensures { OnOk result ((names : List (List ℕ)) → IsSetOf sets.now names →
-        text_list kept.new ≡ text_list kept.old ++ unlisted_keys names (key.now ∷ [])) }
+        text_list kept.new ≡ text_list kept.old ++ unlisted_key names key.now) }
 {
     if sets.contains_key(key) {
         return Ok(());
