@@ -7,4 +7,5 @@ pub mod MarkFacts
 pub mod PartFacts
 pub mod PreambleFacts
 pub mod SearchFacts
+pub mod SkippedFacts
 pub mod SourceFacts

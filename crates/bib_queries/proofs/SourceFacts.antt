@@ -23,14 +23,15 @@ pub nothing_named : (lines all : List (List ℕ)) → lines ≡ all → NameNoth
 nothing_named lines all same before = ap first_data (sym same ∙ sym (append-nil lines)) ∙ before []
 
 -- a line in its place
-line_here : (all : List (List ℕ)) (n : ℕ) (line : List ℕ) → n < length all → get_or all n line ≡ line → all ≡ take n all ++ line ∷ drop (suc n) all
+line_here : (all : List (List ℕ)) (n : ℕ) (line : List ℕ) → n < length all → get_or all n line ≡ line
+    → all ≡ take n all ++ line ∷ drop (suc n) all
 line_here [] n line within is = absurd (omega (arith, within))
 line_here (first ∷ all) zero line within is = ap (λ l. l ∷ all) is
 line_here (first ∷ all) (suc n) line within is = ap (λ l. first ∷ l) (line_here all n line (omega (arith, within)) is)
 
 -- the first line that names files
-pub something_named : (lines all : List (List ℕ)) (n : ℕ) (line list : List ℕ) → lines ≡ take n all → n < length all → get_or all n line ≡ line
-    → aux_data line ≡ Some list → NameNothing lines → first_data all ≡ comma_parts list
+pub something_named : (lines all : List (List ℕ)) (n : ℕ) (line list : List ℕ) → lines ≡ take n all → n < length all
+    → get_or all n line ≡ line → aux_data line ≡ Some list → NameNothing lines → first_data all ≡ comma_parts list
 something_named lines all n line list front within is some before =
     ap first_data (line_here all n line within is ∙ ap (λ l. l ++ line ∷ drop (suc n) all) (sym front)) ∙ before (line ∷ drop (suc n) all)
     ∙ ap (λ o. option_map_or comma_parts o (first_data (drop (suc n) all))) some

@@ -13,3 +13,4 @@ pub mod Sets
 pub mod Sources
 pub mod Standing
 pub mod Texts
+pub mod Unread

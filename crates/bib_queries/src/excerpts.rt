@@ -10,13 +10,13 @@ ghost use Rattle.bib_queries.specs.Answers.{IsPrinted, IsTextAnswer, has_key, is
 ghost use Rattle.bib_queries.specs.Cited.{entry_line};
 ghost use Rattle.bib_queries.specs.Cited as cited_spec;
 ghost use Rattle.bib_queries.specs.Preambles.{ArePreambles};
-ghost use Rattle.bib_queries.specs.Standing.{IsFieldIn};
+ghost use Rattle.bib_queries.specs.Standing.{IsFieldIn, IsSkippedIn};
 
 use crate::cited::cited_text;
 use crate::names::is_name;
 use crate::request::{Request, Search};
 use crate::sets::name_set;
-use bib_syntax::raw::{Pair, RawBibliography, RawChunk, RawEntry};
+use bib_syntax::raw::{Pair, RawBibliography, RawChunk, RawEntry, RawRecovery};
 use bib_text::spanned::Spanned;
 use std::alloc::{AllocError, Global};
 
@@ -171,30 +171,33 @@ fn entries_answer(text: String) -> Answer
     Answer { text, has_entry }
 }
 
-// Returns the answer to a request on the entries, definitions and preambles of a text.
-fn answer_raw(
+// Returns the answer to a request on the parsed and the skipped blocks of a text.
+fn answer_found(
     alloc: Global,
     request: &Request<'_>,
     text: &str,
-    raw: &RawBibliography<'_>,
+    found: &RawRecovery<'_>,
 ) -> Result<Answer, AllocError>
-    requires entries { AllByRecursion (IsBlockOf text.now) (file_of raw.now).entries }
-    requires definitions { AllByRecursion (IsFieldIn text.now) (file_of raw.now).abbreviations }
-    requires preambles { (insides : List (List ℕ)) × ArePreambles (file_of raw.now).preamble insides }
-    ensures { IfOk result (λ answer. IsPrinted request.now text.now (file_of raw.now) (string_bytes answer.text) answer.has_entry) }
+    requires entries { AllByRecursion (IsBlockOf text.now) (file_of found.now.raw).entries }
+    requires definitions { AllByRecursion (IsFieldIn text.now) (file_of found.now.raw).abbreviations }
+    requires preambles { (insides : List (List ℕ)) × ArePreambles (file_of found.now.raw).preamble insides }
+    requires skipped { AllByRecursion (IsSkippedIn text.now) found.now.skipped.items }
+    ensures { IfOk result (λ answer. IsPrinted request.now text.now (file_of found.now.raw) found.now.skipped.items
+        (string_bytes answer.text) answer.has_entry) }
 {
+    let entries = &found.raw.entries;
     match request {
-        Request::Keys => Ok(entries_answer(keys(alloc, &raw.entries)?)),
-        Request::Get(names) => Ok(entries_answer(get(alloc, names, text, &raw.entries)?)),
-        Request::Grep(search) => Ok(entries_answer(grep(alloc, search, text, &raw.entries)?)),
-        Request::Cited(keys) => cited_text(alloc, keys, text, raw),
+        Request::Keys => Ok(entries_answer(keys(alloc, entries)?)),
+        Request::Get(names) => Ok(entries_answer(get(alloc, names, text, entries)?)),
+        Request::Grep(search) => Ok(entries_answer(grep(alloc, search, text, entries)?)),
+        Request::Cited(keys) => cited_text(alloc, keys, text, found),
     }
 }
 
-/// Returns the answer to a request on the entries, definitions and preambles that can be parsed of a text.
+/// Returns the answer to a request on a text. Blocks that can't be parsed are skipped, except preambles for `Cited`.
 pub fn answer(alloc: Global, request: &Request<'_>, text: &str) -> Result<Answer, AllocError>
     ensures { IfOk result (λ answer. IsTextAnswer request.now text.now (string_bytes answer.text) answer.has_entry) }
 {
     let found = RawBibliography::recover(alloc, text)?;
-    answer_raw(alloc, request, text, &found.raw)
+    answer_found(alloc, request, text, &found)
 }

@@ -21,3 +21,4 @@ mod preambles;
 pub mod request;
 mod sets;
 pub mod sources;
+mod unread;
