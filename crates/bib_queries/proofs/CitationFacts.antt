@@ -100,6 +100,13 @@ listed_more pieces piece key some more new old =
     (flat_map-append set_name (map (λ p. p.now) pieces) (piece.now ∷ []) ∙ ap (λ l. names ++ l) (append-nil last))
     ∙ list_any-append (λ one. bytes_eq one key) names last)
 
+-- one name, or further ones
+pub one_listed : (name key : List ℕ) (more : Bool) → (is_listed (name ∷ []) key || more) ≡ cond (bytes_eq name key) true more
+one_listed name key more = of (bytes_eq name key) where
+  of : (b : Bool) → (b || false) || more ≡ cond b true more
+  of true = refl
+  of false = refl
+
 -- ---- pieces one after another
 
 -- the number of bytes of pieces, with one separator after each

@@ -14,18 +14,23 @@ part_lacks part (b ∷ text) lacks =
     ∙ part_lacks part text (λ at within. lacks (suc at) (omega (arith, within)))
 
 -- a text with the part at an offset, and at none before it
-part_stands : (part text : List ℕ) (at : ℕ) → ((k : ℕ) → k < at → LacksTextAt part text k)
-    → drop at text ≡ part ++ drop (at + length part) text → text_after_part part text ≡ Some (drop (at + length part) text)
-part_stands part [] zero before split =
-    ap (λ b. cond b (Some (drop {A = ℕ} (length part) [])) None) (begins part [] (drop (length part) []) split)
-part_stands part [] (suc at) before split = absurd (before 0 (omega arith) [] split)
-part_stands part (b ∷ text) zero before split =
+part_stands : (part text : List ℕ) (at n : ℕ) → n ≡ at + length part → ((k : ℕ) → k < at → LacksTextAt part text k)
+    → drop at text ≡ part ++ drop n text → text_after_part part text ≡ Some (drop n text)
+part_stands part [] zero n ends before split =
+    let same : length part ≡ n = omega (arith, ends) in
+    ap (λ b. cond b (Some (drop {A = ℕ} (length part) [])) None) (begins part [] (drop n []) split)
+    ∙ ap (λ k. Some (drop {A = ℕ} k [])) same
+part_stands part [] (suc at) n ends before split = absurd (before 0 (omega arith) (drop n []) split)
+part_stands part (b ∷ text) zero n ends before split =
+    let same : length part ≡ n = omega (arith, ends) in
     ap (λ d. cond d (Some (drop (length part) (b ∷ text))) (text_after_part part text))
-    (begins part (b ∷ text) (drop (length part) (b ∷ text)) split)
-part_stands part (b ∷ text) (suc at) before split =
+    (begins part (b ∷ text) (drop n (b ∷ text)) split)
+    ∙ ap (λ k. Some (drop k (b ∷ text))) same
+part_stands part (b ∷ text) (suc at) zero ends before split = absurd (omega (arith, ends))
+part_stands part (b ∷ text) (suc at) (suc n) ends before split =
     ap (λ d. cond d (Some (drop (length part) (b ∷ text))) (text_after_part part text))
     (begins_not part (b ∷ text) (before 0 (omega arith)))
-    ∙ part_stands part text at (λ k below. before (suc k) (omega (arith, below))) split
+    ∙ part_stands part text at n (omega (arith, ends)) (λ k below. before (suc k) (omega (arith, below))) split
 
 -- `split_once` of std at a text returns the text after it
 pub part_after : (part text : List ℕ) (r : Option (Bor (List ℕ) × Bor (List ℕ)))
@@ -34,7 +39,4 @@ pub part_after : (part text : List ℕ) (r : Option (Bor (List ℕ) × Bor (List
     × (i ≤ j) × (length x.0.now ≡ i) × (length x.1.now + j ≡ length text))
     → option_map (λ x. x.1.now) r ≡ text_after_part part text
 part_after part text None h = sym (part_lacks part text h)
-part_after part text (Some x) h =
-    let ends : h.1 ≡ h.0 + length part = h.2.1.ends in
-    ap Some (h.4 ∙ ap (λ n. drop n text) ends)
-    ∙ sym (part_stands part text h.0 h.2.0 (h.2.1.split ∙ ap (λ n. part ++ drop n text) ends))
+part_after part text (Some x) h = ap Some h.4 ∙ sym (part_stands part text h.0 h.1 h.2.1.ends h.2.0 h.2.1.split)

@@ -150,13 +150,16 @@ joined_more first rest inside [] is hidden others = record {
 }
 joined_more first rest inside (next ∷ []) is hidden others = record {
   each = (hidden, others.each);
-  is = ap (λ t. joined_preambles first t) others.is ∙ ap (λ t. joined_preambles t (quoted_text next)) is;
+  is =
+      ap (λ t. joined_preambles first t) others.is ∙ ap (λ t. joined_preambles t (quoted_text next)) is
+      ∙ append_assoc (quoted_text inside) (codes " # ") (quoted_text next);
 }
 joined_more first rest inside (next ∷ (other ∷ more)) is hidden others = record {
   each = (hidden, others.each);
   is =
       ap (λ t. joined_preambles first t) others.is
-      ∙ ap (λ t. joined_preambles t (joined_quotes (next ∷ (other ∷ more)))) is;
+      ∙ ap (λ t. joined_preambles t (joined_quotes (next ∷ (other ∷ more)))) is
+      ∙ append_assoc (quoted_text inside) (codes " # ") (joined_quotes (next ∷ (other ∷ more)));
 }
 
 -- the preambles of a block and of what follows it
@@ -218,7 +221,12 @@ goes_on [] rest is_hidden (suc at) within hidden other = absurd (omega (arith, w
 goes_on (b ∷ inside) rest true zero within hidden other = (omega arith, hidden)
 goes_on (b ∷ inside) rest false zero within hidden other = (omega arith, hidden_next b inside (other refl) hidden)
 goes_on (b ∷ inside) rest is_hidden (suc at) within hidden other =
-    let next = goes_on inside rest is_hidden at (omega (arith, within)) hidden other in (omega (arith, next.0), next.1)
+    let next = goes_on inside rest is_hidden at (omega (arith, within)) hidden other in
+    let one : suc (at + 1) ≡ suc at + 1 = omega arith in (
+      omega (arith, next.0),
+      subst
+      (λ n. are_quotes_hidden (hides is_hidden (get_or (inside ++ 34 ∷ rest) at 0)) (drop n (b ∷ inside)) ≡ true) one next.1,
+    )
 
 -- the place in the text of a preamble
 abbrev pub IsAt : List ℕ → Bool → ℕ → Type 0
@@ -360,13 +368,16 @@ left_next rest opened inside' closed rest' printed printed' whole n is at front 
           ∙ ap (λ l. printed ++ flat_map preamble_line l) (sym first.parts) ∙ before.same;
     }
 
+-- a text that begins with a quote has a text after it
+begun : (rest more : List ℕ) → text_after_prefix (codes "\"") rest ≡ None → rest ≡ 34 ∷ more → ⊥
+begun rest more none is =
+    false≢true (ap is_some (sym none ∙ ap (text_after_prefix (codes "\"")) is ∙ after_begins (codes "\"") more))
+
 -- at the end, none
 pub left_last : (rest printed whole : List ℕ) → text_after_prefix (codes "\"") rest ≡ None → IsLeft rest printed whole → printed ≡ whole
 left_last rest printed whole none before = by before.left before.are.is before.same where
   by : (left : List (List ℕ)) → rest ≡ joined_quotes left → printed ++ flat_map preamble_line left ≡ whole → printed ≡ whole
   by [] joined same = sym (append-nil printed) ∙ same
-  by (inside ∷ []) joined same = absurd (begun (inside ++ 34 ∷ []) joined)
+  by (inside ∷ []) joined same = absurd (begun rest (inside ++ 34 ∷ []) none joined)
   by (inside ∷ (next ∷ more)) joined same =
-      absurd (begun ((inside ++ 34 ∷ []) ++ (codes " # " ++ joined_quotes (next ∷ more))) joined)
-  begun : (more : List ℕ) → rest ≡ 34 ∷ more → ⊥
-  begun more is = false≢true (ap is_some (sym none ∙ ap (text_after_prefix (codes "\"")) is ∙ after_begins (codes "\"") more))
+      absurd (begun rest ((inside ++ 34 ∷ []) ++ (codes " # " ++ joined_quotes (next ∷ more))) none joined)

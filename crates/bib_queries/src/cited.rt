@@ -12,7 +12,7 @@ ghost use Rattle.bib_queries.specs.Preambles.{ArePreambles};
 ghost use Rattle.bib_queries.specs.Standing.{IsFieldIn, IsSkippedIn};
 ghost use Rattle.bib_queries.specs.Texts.{text_list};
 
-use crate::excerpts::{Answer, print_if};
+use crate::excerpts::{TextAnswer, print_if};
 use crate::names::{links_of_definitions, links_of_entries, push_used_in_fields};
 use crate::needed::mark_needed;
 use crate::preambles::print_preambles;
@@ -166,7 +166,7 @@ pub(crate) fn cited_text(
     cited: &CitedKeys<'_>,
     text: &str,
     found: &RawRecovery<'_>,
-) -> Result<Answer, AllocError>
+) -> Result<TextAnswer, AllocError>
     requires entries { AllByRecursion (IsBlockOf text.now) (file_of found.now.raw).entries }
     requires definitions { AllByRecursion (IsFieldIn text.now) (file_of found.now.raw).abbreviations }
     requires preambles { (insides : List (List ℕ)) × ArePreambles (file_of found.now.raw).preamble insides }
@@ -183,7 +183,7 @@ pub(crate) fn cited_text(
     print_all_unread(&mut printed, text, &found.skipped)?;
     print_entries(&mut printed, text, &raw.entries, &marks)?;
     let has_entry = has_mark(&marks);
-    Ok(Answer {
+    Ok(TextAnswer {
         text: printed,
         has_entry,
     })

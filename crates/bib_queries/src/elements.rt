@@ -111,8 +111,10 @@ pub(crate) fn text_with_name<'s>(piece: &'s str, name: &str) -> Option<&'s str>
 fn after_part<'s>(text: &'s str, part: &str) -> Option<&'s str>
     ensures { option_map (λ rest. rest.now) result ≡ spec.text_after_part part.now text.now }
 {
-    let (_, rest) = text.split_once(part)?;
-    Some(rest)
+    match text.split_once(part) {
+        Some((_, rest)) => Some(rest),
+        None => None,
+    }
 }
 
 // Returns the text before the first quote, or `None` without one.

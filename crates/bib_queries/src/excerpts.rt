@@ -22,7 +22,7 @@ use std::alloc::{AllocError, Global};
 
 /// The answer to a request on one file.
 #[derive(Debug, Drop)]
-pub struct Answer {
+pub struct TextAnswer {
     /// The text to print.
     pub text: String,
     /// Whether the text has an entry, or a key for the request `Keys`. The text for `Cited` may have only preambles.
@@ -163,12 +163,12 @@ fn grep(
 }
 
 // Returns the answer with this text of entries or keys.
-fn entries_answer(text: String) -> Answer
+fn entries_answer(text: String) -> TextAnswer
     ensures text { result.text ≡ text }
     ensures has_entry { result.has_entry ≡ not (length (string_bytes text) == 0) }
 {
     let has_entry = !text.is_empty();
-    Answer { text, has_entry }
+    TextAnswer { text, has_entry }
 }
 
 // Returns the answer to a request on the parsed and the skipped blocks of a text.
@@ -177,7 +177,7 @@ fn answer_found(
     request: &Request<'_>,
     text: &str,
     found: &RawRecovery<'_>,
-) -> Result<Answer, AllocError>
+) -> Result<TextAnswer, AllocError>
     requires entries { AllByRecursion (IsBlockOf text.now) (file_of found.now.raw).entries }
     requires definitions { AllByRecursion (IsFieldIn text.now) (file_of found.now.raw).abbreviations }
     requires preambles { (insides : List (List ℕ)) × ArePreambles (file_of found.now.raw).preamble insides }
@@ -195,7 +195,7 @@ fn answer_found(
 }
 
 /// Returns the answer to a request on a text. Blocks that can't be parsed are skipped, except preambles for `Cited`.
-pub fn answer(alloc: Global, request: &Request<'_>, text: &str) -> Result<Answer, AllocError>
+pub fn answer(alloc: Global, request: &Request<'_>, text: &str) -> Result<TextAnswer, AllocError>
     ensures { IfOk result (λ answer. IsTextAnswer request.now text.now (string_bytes answer.text) answer.has_entry) }
 {
     let found = RawBibliography::recover(alloc, text)?;

@@ -63,11 +63,18 @@ pub(crate) fn push_aux_keys<'s>(keys: &mut Vec<&'s str>, line: &'s str) -> Resul
     }
 }
 
+// Returns whether a name ends with `.aux`.
+fn ends_with_aux(name: &str) -> bool
+    ensures { result ≡ ends_with eqb name.now (codes ".aux") }
+{
+    name.ends_with(".aux")
+}
+
 // Returns a name, or `None` if it doesn't end with `.aux`.
 fn aux_name(name: &str) -> Option<&str>
     ensures { option_map (λ kept. kept.now) result ≡ spec.aux_name name.now }
 {
-    if name.ends_with(".aux") {
+    if ends_with_aux(name) {
         Some(name)
     } else {
         None

@@ -1,12 +1,12 @@
 //! Prints the preambles of a file, each as a block of its own.
 
-ghost use Rattle.std.specs.Prelude.{◌≡◌, ◌≤◌, ◌++◌, ◌∷◌, [], ℕ, List, true, codes, length, OnOk};
+ghost use Rattle.std.specs.Prelude.{◌≡◌, ◌≤◌, ◌++◌, ◌∷◌, [], ℕ, List, not, ◌&&◌, ◌==◌, codes, length, OnOk};
 ghost use Rattle.std.specs.List.{flat_map};
 ghost use Rattle.std.specs.Option.{option_map_or};
 ghost use Rattle.std.specs.Str.{IsCharBoundary};
 ghost use Rattle.std.specs.String.{string_bytes};
 ghost use Rattle.bib_text.specs.Characters as char;
-ghost use Rattle.bib_queries.specs.Citations.{text_after_prefix};
+ghost use Rattle.bib_queries.specs.Lines.{text_after_prefix};
 ghost use Rattle.bib_queries.specs.Preambles.{ArePreambles, CanBeQuoted, preamble_line};
 
 use crate::lines::after_prefix;

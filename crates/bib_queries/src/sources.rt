@@ -1,7 +1,7 @@
 //! Finds the .bib files that a document names.
 
-ghost use Rattle.std.specs.Prelude.{◌≡◌, ◌==◌, ◌++◌, map, IfOk, OnOk};
-ghost use Rattle.std.specs.List.{slice_split};
+ghost use Rattle.std.specs.Prelude.{◌≡◌, ◌==◌, ◌++◌, codes, eqb, map, IfOk, OnOk};
+ghost use Rattle.std.specs.List.{ends_with, slice_split};
 ghost use Rattle.std.specs.String.{string_bytes};
 ghost use Rattle.bib_text.specs.Characters as char;
 ghost use Rattle.bib_queries.specs.Elements.{source_name};
@@ -13,14 +13,22 @@ use crate::lines::aux_data;
 use crate::names::push_parts;
 use std::alloc::{AllocError, Global};
 
+// Returns whether a name ends with `.bib`.
+fn ends_with_bib(name: &str) -> bool
+    ensures { result ≡ ends_with eqb name.now (codes ".bib") }
+{
+    name.ends_with(".bib")
+}
+
 // Returns the name of the file that `\bibdata` names: with `.bib`, unless it ends with it.
 fn file_name(alloc: Global, name: &str) -> Result<String, AllocError>
     ensures { IfOk result (λ file. string_bytes file ≡ spec.file_name name.now) }
 {
     let mut file = String::from_str(alloc, name)?;
-    if !name.ends_with(".bib") {
-        file.push_str(".bib")?;
+    if ends_with_bib(name) {
+        return Ok(file);
     }
+    file.push_str(".bib")?;
     Ok(file)
 }
 

@@ -42,7 +42,7 @@ pub(crate) fn has_unread(text: &str, skipped: &[SkippedBlock]) -> bool
     requires { AllByRecursion (IsSkippedIn text.now) skipped.now }
     ensures { result ≡ has_unread_preamble text.now skipped.now }
 {
-    'blocks: for block in skipped {
+    'spans: for block in skipped {
         if is_unread(text, block) {
             return true;
         }
@@ -71,7 +71,7 @@ pub(crate) fn print_all_unread(
     requires { AllByRecursion (IsSkippedIn text.now) skipped.now }
     ensures { OnOk result (string_bytes printed.new ≡ string_bytes printed.old ++ flat_map (unread_line text.now) skipped.now) }
 {
-    'blocks: for block in skipped {
+    'spans: for block in skipped {
         print_unread(printed, text, block)?;
     }
     Ok(())
