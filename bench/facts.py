@@ -1,7 +1,8 @@
 #!/usr/bin/env python3
 """Compares the facts of bench/facts/*.md with what BibTeX, Biber and bibtool do: facts.py [--print] [WORD ..]
 A fact is a heading `###`, sentences, a block ```bib with the text of a .bib file, and a block for each program that was asked.
-A block ```aux, if there is one, is the .aux file for BibTeX. A block of a program has, for each entry, its key and type, then its
+A block ```aux, if there is one, is the end of the .aux file for BibTeX, which is `dump.aux`, and ```aux:NAME is another .aux file.
+A block of a program has, for each entry, its key and type, then its
 fields, two spaces in; messages are last, each after `! `. Biber with inherited fields is ```biber-resolved, the file that
 bibtool writes with no option is ```bibtool-output.
 With --print, prints what the programs do instead of comparing. With words, takes the facts whose headings contain one of them.
@@ -35,11 +36,14 @@ def as_lines(reading):
     return "\n".join([*lines, *preamble, *(f"! {it}" for it in reading.all_messages)])
 
 
-def with_aux(text, aux, room):
-    """What BibTeX reads of a file for the citations of an .aux file."""
+def with_aux(text, blocks, room):
+    """What BibTeX reads of a file for the citations of an .aux file, and of the files that it inputs."""
     (room / "file.bib").write_bytes(text)
+    for name, block in blocks.items():
+        if name.startswith("aux:"):
+            (room / name[4:]).write_text(block)
     (room / "dump.bst").write_text(peers.dump_style(text.decode("latin-1")), encoding="latin-1")
-    (room / "dump.aux").write_text("\\relax\n\\bibstyle{dump}\n\\bibdata{file}\n" + aux)
+    (room / "dump.aux").write_text("\\relax\n\\bibstyle{dump}\n\\bibdata{file}\n" + blocks["aux"])
     peers.call(["bibtex", "dump"], room)
     entries, preamble = peers.dumped(peers.written(room / "dump.bbl"))
     return peers.Reading(entries, [], sorted(peers.bibtex_messages(peers.written(room / "dump.blg"))), preamble)
@@ -53,14 +57,14 @@ def bibtool_output(text, room):
     return "\n".join([*(it.rstrip() for it in output.decode("latin-1").splitlines() if it.strip()), *said])
 
 
-def reading(program, text, aux):
+def reading(program, text, blocks):
     """The lines for what a program makes of a text."""
     with tempfile.TemporaryDirectory() as name:
         room = pathlib.Path(name)
         if program == "bibtool-output":
             return bibtool_output(text, room)
-        if program == "bibtex" and aux:
-            return as_lines(with_aux(text, aux, room))
+        if program == "bibtex" and "aux" in blocks:
+            return as_lines(with_aux(text, blocks, room))
         call = {"bibtex": peers.bibtex, "bibtool": peers.bibtool}.get(program, peers.biber)
         options = {"is_resolved": True} if program == "biber-resolved" else {}
         return as_lines(call(text, room, **options))
@@ -87,7 +91,7 @@ def main(words):
         for program in PROGRAMS:
             if program not in named:
                 continue
-            found = reading(program, unescaped(named["bib"]), named.get("aux"))
+            found = reading(program, unescaped(named["bib"]), named)
             compared += 1
             if prints:
                 print(f"### {heading}\n```{program}\n{found}\n```")

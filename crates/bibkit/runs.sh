@@ -196,6 +196,25 @@ run 'no entry of this text' 1 '' grep title Knuth two.bib
 printf '\\relax\n\\citation{b}\n\\citation{z}\n' >paper.aux
 run 'the entries that a document cites' 0 $'@misc{b, title={x y}, author={Knuth, D.}, year={1984}}\n' cited paper.aux two.bib
 run 'cited entries of a document that is not there' 2 '' cited no.aux two.bib
+printf '@preamble{"\\newcommand{\\x}{}"}\n@misc{c, title={\\x}}\n@misc{d, title={D}}\n' >preamble.bib
+printf '\\relax\n\\citation{c}\n\\bibdata{preamble}\n' >preamble.aux
+run 'the preamble of the file that a document names' 0 $'@preamble{"\\newcommand{\\x}{}"}\n@misc{c, title={\\x}}\n' cited preamble.aux
+run 'a preamble without an entry' 1 $'@preamble{"\\newcommand{\\x}{}"}\n' cited paper.aux preamble.bib
+mkdir -p chapters
+printf '\\relax\n\\@input{chapters/one.aux}\n\\@input{chapters/one.aux}\n\\citation{a}\n\\bibdata{two,one}\n' >thesis.aux
+printf '\\citation{b}\n\\@input{thesis.aux}\n' >chapters/one.aux
+run 'the files that a document inputs and names' 0 $'@misc{a, title={A}, author={B}}\n@misc{b, title={x y}, author={Knuth, D.}, year={1984}}\n' cited thesis.aux
+cd chapters || exit 1
+cp ../input .
+run 'files in the folder of the document' 0 $'@misc{a, title={A}, author={B}}\n@misc{b, title={x y}, author={Knuth, D.}, year={1984}}\n' cited ../thesis.aux
+cd ..
+printf '\\@input{no.aux}\n\\citation{a}\n\\bibdata{two,nope}\n' >absent.aux
+run 'absent files of a document' 2 $'@misc{a, title={A}, author={B}}\n' cited absent.aux
+holds 'the absent input is named' grep -qx 'bibkit: no.aux: there is no such file' messages
+holds 'the absent file is named' grep -qx 'bibkit: nope.bib: there is no such file' messages
+printf '<bcf:datasource type="file" datatype="bibtex" glob="false">two.bib</bcf:datasource>\n<bcf:citekey type="set" members="a,b">c</bcf:citekey>\n<bcf:citekey order="1">c</bcf:citekey>\n' >set.bcf
+run 'the members of a set' 0 $'@misc{a, title={A}, author={B}}\n@misc{b, title={x y}, author={Knuth, D.}, year={1984}}\n' cited set.bcf
+run 'a set is no key' 0 $'@misc{a, title={A}, author={B}}\n@misc{b, title={x y}, author={Knuth, D.}, year={1984}}\n' cited set.bcf two.bib
 
 # what a document cites
 run 'a key that no file has' 1 $'paper.aux:3:1: error: no file has an entry "z" [missing-entry]\nerrors: 1, warnings: 0\n' lint --ignore missing-field --cited paper.aux two.bib

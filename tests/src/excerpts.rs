@@ -1,10 +1,12 @@
 //! Reads rows, a call with its words and a text in each line, and prints each with what the call answers: excerpts of a file, what a
-//! document cites, which keys a file knows, and which of its entries aren't cited.
+//! document cites, which files it names and inputs, which keys a file knows, and which of its entries aren't cited.
 
 use bib_queries::citations::{Citations, in_aux, in_bcf};
 use bib_queries::excerpts::answer;
 use bib_queries::known::{find_uncited, mark_known};
+use bib_queries::lines::aux_input;
 use bib_queries::request::{CitedKeys, Request, Search};
+use bib_queries::sources::{sources_in_aux, sources_in_bcf};
 use std::alloc::{AllocError, Global};
 use crate::support::rows::Calls;
 
@@ -42,6 +44,25 @@ fn request<'a>(alloc: Global, call: &'a str) -> Result<Option<Request<'a>>, Allo
     };
     let (field, part) = search.split_once(' ').unwrap_or((search, ""));
     Ok(Some(Request::Grep(Search { field, part })))
+}
+
+// The answer to a request, with a mark if its text has no entry.
+fn answered(alloc: Global, request: &Request<'_>, text: &str) -> Result<String, AllocError> {
+    let answer = answer(alloc, request, text)?;
+    if answer.has_entry || answer.text.is_empty() {
+        return Ok(answer.text);
+    }
+    format!(in alloc; "no entry: {}", answer.text.as_str())
+}
+
+// Names, each with a space after it.
+fn spaced(alloc: Global, names: &[String]) -> Result<String, AllocError> {
+    let mut out = String::new(alloc);
+    for name in names {
+        let line = format!(in alloc; "{} ", name.as_str())?;
+        out.push_str(line.as_str())?;
+    }
+    Ok(out)
 }
 
 // What is cited, each key with its place.
@@ -85,7 +106,7 @@ fn uncited_keys(alloc: Global, keys: &str, text: &str) -> Result<String, AllocEr
 impl Calls for Excerpts {
     fn answer(alloc: Global, call: &str, text: &str) -> Result<Option<String>, AllocError> {
         if let Some(request) = request(alloc, call)? {
-            return Ok(Some(answer(alloc, &request, text)?));
+            return Ok(Some(answered(alloc, &request, text)?));
         }
         if let Some(keys) = call.strip_prefix("known ") {
             return Ok(Some(known_keys(alloc, keys, text)?));
@@ -96,6 +117,9 @@ impl Calls for Excerpts {
         Ok(Some(match call {
             "citations aux" => citations(alloc, &in_aux(alloc, text)?)?,
             "citations bcf" => citations(alloc, &in_bcf(alloc, text)?)?,
+            "sources aux" => spaced(alloc, &sources_in_aux(alloc, text)?)?,
+            "sources bcf" => spaced(alloc, &sources_in_bcf(alloc, text)?)?,
+            "input" => String::from_str(alloc, aux_input(text).unwrap_or("none"))?,
             _ => return Ok(None),
         }))
     }

@@ -1,13 +1,18 @@
 -- Citations, collected from one piece of a file after another.
-use Rattle.std.proofs.Common.{◌≡◌, ◌≤◌, ◌<◌, ◌+◌, ◌||◌, ℕ, zero, suc, Bool, true, false, cond, List, [], ◌∷◌, ◌++◌, drop, take, length, Option, Some, None, MatchOption, refl, sym, ap, ap₂, subst, ◌∙◌, arith, append_assoc, append-nil}
+use Rattle.std.proofs.Common.{◌≡◌, ◌≤◌, ◌<◌, ◌+◌, ◌||◌, ℕ, zero, suc, Bool, true, false, cond, List, [], ◌∷◌, ◌++◌, drop, take, map, length, Option, Some, None, MatchOption, refl, sym, ap, ap₂, subst, ◌∙◌, arith, append_assoc, append-nil}
 use Rattle.std.specs.Prelude.{bytes_eq, codes, fold, is_some}
 use Rattle.std.specs.Borrow.{Bor}
-use Rattle.std.specs.List.{list_any, slice_split, onto_first}
+use Rattle.std.specs.List.{flat_map, list_any, slice_split, onto_first}
 use Rattle.std.specs.Option.{option_map}
 use Rattle.std.specs.Str.Pattern.{FindsTextPrefix}
+use Rattle.std.proofs.lemmas.List.{map-append}
+use Rattle.std.proofs.lemmas.List.Concat.{flat_map-append}
 use Rattle.std.proofs.lemmas.List.Sums.{fold-append}
 use Rattle.std.proofs.lemmas.List.Folds.{list_any-append}
-use Rattle.bib_queries.specs.Citations.{add_citation, cites_all, cites_at, cites_from, text_after_prefix}
+use Rattle.bib_queries.specs.Citations.{add_citation, cites_all, cites_at, cites_from}
+use Rattle.bib_queries.specs.Elements.{set_name}
+use Rattle.bib_queries.specs.Lines.{text_after_prefix}
+use Rattle.bib_queries.specs.Needed.{is_listed}
 use Rattle.bib_queries.specs.Collecting.{IsCollected, IsSeen}
 use Rattle.bib_queries.specs.declared.citations.Citation.{Citation}
 use Rattle.bib_queries.specs.declared.citations.Collected.{Collected}
@@ -70,6 +75,37 @@ nothing_collected c seen = record { keys = refl; all = of c.all; seen = seen } w
 pub some_of : (b : Bool) {A : Type 0} (v : A) (o : Option A) → is_some (cond b (Some v) o) ≡ cond b true (is_some o)
 some_of true v o = refl
 some_of false v o = refl
+
+-- ---- names of sets
+
+-- a name is among names before or among further ones
+or_then : (a b : Bool) → a || b ≡ b || a
+or_then true true = refl
+or_then true false = refl
+or_then false true = refl
+or_then false false = refl
+
+-- the sets of one more element; `some` is whether the name was known before, and `more` whether it is known now
+pub listed_more : (pieces : List (Bor (List ℕ))) (piece : Bor (List ℕ)) (key : List ℕ) (some more : Bool)
+    → more ≡ (is_listed (set_name piece.now) key || some)
+    → some ≡ is_listed (flat_map set_name (map (λ p. p.now) pieces)) key
+    → more ≡ is_listed (flat_map set_name (map (λ p. p.now) (pieces ++ piece ∷ []))) key
+listed_more pieces piece key some more new old =
+    let names : List (List ℕ) = flat_map set_name (map (λ p. p.now) pieces) in
+    let last : List (List ℕ) = set_name piece.now in
+    new ∙ or_then (is_listed last key) some ∙ ap (λ b. b || is_listed last key) old
+    ∙ sym
+    (ap (λ l. is_listed (flat_map set_name l) key) (map-append (λ p. p.now) pieces (piece ∷ []))
+    ∙ ap (λ l. is_listed l key)
+    (flat_map-append set_name (map (λ p. p.now) pieces) (piece.now ∷ []) ∙ ap (λ l. names ++ l) (append-nil last))
+    ∙ list_any-append (λ one. bytes_eq one key) names last)
+
+-- one name, or further ones
+pub one_listed : (name key : List ℕ) (more : Bool) → (is_listed (name ∷ []) key || more) ≡ cond (bytes_eq name key) true more
+one_listed name key more = of (bytes_eq name key) where
+  of : (b : Bool) → (b || false) || more ≡ cond b true more
+  of true = refl
+  of false = refl
 
 -- ---- pieces one after another
 

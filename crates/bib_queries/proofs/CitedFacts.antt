@@ -59,19 +59,10 @@ cited_marked names all nodes n marks first second name long h mark refers named 
     let there : second < n = omega (arith, named_below nodes second name named, long) in
     (h.each second there).1 (cited_more names all nodes first second name refers named ((h.each first here).0 mark))
 
--- the same for marks on the needed nodes
-pub needed_marked : (names : List (List ℕ)) (nodes : List Node) (n : ℕ) (marks : List Bool) (first second : ℕ)
-    (name : List ℕ) → length nodes ≡ n → AreMarks (IsNeeded names nodes) n marks
-    → IsMarked marks first → RefersTo nodes first name → HasName nodes second name → IsMarked marks second
-needed_marked names nodes n marks first second name long h mark refers named =
-    let here : first < n = omega (arith, marked_below marks first mark, h.same_length) in
-    let there : second < n = omega (arith, named_below nodes second name named, long) in
-    (h.each second there).1 (reached name ((h.each first here).0 mark) refers named)
-
--- if marks are on the needed nodes, a node with a requested name has a mark
-pub asked_marked : (names : List (List ℕ)) (nodes : List Node) (n : ℕ) (marks : List Bool) (index : ℕ) (name : List ℕ)
-    → length nodes ≡ n → AreMarks (IsNeeded names nodes) n marks
+-- if marks are on the cited nodes, a node with a requested name has a mark
+pub asked_marked : (names : List (List ℕ)) (all : Bool) (nodes : List Node) (n : ℕ) (marks : List Bool) (index : ℕ) (name : List ℕ)
+    → length nodes ≡ n → AreMarks (IsCited names all nodes) n marks
     → is_listed names name ≡ true → HasName nodes index name → IsMarked marks index
-asked_marked names nodes n marks index name long h listed named =
+asked_marked names all nodes n marks index name long h listed named =
     let there : index < n = omega (arith, named_below nodes index name named, long) in
-    (h.each index there).1 (asked name listed named)
+    (h.each index there).1 (needed (asked name listed named))

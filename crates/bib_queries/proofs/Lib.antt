@@ -1,7 +1,11 @@
 pub mod CitationFacts
 pub mod CitedFacts
 pub mod DefinitionFacts
+pub mod ElementFacts
 pub mod ExcerptFacts
 pub mod MarkFacts
 pub mod PartFacts
+pub mod PreambleFacts
 pub mod SearchFacts
+pub mod SkippedFacts
+pub mod SourceFacts

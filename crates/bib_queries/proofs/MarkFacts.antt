@@ -100,6 +100,15 @@ made_of_more v f xs i x within is =
     ∙ ap (flat_map f) (map-append v (take i xs) (x ∷ []))
     ∙ flat_map-append f (map v (take i xs)) (v x ∷ []) ∙ ap (λ l. flat_map f (map v (take i xs)) ++ l) (append-nil (f (v x)))
 
+-- the same, with the element at the index
+pub made_at : {X Y A : Type 0} (v : X → Y) (f : Y → List A) (xs : List X) (i : ℕ) (d : X) → i < length xs
+    → flat_map f (map v (take (i + 1) xs)) ≡ flat_map f (map v (take i xs)) ++ f (v (get_or xs i d))
+made_at v f xs i d within =
+    ap (λ l. flat_map f (map v l)) (take_more xs i d within)
+    ∙ ap (flat_map f) (map-append v (take i xs) (get_or xs i d ∷ []))
+    ∙ flat_map-append f (map v (take i xs)) (v (get_or xs i d) ∷ [])
+    ∙ ap (λ l. flat_map f (map v (take i xs)) ++ l) (append-nil (f (v (get_or xs i d))))
+
 -- ---- marks
 
 -- a mark on an index without one leaves one index less without a mark

@@ -1,6 +1,6 @@
 -- Meaning: words of public contracts.
 -- The output for each request on a text.
-use Rattle.std.specs.Prelude.{◌≡◌, ℕ, Bool, ◌||◌, ◌&&◌, if◌then◌else◌, List, [], ◌∷◌, eqb, map}
+use Rattle.std.specs.Prelude.{◌≡◌, ◌==◌, ℕ, Bool, ◌||◌, ◌&&◌, not, if◌then◌else◌, List, [], ◌∷◌, eqb, length, map}
 use Rattle.std.specs.List.{flat_map, list_any, starts_with}
 use Rattle.bib_syntax.specs.Grammar.{is_word}
 use Rattle.bib_syntax.specs.Reading.{EntryReading, FieldReading, FileReading, Piece}
@@ -42,16 +42,19 @@ has_key keys e = is_listed keys e.key.text
 abbrev pub is_found_in : List ℕ → List ℕ → EntryReading → Bool
 is_found_in name part e = list_any (is_found name part) e.fields
 
--- the output for a request on the entries and definitions of a text
-abbrev pub IsPrinted : Request → List ℕ → FileReading → List ℕ → Type 0
-IsPrinted Keys text says printed = printed ≡ lines_of_keys says.entries
-IsPrinted (Get keys) text says printed = printed ≡ passing_lines (has_key (map (λ key. key.now) keys.items)) text says.entries
-IsPrinted (Grep search) text says printed = printed ≡ passing_lines (is_found_in search.field.now search.part.now) text says.entries
-IsPrinted (Cited cited) text says printed = IsExcerpt (map (λ key. key.now) cited.keys.items) cited.all text says printed
+-- the output for a request on the parsed and the skipped blocks of a text, and whether it has an entry or a key
+abbrev pub IsPrinted : Request → List ℕ → FileReading → List SkippedBlock → List ℕ → Bool → Type 0
+IsPrinted Keys text says skipped printed has_entry = (printed ≡ lines_of_keys says.entries) × (has_entry ≡ not (length printed == 0))
+IsPrinted (Get keys) text says skipped printed has_entry =
+    (printed ≡ passing_lines (has_key (map (λ key. key.now) keys.items)) text says.entries) × (has_entry ≡ not (length printed == 0))
+IsPrinted (Grep search) text says skipped printed has_entry =
+    (printed ≡ passing_lines (is_found_in search.field.now search.part.now) text says.entries) × (has_entry ≡ not (length printed == 0))
+IsPrinted (Cited cited) text says skipped printed has_entry =
+    IsExcerpt (map (λ key. key.now) cited.keys.items) cited.all text says skipped printed has_entry
 
--- the output for a request on the entries and definitions that can be parsed of a text
-pub record IsTextAnswer (request : Request) (text printed : List ℕ) : Type 0 where
+-- the output for a request on the blocks of a text, and whether it has an entry or a key
+pub record IsTextAnswer (request : Request) (text printed : List ℕ) (has_entry : Bool) : Type 0 where
   pub says : FileReading
   pub skipped : List SkippedBlock
   pub recovery : IsRecovery text says skipped
-  pub is : IsPrinted request text says printed
+  pub is : IsPrinted request text says skipped printed has_entry

@@ -1,12 +1,15 @@
 -- Meaning: words of public contracts.
 -- The output for the citations of a document: the cited entries and the entries that they refer to, transitively, and before them
--- the definitions that they use.
+-- the definitions that they use and the preambles of the file.
 use Rattle.std.specs.Prelude.{◌≡◌, ℕ, ◌+◌, Bool, true, List, ◌++◌, codes, length, map, slice_range}
-use Rattle.std.specs.List.{flat_map}
+use Rattle.std.specs.List.{flat_map, list_any}
 use Rattle.std.specs.Str.{trim_end}
 use Rattle.bib_syntax.specs.Reading.{EntryReading, FieldReading, FileReading}
 use Rattle.bib_queries.specs.Names.{definition_node, entry_node, used_in_fields}
 use Rattle.bib_queries.specs.Needed.{AreMarks, IsNeeded, Node, with_marks}
+use Rattle.bib_queries.specs.Preambles.{ArePreambles, preamble_line}
+use Rattle.bib_queries.specs.Unread.{has_unread_preamble, unread_line}
+use Rattle.bib_syntax.specs.declared.raw.recovery.SkippedBlock.{SkippedBlock}
 
 -- a text and a line feed
 abbrev pub with_line_feed : List ℕ → List ℕ
@@ -41,13 +44,21 @@ pub data IsCited (names : List (List ℕ)) (all : Bool) (nodes : List Node) : �
   any : {index : ℕ} → all ≡ true → IsCited names all nodes index
   needed : {index : ℕ} → IsNeeded names nodes index → IsCited names all nodes index
 
--- `printed` is the output for these citations (`all`: of all entries): the definitions and entries of `text` with marks
-pub record IsExcerpt (names : List (List ℕ)) (all : Bool) (text : List ℕ) (says : FileReading) (printed : List ℕ) : Type 0 where
+-- `printed` is the output for these citations (`all`: of all entries): the definitions with marks, the preambles of the file, those of
+-- its skipped blocks and the entries with marks; `has_entry` says whether an entry has a mark. A preamble that is read uses no
+-- definition. One that is skipped may use any, so all definitions have marks if there is one.
+pub record IsExcerpt (names : List (List ℕ)) (all : Bool) (text : List ℕ) (says : FileReading) (skipped : List SkippedBlock)
+    (printed : List ℕ) (has_entry : Bool) : Type 0 where
   pub entry_marks : List Bool
   pub definition_marks : List Bool
+  pub insides : List (List ℕ)
   pub entries : AreMarks (IsCited names all (map entry_node says.entries)) (length says.entries) entry_marks
   pub definitions : AreMarks
-      (IsNeeded (used_in_entries (with_marks entry_marks says.entries)) (map definition_node says.abbreviations))
+      (IsCited (used_in_entries (with_marks entry_marks says.entries)) (has_unread_preamble text skipped)
+      (map definition_node says.abbreviations))
       (length says.abbreviations) definition_marks
+  pub preambles : ArePreambles says.preamble insides
   pub is : printed ≡ flat_map (definition_line text) (with_marks definition_marks says.abbreviations)
-      ++ flat_map (entry_line text) (with_marks entry_marks says.entries)
+      ++ (flat_map preamble_line insides
+      ++ (flat_map (unread_line text) skipped ++ flat_map (entry_line text) (with_marks entry_marks says.entries)))
+  pub found : has_entry ≡ list_any (λ mark. mark) entry_marks

@@ -1,9 +1,11 @@
 -- Machinery: words of private contracts.
 -- Steps of collecting citations.
-use Rattle.std.specs.Prelude.{◌≡◌, ℕ, ◌||◌, List, bytes_eq, fold, is_some}
+use Rattle.std.specs.Prelude.{◌≡◌, ℕ, ◌||◌, List, String, bytes_eq, fold, is_some}
+use Rattle.std.specs.Global.{Global}
 use Rattle.std.specs.List.{list_any}
-use Rattle.std.specs.BTreeMap.{get_by_text}
+use Rattle.std.specs.BTreeMap.{BTreeMap, get_by_text}
 use Rattle.bib_queries.specs.Citations.{add_citation, cites_all}
+use Rattle.bib_queries.specs.Needed.{is_listed}
 use Rattle.bib_queries.specs.declared.citations.Citation.{Citation}
 use Rattle.bib_queries.specs.declared.citations.Collected.{Collected}
 
@@ -16,3 +18,7 @@ pub record IsCollected (old : Collected) (cites : List Citation) (new : Collecte
   pub keys : new.keys.items ≡ fold add_citation old.keys.items cites
   pub all : new.all ≡ (old.all || cites_all cites)
   pub seen : IsSeen new
+
+-- a map contains exactly these names
+abbrev pub IsSetOf : {V : Type 0} → BTreeMap (String Global) V → List (List ℕ) → Type 0
+IsSetOf sets names = (key : List ℕ) → is_some (get_by_text sets key) ≡ is_listed names key

@@ -2,10 +2,15 @@ pub mod Answers
 pub mod Citations
 pub mod Cited
 pub mod Collecting
+pub mod Elements
 pub mod Known
+pub mod Lines
 pub mod Names
 pub mod Needed
+pub mod Preambles
 pub mod Searching
 pub mod Sets
+pub mod Sources
 pub mod Standing
 pub mod Texts
+pub mod Unread

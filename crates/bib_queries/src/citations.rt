@@ -1,16 +1,17 @@
-//! Reads the keys that a document cites from the .aux file that LaTeX writes, or the .bcf file that BibLaTeX writes for Biber.
+//! Finds the keys that a document cites, in the .aux file that LaTeX writes or in the .bcf file that BibLaTeX writes for Biber.
 
-ghost use Rattle.std.specs.Prelude.{◌≡◌, ◌++◌, ◌==◌, [], ◌∷◌, false, length, map, IfOk, OnOk};
-ghost use Rattle.std.specs.Option.{option_map};
-ghost use Rattle.std.specs.String.{string_bytes};
-ghost use Rattle.bib_text.specs.Characters as char;
-ghost use Rattle.bib_queries.specs.Citations as spec;
-ghost use Rattle.bib_queries.specs.Citations.{AreCitations, aux_cited, bcf_cited, cites_at};
-ghost use Rattle.bib_queries.specs.Collecting.{IsCollected, IsSeen};
-ghost use Rattle.bib_queries.specs.Names.{name_if_filled};
+ghost use Rattle.std.specs.Prelude.{◌≡◌, ◌++◌, ◌∷◌, ◌||◌, [], ℕ, List, Bool, not, false, is_some, if◌then◌else◌, map, IfOk, OnOk};
+ghost use Rattle.std.specs.BTreeMap.{get_by_text};
+ghost use Rattle.bib_queries.specs.Citations.{AreAuxCitations, AreBcfCitations, bcf_cited, cites_at, unlisted_key, unlisted_keys};
+ghost use Rattle.bib_queries.specs.Collecting.{IsCollected, IsSeen, IsSetOf};
+ghost use Rattle.bib_queries.specs.Elements as element;
+ghost use Rattle.bib_queries.specs.Elements.{element_keys};
+ghost use Rattle.bib_queries.specs.Lines.{aux_cited};
+ghost use Rattle.bib_queries.specs.Needed.{is_listed};
 ghost use Rattle.bib_queries.specs.Texts.{text_list};
 
-use crate::names::push_parts;
+use crate::elements::{citekey_text, is_set, key_list, push_listed_keys, unescaped_text};
+use crate::lines::push_aux_keys;
 use bib_text::text::Text;
 use std::alloc::{AllocError, Global};
 use std::collections::BTreeMap;
@@ -39,50 +40,6 @@ struct Collected {
     keys: Vec<Citation>,
     all: bool,
     seen: BTreeMap<String, ()>,
-}
-
-// Returns the text after a prefix, or `None` if the text doesn't begin with it.
-fn after_prefix<'s>(text: &'s str, prefix: &str) -> Option<&'s str>
-    ensures { option_map (λ rest. rest.now) result ≡ spec.text_after_prefix prefix.now text.now }
-{
-    text.strip_prefix(prefix)
-}
-
-// Returns the text of an argument up to its closing brace, or `None` without one.
-fn argument(text: &str) -> Option<&str>
-    ensures { option_map (λ rest. rest.now) result ≡ spec.argument text.now }
-{
-    let (inside, _) = text.split_once('}')?;
-    Some(inside)
-}
-
-// Returns the text of the last of one or two arguments. `text` begins after the opening brace of the first.
-fn last_argument(text: &str) -> Option<&str>
-    ensures { option_map (λ rest. rest.now) result ≡ spec.last_argument text.now }
-{
-    let (first, following) = text.split_once('}')?;
-    match after_prefix(following, "{") {
-        Some(second) => argument(second),
-        None => Some(first),
-    }
-}
-
-// Returns the text after the citation command at the start of a line, or `None` without one.
-fn after_command(line: &str) -> Option<&str>
-    ensures { option_map (λ rest. rest.now) result ≡ spec.after_command line.now }
-{
-    match after_prefix(line, "\\citation{") {
-        Some(rest) => Some(rest),
-        None => after_prefix(line, "\\abx@aux@cite{"),
-    }
-}
-
-// Returns the comma-separated keys that a line of an .aux file cites, or `None` if it cites none.
-fn aux_list(line: &str) -> Option<&str>
-    ensures { option_map (λ rest. rest.now) result ≡ spec.aux_list line.now }
-{
-    let rest = after_command(line)?;
-    last_argument(rest)
 }
 
 impl Collected {
@@ -162,128 +119,115 @@ impl Collected {
     }
 }
 
-// Returns the text after the first `>`, or `None` without one.
-fn after_tag(text: &str) -> Option<&str>
-    ensures { option_map (λ rest. rest.now) result ≡ spec.after_tag text.now }
+// Adds the name of the set that an element of a control file defines, if it defines one.
+fn add_set(
+    alloc: Global,
+    sets: &mut BTreeMap<String, ()>,
+    piece: &str,
+) -> Result<(), AllocError>
+    ensures { OnOk result ((key : List ℕ) → is_some (get_by_text sets.new key) ≡
+        (is_listed (element.set_name piece.now) key || is_some (get_by_text sets.old key))) }
 {
-    let (_, rest) = text.split_once('>')?;
-    Some(rest)
-}
-
-// Returns the text after the tag of an element `bcf:citekey`, or `None` for another tag. `piece` begins after the `<` of a tag.
-fn citekey_text(piece: &str) -> Option<&str>
-    ensures { option_map (λ rest. rest.now) result ≡ spec.citekey_text piece.now }
-{
-    match after_prefix(piece, "bcf:citekey>") {
-        Some(text) => Some(text),
-        None => attributed_text(piece),
+    if !is_set(piece) {
+        return Ok(());
     }
-}
-
-// Returns the same for a tag with attributes.
-fn attributed_text(piece: &str) -> Option<&str>
-    ensures { option_map (λ rest. rest.now) result ≡ spec.attributed_text piece.now }
-{
-    let rest = after_prefix(piece, "bcf:citekey ")?;
-    after_tag(rest)
-}
-
-// Returns the character of the XML escape whose name begins `text`, and the text after it, or an ampersand and all of `text` if
-// it begins with no such name.
-fn escape(text: &str) -> (&str, &str)
-    ensures { result.0.now ++ result.1.now ≡ spec.unescaped_piece text.now }
-{
-    if let Some(rest) = after_prefix(text, "amp;") {
-        return ("&", rest);
-    }
-    if let Some(rest) = after_prefix(text, "lt;") {
-        return ("<", rest);
-    }
-    if let Some(rest) = after_prefix(text, "gt;") {
-        return (">", rest);
-    }
-    if let Some(rest) = after_prefix(text, "quot;") {
-        return ("\"", rest);
-    }
-    if let Some(rest) = after_prefix(text, "apos;") {
-        return ("'", rest);
-    }
-    ("&", text)
-}
-
-// Appends a text that follows an ampersand, with its XML escape replaced.
-fn push_piece(written: &mut String, piece: &str) -> Result<(), AllocError>
-    ensures { OnOk result (string_bytes written.new ≡ string_bytes written.old ++ spec.unescaped_piece piece.now) }
-{
-    let (character, rest) = escape(piece);
-    written.push_str(character)?;
-    written.push_str(rest)?;
-    Ok(())
-}
-
-// Appends the text after the first ampersand, with XML escapes replaced.
-fn push_pieces(written: &mut String, text: &str) -> Result<(), AllocError>
-    ensures { OnOk result (string_bytes written.new ≡ string_bytes written.old ++ spec.unescaped_rest text.now) }
-{
-    'pieces: for piece in text.split('&') {
-        push_piece(written, piece)?;
-    }
-    Ok(())
-}
-
-// Returns a text with its XML escapes replaced by characters.
-fn unescaped_text(alloc: Global, text: &str) -> Result<String, AllocError>
-    ensures { IfOk result (λ written. string_bytes written ≡ spec.unescaped_text text.now) }
-{
-    let Some((first, rest)) = text.split_once('&') else {
-        return String::from_str(alloc, text);
+    let Some(text) = citekey_text(piece) else {
+        return Ok(());
     };
-    let mut written = String::from_str(alloc, first)?;
-    push_pieces(&mut written, rest)?;
-    Ok(written)
+    let name = unescaped_text(alloc, text)?;
+    sets.insert(String::from_str(alloc, name.as_str().trim())?, ())?;
+    Ok(())
+}
+
+// Returns the names of the dynamic sets of a control file.
+fn set_names(alloc: Global, text: &str) -> Result<BTreeMap<String, ()>, AllocError>
+    ensures { IfOk result (λ sets. IsSetOf sets (element.set_names text.now)) }
+{
+    let mut sets = BTreeMap::new(alloc);
+    'elements: for piece in text.split('<') {
+        add_set(alloc, &mut sets, piece)?;
+    }
+    Ok(sets)
+}
+
+// Appends a key unless the set contains it.
+fn push_unlisted<'s>(
+    kept: &mut Vec<&'s str>,
+    sets: &BTreeMap<String, ()>,
+    key: &'s str,
+) -> Result<(), AllocError>
+    ensures { OnOk result ((names : List (List ℕ)) → IsSetOf sets.now names →
+        text_list kept.new ≡ text_list kept.old ++ unlisted_key names key.now) }
+{
+    if sets.contains_key(key) {
+        return Ok(());
+    }
+    kept.push(key)?;
+    Ok(())
+}
+
+// Returns the keys that the set doesn't contain.
+fn unlisted<'s>(
+    alloc: Global,
+    sets: &BTreeMap<String, ()>,
+    keys: &[&'s str],
+) -> Result<Vec<&'s str>, AllocError>
+    ensures { IfOk result (λ kept. (names : List (List ℕ)) → IsSetOf sets.now names →
+        text_list kept ≡ unlisted_keys names (map (λ k. k.now) keys.now)) }
+{
+    let mut kept = Vec::new(alloc);
+    'keys: for key in keys {
+        push_unlisted(&mut kept, sets, key)?;
+    }
+    Ok(kept)
 }
 
 impl Collected {
-    // Adds a key unless it is empty.
-    fn add_filled(&mut self, alloc: Global, key: &str, at: usize) -> Result<(), AllocError>
+    // Adds the keys in the text of an element, except the names of sets. `has_commas`: the text is a comma-separated list.
+    fn add_list(
+        &mut self,
+        alloc: Global,
+        sets: &BTreeMap<String, ()>,
+        list: &str,
+        has_commas: bool,
+        at: usize,
+    ) -> Result<(), AllocError>
         requires { IsSeen self.old }
-        ensures { OnOk result (IsCollected self.old (cites_at at (name_if_filled key.now)) self.new) }
+        ensures { OnOk result ((names : List (List ℕ)) → IsSetOf sets.now names →
+            IsCollected self.old (cites_at at (unlisted_keys names (element.listed_keys has_commas list.now))) self.new) }
     {
-        if key.is_empty() {
-            return Ok(());
-        }
-        self.add(alloc, key, at)?;
+        let mut keys = Vec::new(alloc);
+        push_listed_keys(&mut keys, list, has_commas)?;
+        let kept = unlisted(alloc, sets, &keys)?;
+        self.add_all(alloc, &kept, at)?;
         Ok(())
     }
 
-    // Adds the key that an element of a control file cites. `piece` begins after the `<` of the element.
-    fn add_element(&mut self, alloc: Global, piece: &str, at: usize) -> Result<(), AllocError>
+    // Adds the keys that an element of a control file cites. `piece` begins after the `<` of the element.
+    fn add_element(
+        &mut self,
+        alloc: Global,
+        sets: &BTreeMap<String, ()>,
+        piece: &str,
+        at: usize,
+    ) -> Result<(), AllocError>
         requires { IsSeen self.old }
-        ensures { OnOk result (IsCollected self.old (cites_at at (bcf_cited piece.now)) self.new) }
+        ensures { OnOk result ((names : List (List ℕ)) → IsSetOf sets.now names →
+            IsCollected self.old (cites_at at (bcf_cited names piece.now)) self.new) }
     {
-        let Some(text) = citekey_text(piece) else {
+        let Some(list) = key_list(piece) else {
             return Ok(());
         };
-        let key = unescaped_text(alloc, text)?;
-        self.add_filled(alloc, key.as_str().trim(), at)?;
+        let list = unescaped_text(alloc, list)?;
+        self.add_list(alloc, sets, list.as_str(), is_set(piece), at)?;
         Ok(())
-    }
-}
-
-// Appends the keys that a line of an .aux file cites.
-fn push_aux_keys<'s>(keys: &mut Vec<&'s str>, line: &'s str) -> Result<(), AllocError>
-    ensures { OnOk result (text_list keys.new ≡ text_list keys.old ++ aux_cited line.now) }
-{
-    match aux_list(line) {
-        Some(list) => push_parts(keys, list),
-        None => Ok(()),
     }
 }
 
 /// Returns the citations of an .aux file: the arguments of `\citation`, which LaTeX and natbib write, and `\abx@aux@cite`, which
 /// BibLaTeX writes.
 pub fn in_aux(alloc: Global, text: &str) -> Result<Citations, AllocError>
-    ensures { IfOk result (AreCitations aux_cited (λ b. b == char.line_feed) text.now) }
+    ensures { IfOk result (AreAuxCitations text.now) }
 {
     let mut collected = Collected::new(alloc);
     let mut at = 0;
@@ -294,15 +238,17 @@ pub fn in_aux(alloc: Global, text: &str) -> Result<Citations, AllocError>
     Ok(collected.into_citations())
 }
 
-/// Returns the citations of a control file of Biber, which are its elements `bcf:citekey`. The offset of a citation is that of the
+/// Returns the citations of a control file of Biber: its elements `bcf:citekey`, and the members of the dynamic sets that such
+/// elements define. The name of such a set is no citation, because Biber makes its entry. The offset of a citation is that of the
 /// text after the `<` of its element.
 pub fn in_bcf(alloc: Global, text: &str) -> Result<Citations, AllocError>
-    ensures { IfOk result (AreCitations bcf_cited (λ b. b == char.less) text.now) }
+    ensures { IfOk result (AreBcfCitations text.now) }
 {
+    let sets = set_names(alloc, text)?;
     let mut collected = Collected::new(alloc);
     let mut at = 0;
     'elements: for piece in text.split('<') {
-        collected.add_element(alloc, piece, at)?;
+        collected.add_element(alloc, &sets, piece, at)?;
         at += piece.len() + 1;
     }
     Ok(collected.into_citations())

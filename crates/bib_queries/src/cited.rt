@@ -1,21 +1,24 @@
 //! Prints the cited entries of a text with everything that they refer to, transitively.
 
-ghost use Rattle.std.specs.Prelude.{◌≡◌, [], ◌++◌, map, length, if◌then◌else◌, IfOk, OnOk};
-ghost use Rattle.std.specs.List.{AllByRecursion, flat_map};
+ghost use Rattle.std.specs.Prelude.{◌≡◌, ℕ, List, [], ◌++◌, map, length, if◌then◌else◌, IfOk, OnOk};
+ghost use Rattle.std.specs.List.{AllByRecursion, flat_map, list_any};
 ghost use Rattle.std.specs.String.{string_bytes};
 ghost use Rattle.bib_syntax.specs.Recovery.{IsBlockOf};
 ghost use Rattle.bib_syntax.specs.Views.{entry_reading_of, field_of, file_of};
 ghost use Rattle.bib_queries.specs.Cited.{IsCited, IsExcerpt, definition_line, definition_text, entry_line, used_in_entries, used_in_entry};
 ghost use Rattle.bib_queries.specs.Names.{definition_node, entry_node};
-ghost use Rattle.bib_queries.specs.Needed.{AreMarks, IsNeeded, with_marks};
-ghost use Rattle.bib_queries.specs.Standing.{IsFieldIn};
+ghost use Rattle.bib_queries.specs.Needed.{AreMarks, with_marks};
+ghost use Rattle.bib_queries.specs.Preambles.{ArePreambles};
+ghost use Rattle.bib_queries.specs.Standing.{IsFieldIn, IsSkippedIn};
 ghost use Rattle.bib_queries.specs.Texts.{text_list};
 
-use crate::excerpts::print_if;
+use crate::excerpts::{TextAnswer, print_if};
 use crate::names::{links_of_definitions, links_of_entries, push_used_in_fields};
 use crate::needed::mark_needed;
+use crate::preambles::print_preambles;
 use crate::request::CitedKeys;
-use bib_syntax::raw::{Pair, RawBibliography, RawEntry};
+use crate::unread::{has_unread, print_all_unread};
+use bib_syntax::raw::{Pair, RawBibliography, RawEntry, RawRecovery};
 use bib_text::spanned::Spanned;
 use std::alloc::{AllocError, Global};
 
@@ -66,16 +69,21 @@ fn used_abbreviations<'s>(
     Ok(names)
 }
 
-// Marks the definitions of the abbreviations that the entries with marks use, transitively.
+// Marks the definitions of the abbreviations that the entries with marks use, transitively, or all definitions.
 fn used_definitions(
     alloc: Global,
     raw: &RawBibliography<'_>,
     marks: &[bool],
+    all: bool,
 ) -> Result<Vec<bool>, AllocError>
     ensures { IfOk result (λ found. AreMarks
-        (IsNeeded (used_in_entries (with_marks marks.now (file_of raw.now).entries)) (map definition_node (file_of raw.now).abbreviations))
+        (IsCited (used_in_entries (with_marks marks.now (file_of raw.now).entries)) all (map definition_node (file_of raw.now).abbreviations))
         (length (file_of raw.now).abbreviations) found.items) }
 {
+    if all {
+        let marks = vec![in alloc; true; raw.abbreviations.len()]?;
+        return Ok(marks);
+    }
     let names = used_abbreviations(alloc, &raw.entries, marks)?;
     let links = links_of_definitions(alloc, &raw.abbreviations)?;
     let marks = mark_needed(alloc, &names, &links)?;
@@ -144,22 +152,39 @@ fn print_entries(
     Ok(())
 }
 
-// Returns the cited entries and everything that they refer to, transitively. Definitions come before entries.
+// Returns whether one of the marks is true.
+fn has_mark(marks: &[bool]) -> bool
+    ensures { result ≡ list_any (λ mark. mark) marks.now }
+{
+    marks.iter().any(|mark| *mark)
+}
+
+// Returns the cited entries and everything that they refer to, transitively. Definitions come first, then the preambles of the
+// file, then those of its skipped blocks, then entries.
 pub(crate) fn cited_text(
     alloc: Global,
     cited: &CitedKeys<'_>,
     text: &str,
-    raw: &RawBibliography<'_>,
-) -> Result<String, AllocError>
-    requires entries { AllByRecursion (IsBlockOf text.now) (file_of raw.now).entries }
-    requires definitions { AllByRecursion (IsFieldIn text.now) (file_of raw.now).abbreviations }
-    ensures { IfOk result (λ printed. IsExcerpt (text_list cited.now.keys) cited.now.all text.now
-        (file_of raw.now) (string_bytes printed)) }
+    found: &RawRecovery<'_>,
+) -> Result<TextAnswer, AllocError>
+    requires entries { AllByRecursion (IsBlockOf text.now) (file_of found.now.raw).entries }
+    requires definitions { AllByRecursion (IsFieldIn text.now) (file_of found.now.raw).abbreviations }
+    requires preambles { (insides : List (List ℕ)) × ArePreambles (file_of found.now.raw).preamble insides }
+    requires skipped { AllByRecursion (IsSkippedIn text.now) found.now.skipped.items }
+    ensures { IfOk result (λ answer. IsExcerpt (text_list cited.now.keys) cited.now.all text.now
+        (file_of found.now.raw) found.now.skipped.items (string_bytes answer.text) answer.has_entry) }
 {
+    let raw = &found.raw;
     let marks = cited_entries(alloc, cited, &raw.entries)?;
-    let definition_marks = used_definitions(alloc, raw, &marks)?;
+    let definition_marks = used_definitions(alloc, raw, &marks, has_unread(text, &found.skipped))?;
     let mut printed = String::new(alloc);
     print_definitions(&mut printed, text, &raw.abbreviations, &definition_marks)?;
+    print_preambles(&mut printed, raw.preamble.as_str())?;
+    print_all_unread(&mut printed, text, &found.skipped)?;
     print_entries(&mut printed, text, &raw.entries, &marks)?;
-    Ok(printed)
+    let has_entry = has_mark(&marks);
+    Ok(TextAnswer {
+        text: printed,
+        has_entry,
+    })
 }

@@ -1,6 +1,6 @@
 //! Prints entries with their source text.
 
-ghost use Rattle.std.specs.Prelude.{◌≡◌, ◌++◌, [], map, if◌then◌else◌, IfOk, OnOk};
+ghost use Rattle.std.specs.Prelude.{◌≡◌, ◌==◌, ℕ, List, ◌++◌, [], map, length, not, if◌then◌else◌, IfOk, OnOk};
 ghost use Rattle.std.specs.List.{AllByRecursion, list_any};
 ghost use Rattle.std.specs.String.{string_bytes};
 ghost use Rattle.bib_syntax.specs.Recovery.{IsBlockOf};
@@ -9,15 +9,25 @@ ghost use Rattle.bib_queries.specs.Answers as answers;
 ghost use Rattle.bib_queries.specs.Answers.{IsPrinted, IsTextAnswer, has_key, is_found_in, lines_of_keys, passing_lines, piece_text};
 ghost use Rattle.bib_queries.specs.Cited.{entry_line};
 ghost use Rattle.bib_queries.specs.Cited as cited_spec;
-ghost use Rattle.bib_queries.specs.Standing.{IsFieldIn};
+ghost use Rattle.bib_queries.specs.Preambles.{ArePreambles};
+ghost use Rattle.bib_queries.specs.Standing.{IsFieldIn, IsSkippedIn};
 
 use crate::cited::cited_text;
 use crate::names::is_name;
 use crate::request::{Request, Search};
 use crate::sets::name_set;
-use bib_syntax::raw::{Pair, RawBibliography, RawChunk, RawEntry};
+use bib_syntax::raw::{Pair, RawBibliography, RawChunk, RawEntry, RawRecovery};
 use bib_text::spanned::Spanned;
 use std::alloc::{AllocError, Global};
+
+/// The answer to a request on one file.
+#[derive(Debug, Drop)]
+pub struct TextAnswer {
+    /// The text to print.
+    pub text: String,
+    /// Whether the text has an entry, or a key for the request `Keys`. The text for `Cited` may have only preambles.
+    pub has_entry: bool,
+}
 
 // Returns the text of a piece of a value.
 fn text_of<'s>(piece: &Spanned<RawChunk<'s>>) -> &'s str
@@ -152,29 +162,42 @@ fn grep(
     Ok(printed)
 }
 
-// Returns the output for a request on the entries and definitions of a text.
-fn answer_raw(
+// Returns the answer with this text of entries or keys.
+fn entries_answer(text: String) -> TextAnswer
+    ensures text { result.text ≡ text }
+    ensures has_entry { result.has_entry ≡ not (length (string_bytes text) == 0) }
+{
+    let has_entry = !text.is_empty();
+    TextAnswer { text, has_entry }
+}
+
+// Returns the answer to a request on the parsed and the skipped blocks of a text.
+fn answer_found(
     alloc: Global,
     request: &Request<'_>,
     text: &str,
-    raw: &RawBibliography<'_>,
-) -> Result<String, AllocError>
-    requires entries { AllByRecursion (IsBlockOf text.now) (file_of raw.now).entries }
-    requires definitions { AllByRecursion (IsFieldIn text.now) (file_of raw.now).abbreviations }
-    ensures { IfOk result (λ printed. IsPrinted request.now text.now (file_of raw.now) (string_bytes printed)) }
+    found: &RawRecovery<'_>,
+) -> Result<TextAnswer, AllocError>
+    requires entries { AllByRecursion (IsBlockOf text.now) (file_of found.now.raw).entries }
+    requires definitions { AllByRecursion (IsFieldIn text.now) (file_of found.now.raw).abbreviations }
+    requires preambles { (insides : List (List ℕ)) × ArePreambles (file_of found.now.raw).preamble insides }
+    requires skipped { AllByRecursion (IsSkippedIn text.now) found.now.skipped.items }
+    ensures { IfOk result (λ answer. IsPrinted request.now text.now (file_of found.now.raw) found.now.skipped.items
+        (string_bytes answer.text) answer.has_entry) }
 {
+    let entries = &found.raw.entries;
     match request {
-        Request::Keys => keys(alloc, &raw.entries),
-        Request::Get(names) => get(alloc, names, text, &raw.entries),
-        Request::Grep(search) => grep(alloc, search, text, &raw.entries),
-        Request::Cited(keys) => cited_text(alloc, keys, text, raw),
+        Request::Keys => Ok(entries_answer(keys(alloc, entries)?)),
+        Request::Get(names) => Ok(entries_answer(get(alloc, names, text, entries)?)),
+        Request::Grep(search) => Ok(entries_answer(grep(alloc, search, text, entries)?)),
+        Request::Cited(keys) => cited_text(alloc, keys, text, found),
     }
 }
 
-/// Returns the output for a request on the entries and definitions that can be parsed of a text.
-pub fn answer(alloc: Global, request: &Request<'_>, text: &str) -> Result<String, AllocError>
-    ensures { IfOk result (λ printed. IsTextAnswer request.now text.now (string_bytes printed)) }
+/// Returns the answer to a request on a text. Blocks that can't be parsed are skipped, except preambles for `Cited`.
+pub fn answer(alloc: Global, request: &Request<'_>, text: &str) -> Result<TextAnswer, AllocError>
+    ensures { IfOk result (λ answer. IsTextAnswer request.now text.now (string_bytes answer.text) answer.has_entry) }
 {
     let found = RawBibliography::recover(alloc, text)?;
-    answer_raw(alloc, request, text, &found.raw)
+    answer_found(alloc, request, text, &found)
 }

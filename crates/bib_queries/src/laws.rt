@@ -3,6 +3,7 @@
 
 ghost use Rattle.std.specs.Prelude.{◌≡◌, ℕ, Bool, true, List, map};
 ghost use Rattle.bib_syntax.specs.Reading.{FileReading};
+ghost use Rattle.bib_syntax.specs.declared.raw.recovery.SkippedBlock.{SkippedBlock};
 ghost use Rattle.bib_queries.specs.Cited.{IsExcerpt, used_in_entries};
 ghost use Rattle.bib_queries.specs.Names.{definition_node, entry_node};
 ghost use Rattle.bib_queries.specs.Needed.{HasName, RefersTo, is_listed, with_marks};
@@ -10,21 +11,24 @@ ghost use Rattle.bib_queries.specs.Searching.{IsMarked};
 
 /// If an entry is printed, each entry of the file that it refers to is printed.
 pub fn references_are_printed()
-    ensures { (names : List (List ℕ)) (all : Bool) (text printed : List ℕ) (says : FileReading) (h : IsExcerpt names all text says printed) →
+    ensures { (names : List (List ℕ)) (all : Bool) (text printed : List ℕ) (says : FileReading)
+        (skipped : List SkippedBlock) (has_entry : Bool) (h : IsExcerpt names all text says skipped printed has_entry) →
         (first second : ℕ) (name : List ℕ) → IsMarked h.entry_marks first → RefersTo (map entry_node says.entries) first name →
         HasName (map entry_node says.entries) second name → IsMarked h.entry_marks second }
 {}
 
 /// If an entry is printed, each definition of the file for an abbreviation that it uses is printed.
 pub fn used_are_defined()
-    ensures { (names : List (List ℕ)) (all : Bool) (text printed : List ℕ) (says : FileReading) (h : IsExcerpt names all text says printed) →
+    ensures { (names : List (List ℕ)) (all : Bool) (text printed : List ℕ) (says : FileReading)
+        (skipped : List SkippedBlock) (has_entry : Bool) (h : IsExcerpt names all text says skipped printed has_entry) →
         (index : ℕ) (name : List ℕ) → is_listed (used_in_entries (with_marks h.entry_marks says.entries)) name ≡ true →
         HasName (map definition_node says.abbreviations) index name → IsMarked h.definition_marks index }
 {}
 
 /// If a definition is printed, each definition of the file for an abbreviation that it uses is printed.
 pub fn definitions_are_defined()
-    ensures { (names : List (List ℕ)) (all : Bool) (text printed : List ℕ) (says : FileReading) (h : IsExcerpt names all text says printed) →
+    ensures { (names : List (List ℕ)) (all : Bool) (text printed : List ℕ) (says : FileReading)
+        (skipped : List SkippedBlock) (has_entry : Bool) (h : IsExcerpt names all text says skipped printed has_entry) →
         (first second : ℕ) (name : List ℕ) → IsMarked h.definition_marks first → RefersTo (map definition_node says.abbreviations) first name →
         HasName (map definition_node says.abbreviations) second name → IsMarked h.definition_marks second }
 {}

@@ -10,10 +10,15 @@
 
 pub mod citations;
 mod cited;
+mod elements;
 pub mod excerpts;
 pub mod known;
 pub mod laws;
+pub mod lines;
 pub mod names;
 mod needed;
+mod preambles;
 pub mod request;
 mod sets;
+pub mod sources;
+mod unread;

@@ -39,7 +39,7 @@ pub(crate) fn push_parts<'s>(names: &mut Vec<&'s str>, list: &'s str) -> Result<
 }
 
 // Appends a name unless it is empty.
-fn push_filled<'s>(names: &mut Vec<&'s str>, name: &'s str) -> Result<(), AllocError>
+pub(crate) fn push_filled<'s>(names: &mut Vec<&'s str>, name: &'s str) -> Result<(), AllocError>
     ensures { OnOk result (text_list names.new ≡ text_list names.old ++ spec.name_if_filled name.now) }
 {
     if name.is_empty() {

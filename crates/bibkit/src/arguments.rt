@@ -47,6 +47,8 @@ pub enum Asked<'a> {
         /// The use of the new text of each file.
         mode: Mode,
     },
+    /// Prints the entries that the document of this .aux or .bcf file cites.
+    Cited(&'a str),
     /// Runs another request.
     Other(Request<'a>),
 }
@@ -56,7 +58,8 @@ pub enum Asked<'a> {
 pub struct Words<'a> {
     /// The request.
     pub asked: Asked<'a>,
-    /// The names of the files to read: `-` (standard input) if none is given. Empty for commands that edit a file.
+    /// The names of the files to read: `-` (standard input) if none is given. Empty for commands that edit a file, and for `cited`
+    /// if none is given.
     pub names: Vec<&'a str>,
 }
 
@@ -311,17 +314,21 @@ fn request_of<'a>(
             field: matches.get_str("FIELD").unwrap_or(""),
             part: matches.get_str("TEXT").unwrap_or(""),
         })),
-        "cited" => Request::Cited(matches.get_str("DOCUMENT").unwrap_or("")),
+        "cited" => return Ok(Asked::Cited(matches.get_str("DOCUMENT").unwrap_or(""))),
         "stats" => Request::Stats,
         _ => Request::Entries(Excerpts::Keys),
     };
     Ok(Asked::Other(request))
 }
 
-// Returns the names of the files of a command, or `-` (standard input) without any.
-fn file_names<'a>(alloc: Global, matches: &ArgMatches<'a>) -> Result<Vec<&'a str>, AllocError> {
+// Returns the names of the files of the command `name`, or `-` (standard input) without any, except for `cited`.
+fn file_names<'a>(
+    alloc: Global,
+    name: &str,
+    matches: &ArgMatches<'a>,
+) -> Result<Vec<&'a str>, AllocError> {
     let mut names = texts(alloc, matches, "FILE")?;
-    if names.is_empty() {
+    if names.is_empty() && name != "cited" {
         names.push("-")?;
     }
     Ok(names)
@@ -340,7 +347,7 @@ fn words_of<'a>(
             names: Vec::new(alloc),
         });
     }
-    let names = file_names(alloc, matches)?;
+    let names = file_names(alloc, name, matches)?;
     let asked = request_of(alloc, name, matches)?;
     Ok(Words { asked, names })
 }

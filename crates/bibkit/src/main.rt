@@ -3,6 +3,7 @@
 
 mod arguments;
 mod converting;
+mod document;
 mod edits;
 mod files;
 mod formatting;

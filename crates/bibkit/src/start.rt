@@ -2,6 +2,7 @@
 
 use crate::arguments::{Asked, Words, read};
 use crate::converting::{run_convert, run_rewrite};
+use crate::document::run_cited;
 use crate::edits::{Mode, run_edits};
 use crate::files::SystemFiles;
 use crate::formatting::run_format;
@@ -167,6 +168,7 @@ fn answer(rt: &HostRuntime, words: Words<'_>) -> u8 {
         Asked::Rewrite(dialect) => run_rewrite(rt, dialect, &names),
         Asked::Import(Some(dialect)) => run_import(rt, dialect, &names),
         Asked::Import(None) => refuse_target(rt),
+        Asked::Cited(document) => run_cited(rt, document, &names),
         Asked::Other(request) => run_request(rt, request, names),
     }
 }

@@ -1,10 +1,9 @@
 -- Meaning: words of public contracts.
 -- The citations of a document, compared with the entries of files.
-use Rattle.std.specs.Prelude.{◌≡◌, ◌==◌, ◌&&◌, ℕ, Bool, not, if◌then◌else◌, List, [], ◌∷◌, ◌++◌, MatchBool, Option, Some, codes, eqb, filter, map, string_bytes}
+use Rattle.std.specs.Prelude.{◌≡◌, ◌&&◌, ℕ, Bool, not, if◌then◌else◌, List, [], ◌∷◌, ◌++◌, MatchBool, Option, Some, codes, eqb, filter, map, string_bytes}
 use Rattle.std.specs.List.{ends_with, list_any}
-use Rattle.bib_text.specs.Characters as char
 use Rattle.bib_source.specs.declared.decoding.Decoded.{Decoded}
-use Rattle.bib_queries.specs.Citations.{AreCitations, aux_cited, bcf_cited}
+use Rattle.bib_queries.specs.Citations.{AreAuxCitations, AreBcfCitations}
 use Rattle.bib_queries.specs.Known.{all_names, uncited_keys}
 use Rattle.bib_queries.specs.Needed.{is_listed}
 use Rattle.bib_queries.specs.declared.citations.Citation.{Citation}
@@ -24,8 +23,7 @@ use Rattle.bibkit_core.specs.declared.tally.Tally.{Tally}
 -- otherwise an .aux file
 abbrev pub AreCitedBy : List ℕ → List ℕ → Citations → Type 0
 AreCitedBy name text found =
-    MatchBool (ends_with eqb name (codes ".bcf")) (AreCitations bcf_cited (λ b. b == char.less) text found)
-    (AreCitations aux_cited (λ b. b == char.line_feed) text found)
+    MatchBool (ends_with eqb name (codes ".bcf")) (AreBcfCitations text found) (AreAuxCitations text found)
 
 -- the file of a document is read, with this text and these citations; `reads` relates the state before reading a file, its name,
 -- its bytes (`None` for an error) and the state afterwards

@@ -1,6 +1,6 @@
 -- Meaning: words of public contracts.
 -- The outputs of the tasks, and their status.
-use Rattle.std.specs.Prelude.{◌≡◌, ◌==◌, ◌&&◌, ◌||◌, ℕ, length, Bool, true, false, not, if◌then◌else◌, List, [], codes, MatchOption, string_bytes}
+use Rattle.std.specs.Prelude.{◌≡◌, ◌&&◌, ◌||◌, ℕ, Bool, true, false, not, if◌then◌else◌, List, [], codes, MatchOption, string_bytes}
 use Rattle.std.specs.Str.{IsUtf8}
 use Rattle.bib_source.specs.Encoding.{without_byte_order_mark, windows_1252_text, IsFirstInvalid}
 use Rattle.bib_source.specs.declared.decoding.Decoded.{Decoded}
@@ -45,11 +45,11 @@ pub record PrintsFindings (lint : Lint) (name bytes : List ℕ) (before : Tally)
   pub of_bytes : AreDecoded bytes decoded
   pub printed : IsPrintedFile lint name bytes decoded before text after
 
--- `text` is the output for the requested entries of a file
-pub record PrintsEntries (request : Request) (bytes text : List ℕ) : Type 0 where
+-- `text` is the output for the requested entries of a file; `has_entry` says whether it has one
+pub record PrintsEntries (request : Request) (bytes text : List ℕ) (has_entry : Bool) : Type 0 where
   pub decoded : Decoded
   pub of_bytes : AreDecoded bytes decoded
-  pub answer : IsTextAnswer request (string_bytes decoded.text) text
+  pub answer : IsTextAnswer request (string_bytes decoded.text) text has_entry
 
 -- whether a request is a search, which fails if it finds nothing: each request is one, except the list of all keys
 abbrev pub is_search : Request → Bool
@@ -87,11 +87,11 @@ pub record BeginsEntries (request : Request) (task : Entries) : Type 0 where
 abbrev pub entries_begins : Entries → List ℕ
 entries_begins task = []
 
--- the output of the entries task for a file, and the task afterwards: something is found if any output isn't empty
+-- the output of the entries task for a file, and the task afterwards: something is found if the output of a file has an entry
 abbrev pub entries_prints : Entries → List ℕ → List ℕ → List ℕ → Entries → Type 0
 entries_prints old name bytes text new =
-    (new.request.now ≡ old.request.now) × PrintsEntries old.request.now bytes text
-    × (new.is_found ≡ (old.is_found || not (length text == 0)))
+    (new.request.now ≡ old.request.now)
+    × ((has_entry : Bool) × PrintsEntries old.request.now bytes text has_entry × (new.is_found ≡ (old.is_found || has_entry)))
 
 -- the text of the entries task after the files (none), and its status
 abbrev pub entries_ends : Entries → List ℕ → ℕ → Type 0

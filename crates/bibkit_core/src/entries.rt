@@ -1,6 +1,6 @@
 //! The task that prints entries of files, or their keys.
 
-ghost use Rattle.std.specs.Prelude.{◌≡◌, ◌||◌, ◌==◌, length, not};
+ghost use Rattle.std.specs.Prelude.{◌≡◌, ◌||◌};
 ghost use Rattle.bibkit_core.specs.Tasks.{BeginsEntries, entries_begins, entries_ends, entries_prints};
 ghost use Rattle.bibkit_core.specs.Tasks as spec;
 
@@ -39,11 +39,11 @@ fn is_search(request: &Excerpts<'_>) -> bool
     }
 }
 
-// Returns whether something is found so far, if `text` is the output for the next file.
-fn is_found_with(is_found: bool, text: &str) -> bool
-    ensures { result ≡ (is_found || not (length text.now == 0)) }
+// Returns whether something is found so far, if the output for the next file has an entry.
+fn is_found_with(is_found: bool, has_entry: bool) -> bool
+    ensures { result ≡ (is_found || has_entry) }
 {
-    is_found || !text.is_empty()
+    is_found || has_entry
 }
 
 // Returns the status: 1 for a search that found nothing, otherwise 0.
@@ -70,9 +70,9 @@ impl<'r, 'a> Task for Entries<'r, 'a> {
 
     fn file(&mut self, alloc: Global, _name: &str, bytes: &[u8]) -> Result<String, AllocError> {
         let decoded = decode_bytes(alloc, bytes)?;
-        let text = answer(alloc, self.request, decoded.text.as_str())?;
-        self.is_found = is_found_with(self.is_found, text.as_str());
-        Ok(text)
+        let answer = answer(alloc, self.request, decoded.text.as_str())?;
+        self.is_found = is_found_with(self.is_found, answer.has_entry);
+        Ok(answer.text)
     }
 
     fn end(&mut self, alloc: Global) -> Result<End, AllocError> {

@@ -488,7 +488,7 @@ static READING: [Row; 9] = [
     Row {
         name: "cited",
         about: "Print the entries that a document cites, unchanged",
-        help: "Example:\n  bibkit cited thesis.bcf refs.bib >cited.bib\n\nStatus 1 if no cited entry is found",
+        help: "Without FILE, reads the .bib files that the document names.\n\nExample:\n  bibkit cited thesis.bcf >cited.bib\n\nStatus 1 if no cited entry is found",
         arguments: &CITED,
     },
     Row {

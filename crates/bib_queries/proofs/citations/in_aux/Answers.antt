@@ -5,7 +5,8 @@ use Rattle.std.proofs.lemmas.List.{map-append, take_more}
 use Rattle.std.proofs.Math.Facts.{Fits-of_lt}
 use Rattle.std.proofs.lemmas.Iterator.Consumers.{YieldsList-end, YieldsList-so_far, YieldsList-turn}
 use Rattle.std.proofs.lemmas.Iterator.Splits.{YieldsList-from_str_split}
-use Rattle.bib_queries.specs.Citations.{add_citation, aux_cited, cites_all, cites_from}
+use Rattle.bib_queries.specs.Citations.{add_citation, cites_all, cites_from}
+use Rattle.bib_queries.specs.Lines.{aux_cited}
 use Rattle.bib_queries.proofs.CitationFacts.{collected_next, past, past_below, past_push}
 use Rattle.bib_queries.proofs.citations.in_aux.Goals as goal
 

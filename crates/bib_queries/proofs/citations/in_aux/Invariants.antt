@@ -1,5 +1,6 @@
 use Rattle.std.proofs.Common.{◌≡◌, map}
-use Rattle.bib_queries.specs.Citations.{aux_cited, cites_from}
+use Rattle.bib_queries.specs.Citations.{cites_from}
+use Rattle.bib_queries.specs.Lines.{aux_cited}
 use Rattle.bib_queries.specs.Collecting.{IsCollected}
 use Rattle.bib_queries.proofs.CitationFacts.{past}
 use Rattle.bib_queries.proofs.citations.in_aux.Given as goal

@@ -6,6 +6,7 @@ use Rattle.std.proofs.Math.Facts.{Fits-of_lt}
 use Rattle.std.proofs.lemmas.Iterator.Consumers.{YieldsList-end, YieldsList-so_far, YieldsList-turn}
 use Rattle.std.proofs.lemmas.Iterator.Splits.{YieldsList-from_str_split}
 use Rattle.bib_queries.specs.Citations.{add_citation, bcf_cited, cites_all, cites_from}
+use Rattle.bib_queries.specs.Elements.{set_names}
 use Rattle.bib_queries.proofs.CitationFacts.{collected_next, past, past_below, past_push}
 use Rattle.bib_queries.proofs.citations.in_bcf.Goals as goal
 
@@ -35,9 +36,9 @@ elements-preserved c =
           ∙ sym (ap past next ∙ past_push before c.in-Some.piece.now);
       collected =
           rw next
-          (collected_next bcf_cited c.new-collected.result c.elements.collected c.add_element.new.self before
+          (collected_next (bcf_cited (set_names c.args.text.now)) c.new-collected.result c.elements.collected c.add_element.new.self before
           c.in-Some.piece.now c.elements.at c.elements.invariant.place c.elements.invariant.collected
-          c.in_ok-add_element.ensures);
+          (c.in_ok-add_element.ensures (set_names c.args.text.now) c.in_ok-sets.ensures));
     }
 
 pub returns : goal.returns
@@ -50,10 +51,10 @@ returns c =
     record {
       keys =
           c.into_citations.ensures.keys ∙ collected.keys
-          ∙ ap (λ l. fold add_citation l (cites_from bcf_cited 0 (map (λ line. line.now) c.elements.yielded)))
-          c.new-collected.ensures.keys ∙ ap (λ l. fold add_citation [] (cites_from bcf_cited 0 l)) all;
+          ∙ ap (λ l. fold add_citation l (cites_from (bcf_cited (set_names c.args.text.now)) 0 (map (λ line. line.now) c.elements.yielded)))
+          c.new-collected.ensures.keys ∙ ap (λ l. fold add_citation [] (cites_from (bcf_cited (set_names c.args.text.now)) 0 l)) all;
       all =
           c.into_citations.ensures.all ∙ collected.all
-          ∙ ap (λ b. b || cites_all (cites_from bcf_cited 0 (map (λ line. line.now) c.elements.yielded)))
-          c.new-collected.ensures.all ∙ ap (λ l. cites_all (cites_from bcf_cited 0 l)) all;
+          ∙ ap (λ b. b || cites_all (cites_from (bcf_cited (set_names c.args.text.now)) 0 (map (λ line. line.now) c.elements.yielded)))
+          c.new-collected.ensures.all ∙ ap (λ l. cites_all (cites_from (bcf_cited (set_names c.args.text.now)) 0 l)) all;
     }

@@ -5,6 +5,6 @@ use Rattle.bib_queries.proofs.CitedFacts.{cited_marked}
 use Rattle.bib_queries.proofs.laws.references_are_printed.Goals as goal
 
 pub returns : goal.returns
-returns c names all text printed says h first second name mark refers has =
+returns c names all text printed says skipped has_entry h first second name mark refers has =
     cited_marked names all (map entry_node says.entries) _ h.entry_marks first second name
     (length-map says.entries entry_node) h.entries mark refers has

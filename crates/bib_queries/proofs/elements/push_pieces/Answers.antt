@@ -3,8 +3,8 @@ use Rattle.std.specs.List.{flat_map}
 use Rattle.std.specs.String.{string_bytes}
 use Rattle.std.proofs.lemmas.Iterator.Consumers.{YieldsList-end}
 use Rattle.std.proofs.lemmas.Iterator.Splits.{YieldsList-from_str_split}
-use Rattle.bib_queries.specs.Citations.{unescaped_piece}
-use Rattle.bib_queries.proofs.citations.push_pieces.Goals as goal
+use Rattle.bib_queries.specs.Elements.{unescaped_piece}
+use Rattle.bib_queries.proofs.elements.push_pieces.Goals as goal
 
 pub returns : goal.returns
 returns c =

@@ -1,0 +1,6 @@
+use Rattle.std.specs.Prelude.{codes}
+use Rattle.std.proofs.lemmas.Str.Pattern.{ends_text}
+use Rattle.bib_queries.proofs.lines.ends_with_aux.Goals as goal
+
+pub returns : goal.returns
+returns c = ends_text c.ends_with.result (codes ".aux") c.args.name.now c.ends_with.ensures.cases

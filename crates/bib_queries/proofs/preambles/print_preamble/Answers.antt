@@ -1,0 +1,12 @@
+use Rattle.std.proofs.Common.{◌∙◌, ◌++◌, List, ℕ, codes, ap, append_assoc}
+use Rattle.std.specs.String.{string_bytes}
+use Rattle.bib_queries.proofs.preambles.print_preamble.Goals as goal
+
+pub returns : goal.returns
+returns c =
+    let old : List ℕ = string_bytes c.args.printed.now in
+    let inside : List ℕ = c.args.inside.now in
+    c.in_ok-push_str-3.ensures.bytes
+    ∙ ap (λ t. t ++ codes "\"}\n") (c.in_ok-push_str-2.ensures.bytes ∙ ap (λ t. t ++ inside) c.in_ok-push_str.ensures.bytes)
+    ∙ append_assoc (old ++ codes "@preamble{\"") inside (codes "\"}\n")
+    ∙ append_assoc old (codes "@preamble{\"") (inside ++ codes "\"}\n")

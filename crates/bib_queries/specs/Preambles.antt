@@ -1,0 +1,36 @@
+-- Meaning: words of public contracts.
+-- The preambles of a file. The file grammar reads one text in quotes in each, and its reading joins them by ` # `.
+use Rattle.std.specs.Prelude.{◌≡◌, ℕ, Bool, true, false, not, ◌&&◌, ◌==◌, List, [], ◌∷◌, ◌++◌, codes, cond}
+use Rattle.std.specs.List.{AllByRecursion}
+use Rattle.bib_text.specs.Characters as char
+
+-- whether each quote of a text is hidden by a backslash before it, and no backslash at its end hides what follows; `is_hidden`: a
+-- backslash hides its first byte
+abbrev pub are_quotes_hidden : Bool → List ℕ → Bool
+are_quotes_hidden is_hidden [] = not is_hidden
+are_quotes_hidden true (b ∷ bs) = are_quotes_hidden false bs
+are_quotes_hidden false (b ∷ bs) =
+    cond (b == char.backslash) (are_quotes_hidden true bs) (not (b == char.quote) && are_quotes_hidden false bs)
+
+-- a text in quotes
+abbrev pub quoted_text : List ℕ → List ℕ
+quoted_text inside = codes "\"" ++ (inside ++ codes "\"")
+
+-- texts in quotes, joined by ` # `
+abbrev pub joined_quotes : List (List ℕ) → List ℕ
+joined_quotes [] = []
+joined_quotes (inside ∷ []) = quoted_text inside
+joined_quotes (inside ∷ (next ∷ rest)) = quoted_text inside ++ (codes " # " ++ joined_quotes (next ∷ rest))
+
+-- a text can be between quotes
+abbrev pub CanBeQuoted : List ℕ → Type 0
+CanBeQuoted inside = are_quotes_hidden false inside ≡ true
+
+-- the preambles of a reading are these texts, in the order of the file, without their quotes
+pub record ArePreambles (joined : List ℕ) (insides : List (List ℕ)) : Type 0 where
+  pub each : AllByRecursion CanBeQuoted insides
+  pub is : joined ≡ joined_quotes insides
+
+-- a block with a preamble, given by the text in its quotes, and a line feed
+abbrev pub preamble_line : List ℕ → List ℕ
+preamble_line inside = codes "@preamble{\"" ++ (inside ++ codes "\"}\n")

@@ -1,0 +1,228 @@
+//! Runs `cited`: reads the file of a document, with the .aux files that it inputs, and finds the .bib files that it names.
+
+use crate::files::SystemFiles;
+use crate::stops::{Stop, bytes_of, say};
+use bib_queries::lines::aux_input;
+use bib_queries::sources::{sources_in_aux, sources_in_bcf};
+use bib_source::decoding::decode;
+use bibkit_core::files::{FileError, Files};
+use bibkit_core::request::{Call, Request};
+use bibkit_core::run::run;
+use biblatex::Output;
+use std::alloc::{AllocError, Global};
+use std::collections::BTreeMap;
+use std::io::IsTerminal;
+use std::path::Path;
+use std::{fs, io, rt};
+
+// The maximum number of .aux files of a document.
+const MOST_FILES: usize = 1000;
+
+// The text of the file of a document, in which a line that inputs an .aux file is replaced by the lines of that file, and the status
+// so far: 2 if an input can't be read.
+#[derive(Drop)]
+struct Whole {
+    text: String,
+    status: u8,
+}
+
+// The files of the system, except that the first call for the file of the document returns its whole text.
+#[derive(Drop)]
+struct DocumentFiles<'r, 'd, R> {
+    files: SystemFiles<'r, R>,
+    name: &'d str,
+    whole: Option<Vec<u8>>,
+}
+
+impl<'r, 'd, R: rt::Files + Input + AllocGlobal> Files for DocumentFiles<'r, 'd, R> {
+    // Nothing is known of the contents of the system's files.
+    ghost reads = { λ old name bytes new. Unit {0} };
+
+    fn read(&mut self, alloc: Global, name: &str) -> Result<Vec<u8>, FileError> {
+        if name == self.name {
+            if let Some(bytes) = self.whole.take() {
+                return Ok(bytes);
+            }
+        }
+        self.files.read(alloc, name)
+    }
+}
+
+// Returns the folder of a file. It is the current folder for a name without a folder and for standard input (`-`).
+fn folder(name: &str) -> Path<'_> {
+    match Path::new(name).parent() {
+        Some(parent) if name != "-" && !parent.to_string_lossy().is_empty() => parent,
+        _ => Path::new("."),
+    }
+}
+
+// Returns whether a file with this name exists.
+fn exists(rt: &HostRuntime, name: &str) -> bool {
+    matches!(fs::exists(rt, name), Ok(true))
+}
+
+// Returns the name of a file that a document names: as it is, or in the folder of the document if only that file exists.
+fn located(rt: &HostRuntime, document: &str, name: &str) -> Result<String, AllocError> {
+    if exists(rt, name) {
+        return String::from_str(rt.alloc(), name);
+    }
+    let path = folder(document).join(rt.alloc(), name)?;
+    let beside = path.to_string_lossy();
+    if exists(rt, beside) {
+        return String::from_str(rt.alloc(), beside);
+    }
+    String::from_str(rt.alloc(), name)
+}
+
+// Returns the decoded text of a file.
+fn text_of(rt: &HostRuntime, name: &str) -> Result<String, Stop> {
+    let bytes = bytes_of(rt, name)?;
+    let decoded = decode(rt.alloc(), &bytes)?;
+    Ok(decoded.text)
+}
+
+// Adds the lines of a text to a stack of lines, so that its first line is the last of the stack.
+fn push_lines(alloc: Global, pending: &mut Vec<String>, text: &str) -> Result<(), AllocError> {
+    let mut lines = Vec::new(alloc);
+    'lines: for line in text.split('\n') {
+        lines.push(String::from_str(alloc, line)?)?;
+    }
+    lines.reverse();
+    pending.append(&mut lines)?;
+    Ok(())
+}
+
+// Adds the lines of an input file to a stack of lines, unless the file was input before. Reports a file that can't be read, and
+// returns its status.
+fn enter(
+    rt: &HostRuntime,
+    seen: &mut BTreeMap<String, ()>,
+    pending: &mut Vec<String>,
+    file: String,
+) -> Result<u8, Stop> {
+    if seen.contains_key(file.as_str()) {
+        return Ok(0);
+    }
+    if seen.len() >= MOST_FILES {
+        let text = format!(in rt.alloc(); "bibkit: {}: too many .aux files\n", file.as_str())?;
+        return Ok(say(rt, &Stop::Said(text, 2)));
+    }
+    let read = text_of(rt, file.as_str());
+    seen.insert(file, ())?;
+    match read {
+        Ok(text) => {
+            push_lines(rt.alloc(), pending, &text)?;
+            Ok(0)
+        }
+        Err(stop) => {
+            let stop = stop.unless_out_of_memory()?;
+            Ok(say(rt, &stop))
+        }
+    }
+}
+
+// Returns the whole text of an .aux file with this name and text.
+fn whole_aux(rt: &HostRuntime, document: &str, text: &str) -> Result<Whole, Stop> {
+    let alloc = rt.alloc();
+    let mut whole = Whole {
+        text: String::new(alloc),
+        status: 0,
+    };
+    let mut seen = BTreeMap::new(alloc);
+    seen.insert(String::from_str(alloc, document)?, ())?;
+    let mut pending = Vec::new(alloc);
+    push_lines(alloc, &mut pending, text)?;
+    'lines: for _ in 0..usize::MAX {
+        let Some(line) = pending.pop() else {
+            break;
+        };
+        if let Some(name) = aux_input(line.as_str()) {
+            let file = located(rt, document, name)?;
+            whole.status = enter(rt, &mut seen, &mut pending, file)?.max(whole.status);
+        } else {
+            whole.text.push_str(line.as_str())?;
+            whole.text.push('\n')?;
+        }
+    }
+    Ok(whole)
+}
+
+// Returns the names of the existing files that a document names, each once. A name without a file is returned as it is.
+fn sources(
+    rt: &HostRuntime,
+    document: &str,
+    named: Vec<String>,
+) -> Result<Vec<String>, AllocError> {
+    let mut seen = BTreeMap::new(rt.alloc());
+    let mut sources = Vec::new(rt.alloc());
+    'named: for name in &named {
+        if !seen.contains_key(name.as_str()) {
+            seen.insert(String::from_str(rt.alloc(), name.as_str())?, ())?;
+            sources.push(located(rt, document, name.as_str())?)?;
+        }
+    }
+    Ok(sources)
+}
+
+// Returns the names of the files to read: those of the command line, or those that the document names, or `-`.
+fn names<'n>(
+    alloc: Global,
+    given: &[&'n str],
+    sources: &'n [String],
+) -> Result<Vec<&'n str>, AllocError> {
+    let mut names = Vec::from_slice(alloc, given)?;
+    if names.is_empty() {
+        'sources: for source in sources {
+            names.push(source.as_str())?;
+        }
+    }
+    if names.is_empty() {
+        names.push("-")?;
+    }
+    Ok(names)
+}
+
+// Prints the entries that the document with this whole text cites, and returns the status.
+fn run_names(rt: &HostRuntime, document: &str, text: String, names: Vec<&str>) -> u8 {
+    let call = Call {
+        request: Request::Cited(document),
+        has_progress: names.len() > 1 && rt.stderr().is_terminal(),
+        names,
+    };
+    let mut files = DocumentFiles {
+        files: SystemFiles::new(rt),
+        name: document,
+        whole: Some(text.into_bytes()),
+    };
+    let mut output = Output::new(io::writer(rt));
+    let messages = Output::new(rt.stderr());
+    run(rt.alloc(), &call, &mut files, &mut output, messages)
+}
+
+// Runs `cited`, and returns the status.
+fn cited_status(rt: &HostRuntime, document: &str, given: &[&str]) -> Result<u8, Stop> {
+    let text = text_of(rt, document)?;
+    let is_control_file = document.ends_with(".bcf");
+    let whole = if is_control_file {
+        Whole { text, status: 0 }
+    } else {
+        whole_aux(rt, document, &text)?
+    };
+    let named = if is_control_file {
+        sources_in_bcf(rt.alloc(), &whole.text)?
+    } else {
+        sources_in_aux(rt.alloc(), &whole.text)?
+    };
+    let sources = sources(rt, document, named)?;
+    let names = names(rt.alloc(), given, &sources)?;
+    Ok(run_names(rt, document, whole.text, names).max(whole.status))
+}
+
+/// Prints the entries that a document cites, and returns the status. Reads the files with the names `given`, or those that the
+/// document names if none is given.
+pub fn run_cited(rt: &HostRuntime, document: &str, given: &[&str]) -> u8 {
+    match cited_status(rt, document, given) {
+        Ok(status) => status,
+        Err(stop) => say(rt, &stop),
+    }
+}
