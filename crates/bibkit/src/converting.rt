@@ -2,16 +2,16 @@
 
 use crate::edits::{after_mark, print};
 use crate::stops::{Stop, bytes_of, error_line, say};
-use edit_convert::notes::{NoteKind, notes};
-use edit_entries::document::RawDocument;
-use bib_tables::dialects::Dialect;
 use bib_source::decoding::decode;
 use bib_source::positions::Positions;
 use bib_syntax::raw::Pair;
+use bib_tables::dialects::Dialect;
 use bibkit_convert::converting::{ConvertError, print_converted};
 use bibkit_convert::target::Target;
 use bibkit_edits::edit::Edit;
 use biblatex::{Output, ParseError, Sink};
+use edit_convert::notes::{NoteKind, notes};
+use edit_entries::document::RawDocument;
 use std::alloc::{AllocError, Global};
 use std::io;
 use std::str::from_utf8;

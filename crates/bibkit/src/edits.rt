@@ -2,8 +2,6 @@
 
 use crate::replacing::replace;
 use crate::stops::{Stop, bytes_of, error_line, say, syntax_line};
-use edit_entries::errors::EditError;
-use edit_resolve::errors::ResolveError;
 use bib_source::decoding::decode;
 use bib_syntax::raw::{Pair, RawBibliography};
 use bibkit_core::replacing::ReplaceError;
@@ -11,6 +9,8 @@ use bibkit_edits::edit::{Edit, Refusal};
 use bibkit_edits::editing::edit_file;
 use bibkit_edits::printing::{Unprinted, print_difference, print_edited};
 use biblatex::Output;
+use edit_entries::errors::EditError;
+use edit_resolve::errors::ResolveError;
 use std::alloc::{AllocError, Global};
 use std::io;
 use std::io::ErrorKind;

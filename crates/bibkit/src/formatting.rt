@@ -1,9 +1,9 @@
 //! Runs `fmt`, which formats files in one style.
 
 use crate::edits::{Editing, Edits, Mode, run_edits};
+use bibkit_edits::edit::Edit;
 use edit_format::style::Style;
 use edit_sort::order::Order;
-use bibkit_edits::edit::Edit;
 use std::alloc::{AllocError, Global};
 
 // Returns the edits that format a file: they sort its entries first if `sort` is an order.

@@ -2,10 +2,10 @@
 
 use crate::edits::{after_mark, print};
 use crate::stops::{Stop, bytes_of, error_line, say};
-use bib_tables::dialects::Dialect;
 use bib_from_csl::converting::{Converted, ItemsError, Refusal, entries_of};
 use bib_from_csl::losses::{Loss, LossKind};
 use bib_from_csl::reading::Fault;
+use bib_tables::dialects::Dialect;
 use bibkit_edits::edit::Edit;
 use std::alloc::{AllocError, Global};
 use std::str::from_utf8;

@@ -7,10 +7,10 @@ ghost use Rattle.bibkit_core.specs.Compared.{AreCitedBy, cited_keys, missing_fin
 ghost use Rattle.bibkit_core.specs.Marks.{AreKnownWith, AreUncited, AreUnused, BeginsDocument, IsSameDocument, either_mark, unmarked_findings};
 
 use crate::lint::Origin;
-use bib_queries::citations::{Citation, Citations, in_aux, in_bcf};
-use bib_queries::known::{find_uncited, mark_known};
 use bib_findings::codes::Code;
 use bib_findings::finding::Finding;
+use bib_queries::citations::{Citation, Citations, in_aux, in_bcf};
+use bib_queries::known::{find_uncited, mark_known};
 use bib_text::spanned::Spanned;
 use bib_text::text::Text;
 use std::alloc::{AllocError, Global};

@@ -1,8 +1,8 @@
 //! The requests that the program runs.
 
 use crate::selection::Selection;
-use bib_queries::request::Request as Excerpts;
 use bib_findings::codes::Code;
+use bib_queries::request::Request as Excerpts;
 
 /// The style in which findings are printed.
 #[derive(Debug, Clone, Copy, PartialEq, Eq)]

@@ -19,8 +19,8 @@ use crate::linting::Linting;
 use crate::messages::Messages;
 use crate::request::{Call, Cited, Lint, Request};
 use crate::task::Task;
-use bib_queries::request::{CitedKeys, Request as Excerpts};
 use bib_findings::codes::Code;
+use bib_queries::request::{CitedKeys, Request as Excerpts};
 use biblatex::Sink;
 use std::alloc::{AllocError, Global};
 

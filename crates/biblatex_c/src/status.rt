@@ -5,8 +5,8 @@ ghost use Rattle.biblatex_c.specs.Calls.{IsNumberedEnd};
 ghost use Rattle.biblatex_c.specs.Statuses as spec;
 
 use crate::buffers::write;
-use edit_entries::errors::EditError;
 use biblatex::ParseError;
+use edit_entries::errors::EditError;
 use std::alloc::AllocError;
 
 /// The result of a call: success, or the reason for its failure.

@@ -9,7 +9,8 @@ bytes-init c = λ inside rest hidden is. (omega arith, hidden)
 
 pub returns-then-is_close-clause-found : goal.returns-then-is_close-clause-found
 returns-then-is_close-clause-found c = λ inside rest hidden is.
-    closed_at c.as_bytes-bytes.result.now inside rest c.bytes.is_hidden c.bytes.at (c.as_bytes-bytes.ensures.value ∙ is) (sym c.is_close.ensures ∙ c.if-is_close.true)
+    closed_at c.as_bytes-bytes.result.now inside rest c.bytes.is_hidden c.bytes.at (c.as_bytes-bytes.ensures.value ∙ is)
+    (sym c.is_close.ensures ∙ c.if-is_close.true)
     (c.bytes.invariant inside rest hidden is)
 
 pub bytes-preserved : goal.bytes-preserved
