@@ -17,6 +17,8 @@ TYPES = {
                **dict.fromkeys(["periodical", "reference", "mvreference", "patent", "online", "electronic", "www", "software", "dataset", "set",
                                 "xdata"], "misc")},
 }
+# The type of BibTeX that a type of BibLaTeX and a value of `type` stand for, as Biber reads the types of BibTeX.
+KINDS = {("thesis", "mathesis"): "mastersthesis", ("thesis", "phdthesis"): "phdthesis", ("report", "techreport"): "techreport"}
 # The types and fields of BibTeX's standard styles.
 STANDARD_TYPES = set("""article book booklet conference inbook incollection inproceedings manual mastersthesis misc phdthesis proceedings techreport
 unpublished""".split())
@@ -231,12 +233,17 @@ def date_of(fields):
 
 
 def canonical(entry, dialect):
-    """An entry with the names that both dialects of it have in common, and with one date."""
+    """An entry with the names that both dialects of it have in common, and with one date. The type of a thesis or a report stands for
+    its kind, if the entry says nothing else of it."""
     known = {}
     for name, text in entry.fields:
         known.setdefault(name, text)
-    fields = [(NEW_NAMES.get(name, name), text) for name, text in entry.fields if name not in DATE_PARTS]
-    return Entry(entry.key, TYPES[dialect].get(entry.entry_type, entry.entry_type), [*fields, ("date", date_of(known))])
+    kind = KINDS.get((entry.entry_type, known.get("type")))
+    if kind is None and "type" not in known and entry.entry_type in KINDS.values():
+        kind = entry.entry_type
+    left_out = {*DATE_PARTS, "type"} if kind else set(DATE_PARTS)
+    fields = [(NEW_NAMES.get(name, name), text) for name, text in entry.fields if name not in left_out]
+    return Entry(entry.key, kind or TYPES[dialect].get(entry.entry_type, entry.entry_type), [*fields, ("date", date_of(known))])
 
 
 def plain_keys(source):

@@ -90,11 +90,6 @@ def same_key(case):
     return any(it.key.lower() == key.lower() and it.key != key for it in case.source.values())
 
 
-def of_twin(case):
-    """Whether the file has the key of the command in another case, and the difference is in one of the two entries, or in a message."""
-    return same_key(case) and case.difference.key.lower() in ("", case.command.key.lower())
-
-
 def defines_twice(case):
     """Whether the file defines an abbreviation twice, in any case."""
     names = [it.lower() for it in re.findall(r"@\s*string\s*[{(]\s*([^\s=]+)\s*=", case.text, re.I)]
@@ -117,21 +112,14 @@ def is_emptied(case):
     return entry is not None and {name for name, _ in entry.fields} <= set(case.command.words)
 
 
-def has_hard_key(case):
-    """Whether the key of the command has a character that bibtool doesn't read in a key."""
-    return re.search(r"[={}~\"#()%]", case.command.key) is not None
-
-
 def has_escaped_brace(case):
     """Whether the command sets a text with a backslash before a brace."""
     return re.search(r"\\[{}]", case.command.words[2]) is not None
 
 
-def refers_otherwise(case):
-    """Whether the file refers to the renamed key in another case, or by an abbreviation."""
-    old = case.command.words[1]
-    texts = [text for it in case.source.values() for name, text in it.fields if name in REFERENCES]
-    return any("\x01" in text or any(it != old and it.lower() == old.lower() for it in re.split(r"[,\s]+", text)) for text in texts)
+def refers_by_abbreviation(case):
+    """Whether the file has a reference by an abbreviation."""
+    return any("\x01" in text for it in case.source.values() for name, text in it.fields if name in REFERENCES)
 
 
 def hides_quote(case):
@@ -163,9 +151,6 @@ REASONS = [
     Reason(RULE, "resolve takes references away, so BibTeX has nothing to say of them", "resolve", "bibtex", "message gone",
            lambda it: "which also refers" in it.difference.before),
     Reason(RULE, "BibLaTeX inherits more fields than the library", "resolve", "biber", "field lost", is_child),
-    Reason(FAULT, "the kind of a thesis or report is lost", "to-biblatex", "biber", "field lost", lambda it: it.difference.name == "type"),
-    Reason(FAULT, "a Master's thesis becomes a PhD thesis", "there-and-back", "bibtex", "print",
-           lambda it: "Master" in it.difference.before and "PhD" in it.difference.after),
     Reason(RULE, "BibTeX prints another case or italics for another type", "there-and-back", "bibtex", "print", has_only_other_case),
     Reason(RULE, "BibTeX reads by its new name what it passed over", "to-bibtex|there-and-back", "bibtex", "print", is_longer),
     Reason(FAULT, "a date becomes fields that no style of BibTeX reads, and no message says so", "to-bibtex", "bibtool", "unread field",
@@ -173,14 +158,14 @@ REASONS = [
     Reason(FAULT, "a child has the endyear of its parent beside a date of its own", "to-bibtex", "bibtex", "field changed",
            lambda it: it.difference.name == "date" and is_child(it)),
     Reason(FAULT, "the type of a thesis or report stays a key of BibLaTeX, which BibTeX prints", "to-bibtex", "bibtool", "kind printed"),
-    Reason(FAULT, "a key that differs in case alone is a repeated entry for BibTeX", "(walk-)?(add|rename).*", "bibtex|bibtool", ".*", of_twin),
+    Reason(RULE, "a new key that an entry has in another case is refused", "(add|rename)-case", "bibkit", "refused",
+           lambda it: same_key(it) and "an entry has the key already" in it.difference.after),
+    Reason(RULE, "a definition of an abbreviation that the file has with another text is refused", "add-string", "bibkit", "refused",
+           lambda it: "an abbreviation is defined already" in it.difference.after),
     Reason(FAULT, "each abbreviation gets the last of its definitions", "expand", ".*", "field changed|print", defines_twice),
     Reason(FAULT, "set changes the last of two fields with one name, and BibTeX reads the first", "set-twice", "bibtex", "field changed"),
-    Reason(FAULT, "rename leaves a reference in another case, or by an abbreviation", "rename", ".*", ".*", refers_otherwise),
-    Reason(FAULT, "an added definition of an abbreviation is read for the entries before it by bibtool, as by this library", "add-string", "bibtool",
-           "field changed"),
+    Reason(FAULT, "rename leaves a reference by an abbreviation", "rename", ".*", ".*", refers_by_abbreviation),
     Reason(FAULT, "bibtool loses an entry without fields, and what follows it", "(walk-)?unset.*", "bibtool", ".*", is_emptied),
-    Reason(FAULT, "bibtool doesn't read a key with one of = { } ~ \" # ( ) %", "walk-.*", "bibtool", ".*", has_hard_key),
     Reason(FAULT, "BibTeX and bibtool count a brace after a backslash", "walk-set", ".*", ".*", has_escaped_brace),
     Reason(FAULT, "BibTeX doesn't end a text in quotes at a quote in braces, as this library and bibtool do", f"{LAYOUTS}|{EDITS}", "bibtex|bibtool",
            ".*", hides_quote),
