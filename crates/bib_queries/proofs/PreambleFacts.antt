@@ -1,5 +1,5 @@
 -- The preambles of a file: each is a text in quotes, and a text in quotes ends at its first quote that no backslash hides.
-use Rattle.std.proofs.Common.{◌≡◌, ◌≢◌, ◌≤◌, ◌<◌, ◌+◌, ◌-◌, ℕ, zero, suc, Bool, true, false, not, cond, List, [], ◌∷◌, ◌++◌, drop, take, length, length-drop, get_or, Option, Some, None, refl, sym, ap, subst, ◌∙◌, arith, append_assoc, append-nil, length-append}
+use Rattle.std.proofs.Common.{◌≡◌, ◌≤◌, ◌<◌, ◌+◌, ◌-◌, ℕ, zero, suc, Bool, true, false, not, cond, List, [], ◌∷◌, ◌++◌, drop, take, length, length-drop, get_or, Option, Some, None, refl, sym, ap, subst, ◌∙◌, arith, append_assoc, append-nil, length-append}
 use Rattle.std.specs.Prelude.{◌==◌, ◌&&◌, codes, encode_utf8, eqb, is_some}
 use Rattle.std.specs.Char.{len_utf8}
 use Rattle.std.specs.Option.{option_map_or}
@@ -134,7 +134,7 @@ quoted_preamble q =
     let parts = parts_inside q.parts in (
       parts.bytes,
       spans_between (spans_then (spans_char q.opens) (spans_then parts.spans (spans_char q.closes)))
-      ∙ ap (λ t. t ++ (parts.bytes ++ t)) (encode_ascii 34 (omega arith)),
+          ∙ ap (λ t. t ++ (parts.bytes ++ t)) (encode_ascii 34 (omega arith)),
       parts.inside,
     )
 
@@ -225,7 +225,7 @@ goes_on (b ∷ inside) rest is_hidden (suc at) within hidden other =
     let one : suc (at + 1) ≡ suc at + 1 = omega arith in (
       omega (arith, next.0),
       subst
-      (λ n. are_quotes_hidden (hides is_hidden (get_or (inside ++ 34 ∷ rest) at 0)) (drop n (b ∷ inside)) ≡ true) one next.1,
+          (λ n. are_quotes_hidden (hides is_hidden (get_or (inside ++ 34 ∷ rest) at 0)) (drop n (b ∷ inside)) ≡ true) one next.1,
     )
 
 -- the place in the text of a preamble
@@ -246,12 +246,12 @@ pub open_at : (text inside rest : List ℕ) (is_hidden hides_next : Bool) (at : 
 open_at text inside rest is_hidden hides_next at is open_here hides here =
     let byte : get_or text at 0 ≡ get_or (inside ++ 34 ∷ rest) at 0 = ap (λ t. get_or t at 0) is in
     let other : is_hidden ≡ false → get_or (inside ++ 34 ∷ rest) at 0 ≡ 34 → ⊥ = λ shown quote.
-        test_clash (not is_hidden && get_or text at 0 == 34)
-        (ap (λ b. not b && get_or text at 0 == 34) shown ∙ eq-eqb (get_or text at 0) 34 (byte ∙ quote)) open_here in
+    test_clash (not is_hidden && get_or text at 0 == 34)
+    (ap (λ b. not b && get_or text at 0 == 34) shown ∙ eq-eqb (get_or text at 0) 34 (byte ∙ quote)) open_here in
     let next = goes_on inside rest is_hidden at here.0 here.1 other in (
       next.0,
       subst (λ b. are_quotes_hidden b (drop (at + 1) inside) ≡ true)
-      (sym (hides ∙ ap (λ b. not is_hidden && b == 92) byte)) next.1,
+          (sym (hides ∙ ap (λ b. not is_hidden && b == 92) byte)) next.1,
     )
 
 -- the closing quote is before the end of the text
@@ -289,17 +289,24 @@ joint_shorter text = by (text_after_prefix (codes "\" # ") text) refl where
   by : (o : Option (List ℕ)) → text_after_prefix (codes "\" # ") text ≡ o → length (joint text) ≤ length text
   by None is = omega (arith, ap length (ap (λ o. option_map_or (λ (rest : List ℕ). rest) o []) is))
   by (Some rest) is =
-      omega
-      (arith, ap length (ap (λ o. option_map_or (λ (rest : List ℕ). rest) o []) is),
-      ap length (after_is (codes "\" # ") text rest is))
+      omega (
+        arith,
+        ap length (ap (λ o. option_map_or (λ (rest : List ℕ). rest) o []) is),
+        ap length (after_is (codes "\" # ") text rest is),
+      )
 
 -- fewer bytes are left after one more preamble
 pub joint_smaller : (rest opened closed rest' : List ℕ) (n : ℕ) → text_after_prefix (codes "\"") rest ≡ Some opened
     → closed ≡ drop n opened → rest' ≡ joint closed → length rest' < length rest
 joint_smaller rest opened closed rest' n is cut next =
-    omega
-    (arith, ap length (after_is (codes "\"") rest opened is), ap length cut, length-drop n opened, ap length next,
-    joint_shorter closed)
+    omega (
+      arith,
+      ap length (after_is (codes "\"") rest opened is),
+      ap length cut,
+      length-drop n opened,
+      ap length next,
+      joint_shorter closed,
+    )
 
 -- the preambles that are still to be printed
 pub record IsLeft (rest printed whole : List ℕ) : Type 0 where

@@ -120,11 +120,7 @@ impl Collected {
 }
 
 // Adds the name of the set that an element of a control file defines, if it defines one.
-fn add_set(
-    alloc: Global,
-    sets: &mut BTreeMap<String, ()>,
-    piece: &str,
-) -> Result<(), AllocError>
+fn add_set(alloc: Global, sets: &mut BTreeMap<String, ()>, piece: &str) -> Result<(), AllocError>
     ensures { OnOk result ((key : List ℕ) → is_some (get_by_text sets.new key) ≡
         (is_listed (element.set_name piece.now) key || is_some (get_by_text sets.old key))) }
 {

@@ -58,11 +58,7 @@ fn file_names(alloc: Global, names: &[&str]) -> Result<Vec<String>, AllocError>
 }
 
 // Appends the name of the file of an element `bcf:datasource`. `piece` begins after the `<` of the element.
-fn push_source(
-    alloc: Global,
-    files: &mut Vec<String>,
-    piece: &str,
-) -> Result<(), AllocError>
+fn push_source(alloc: Global, files: &mut Vec<String>, piece: &str) -> Result<(), AllocError>
     ensures { OnOk result (map string_bytes files.new.items ≡ map string_bytes files.old.items ++ source_name piece.now) }
 {
     let Some(text) = text_with_name(piece, "bcf:datasource") else {

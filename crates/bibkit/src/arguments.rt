@@ -1,10 +1,9 @@
 //! Parses the command line into a request.
 
 use crate::edits::{Editing, Edits, Mode};
-use bib_tables::dialects::Dialect;
-use bib_queries::request::{Request as Excerpts, Search};
 use bib_findings::codes::Code;
-use edit_sort::order::Order;
+use bib_queries::request::{Request as Excerpts, Search};
+use bib_tables::dialects::Dialect;
 use bibkit_convert::target::Target;
 use bibkit_core::request::{Cited, Request};
 use bibkit_edits::edit::Edit;
@@ -12,6 +11,7 @@ use bibkit_settings::commands::{command, is_editing};
 use bibkit_settings::settings::{Color, OutputFormat, Settings};
 use bibkit_settings::style_settings::{StyleSettings, delimiters_named, width_of};
 use clap::{ArgMatches, Error};
+use edit_sort::order::Order;
 use std::alloc::{AllocError, Global};
 
 /// The request of a command line. The settings of `lint` and `fmt` may be completed by those of a project.
