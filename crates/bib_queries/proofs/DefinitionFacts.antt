@@ -1,13 +1,10 @@
 -- The byte offsets of definitions in a text.
-use Rattle.std.proofs.Common.{◌≡◌, ◌≤◌, ◌<◌, ◌+◌, ◌/◌, ℕ, Bool, true, false, cond, List, ◌++◌, drop, get_or, refl, sym, ap, subst, ◌∙◌, arith, ltb}
+use Rattle.std.proofs.Common.{◌≡◌, ◌≤◌, ℕ, Bool, List, refl, sym, ap, subst, ◌∙◌, arith}
 use Rattle.std.specs.List.{AllByRecursion}
 use Rattle.std.specs.Str.{IsUtf8, IsCharBoundary}
-use Rattle.std.proofs.Math.Utf8.{encode}
-use Rattle.std.proofs.lemmas.List.{get_or-drop}
-use Rattle.std.proofs.lemmas.Bool.{ltb-true}
 use Rattle.bib_text.specs.Places.{Place, place, CharAt, Run}
 use Rattle.bib_text.specs.Places.Run.{stop, step}
-use Rattle.bib_text.proofs.PlaceFacts.{ahead_run, char_left, boundary_following, same_place}
+use Rattle.bib_text.proofs.PlaceFacts.{ahead_run, boundary_following, same_place}
 use Rattle.bib_syntax.specs.Grammar.{BlockKind, Body, Element, Elements, Field, Fields, Identifier, Number, longest}
 use Rattle.bib_syntax.specs.Grammar.{Body as body}
 use Rattle.bib_syntax.specs.Grammar.{Element as element}

@@ -1,9 +1,7 @@
 -- Texts that contain another text.
-use Rattle.std.proofs.Common.{◌≡◌, ◌≢◌, ◌≤◌, ◌||◌, ℕ, zero, suc, Bool, true, false, List, [], ◌∷◌, ◌++◌, drop, length, refl, sym, ap, ap₂, ◌∙◌, arith, MatchBool, None, eqb}
+use Rattle.std.proofs.Common.{◌≡◌, ◌≤◌, ◌||◌, ℕ, zero, suc, Bool, true, false, List, [], ◌∷◌, ◌++◌, drop, length, sym, ap, ap₂, ◌∙◌, arith, MatchBool, None, eqb}
 use Rattle.std.specs.List.{starts_with}
 use Rattle.std.specs.Str.Pattern.{FindsText, HasMatch, LacksTextAt}
-use Rattle.std.proofs.lemmas.Bool.Decides.{Decides-eqb}
-use Rattle.std.proofs.lemmas.Slice.Eq.{starts_is}
 use Rattle.bib_queries.specs.Answers.{has_part}
 use Rattle.std.proofs.Math.Bool.{or-true}
 use Rattle.bib_text.proofs.ListFacts.{begins, begins_not}

@@ -1,13 +1,13 @@
 -- The spans of skipped blocks in a text, and the output for them.
-use Rattle.std.proofs.Common.{◌≡◌, ◌≤◌, ◌<◌, ◌+◌, ◌||◌, ⊎_elim, ℕ, zero, suc, Bool, true, false, cond, List, [], ◌∷◌, ◌++◌, take, length, get_or, refl, sym, ap, subst, ◌∙◌, arith, append-nil}
+use Rattle.std.proofs.Common.{◌≡◌, ◌<◌, ◌+◌, ◌||◌, ⊎_elim, ℕ, zero, suc, Bool, true, false, cond, List, [], ◌∷◌, ◌++◌, take, length, get_or, ap, subst, ◌∙◌, arith, append-nil}
 use Rattle.std.specs.List.{AllByRecursion, flat_map, list_any}
 use Rattle.std.specs.Str.{IsCharBoundary}
 use Rattle.std.proofs.lemmas.List.{take_more}
 use Rattle.std.proofs.lemmas.List.Concat.{flat_map-append}
-use Rattle.bib_text.specs.Places.{Place, AtEnd, CharAt}
+use Rattle.bib_text.specs.Places.{Place}
 use Rattle.bib_text.proofs.BoundaryFacts.{char_boundary}
 use Rattle.bib_text.proofs.PlaceFacts.{ahead_char, ahead_then}
-use Rattle.bib_syntax.specs.Recovery.{BeginsLine, GoesOnAt, Recovered}
+use Rattle.bib_syntax.specs.Recovery.{GoesOnAt, Recovered}
 use Rattle.bib_syntax.specs.Recovery.{Recovered as recovered}
 use Rattle.bib_syntax.specs.Reading.{FileReading}
 use Rattle.bib_syntax.specs.declared.raw.recovery.SkippedBlock.{SkippedBlock}

@@ -1,7 +1,7 @@
 -- Meaning: words of public contracts.
 -- A line of an .aux file: a command and its arguments. BibTeX reads a command only at the start of a line.
-use Rattle.std.specs.Prelude.{ℕ, ◌==◌, Bool, if◌then◌else◌, List, [], ◌∷◌, ◌++◌, Option, Some, None, codes, drop, eqb, length, nat_lt}
-use Rattle.std.specs.List.{after_first, before_first, ends_with, position_or_len, slice_split, starts_with}
+use Rattle.std.specs.Prelude.{ℕ, ◌==◌, Bool, if◌then◌else◌, List, [], Option, Some, None, codes, drop, eqb, length, nat_lt}
+use Rattle.std.specs.List.{after_first, before_first, ends_with, position_or_len, starts_with}
 use Rattle.std.specs.Option.{option_and_then, option_map_or, option_or}
 use Rattle.bib_text.specs.Characters as char
 use Rattle.bib_queries.specs.Names.{comma_parts}

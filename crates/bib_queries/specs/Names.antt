@@ -1,6 +1,6 @@
 -- Meaning: words of public contracts.
 -- The names of entries and abbreviations, and the names that they refer to.
-use Rattle.std.specs.Prelude.{ℕ, Bool, ◌||◌, ◌==◌, if◌then◌else◌, List, [], ◌∷◌, length, codes}
+use Rattle.std.specs.Prelude.{ℕ, ◌==◌, if◌then◌else◌, List, [], ◌∷◌, length, codes}
 use Rattle.std.specs.List.{flat_map, slice_split}
 use Rattle.std.specs.Str.{trim}
 use Rattle.bib_text.specs.Characters as char

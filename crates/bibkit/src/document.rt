@@ -48,6 +48,11 @@ impl<'r, 'd, R: rt::Files + Input + AllocGlobal> Files for DocumentFiles<'r, 'd,
     }
 }
 
+// Returns whether the file of a document is a control file of Biber (.bcf).
+fn is_control_file(document: &str) -> bool {
+    document.ends_with(".bcf")
+}
+
 // Returns the folder of a file. It is the current folder for a name without a folder and for standard input (`-`).
 fn folder(name: &str) -> Path<'_> {
     match Path::new(name).parent() {
@@ -147,39 +152,53 @@ fn whole_aux(rt: &HostRuntime, document: &str, text: &str) -> Result<Whole, Stop
     Ok(whole)
 }
 
-// Returns the names of the existing files that a document names, each once. A name without a file is returned as it is.
-fn sources(
+// Returns the names of files that a document names, each once: as they are, or in the folder of the document.
+fn located_once(
     rt: &HostRuntime,
     document: &str,
-    named: Vec<String>,
+    named: &[String],
 ) -> Result<Vec<String>, AllocError> {
     let mut seen = BTreeMap::new(rt.alloc());
-    let mut sources = Vec::new(rt.alloc());
-    'named: for name in &named {
+    let mut files = Vec::new(rt.alloc());
+    'named: for name in named {
         if !seen.contains_key(name.as_str()) {
             seen.insert(String::from_str(rt.alloc(), name.as_str())?, ())?;
-            sources.push(located(rt, document, name.as_str())?)?;
+            files.push(located(rt, document, name.as_str())?)?;
         }
     }
-    Ok(sources)
+    Ok(files)
 }
 
-// Returns the names of the files to read: those of the command line, or those that the document names, or `-`.
-fn names<'n>(
-    alloc: Global,
-    given: &[&'n str],
-    sources: &'n [String],
-) -> Result<Vec<&'n str>, AllocError> {
-    let mut names = Vec::from_slice(alloc, given)?;
-    if names.is_empty() {
-        'sources: for source in sources {
-            names.push(source.as_str())?;
-        }
+// Returns the names of the .bib files that a document with this whole text names, or `-` if it names none.
+fn named_files(rt: &HostRuntime, document: &str, whole: &str) -> Result<Vec<String>, AllocError> {
+    let named = if is_control_file(document) {
+        sources_in_bcf(rt.alloc(), whole)?
+    } else {
+        sources_in_aux(rt.alloc(), whole)?
+    };
+    let mut files = located_once(rt, document, &named)?;
+    if files.is_empty() {
+        files.push(String::from_str(rt.alloc(), "-")?)?;
     }
-    if names.is_empty() {
-        names.push("-")?;
+    Ok(files)
+}
+
+// Returns copies of names.
+fn copies(alloc: Global, names: &[&str]) -> Result<Vec<String>, AllocError> {
+    let mut copies = Vec::new(alloc);
+    'names: for name in names {
+        copies.push(String::from_str(alloc, name)?)?;
     }
-    Ok(names)
+    Ok(copies)
+}
+
+// Returns the names as texts.
+fn texts(alloc: Global, names: &[String]) -> Result<Vec<&str>, AllocError> {
+    let mut texts = Vec::new(alloc);
+    'names: for name in names {
+        texts.push(name.as_str())?;
+    }
+    Ok(texts)
 }
 
 // Prints the entries that the document with this whole text cites, and returns the status.
@@ -202,19 +221,17 @@ fn run_names(rt: &HostRuntime, document: &str, text: String, names: Vec<&str>) -
 // Runs `cited`, and returns the status.
 fn cited_status(rt: &HostRuntime, document: &str, given: &[&str]) -> Result<u8, Stop> {
     let text = text_of(rt, document)?;
-    let is_control_file = document.ends_with(".bcf");
-    let whole = if is_control_file {
+    let whole = if is_control_file(document) {
         Whole { text, status: 0 }
     } else {
         whole_aux(rt, document, &text)?
     };
-    let named = if is_control_file {
-        sources_in_bcf(rt.alloc(), &whole.text)?
+    let files = if given.is_empty() {
+        named_files(rt, document, &whole.text)?
     } else {
-        sources_in_aux(rt.alloc(), &whole.text)?
+        copies(rt.alloc(), given)?
     };
-    let sources = sources(rt, document, named)?;
-    let names = names(rt.alloc(), given, &sources)?;
+    let names = texts(rt.alloc(), &files)?;
     Ok(run_names(rt, document, whole.text, names).max(whole.status))
 }
 

@@ -1,6 +1,4 @@
-use Rattle.std.proofs.Common.{◌≡◌, ◌≤◌, ◌++◌, ◌∷◌, ◌∙◌, ℕ, List, true, false, drop, length, get_or, sym, ap, subst, arith, length-append, refl}
-use Rattle.std.proofs.lemmas.Str.{IsCharBoundary-before_ascii}
-use Rattle.bib_queries.specs.Preambles.{CanBeQuoted, are_quotes_hidden}
+use Rattle.std.proofs.Common.{◌∙◌, sym, arith}
 use Rattle.bib_queries.proofs.PreambleFacts.{closed_at, open_at, past_end}
 use Rattle.bib_queries.proofs.preambles.closing_quote.Goals as goal
 

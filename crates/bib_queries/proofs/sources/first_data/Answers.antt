@@ -1,10 +1,10 @@
-use Rattle.std.proofs.Common.{◌≡◌, ◌∙◌, ◌++◌, ◌==◌, List, ℕ, map, length, sym, ap, lit<}
+use Rattle.std.proofs.Common.{◌∙◌, ◌++◌, ◌==◌, map, length, sym, ap, lit<}
 use Rattle.std.specs.List.{slice_split}
 use Rattle.std.specs.Option.{option_map}
 use Rattle.std.proofs.lemmas.Iterator.Consumers.{YieldsList-end, YieldsList-so_far, YieldsList-turn}
 use Rattle.std.proofs.lemmas.Iterator.Splits.{YieldsList-from_str_split}
 use Rattle.bib_queries.specs.Names.{comma_parts}
-use Rattle.bib_queries.proofs.SourceFacts.{nothing_more, nothing_named, something_named}
+use Rattle.bib_queries.proofs.SourceFacts.{nothing_named, something_named}
 use Rattle.bib_queries.proofs.sources.first_data.Goals as goal
 
 pub returns-in-Some-aux_data : goal.returns-in-Some-aux_data
