@@ -8,7 +8,7 @@ use Rattle.bib_syntax.specs.Reading.{EntryReading}
 use Rattle.bib_syntax.specs.Grammar.{is_word}
 use Rattle.bib_queries.specs.Known.{all_names}
 use Rattle.bib_queries.specs.Names.{entry_names}
-use Rattle.edit_entries.specs.Keys.{AreNamesOf, holds_name}
+use Rattle.edit_entries.specs.NameSets.{AreNamesOf, holds_name}
 use Rattle.edit_entries.specs.NewNames.{has_word, shares_name}
 
 pub or_after : (b x y : Bool) → cond b true (x || y) ≡ (cond b true x || y)

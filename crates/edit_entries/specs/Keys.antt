@@ -1,20 +1,17 @@
 -- Machinery: words of private contracts.
--- The names of entries as a set.
-use Rattle.std.specs.Prelude.{◌≡◌, ◌++◌, ℕ, Bool, false, List, Some, slice_get, take}
-use Rattle.std.specs.Str.{str_to_ascii_lowercase}
+-- The keys of entries as a set.
+use Rattle.std.specs.Prelude.{◌≡◌, ℕ, Bool, List, is_some}
+use Rattle.std.specs.Borrow.{Bor}
+use Rattle.std.specs.BTreeSet.{BTreeSet, contains_by}
+use Rattle.std.specs.Ordering.{nat_cmp}
+use Rattle.std.specs.Cmp.Lexicographic.{slice_cmp}
 use Rattle.bib_syntax.specs.Reading.{EntryReading}
-use Rattle.bib_queries.specs.Known.{all_names}
-use Rattle.edit_entries.specs.NewNames.{has_word, shares_name}
+use Rattle.edit_entries.specs.Documents.{first_position, is_keyed}
 
--- whether a set has a name in lowercase, by the test of its elements
-abbrev pub holds_name : (List ℕ → Bool) → List ℕ → Bool
-holds_name has name = has (str_to_ascii_lowercase name)
+-- whether a set has a key
+abbrev pub is_key_in : BTreeSet (Bor (List ℕ)) → List ℕ → Bool
+is_key_in keys key = contains_by (λ k. slice_cmp nat_cmp key k.now) keys
 
--- a set has the names of these entries in lowercase, and no other
-abbrev pub AreNamesOf : List EntryReading → (List ℕ → Bool) → Type 0
-AreNamesOf entries has = (name : List ℕ) → holds_name has name ≡ has_word (all_names entries) name
-
--- none of `others` has a name, in any ASCII case, of one of `entries` or of an earlier one of `others`
-abbrev pub NoneSharesName : List EntryReading → List EntryReading → Type 0
-NoneSharesName entries others =
-    (k : ℕ) (e : EntryReading) → slice_get others k ≡ Some e → shares_name (entries ++ take k others) e ≡ false
+-- a set has the keys of these entries, and no other
+abbrev pub AreKeysOf : List EntryReading → BTreeSet (Bor (List ℕ)) → Type 0
+AreKeysOf entries keys = (key : List ℕ) → is_key_in keys key ≡ is_some (first_position (is_keyed key) entries)

@@ -6,7 +6,7 @@ ghost use Rattle.std.specs.List.{list_any};
 ghost use Rattle.std.specs.String.{string_bytes};
 ghost use Rattle.bib_text.specs.Characters as char;
 ghost use Rattle.bib_syntax.specs.Views.{entry_reading_of};
-ghost use Rattle.edit_entries.specs.Keys.{AreNamesOf, NoneSharesName, holds_name};
+ghost use Rattle.edit_entries.specs.NameSets.{AreNamesOf, NoneSharesName, holds_name};
 ghost use Rattle.edit_entries.specs.NewNames.{has_word};
 
 use bib_queries::names::entry_names;

@@ -2,8 +2,9 @@
 
 ghost use Rattle.std.specs.Prelude.{◌≡◌, ℕ, List, IfOk, map};
 ghost use Rattle.bib_syntax.specs.Views.{entry_reading_of};
+ghost use Rattle.edit_entries.specs.Keys.{AreKeysOf};
 ghost use Rattle.edit_entries.specs.References.{refers_to_key};
-ghost use Rattle.edit_entries.specs.Targets.{AreKeysOf, is_name_of};
+ghost use Rattle.edit_entries.specs.Targets.{is_name_of};
 
 use bib_syntax::raw::{RawEntry, is_word};
 use bib_text::spanned::Spanned;

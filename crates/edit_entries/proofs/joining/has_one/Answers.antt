@@ -2,7 +2,7 @@ use Rattle.std.proofs.Common.{◌∙◌, ℕ, List, [], ap, sym, arith}
 use Rattle.std.specs.Borrow.{Bor}
 use Rattle.std.specs.BTreeSet.{contains_text}
 use Rattle.bib_queries.proofs.MarkFacts.{any_at}
-use Rattle.edit_entries.specs.Keys.{holds_name}
+use Rattle.edit_entries.specs.NameSets.{holds_name}
 use Rattle.edit_entries.proofs.joining.has_one.Goals as goal
 
 pub returns-then-contains : goal.returns-then-contains

@@ -7,7 +7,7 @@ use Rattle.std.specs.String.{string_bytes}
 use Rattle.std.proofs.lemmas.Map.Text.{btree_set_updates_text}
 use Rattle.bib_syntax.specs.Grammar.{is_word}
 use Rattle.bib_queries.proofs.MarkFacts.{any_more}
-use Rattle.edit_entries.specs.Keys.{holds_name}
+use Rattle.edit_entries.specs.NameSets.{holds_name}
 use Rattle.edit_entries.specs.NewNames.{has_word}
 use Rattle.edit_entries.proofs.NameSetFacts.{or_after}
 use Rattle.edit_entries.proofs.joining.insert_names.Goals as goal

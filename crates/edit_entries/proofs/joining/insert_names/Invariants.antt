@@ -1,7 +1,7 @@
 use Rattle.std.proofs.Common.{◌≡◌, ℕ, List, map, take}
 use Rattle.std.specs.Prelude.{◌||◌}
 use Rattle.std.specs.BTreeSet.{contains_text}
-use Rattle.edit_entries.specs.Keys.{holds_name}
+use Rattle.edit_entries.specs.NameSets.{holds_name}
 use Rattle.edit_entries.specs.NewNames.{has_word}
 use Rattle.edit_entries.proofs.joining.insert_names.Given as goal
 

@@ -1,7 +1,7 @@
 use Rattle.std.proofs.Common.{map, take}
 use Rattle.std.specs.BTreeSet.{contains_text}
 use Rattle.bib_syntax.specs.Views.{entry_reading_of}
-use Rattle.edit_entries.specs.Keys.{AreNamesOf}
+use Rattle.edit_entries.specs.NameSets.{AreNamesOf}
 use Rattle.edit_entries.proofs.joining.name_set.Given as goal
 
 -- the set has the names of the entries so far

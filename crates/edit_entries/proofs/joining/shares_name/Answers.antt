@@ -3,7 +3,7 @@ use Rattle.std.specs.BTreeSet.{contains_text}
 use Rattle.std.proofs.lemmas.List.{length-map, take-map}
 use Rattle.bib_syntax.specs.Reading.{EntryReading}
 use Rattle.bib_syntax.specs.Views.{entry_reading_of}
-use Rattle.edit_entries.specs.Keys.{AreNamesOf}
+use Rattle.edit_entries.specs.NameSets.{AreNamesOf}
 use Rattle.edit_entries.specs.NewNames.{shares_name}
 use Rattle.edit_entries.proofs.NameSetFacts.{names_more, seen_more, shared}
 use Rattle.edit_entries.proofs.PositionFacts.{slice_get-map}

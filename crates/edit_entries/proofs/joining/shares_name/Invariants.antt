@@ -3,7 +3,7 @@ use Rattle.std.specs.Prelude.{slice_get}
 use Rattle.std.specs.BTreeSet.{contains_text}
 use Rattle.bib_syntax.specs.Reading.{EntryReading}
 use Rattle.bib_syntax.specs.Views.{entry_reading_of}
-use Rattle.edit_entries.specs.Keys.{AreNamesOf}
+use Rattle.edit_entries.specs.NameSets.{AreNamesOf}
 use Rattle.edit_entries.specs.NewNames.{shares_name}
 use Rattle.edit_entries.proofs.joining.shares_name.Given as goal
 

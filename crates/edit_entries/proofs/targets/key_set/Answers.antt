@@ -2,7 +2,7 @@ use Rattle.std.proofs.Common.{◌∙◌, ℕ, true, List, cond, sym, ap}
 use Rattle.std.specs.Prelude.{bytes_eq}
 use Rattle.std.specs.Borrow.{Bor}
 use Rattle.std.proofs.lemmas.Map.Text.{is_eq-slice_cmp}
-use Rattle.edit_entries.specs.Targets.{is_key_in}
+use Rattle.edit_entries.specs.Keys.{is_key_in}
 use Rattle.edit_entries.proofs.TargetFacts.{key_more}
 use Rattle.edit_entries.proofs.targets.key_set.Goals as goal
 

@@ -2,7 +2,7 @@ use Rattle.std.proofs.Common.{◌≡◌, map, subst}
 use Rattle.std.specs.String.{string_bytes}
 use Rattle.bib_syntax.specs.Views.{entry_reading_of, field_of, file_of}
 use Rattle.edit_entries.specs.Documents.{AgreeOnDefinitions, Document, EntriesAdded, IsEdited, SharesNoName, joined_documents}
-use Rattle.edit_entries.specs.Keys.{NoneSharesName}
+use Rattle.edit_entries.specs.NameSets.{NoneSharesName}
 use Rattle.edit_entries.proofs.JoinedFacts.{documents_joined}
 use Rattle.edit_entries.proofs.KeyFacts.{on_no, on_yes}
 use Rattle.edit_entries.proofs.document.RawDocument.add_entries.Goals as goal
