@@ -21,9 +21,9 @@ abbrev pub CanBeMade : Option Exchanged → Type 0
 CanBeMade None = Unit {0}
 CanBeMade (Some (Exchanged.renamed name)) = CanBeName name
 CanBeMade (Some (Exchanged.typed text)) = CanBePut (type_field text)
-CanBeMade (Some (Exchanged.divided sides)) =
+CanBeMade (Some (Exchanged.divided defines sides)) =
     CanBePut (side_year from_names sides.from)
-    × AllByRecursion CanBePut (more_fields from_names sides.from ++ to_fields sides.to)
+    × AllByRecursion CanBePut (more_fields defines from_names sides.from ++ to_fields defines sides.to)
 CanBeMade (Some (Exchanged.joined date)) = CanBePut (date_field date)
 
 value_known : (text : Option (List ℕ)) (sides : Sides) → value_sides text ≡ Some sides → AreKnown sides
@@ -43,22 +43,22 @@ among_known : (b : Bool) (joined : Option (List ℕ)) (date : List ℕ) → cond
 among_known false joined date is = absurd (cc)
 among_known true joined date is = is
 
-made_case : (date name : Option (List ℕ)) (type : Option PrintedType) (sides : Option Sides)
+made_case : (defines : Bool) (date name : Option (List ℕ)) (type : Option PrintedType) (sides : Option Sides)
     → ((t : List ℕ) → date ≡ Some t → CanBePut (date_field t)) → ((n : List ℕ) → name ≡ Some n → CanBeName n)
     → ((t : PrintedType) → type ≡ Some t → CanBePut (type_field t.text))
-    → ((s : Sides) → sides ≡ Some s → AreKnown s) → CanBeMade (exchanged_for date name type sides)
-made_case (Some date) name type sides joined names types dates = joined date refl
-made_case None (Some name) type sides joined names types dates = names name refl
-made_case None None (Some type) sides joined names types dates = types type refl
-made_case None None None (Some sides) joined names types dates = sides_put sides (dates sides refl)
-made_case None None None None joined names types dates = tt
+    → ((s : Sides) → sides ≡ Some s → AreKnown s) → CanBeMade (exchanged_for defines date name type sides)
+made_case defines (Some date) name type sides joined names types dates = joined date refl
+made_case defines None (Some name) type sides joined names types dates = names name refl
+made_case defines None None (Some type) sides joined names types dates = types type refl
+made_case defines None None None (Some sides) joined names types dates = sides_put defines sides (dates sides refl)
+made_case defines None None None None joined names types dates = tt
 
 pub change_known : (dialect : Dialect) (defines : Bool) (text : List ℕ) (e : EntryReading) (f : FieldReading)
     → CanBeMade (exchanged_field dialect defines text e f)
 change_known dialect defines text e f =
     let joined : Option (List ℕ) = joined_date dialect defines text e.fields in
     let kind = entry_type_of e.kind.text in
-    made_case (joined_among joined f) (new_field_name dialect e f) (typed_among (printed_type dialect kind e.fields) f)
+    made_case defines (joined_among joined f) (new_field_name dialect e f) (typed_among (printed_type dialect kind e.fields) f)
     (exchanged_date dialect e f)
     (λ date is. joined_put dialect defines text e.fields date (among_known (is_date_part f) joined date is))
     (name_known dialect e f) (typed_put dialect kind e.fields f) (exchanged_known dialect e f)

@@ -30,7 +30,7 @@ field_can following None can = tt
 field_can following (Some (Exchanged.renamed name)) can = can
 field_can [] (Some (Exchanged.typed text)) can = (can, tt)
 field_can (g ∷ gs) (Some (Exchanged.typed text)) can = (g, gs, refl)
-field_can following (Some (Exchanged.divided sides)) can = can
+field_can following (Some (Exchanged.divided defines sides)) can = can
 field_can following (Some (Exchanged.joined date)) can = joined_can following date (list_any is_date_part following) refl can
 
 -- a value of `type` that waits can be put in

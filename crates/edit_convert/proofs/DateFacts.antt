@@ -1,6 +1,6 @@
 -- The fields of a date's parts: each can be put in.
 use Rattle.std.proofs.Common.{◌≡◌, ℕ, ◌+◌, ◌-◌, ◌<◌, Bool, true, false, cond, List, [], ◌∷◌, ◌++◌, length, take, drop, refl, sym, ap, ◌∙◌, subst, arith, length-append, Option, Some, None}
-use Rattle.std.specs.Prelude.{◌&&◌, ◌==◌, bytes_eq, is_some, nat_lt}
+use Rattle.std.specs.Prelude.{◌&&◌, ◌==◌, is_some, nat_lt}
 use Rattle.std.specs.Char.{is_ascii_digit}
 use Rattle.std.specs.List.{AllByRecursion, list_all, slice_split}
 use Rattle.std.proofs.lemmas.Bool.{and_from, and_parts}
@@ -9,6 +9,9 @@ use Rattle.std.proofs.lemmas.List.{drop-drop, drop_at, take_all, take_at}
 use Rattle.bib_text.specs.Braces.{Parts, is_plain}
 use Rattle.bib_text.specs.Braces.{Parts as parts}
 use Rattle.bib_text.specs.Enums.{value_named}
+use Rattle.bib_tables.specs.Months.{month_abbreviation, month_name}
+use Rattle.bib_tables.specs.declared.months.Month.{Month}
+use Rattle.bib_tables.specs.declared.months.Month.TheVariants.{January, February, March, April, May, June, July, August, September, October, November, December}
 use Rattle.bib_text.specs.Places.{place, between}
 use Rattle.bib_syntax.specs.Reading.{Part}
 use Rattle.bib_syntax.specs.Reading.Piece.{literal}
@@ -22,7 +25,7 @@ use Rattle.edit_entries.proofs.NewValueFacts.{CanBeRead}
 use Rattle.bib_dates.specs.Dates.{date_of}
 use Rattle.bib_dates.specs.Readings.{readable_value}
 use Rattle.bib_dates.proofs.DatesReread.{all_more, is_date_byte}
-use Rattle.edit_convert.specs.Dates.{Side, SideNames, Sides, are_digits, braced_field, date_sides, day_fields, from_names, month_fields, month_side, month_abbreviations, more_fields, side_in, side_of, sides_of, one_side, two_sides, to_fields, to_names, side_year}
+use Rattle.edit_convert.specs.Dates.{Side, SideNames, Sides, are_digits, braced_field, date_sides, day_fields, from_names, month_as_field, month_fields, month_side, more_fields, numbered_months, side_in, side_of, sides_of, one_side, two_sides, to_fields, to_names, side_year}
 use Rattle.edit_entries.proofs.NewFieldFacts.{CanBePut, element_read}
 use Rattle.bib_text.proofs.ListFacts.{all_append}
 
@@ -113,42 +116,22 @@ name_read name is =
 
 -- ---- the parts of a date
 
--- the parts of a side: digits, and the name of a month
+-- the year and the day of a side are digits
 record IsKnown (side : Side) : Type 0 where
   year : list_all is_ascii_digit side.year ≡ true
-  month : (name : List ℕ) → side.month ≡ Some name → is_plain_name name ≡ true
   day : (text : List ℕ) → side.day ≡ Some text → list_all is_ascii_digit text ≡ true
-
--- the name beside a number of a month
-named_plain : (rows : List (List ℕ × List ℕ)) (text name : List ℕ)
-    → AllByRecursion (λ row. is_plain_name row.1 ≡ true) rows → value_named rows text ≡ Some name → is_plain_name name ≡ true
-named_plain [] text name all is = absurd (cc)
-named_plain (row ∷ rows) text name all is =
-    row_case (bytes_eq row.0 text) row.1 name (value_named rows text) all.0 (named_plain rows text name all.1) is
-  where
-    row_case : (b : Bool) (first name : List ℕ) (rest : Option (List ℕ)) → is_plain_name first ≡ true
-        → (rest ≡ Some name → is_plain_name name ≡ true) → cond b (Some first) rest ≡ Some name
-        → is_plain_name name ≡ true
-    row_case true first name rest plain later same = let is : first ≡ name = cc in subst (λ n. is_plain_name n ≡ true) is plain
-    row_case false first name rest plain later same = later same
-
-month_plain : (text name : List ℕ) → value_named month_abbreviations text ≡ Some name → is_plain_name name ≡ true
-month_plain text name is =
-    named_plain month_abbreviations text name
-    (refl, (refl, (refl, (refl, (refl, (refl, (refl, (refl, (refl, (refl, (refl, (refl, tt)))))))))))) is
 
 digits_of : (count : ℕ) (text : List ℕ) → are_digits count text ≡ true → list_all is_ascii_digit text ≡ true
 digits_of count text is = (and_parts (length text == count) (list_all is_ascii_digit text) is).1
 
-month_known : (year : List ℕ) (month day : Option (List ℕ)) (side : Side) → list_all is_ascii_digit year ≡ true
-    → ((name : List ℕ) → month ≡ Some name → is_plain_name name ≡ true)
+month_known : (year : List ℕ) (month : Option Month) (day : Option (List ℕ)) (side : Side) → list_all is_ascii_digit year ≡ true
     → ((text : List ℕ) → day ≡ Some text → list_all is_ascii_digit text ≡ true) → month_side year month day ≡ Some side
     → IsKnown side
-month_known year None day side digits plain days is = absurd (cc)
-month_known year (Some name) day side digits plain days is =
-    let made : Side = record { year = year; month = Some name; day = day } in
+month_known year None day side digits days is = absurd (cc)
+month_known year (Some month) day side digits days is =
+    let made : Side = record { year = year; month = Some month; day = day } in
     let same : made ≡ side = cc in
-    let known : IsKnown made = record { year = digits; month = λ n given. plain n given; day = days } in
+    let known : IsKnown made = record { year = digits; day = days } in
     subst IsKnown same known
 
 year_case : (b : Bool) (year : List ℕ) (side : Side) → (b ≡ true → list_all is_ascii_digit year ≡ true)
@@ -157,7 +140,7 @@ year_case false year side digits is = absurd (cc)
 year_case true year side digits is =
     let made : Side = record { year = year; month = None; day = None } in
     let same : made ≡ side = cc in
-    let known : IsKnown made = record { year = digits refl; month = λ n given. absurd (cc); day = λ t given. absurd (cc) } in
+    let known : IsKnown made = record { year = digits refl; day = λ t given. absurd (cc) } in
     subst IsKnown same known
 
 month_case : (b : Bool) (found : Option Side) (side : Side) → (b ≡ true → found ≡ Some side → IsKnown side)
@@ -169,14 +152,13 @@ side_known : (parts : List (List ℕ)) (side : Side) → side_of parts ≡ Some 
 side_known [] side is = absurd (cc)
 side_known (year ∷ []) side is = year_case (are_digits 4 year) year side (digits_of 4 year) is
 side_known (year ∷ month ∷ []) side is =
-    month_case (are_digits 4 year) (month_side year (value_named month_abbreviations month) None) side
+    month_case (are_digits 4 year) (month_side year (value_named numbered_months month) None) side
     (λ digits.
-    month_known year (value_named month_abbreviations month) None side (digits_of 4 year digits) (month_plain month)
-    (λ t given. absurd (cc))) is
+    month_known year (value_named numbered_months month) None side (digits_of 4 year digits) (λ t given. absurd (cc))) is
 side_known (year ∷ month ∷ day ∷ []) side is =
-    month_case (are_digits 4 year && are_digits 2 day) (month_side year (value_named month_abbreviations month) (Some day)) side (λ digits.
+    month_case (are_digits 4 year && are_digits 2 day) (month_side year (value_named numbered_months month) (Some day)) side (λ digits.
     let both = and_parts (are_digits 4 year) (are_digits 2 day) digits in
-    month_known year (value_named month_abbreviations month) (Some day) side (digits_of 4 year both.0) (month_plain month)
+    month_known year (value_named numbered_months month) (Some day) side (digits_of 4 year both.0)
     (day_digits day (digits_of 2 day both.1))) is
   where
     day_digits : (day : List ℕ) → list_all is_ascii_digit day ≡ true → (text : List ℕ) → Some day ≡ Some text
@@ -236,33 +218,69 @@ record ArePlain (names : SideNames) : Type 0 where
 digits_put : (name text : List ℕ) → is_plain_name name ≡ true → list_all is_ascii_digit text ≡ true → CanBePut (braced_field name text)
 digits_put name text plain digits = record { name = (plain_can name plain).0; value = digits_read text digits }
 
-months_put : (name : List ℕ) (month : Option (List ℕ)) → is_plain_name name ≡ true
-    → ((m : List ℕ) → month ≡ Some m → is_plain_name m ≡ true) → AllByRecursion CanBePut (month_fields name month)
-months_put name None plain known = tt
-months_put name (Some month) plain known = (record { name = (plain_can name plain).0; value = name_read month (known month refl) }, tt)
+abbreviation_plain : (month : Month) → is_plain_name (month_abbreviation month) ≡ true
+abbreviation_plain January = refl
+abbreviation_plain February = refl
+abbreviation_plain March = refl
+abbreviation_plain April = refl
+abbreviation_plain May = refl
+abbreviation_plain June = refl
+abbreviation_plain July = refl
+abbreviation_plain August = refl
+abbreviation_plain September = refl
+abbreviation_plain October = refl
+abbreviation_plain November = refl
+abbreviation_plain December = refl
+
+month_name_plain : (month : Month) → list_all is_plain_ascii (month_name month) ≡ true
+month_name_plain January = refl
+month_name_plain February = refl
+month_name_plain March = refl
+month_name_plain April = refl
+month_name_plain May = refl
+month_name_plain June = refl
+month_name_plain July = refl
+month_name_plain August = refl
+month_name_plain September = refl
+month_name_plain October = refl
+month_name_plain November = refl
+month_name_plain December = refl
+
+month_put : (defines : Bool) (name : List ℕ) (month : Month) → is_plain_name name ≡ true → CanBePut (month_as_field defines name month)
+month_put true name month plain =
+    record { name = (plain_can name plain).0; value = plain_read (month_name month) (month_name_plain month) }
+month_put false name month plain =
+    record { name = (plain_can name plain).0; value = name_read (month_abbreviation month) (abbreviation_plain month) }
+
+months_put : (defines : Bool) (name : List ℕ) (month : Option Month) → is_plain_name name ≡ true
+    → AllByRecursion CanBePut (month_fields defines name month)
+months_put defines name None plain = tt
+months_put defines name (Some month) plain = (month_put defines name month plain, tt)
 
 days_put : (name : List ℕ) (day : Option (List ℕ)) → is_plain_name name ≡ true
     → ((t : List ℕ) → day ≡ Some t → list_all is_ascii_digit t ≡ true) → AllByRecursion CanBePut (day_fields name day)
 days_put name None plain known = tt
 days_put name (Some day) plain known = (digits_put name day plain (known day refl), tt)
 
-more_put : (names : SideNames) (side : Side) → ArePlain names → IsKnown side → AllByRecursion CanBePut (more_fields names side)
-more_put names side plain known =
-    all_append CanBePut (month_fields names.month side.month) (day_fields names.day side.day)
-    (months_put names.month side.month plain.month known.month) (days_put names.day side.day plain.day known.day)
+more_put : (defines : Bool) (names : SideNames) (side : Side) → ArePlain names → IsKnown side
+    → AllByRecursion CanBePut (more_fields defines names side)
+more_put defines names side plain known =
+    all_append CanBePut (month_fields defines names.month side.month) (day_fields names.day side.day)
+    (months_put defines names.month side.month plain.month) (days_put names.day side.day plain.day known.day)
 
-to_put : (to : Option Side) → ((side : Side) → to ≡ Some side → IsKnown side) → AllByRecursion CanBePut (to_fields to)
-to_put None known = tt
-to_put (Some side) known =
+to_put : (defines : Bool) (to : Option Side) → ((side : Side) → to ≡ Some side → IsKnown side)
+    → AllByRecursion CanBePut (to_fields defines to)
+to_put defines None known = tt
+to_put defines (Some side) known =
     let plain : ArePlain to_names = record { year = refl; month = refl; day = refl } in
-    (digits_put to_names.year side.year plain.year (known side refl).year, more_put to_names side plain (known side refl))
+    (digits_put to_names.year side.year plain.year (known side refl).year, more_put defines to_names side plain (known side refl))
 
-pub sides_put : (sides : Sides) → AreKnown sides
+pub sides_put : (defines : Bool) (sides : Sides) → AreKnown sides
     → CanBePut (side_year from_names sides.from)
-    × AllByRecursion CanBePut (more_fields from_names sides.from ++ to_fields sides.to)
-sides_put sides known =
+    × AllByRecursion CanBePut (more_fields defines from_names sides.from ++ to_fields defines sides.to)
+sides_put defines sides known =
     let plain : ArePlain from_names = record { year = refl; month = refl; day = refl } in (
       digits_put from_names.year sides.from.year plain.year known.from.year,
-      all_append CanBePut (more_fields from_names sides.from) (to_fields sides.to)
-          (more_put from_names sides.from plain known.from) (to_put sides.to known.to),
+      all_append CanBePut (more_fields defines from_names sides.from) (to_fields defines sides.to)
+          (more_put defines from_names sides.from plain known.from) (to_put defines sides.to known.to),
     )

@@ -15,14 +15,15 @@ use Rattle.edit_convert.specs.Types.{PrintedType}
 use Rattle.edit_convert.specs.declared.changes.Changes.{Changes}
 
 -- what takes the place of fields, by what is known of their entry
-abbrev exchanged_from : Option (List ℕ) → List (List ℕ × List ℕ) → Option PrintedType → Bool → FieldReading → Option Exchanged
-exchanged_from date names type divides f =
-    exchanged_for (joined_among date f) (other_name names f.name.text) (typed_among type f) (date_among divides f)
+abbrev exchanged_from : Bool → Option (List ℕ) → List (List ℕ × List ℕ) → Option PrintedType → Bool → FieldReading → Option Exchanged
+exchanged_from defines date names type divides f =
+    exchanged_for defines (joined_among date f) (other_name names f.name.text) (typed_among type f) (date_among divides f)
 
 -- what the code found of an entry
 pub record IsFound (dialect : Dialect) (defines : Bool) (text : List ℕ) (e : EntryReading) (kind : EntryType)
     (changes : Changes) : Type 0 where
   pub kind_is : kind ≡ entry_type_of e.kind.text
+  pub defines_is : changes.defines ≡ defines
   pub names : lent_names changes.names.items ≡ free_names e.fields (other_names dialect kind)
   pub printed : printed_of changes.printed ≡ printed_type dialect kind e.fields
   pub divides : changes.divides ≡ divides_date dialect e.fields
@@ -35,11 +36,16 @@ found_exchanged dialect defines text e kind changes found =
     let date : Option (List ℕ) = joined_date dialect defines text e.fields in
     let names : EntryType → List (List ℕ × List ℕ) = λ (k : EntryType). free_names e.fields (other_names dialect k) in
     let divides : Bool = divides_date dialect e.fields in
-    ap (λ t. exchanged_from t (lent_names changes.names.items) (printed_of changes.printed) changes.divides) found.joined
-    ∙ ap (λ ns. exchanged_from date ns (printed_of changes.printed) changes.divides) found.names
-    ∙ ap (λ p. exchanged_from date (names kind) p changes.divides) found.printed
-    ∙ ap (exchanged_from date (names kind) (printed_type dialect kind e.fields)) found.divides
-    ∙ ap (λ k. exchanged_from date (names k) (printed_type dialect k e.fields) divides) found.kind_is
+    let by : Bool → FieldReading → Option Exchanged =
+    λ (b : Bool).
+    exchanged_from b (option_map string_bytes changes.joined) (lent_names changes.names.items) (printed_of changes.printed)
+    changes.divides in
+    ap by found.defines_is
+    ∙ ap (λ t. exchanged_from defines t (lent_names changes.names.items) (printed_of changes.printed) changes.divides) found.joined
+    ∙ ap (λ ns. exchanged_from defines date ns (printed_of changes.printed) changes.divides) found.names
+    ∙ ap (λ p. exchanged_from defines date (names kind) p changes.divides) found.printed
+    ∙ ap (exchanged_from defines date (names kind) (printed_type dialect kind e.fields)) found.divides
+    ∙ ap (λ k. exchanged_from defines date (names k) (printed_type dialect k e.fields) divides) found.kind_is
 
 pub entry_edited : {A E : Type 0} (r : Result A E) (old mid new : List Edit) (dialect : Dialect) (defines : Bool)
     (text : List ℕ) (e : EntryReading) (kind : EntryType) (changes : Changes) (other missing : Option (List ℕ))

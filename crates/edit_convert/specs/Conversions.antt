@@ -171,21 +171,21 @@ defines_month abbreviations = list_any (λ f. is_month_name f.name.text) abbrevi
 abbrev pub joined_among : Option (List ℕ) → FieldReading → Option (List ℕ)
 joined_among joined f = if is_date_part f then joined else None
 
--- what takes the place of a field: the field with another name, what a style prints for a type, fields of a date's parts, or with the
--- other parts one date
+-- what takes the place of a field: the field with another name, what a style prints for a type, fields of a date's parts in a text that
+-- defines an abbreviation of a month or doesn't, or with the other parts one date
 pub data Exchanged : Type 0 where
   renamed : List ℕ → Exchanged
   typed : List ℕ → Exchanged
-  divided : Sides → Exchanged
+  divided : Bool → Sides → Exchanged
   joined : List ℕ → Exchanged
 
 -- a date, or else another name, or else a type, or else the parts of a date, if there is one of them
-abbrev pub exchanged_for : Option (List ℕ) → Option (List ℕ) → Option PrintedType → Option Sides → Option Exchanged
-exchanged_for (Some date) name type sides = Some (Exchanged.joined date)
-exchanged_for None (Some name) type sides = Some (Exchanged.renamed name)
-exchanged_for None None (Some type) sides = Some (Exchanged.typed type.text)
-exchanged_for None None None (Some sides) = Some (Exchanged.divided sides)
-exchanged_for None None None None = None
+abbrev pub exchanged_for : Bool → Option (List ℕ) → Option (List ℕ) → Option PrintedType → Option Sides → Option Exchanged
+exchanged_for defines (Some date) name type sides = Some (Exchanged.joined date)
+exchanged_for defines None (Some name) type sides = Some (Exchanged.renamed name)
+exchanged_for defines None None (Some type) sides = Some (Exchanged.typed type.text)
+exchanged_for defines None None None (Some sides) = Some (Exchanged.divided defines sides)
+exchanged_for defines None None None None = None
 
 -- a type, if a field is `type`
 abbrev pub typed_among : Option PrintedType → FieldReading → Option PrintedType
@@ -194,7 +194,7 @@ typed_among type f = if has_name (codes "type") f then type else None
 -- what takes the place of an entry's field, if anything does, in a text that defines an abbreviation of a month or doesn't
 abbrev pub exchanged_field : Dialect → Bool → List ℕ → EntryReading → FieldReading → Option Exchanged
 exchanged_field dialect defines text e f =
-    exchanged_for (joined_among (joined_date dialect defines text e.fields) f) (new_field_name dialect e f)
+    exchanged_for defines (joined_among (joined_date dialect defines text e.fields) f) (new_field_name dialect e f)
     (typed_among (printed_type dialect (entry_type_of e.kind.text) e.fields) f) (exchanged_date dialect e f)
 
 -- the field of a date
@@ -208,8 +208,8 @@ field_change following None = FieldChange.stays
 field_change following (Some (Exchanged.renamed name)) = FieldChange.renamed name
 field_change [] (Some (Exchanged.typed text)) = FieldChange.replaced (type_field text) []
 field_change (g ∷ gs) (Some (Exchanged.typed text)) = FieldChange.gone
-field_change following (Some (Exchanged.divided sides)) =
-    FieldChange.replaced (side_year from_names sides.from) (more_fields from_names sides.from ++ to_fields sides.to)
+field_change following (Some (Exchanged.divided defines sides)) =
+    FieldChange.replaced (side_year from_names sides.from) (more_fields defines from_names sides.from ++ to_fields defines sides.to)
 field_change following (Some (Exchanged.joined date)) =
     if list_any is_date_part following then FieldChange.gone else FieldChange.replaced (date_field date) []
 

@@ -5,6 +5,9 @@ use Rattle.std.specs.Char.{is_ascii_digit}
 use Rattle.std.specs.List.{flat_map, list_all, slice_split}
 use Rattle.bib_text.specs.Characters as char
 use Rattle.bib_text.specs.Enums.{value_named}
+use Rattle.bib_tables.specs.Months.{month_abbreviation, month_name}
+use Rattle.bib_tables.specs.declared.months.Month.{Month}
+use Rattle.bib_tables.specs.declared.months.Month.TheVariants.{January, February, March, April, May, June, July, August, September, October, November, December}
 use Rattle.bib_syntax.specs.Reading.{FieldReading}
 use Rattle.bib_syntax.specs.Reading.Piece.{literal}
 use Rattle.bib_dates.specs.Dates.{date_of}
@@ -21,26 +24,25 @@ braced_field name text = record { name = name; value = record { bytes = in_brace
 abbrev pub bare_field : List ℕ → List ℕ → NewField
 bare_field name abbreviation = record { name = name; value = name_value abbreviation }
 
--- the numbers of the months, each with the abbreviation that stands for it
-abbrev pub month_abbreviations : List (List ℕ × List ℕ)
-month_abbreviations =
-    (codes "01", codes "jan") ∷ (codes "02", codes "feb") ∷ (codes "03", codes "mar") ∷ (codes "04", codes "apr")
-    ∷ (codes "05", codes "may") ∷ (codes "06", codes "jun")
-    ∷ (codes "07", codes "jul") ∷ (codes "08", codes "aug") ∷ (codes "09", codes "sep") ∷ (codes "10", codes "oct")
-    ∷ (codes "11", codes "nov") ∷ (codes "12", codes "dec") ∷ []
+-- the months by their numbers in a date
+abbrev pub numbered_months : List (List ℕ × Month)
+numbered_months =
+    (codes "01", January) ∷ (codes "02", February) ∷ (codes "03", March) ∷ (codes "04", April) ∷ (codes "05", May) ∷ (codes "06", June)
+    ∷ (codes "07", July) ∷ (codes "08", August) ∷ (codes "09", September) ∷ (codes "10", October) ∷ (codes "11", November)
+    ∷ (codes "12", December) ∷ []
 
--- a side of a date: its year, and if they are there the abbreviation of its month and its day
+-- a side of a date: its year, and if they are there its month and its day
 pub record Side : Type 0 where
   pub year : List ℕ
-  pub month : Option (List ℕ)
+  pub month : Option Month
   pub day : Option (List ℕ)
 
 -- whether a text is so many digits
 abbrev pub are_digits : ℕ → List ℕ → Bool
 are_digits count text = (length text == count) && list_all is_ascii_digit text
 
--- a side with a month, if the month has an abbreviation
-abbrev pub month_side : List ℕ → Option (List ℕ) → Option (List ℕ) → Option Side
+-- a side with a month, if there is one
+abbrev pub month_side : List ℕ → Option Month → Option (List ℕ) → Option Side
 month_side year None day = None
 month_side year (Some month) day = Some (record { year = year; month = Some month; day = day })
 
@@ -48,9 +50,9 @@ month_side year (Some month) day = Some (record { year = year; month = Some mont
 abbrev pub side_of : List (List ℕ) → Option Side
 side_of [] = None
 side_of (year ∷ []) = if are_digits 4 year then Some (record { year = year; month = None; day = None }) else None
-side_of (year ∷ month ∷ []) = if are_digits 4 year then month_side year (value_named month_abbreviations month) None else None
+side_of (year ∷ month ∷ []) = if are_digits 4 year then month_side year (value_named numbered_months month) None else None
 side_of (year ∷ month ∷ day ∷ []) =
-    if are_digits 4 year && are_digits 2 day then month_side year (value_named month_abbreviations month) (Some day) else None
+    if are_digits 4 year && are_digits 2 day then month_side year (value_named numbered_months month) (Some day) else None
 side_of (year ∷ month ∷ day ∷ other ∷ rest) = None
 
 -- the side that the parts of a text between its hyphens are
@@ -107,10 +109,14 @@ to_names = names_after (codes "end")
 abbrev pub part_names : List (List ℕ)
 part_names = codes "year" ∷ codes "month" ∷ codes "day" ∷ codes "endyear" ∷ codes "endmonth" ∷ codes "endday" ∷ []
 
+-- the field of a month: its abbreviation, or its name in a text that defines an abbreviation of a month itself
+abbrev pub month_as_field : Bool → List ℕ → Month → NewField
+month_as_field defines name month = if defines then braced_field name (month_name month) else bare_field name (month_abbreviation month)
+
 -- the field of a month, if there is one
-abbrev pub month_fields : List ℕ → Option (List ℕ) → List NewField
-month_fields name None = []
-month_fields name (Some month) = bare_field name month ∷ []
+abbrev pub month_fields : Bool → List ℕ → Option Month → List NewField
+month_fields defines name None = []
+month_fields defines name (Some month) = month_as_field defines name month ∷ []
 
 -- the field of a day, if there is one
 abbrev pub day_fields : List ℕ → Option (List ℕ) → List NewField
@@ -118,20 +124,20 @@ day_fields name None = []
 day_fields name (Some day) = braced_field name day ∷ []
 
 -- the fields of a side after its year
-abbrev pub more_fields : SideNames → Side → List NewField
-more_fields names side = month_fields names.month side.month ++ day_fields names.day side.day
+abbrev pub more_fields : Bool → SideNames → Side → List NewField
+more_fields defines names side = month_fields defines names.month side.month ++ day_fields names.day side.day
 
 -- the field of a side's year
 abbrev pub side_year : SideNames → Side → NewField
 side_year names side = braced_field names.year side.year
 
 -- the fields of a second side, if there is one
-abbrev pub to_fields : Option Side → List NewField
-to_fields None = []
-to_fields (Some side) = side_year to_names side ∷ more_fields to_names side
+abbrev pub to_fields : Bool → Option Side → List NewField
+to_fields defines None = []
+to_fields defines (Some side) = side_year to_names side ∷ more_fields defines to_names side
 
 -- the fields of a date's parts as they are written
-abbrev pub written_sides : Sides → List ℕ
-written_sides sides =
+abbrev pub written_sides : Bool → Sides → List ℕ
+written_sides defines sides =
     new_field_text (side_year from_names sides.from)
-    ++ more_field_texts (more_fields from_names sides.from ++ to_fields sides.to)
+    ++ more_field_texts (more_fields defines from_names sides.from ++ to_fields defines sides.to)

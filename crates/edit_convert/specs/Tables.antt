@@ -26,7 +26,7 @@ lent_text text = option_map (λ t. t.now) text
 
 -- a side of a date, by the bytes of its parts
 abbrev pub side_as_written : Side → dates.Side
-side_as_written side = record { year = side.year.now; month = lent_text side.month; day = lent_text side.day }
+side_as_written side = record { year = side.year.now; month = side.month; day = lent_text side.day }
 
 -- both sides, by the bytes of their parts
 abbrev pub sides_as_written : Sides → dates.Sides
@@ -39,7 +39,7 @@ printed_of printed = option_map (λ p. let type : PrintedType = record { name = 
 -- what takes the place of a field, by what gives way in its entry
 abbrev pub exchanged_by : Changes → FieldReading → Option Exchanged
 exchanged_by changes f =
-    exchanged_for (joined_among (option_map string_bytes changes.joined) f)
+    exchanged_for changes.defines (joined_among (option_map string_bytes changes.joined) f)
     (other_name (lent_names changes.names.items) f.name.text) (typed_among (printed_of changes.printed) f)
     (date_among changes.divides f)
 

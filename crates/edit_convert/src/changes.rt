@@ -16,10 +16,12 @@ use bib_tables::dialects::Dialect;
 use bib_tables::mechanics::EntryType;
 use std::alloc::{AllocError, Global};
 
-// What changes in an entry: names of fields, each with the one that takes its place, perhaps its `type` to a type of BibTeX, perhaps
-// its date to fields of the date's parts, and perhaps these to a date with this text.
+// What changes in an entry of a text that defines an abbreviation of a month or doesn't: names of fields, each with the one that takes
+// its place, perhaps its `type` to a type of BibTeX, perhaps its date to fields of the date's parts, and perhaps these to a date with
+// this text.
 #[derive(Drop)]
 pub(crate) struct Changes {
+    pub(crate) defines: bool,
     pub(crate) names: Vec<(&'static str, &'static str)>,
     pub(crate) printed: Option<Printed>,
     pub(crate) divides: bool,
@@ -35,12 +37,14 @@ pub(crate) fn changes_of(
     kind: &EntryType,
     fields: &[Pair<'_>],
 ) -> Result<Changes, AllocError>
+    ensures defines { IfOk result (λ changes. changes.defines ≡ defines) }
     ensures names { IfOk result (λ changes. lent_names changes.names.items ≡ spec.free_names (map field_of fields.now) (spec.other_names dialect kind.now)) }
     ensures printed { IfOk result (λ changes. printed_of changes.printed ≡ spec.printed_type dialect kind.now (map field_of fields.now)) }
     ensures divides { IfOk result (λ changes. changes.divides ≡ spec.divides_date dialect (map field_of fields.now)) }
     ensures joined { IfOk result (λ changes. option_map string_bytes changes.joined ≡ spec.joined_date dialect defines text.now (map field_of fields.now)) }
 {
     Ok(Changes {
+        defines,
         names: exchanged_names(alloc, dialect, kind, fields)?,
         printed: printed_type(dialect, kind, fields),
         divides: divides_date(dialect, fields),

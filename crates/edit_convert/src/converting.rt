@@ -54,20 +54,21 @@ fn push_date_edit(
     edits: &mut Vec<Edit>,
     alloc: Global,
     text: &str,
-    divides: bool,
+    changes: &Changes,
     field: &Pair<'_>,
 ) -> Result<(), AllocError>
     requires { IsPlaced text.now (field_of field.now) }
     ensures { (following : List FieldReading) → OnOk result (map edit_of edits.new.items ≡ map edit_of edits.old.items ++
-        edits_of_field text.now (field_of field.now) following (field_change following (spec.exchanged_for None None None (date_among divides (field_of field.now))))) }
+        edits_of_field text.now (field_of field.now) following
+        (field_change following (spec.exchanged_for changes.now.defines None None None (date_among changes.now.divides (field_of field.now))))) }
 {
-    let Some(sides) = exchanged_date(alloc, divides, field)? else {
+    let Some(sides) = exchanged_date(alloc, changes.divides, field)? else {
         return Ok(());
     };
     edits.push(Edit {
         start: field.key.span.start,
         end: value_end(text, field),
-        text: written_sides(alloc, &sides)?,
+        text: written_sides(alloc, changes.defines, &sides)?,
     })?;
     Ok(())
 }
@@ -176,11 +177,11 @@ fn push_value_edit(
     requires { IsPlaced text.now (field_of field.now) }
     ensures { OnOk result (map edit_of edits.new.items ≡ map edit_of edits.old.items ++
         edits_of_field text.now (field_of field.now) (map field_of following.now)
-        (field_change (map field_of following.now) (spec.exchanged_for None None (spec.typed_among (printed_of changes.now.printed) (field_of field.now)) (date_among changes.now.divides (field_of field.now))))) }
+        (field_change (map field_of following.now) (spec.exchanged_for changes.now.defines None None (spec.typed_among (printed_of changes.now.printed) (field_of field.now)) (date_among changes.now.divides (field_of field.now))))) }
 {
     match typed_among(changes.printed, field) {
         Some(printed) => push_type_edit(edits, alloc, text, printed.text, field, following),
-        None => push_date_edit(edits, alloc, text, changes.divides, field),
+        None => push_date_edit(edits, alloc, text, changes, field),
     }
 }
 
@@ -367,9 +368,10 @@ fn edits(
 /// stays. For BibTeX a thesis or report with one field `type` of these values becomes that type, and the field is removed. If it is
 /// the last field, it says what the standard styles print: `Master's thesis`, `PhD thesis` or `Technical Report`.
 ///
-/// For BibTeX the field `date` gives way to `year`, and where they are there `month`, as an abbreviation, and `day`, of a range to
-/// `endyear`, `endmonth` and `endday` too: where its value is one literal that is read as a date, with a year in four digits, and
-/// perhaps a month and a day in two, on each side, and the entry has one `date` and none of these fields.
+/// For BibTeX the field `date` gives way to `year`, and where they are there `month` and `day`, of a range to `endyear`, `endmonth` and
+/// `endday` too: where its value is one literal that is read as a date, with a year in four digits, and perhaps a month and a day in
+/// two, on each side, and the entry has one `date` and none of these fields. A month is written as its abbreviation, or as its English
+/// name in braces if the file defines an abbreviation of a month itself, which may stand for another text.
 ///
 /// For BibLaTeX the fields `year` and `month`, and `day` if it is there, give way to one `date`: the last of them to the date, and the
 /// others go out up to the field after them. They do where the entry has one of each and no other date, where the year is one literal

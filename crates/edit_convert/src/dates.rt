@@ -10,7 +10,7 @@ ghost use Rattle.bib_dates.specs.Dates.{date_of};
 ghost use Rattle.bib_dates.specs.Readings.{readable_value};
 ghost use Rattle.edit_convert.specs.Conversions as conversions;
 ghost use Rattle.edit_convert.specs.Dates as spec;
-ghost use Rattle.edit_convert.specs.Dates.{bare_field, braced_field, more_fields, month_abbreviations, names_after, side_year};
+ghost use Rattle.edit_convert.specs.Dates.{braced_field, more_fields, names_after, numbered_months, side_year};
 ghost use Rattle.edit_entries.specs.Changes.{new_field_text, more_field_texts};
 ghost use Rattle.edit_convert.specs.Types.{type_field};
 ghost use Rattle.edit_strings.specs.Collecting.{lent_texts};
@@ -18,13 +18,14 @@ ghost use Rattle.edit_convert.specs.Tables.{lent_text, side_as_written, sides_as
 
 use bib_chunks::chunk::making::verbatim;
 use bib_dates::date::Date;
+use bib_tables::months::Month;
 use std::alloc::{AllocError, Global};
 
-// A side of a date: its year, and if they are there the abbreviation of its month and its day.
+// A side of a date: its year, and if they are there its month and its day.
 #[derive(Drop)]
 pub(crate) struct Side<'t> {
     year: &'t str,
-    month: Option<&'static str>,
+    month: Option<Month>,
     day: Option<&'t str>,
 }
 
@@ -35,23 +36,23 @@ pub(crate) struct Sides<'t> {
     to: Option<Side<'t>>,
 }
 
-// The abbreviation that stands for the month with a number.
-fn month_name(number: &str) -> Option<&'static str>
-    ensures { lent_text result ≡ value_named month_abbreviations number.now }
+// The month with a number.
+fn month_numbered(number: &str) -> Option<Month>
+    ensures { result ≡ value_named numbered_months number.now }
 {
     match number {
-        "01" => Some("jan"),
-        "02" => Some("feb"),
-        "03" => Some("mar"),
-        "04" => Some("apr"),
-        "05" => Some("may"),
-        "06" => Some("jun"),
-        "07" => Some("jul"),
-        "08" => Some("aug"),
-        "09" => Some("sep"),
-        "10" => Some("oct"),
-        "11" => Some("nov"),
-        "12" => Some("dec"),
+        "01" => Some(Month::January),
+        "02" => Some(Month::February),
+        "03" => Some(Month::March),
+        "04" => Some(Month::April),
+        "05" => Some(Month::May),
+        "06" => Some(Month::June),
+        "07" => Some(Month::July),
+        "08" => Some(Month::August),
+        "09" => Some(Month::September),
+        "10" => Some(Month::October),
+        "11" => Some(Month::November),
+        "12" => Some(Month::December),
         _ => None,
     }
 }
@@ -89,14 +90,14 @@ fn year_side(year: &str) -> Option<Side<'_>>
     })
 }
 
-// The side with a month, if the month has an abbreviation.
+// The side with a month, if there is one with this number.
 fn month_side<'t>(year: &'t str, month: &str, day: Option<&'t str>) -> Option<Side<'t>>
     ensures { option_map side_as_written result ≡
-        spec.month_side year.now (value_named month_abbreviations month.now) (lent_text day.entry) }
+        spec.month_side year.now (value_named numbered_months month.now) (lent_text day.entry) }
 {
     Some(Side {
         year,
-        month: Some(month_name(month)?),
+        month: Some(month_numbered(month)?),
         day,
     })
 }
@@ -215,16 +216,24 @@ fn push_braced(out: &mut String, prefix: &str, name: &str, text: &str) -> Result
 }
 
 // Adds the field of a month after another field, if there is a month.
-fn push_month(out: &mut String, prefix: &str, month: Option<&'static str>) -> Result<(), AllocError>
-    ensures { OnOk result (string_bytes out.new ≡ string_bytes out.old ++ more_field_texts (spec.month_fields (prefix.now ++ codes "month") (lent_text month.entry))) }
+fn push_month(
+    out: &mut String,
+    defines: bool,
+    prefix: &str,
+    month: Option<Month>,
+) -> Result<(), AllocError>
+    ensures { OnOk result (string_bytes out.new ≡ string_bytes out.old ++ more_field_texts (spec.month_fields defines (prefix.now ++ codes "month") month)) }
 {
     let Some(month) = month else {
         return Ok(());
     };
     out.push_str(", ")?;
+    if defines {
+        return push_braced(out, prefix, "month", month.name());
+    }
     out.push_str(prefix)?;
     out.push_str("month = ")?;
-    out.push_str(month)?;
+    out.push_str(month.abbreviation())?;
     Ok(())
 }
 
@@ -240,25 +249,34 @@ fn push_day(out: &mut String, prefix: &str, day: Option<&str>) -> Result<(), All
 }
 
 // Adds the fields of a side.
-fn push_side(out: &mut String, prefix: &str, side: &Side<'_>) -> Result<(), AllocError>
-    ensures { OnOk result (string_bytes out.new ≡ string_bytes out.old ++ (new_field_text (side_year (names_after prefix.now) (side_as_written side.now)) ++ more_field_texts (more_fields (names_after prefix.now) (side_as_written side.now)))) }
+fn push_side(
+    out: &mut String,
+    defines: bool,
+    prefix: &str,
+    side: &Side<'_>,
+) -> Result<(), AllocError>
+    ensures { OnOk result (string_bytes out.new ≡ string_bytes out.old ++ (new_field_text (side_year (names_after prefix.now) (side_as_written side.now)) ++ more_field_texts (more_fields defines (names_after prefix.now) (side_as_written side.now)))) }
 {
     push_braced(out, prefix, "year", side.year)?;
-    push_month(out, prefix, side.month)?;
+    push_month(out, defines, prefix, side.month)?;
     push_day(out, prefix, side.day)
 }
 
-// The fields of a date's parts as they are written.
-pub(crate) fn written_sides(alloc: Global, sides: &Sides<'_>) -> Result<String, AllocError>
-    ensures { IfOk result (λ text. string_bytes text ≡ spec.written_sides (sides_as_written sides.now)) }
+// The fields of a date's parts as they are written, in a text that defines an abbreviation of a month or doesn't.
+pub(crate) fn written_sides(
+    alloc: Global,
+    defines: bool,
+    sides: &Sides<'_>,
+) -> Result<String, AllocError>
+    ensures { IfOk result (λ text. string_bytes text ≡ spec.written_sides defines (sides_as_written sides.now)) }
 {
     let mut out = String::new(alloc);
-    push_side(&mut out, "", &sides.from)?;
+    push_side(&mut out, defines, "", &sides.from)?;
     let Some(to) = &sides.to else {
         return Ok(out);
     };
     out.push_str(", ")?;
-    push_side(&mut out, "end", to)?;
+    push_side(&mut out, defines, "end", to)?;
     Ok(out)
 }
 

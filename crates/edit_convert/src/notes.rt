@@ -134,6 +134,7 @@ fn rules_of(
     entry: &RawEntry<'_>,
 ) -> Result<Rules, AllocError>
     ensures dialect { IfOk result (λ rules. rules.dialect ≡ dialect) }
+    ensures defines { IfOk result (λ rules. rules.changes.defines ≡ defines) }
     ensures names { IfOk result (λ rules. lent_names rules.names.now ≡ conversions.other_names dialect (entry_type_of entry.now.kind.v.now)) }
     ensures free { IfOk result (λ rules. lent_names rules.changes.names.items ≡ conversions.free_names (map field_of entry.now.fields.items) (conversions.other_names dialect (entry_type_of entry.now.kind.v.now))) }
     ensures printed { IfOk result (λ rules. printed_of rules.changes.printed ≡ conversions.printed_type dialect (entry_type_of entry.now.kind.v.now) (map field_of entry.now.fields.items)) }

@@ -18,6 +18,7 @@ returns c =
     let found : IsFound dialect c.args.defines c.args.text.now e kind changes =
     record {
       kind_is = c.in_ok-kind.ensures.ok;
+      defines_is = c.in_ok-changes.ensures.defines;
       names = c.in_ok-changes.ensures.names
           ∙ ap (λ fs. free_names (map field_of fs) (other_names dialect kind)) c.deref.ensures.value;
       printed = c.in_ok-changes.ensures.printed ∙ ap (λ fs. printed_type dialect kind (map field_of fs)) c.deref.ensures.value;
