@@ -964,6 +964,9 @@ run_messages 'a name that is there' 0 $'thesis.bib:1:27: note: Journal stays, si
 printf '@misc{a,\n  year = {2020},\n  month = may,\n  title = {A},\n}\n@misc{b, year = 1999, month = {Fall}}\n' >months.bib
 run 'a year and a month' 0 $'@misc{a,\n  date = {2020-05},\n  title = {A},\n}\n@misc{b, year = 1999, month = {Fall}}\n' convert --to biblatex months.bib
 run_messages 'a month that stays' 0 $'months.bib:6:23: note: month stays, since it can\'t be joined with a year to a date\n' convert --to biblatex months.bib
+printf '@string{JAN = {Winter}}\n@misc{a, date = {2020-01-05}}\n' >months.bib
+run 'a month that the file defines' 0 $'@string{JAN = {Winter}}\n@misc{a, year = {2020}, month = {January}, day = {05}}\n' convert --to bibtex months.bib
+run_messages 'a day of a date' 0 $'months.bib:2:10: note: date becomes several fields, and no standard style of BibTeX reads the day or a second date\n' convert --to bibtex months.bib
 rm months.bib
 for format in csl json; do
     : >input

@@ -26,6 +26,7 @@ fn word(kind: NoteKind) -> &'static str {
         NoteKind::DateStays => "date stays",
         NoteKind::MonthStays => "month stays",
         NoteKind::NotRead => "not read",
+        NoteKind::PartsNotRead => "parts not read",
     }
 }
 

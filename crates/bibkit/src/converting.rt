@@ -142,13 +142,16 @@ fn edit_of<'a>(dialect: Dialect) -> Edit<'a> {
     }
 }
 
-// Returns the text of a note on a field that is kept.
+// Returns the text of a note on a field.
 fn note_text(kind: NoteKind) -> &'static str {
     match kind {
         NoteKind::NameIsThere => "stays, since the entry has the field that takes its place",
         NoteKind::DateStays => "stays, since it isn't one date, or a field for its parts is there",
         NoteKind::MonthStays => "stays, since it can't be joined with a year to a date",
         NoteKind::NotRead => "stays, though no standard style of BibTeX reads it",
+        NoteKind::PartsNotRead => {
+            "becomes several fields, and no standard style of BibTeX reads the day or a second date"
+        }
     }
 }
 
@@ -170,7 +173,7 @@ fn note_line(
     )
 }
 
-// Prints the notes on the fields of a document that are kept.
+// Prints the notes on the fields of a document.
 fn say_notes(
     rt: &HostRuntime,
     dialect: Dialect,
@@ -189,7 +192,7 @@ fn say_notes(
     Ok(())
 }
 
-// Prints a file with the types and fields of a dialect, and notes on fields that are kept.
+// Prints a file with the types and fields of a dialect, and notes on fields.
 fn rewrite_file(rt: &HostRuntime, dialect: Dialect, name: &str) -> Result<(), Stop> {
     let bytes = bytes_of(rt, name)?;
     print(rt, name, &bytes, &[edit_of(dialect)])?;

@@ -1,5 +1,5 @@
 -- Types of BibTeX and values of `type`: their names are names of types, and their fields can be put in.
-use Rattle.std.proofs.Common.{◌≡◌, ℕ, codes, Bool, true, false, cond, List, [], ◌∷◌, refl, ap, subst, Option, Some, None}
+use Rattle.std.proofs.Common.{◌≡◌, ℕ, codes, Bool, true, false, cond, List, [], ◌∷◌, refl, subst, Option, Some, None}
 use Rattle.std.specs.Prelude.{bytes_eq, ◌==◌}
 use Rattle.std.specs.List.{AllByRecursion, find, list_all}
 use Rattle.bib_syntax.specs.Grammar.{BlockKind, block_kind}
@@ -9,7 +9,7 @@ use Rattle.bib_tables.specs.declared.dialects.Dialect.TheVariants.{Biblatex, Bib
 use Rattle.bib_tables.specs.declared.mechanics.EntryType.{EntryType}
 use Rattle.bib_tables.specs.declared.mechanics.EntryType.TheVariants.{MastersThesis, PhdThesis, Report, TechReport, Thesis}
 use Rattle.bib_text.specs.Enums.{value_named}
-use Rattle.edit_entries.specs.Documents.{CanBeName, has_name}
+use Rattle.edit_entries.specs.Documents.{has_name}
 use Rattle.edit_entries.proofs.NewFieldFacts.{CanBePut}
 use Rattle.edit_strings.proofs.NameFacts.{plain_can}
 use Rattle.edit_strings.specs.Collecting.{is_plain_name}

@@ -1,9 +1,9 @@
 -- Meaning: words of public contracts.
 -- A file with the types of entries and the fields that BibLaTeX has, or BibTeX. Values stay as they stand.
-use Rattle.std.specs.Prelude.{◌≡◌, ◌+◌, ◌==◌, ◌&&◌, ℕ, Bool, true, false, not, ◌||◌, if◌then◌else◌, List, [], ◌∷◌, ◌++◌, codes, filter, length, map, nat_lt, bytes_eq, is_some, Option, Some, None}
-use Rattle.std.specs.List.{find, flat_map, list_any}
+use Rattle.std.specs.Prelude.{◌==◌, ◌&&◌, ℕ, Bool, true, false, not, ◌||◌, if◌then◌else◌, List, [], ◌∷◌, ◌++◌, codes, filter, length, nat_lt, bytes_eq, is_some, Option, Some, None}
+use Rattle.std.specs.List.{find, list_any}
 use Rattle.bib_syntax.specs.Grammar.{is_word}
-use Rattle.bib_syntax.specs.Reading.{Part, FieldReading, EntryReading, FileReading}
+use Rattle.bib_syntax.specs.Reading.{FieldReading, EntryReading}
 use Rattle.bib_tables.specs.EntryType.{entry_type_name, entry_type_of}
 use Rattle.bib_tables.specs.declared.mechanics.EntryType.{EntryType}
 use Rattle.bib_tables.specs.declared.mechanics.EntryType.TheVariants.{Unknown}

@@ -2,13 +2,12 @@
 -- Dates in fields of their own, as BibTeX has them. Years and days stay as they stand in the date.
 use Rattle.std.specs.Prelude.{ℕ, Bool, ◌&&◌, ◌==◌, if◌then◌else◌, List, [], ◌∷◌, ◌++◌, length, codes, is_some, Option, Some, None}
 use Rattle.std.specs.Char.{is_ascii_digit}
-use Rattle.std.specs.List.{flat_map, list_all, slice_split}
+use Rattle.std.specs.List.{list_all, slice_split}
 use Rattle.bib_text.specs.Characters as char
 use Rattle.bib_text.specs.Enums.{value_named}
 use Rattle.bib_tables.specs.Months.{month_abbreviation, month_name}
 use Rattle.bib_tables.specs.declared.months.Month.{Month}
 use Rattle.bib_tables.specs.declared.months.Month.TheVariants.{January, February, March, April, May, June, July, August, September, October, November, December}
-use Rattle.bib_syntax.specs.Reading.{FieldReading}
 use Rattle.bib_syntax.specs.Reading.Piece.{literal}
 use Rattle.bib_dates.specs.Dates.{date_of}
 use Rattle.bib_dates.specs.Readings.{readable_value}

@@ -1,6 +1,6 @@
 -- Meaning: words of public contracts.
--- What is to know of a file's fields that don't give way to those of a dialect.
-use Rattle.std.specs.Prelude.{ℕ, suc, Bool, if◌then◌else◌, List, [], ◌∷◌, ◌++◌, codes, Option, Some, None}
+-- What is to know of a file's fields beside a dialect's.
+use Rattle.std.specs.Prelude.{ℕ, suc, Bool, ◌||◌, if◌then◌else◌, List, [], ◌∷◌, ◌++◌, codes, is_some, Option, Some, None}
 use Rattle.std.specs.List.{list_any}
 use Rattle.bib_syntax.specs.Grammar.{is_word}
 use Rattle.bib_syntax.specs.Reading.{EntryReading, FieldReading}
@@ -9,9 +9,10 @@ use Rattle.bib_tables.specs.declared.dialects.Dialect.{Dialect}
 use Rattle.bib_tables.specs.declared.dialects.Dialect.TheVariants.{Biblatex, Bibtex}
 use Rattle.edit_entries.specs.Documents.{Document, has_name}
 use Rattle.edit_convert.specs.Conversions.{Exchanged, defines_month, exchanged_field, other_name, other_names}
+use Rattle.edit_convert.specs.Dates.{Sides}
 use Rattle.edit_convert.specs.declared.notes.Note.{Note}
 use Rattle.edit_convert.specs.declared.notes.NoteKind.{NoteKind}
-use Rattle.edit_convert.specs.declared.notes.NoteKind.TheVariants.{DateStays, MonthStays, NameIsThere, NotRead}
+use Rattle.edit_convert.specs.declared.notes.NoteKind.TheVariants.{DateStays, MonthStays, NameIsThere, NotRead, PartsNotRead}
 
 -- the fields that the standard styles of BibTeX read
 abbrev pub bibtex_fields : List (List ℕ)
@@ -43,9 +44,18 @@ abbrev pub stays_note : Dialect → Option (List ℕ) → FieldReading → Optio
 stays_note dialect (Some other) f = Some NameIsThere
 stays_note dialect None f = dialect_note dialect f
 
+-- whether a date has parts that no standard style reads: a day, or a second side
+abbrev pub has_unread_parts : Sides → Bool
+has_unread_parts sides = is_some sides.from.day || is_some sides.to
+
+-- what is to know of a field that gives way: of a date, that it has such parts
+abbrev pub given_note : Exchanged → Option NoteKind
+given_note (Exchanged.divided defines sides) = if has_unread_parts sides then Some PartsNotRead else None
+given_note change = None
+
 -- what is to know of a field, given what it gives way to
 abbrev pub change_note : Dialect → Option Exchanged → Option (List ℕ) → FieldReading → Option NoteKind
-change_note dialect (Some change) other f = None
+change_note dialect (Some change) other f = given_note change
 change_note dialect None other f = stays_note dialect other f
 
 -- what is to know of an entry's field, in a text that defines an abbreviation of a month or doesn't

@@ -1,6 +1,6 @@
 -- Machinery: words of private contracts.
 -- Names, dates and edits, as the code has them.
-use Rattle.std.specs.Prelude.{ℕ, Bool, List, map, Option}
+use Rattle.std.specs.Prelude.{ℕ, Bool, List, map, None, Option}
 use Rattle.std.specs.Borrow.{Bor}
 use Rattle.std.specs.Option.{option_map}
 use Rattle.std.specs.String.{string_bytes}
@@ -42,6 +42,12 @@ exchanged_by changes f =
     exchanged_for changes.defines (joined_among (option_map string_bytes changes.joined) f)
     (other_name (lent_names changes.names.items) f.name.text) (typed_among (printed_of changes.printed) f)
     (date_among changes.divides f)
+
+-- the same, but for fields of a date's parts
+abbrev pub replaced_by : Changes → FieldReading → Option Exchanged
+replaced_by changes f =
+    exchanged_for changes.defines (joined_among (option_map string_bytes changes.joined) f)
+    (other_name (lent_names changes.names.items) f.name.text) (typed_among (printed_of changes.printed) f) None
 
 -- the edits of some fields, by what gives way in their entry and a value of `type` that waits
 abbrev pub change_edits : Changes → Option (List ℕ) → List ℕ → List FieldReading → List edits.Edit

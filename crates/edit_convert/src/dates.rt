@@ -12,6 +12,7 @@ ghost use Rattle.edit_convert.specs.Conversions as conversions;
 ghost use Rattle.edit_convert.specs.Dates as spec;
 ghost use Rattle.edit_convert.specs.Dates.{braced_field, more_fields, names_after, numbered_months, side_year};
 ghost use Rattle.edit_entries.specs.Changes.{new_field_text, more_field_texts};
+ghost use Rattle.edit_convert.specs.Notes.{has_unread_parts};
 ghost use Rattle.edit_convert.specs.Types.{type_field};
 ghost use Rattle.edit_strings.specs.Collecting.{lent_texts};
 ghost use Rattle.edit_convert.specs.Tables.{lent_text, side_as_written, sides_as_written};
@@ -201,6 +202,13 @@ pub(crate) fn date_sides<'t>(alloc: Global, text: &'t str) -> Result<Option<Side
     }
     let texts = parts(alloc, text, '/')?;
     sides_of(alloc, &texts)
+}
+
+// Whether a date has parts that no standard style of BibTeX reads: a day, or a second side.
+pub(crate) fn has_unread_parts(sides: &Sides<'_>) -> bool
+    ensures { result ≡ has_unread_parts (sides_as_written sides.now) }
+{
+    sides.from.day.is_some() || sides.to.is_some()
 }
 
 // Adds a field whose value is a text in braces.

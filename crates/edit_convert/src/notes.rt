@@ -1,7 +1,7 @@
-//! What is to know of fields that don't give way to those of a dialect.
+//! What is to know of fields beside those of a dialect.
 
 ghost use Rattle.std.specs.Prelude.{◌≡◌, ◌++◌, IfOk, OnOk, is_some, map};
-ghost use Rattle.std.specs.Option.{option_map};
+ghost use Rattle.std.specs.Option.{option_and_then, option_map};
 ghost use Rattle.std.specs.String.{string_bytes};
 ghost use Rattle.bib_tables.specs.EntryType.{entry_type_of};
 ghost use Rattle.bib_syntax.specs.Views.{entry_reading_of, field_of};
@@ -9,9 +9,10 @@ ghost use Rattle.edit_convert.specs.Conversions as conversions;
 ghost use Rattle.edit_convert.specs.Notes as spec;
 ghost use Rattle.edit_convert.specs.Notes.{file_notes, indexed, note_at};
 ghost use Rattle.edit_convert.specs.Rules.{rules_note};
-ghost use Rattle.edit_convert.specs.Tables.{exchanged_by, lent_names, lent_text, printed_of};
+ghost use Rattle.edit_convert.specs.Tables.{exchanged_by, lent_names, lent_text, printed_of, replaced_by};
 
 use crate::changes::{Changes, changes_of};
+use crate::dates::has_unread_parts;
 use crate::fields::{exchanged_date, is_date_part};
 use crate::joining::defines_month;
 use crate::names::{is_one_of, other_name, other_names};
@@ -33,6 +34,8 @@ pub enum NoteKind {
     MonthStays,
     /// No standard style of BibTeX reads a field with its name.
     NotRead,
+    /// It is a date that gives way to fields of its parts, and no standard style of BibTeX reads one of these: it has a day, or is a range.
+    PartsNotRead,
 }
 
 /// A note on a field.
@@ -150,6 +153,19 @@ fn rules_of(
     })
 }
 
+// Whether something but fields of its parts takes the place of a field.
+fn is_replaced(changes: &Changes, field: &Pair<'_>) -> bool
+    ensures { result ≡ is_some (replaced_by changes.now (field_of field.now)) }
+{
+    if is_date_part(field) && changes.joined.is_some() {
+        return true;
+    }
+    if other_name(&changes.names, field.key.v).is_some() {
+        return true;
+    }
+    is_word(field.key.v, "type") && changes.printed.is_some()
+}
+
 // Whether something takes the place of a field.
 pub(crate) fn gives_way(
     alloc: Global,
@@ -158,16 +174,30 @@ pub(crate) fn gives_way(
 ) -> Result<bool, AllocError>
     ensures { IfOk result (λ gives. gives ≡ is_some (exchanged_by changes.now (field_of field.now))) }
 {
-    if is_date_part(field) && changes.joined.is_some() {
-        return Ok(true);
-    }
-    if other_name(&changes.names, field.key.v).is_some() {
-        return Ok(true);
-    }
-    if is_word(field.key.v, "type") && changes.printed.is_some() {
+    if is_replaced(changes, field) {
         return Ok(true);
     }
     Ok(exchanged_date(alloc, changes.divides, field)?.is_some())
+}
+
+// What is to know of a field that gives way.
+fn given_note(
+    alloc: Global,
+    changes: &Changes,
+    field: &Pair<'_>,
+) -> Result<Option<NoteKind>, AllocError>
+    ensures { IfOk result (λ note. note ≡ option_and_then spec.given_note (exchanged_by changes.now (field_of field.now))) }
+{
+    if is_replaced(changes, field) {
+        return Ok(None);
+    }
+    let Some(sides) = exchanged_date(alloc, changes.divides, field)? else {
+        return Ok(None);
+    };
+    if has_unread_parts(&sides) {
+        return Ok(Some(NoteKind::PartsNotRead));
+    }
+    Ok(None)
 }
 
 // What is to know of a field.
@@ -179,7 +209,7 @@ fn field_note(
     ensures { IfOk result (λ note. note ≡ rules_note rules.now (field_of field.now)) }
 {
     if gives_way(alloc, &rules.changes, field)? {
-        return Ok(None);
+        return given_note(alloc, &rules.changes, field);
     }
     Ok(stays_note(rules.dialect, other_name(rules.names, field.key.v), field))
 }

@@ -1,8 +1,12 @@
-use Rattle.std.proofs.Common.{ℕ, List, Option, sym, ap, ◌∙◌}
+use Rattle.std.proofs.Common.{◌≡◌, ℕ, List, Option, Result, Ok, Err, sym, ap, ◌∙◌}
+use Rattle.std.specs.Option.{option_and_then}
+use Rattle.std.specs.Prelude.{IfOk}
 use Rattle.bib_syntax.specs.Reading.{FieldReading}
 use Rattle.bib_syntax.specs.Views.{field_of}
 use Rattle.edit_convert.specs.Conversions.{other_name}
-use Rattle.edit_convert.specs.Notes.{stays_note}
+use Rattle.edit_convert.specs.Notes.{given_note, stays_note}
+use Rattle.edit_convert.specs.Rules.{rules_note}
+use Rattle.edit_convert.specs.declared.notes.NoteKind.{NoteKind}
 use Rattle.edit_convert.specs.Tables.{exchanged_by, lent_names}
 use Rattle.edit_convert.proofs.GivingFacts.{given_way, stayed}
 use Rattle.edit_convert.proofs.notes.field_note.Goals as goal
@@ -10,9 +14,16 @@ use Rattle.edit_convert.proofs.notes.field_note.Goals as goal
 pub returns-then-branch : goal.returns-then-branch
 returns-then-branch c =
     let f : FieldReading = field_of c.args.field.now in
-    given_way c.args.rules.now.dialect (exchanged_by c.args.rules.now.changes f)
+    ok_note c.given_note.result (option_and_then given_note (exchanged_by c.args.rules.now.changes f))
+    (rules_note c.args.rules.now f) c.given_note.ensures
+    (given_way c.args.rules.now.dialect (exchanged_by c.args.rules.now.changes f)
     (other_name (lent_names c.args.rules.now.names.now) f.name.text) f
-    (sym c.in_ok-gives_way.ensures ∙ c.if-branch.true)
+    (sym c.in_ok-gives_way.ensures ∙ c.if-branch.true))
+  where
+    ok_note : {E : Type 0} (r : Result (Option NoteKind) E) (said is : Option NoteKind) → IfOk r (λ note. note ≡ said) → said ≡ is
+        → IfOk r (λ note. note ≡ is)
+    ok_note (Err e) said is told same = _
+    ok_note (Ok found) said is told same = told ∙ same
 
 pub returns : goal.returns
 returns c =
