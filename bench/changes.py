@@ -264,11 +264,11 @@ def keys_printed(after):
 
 
 def unread_fields(source, after, said):
-    """The new fields that no style of BibTeX reads, and that no message of the conversion names."""
+    """The new fields that no style of BibTeX reads, and that no message of the conversion names, by itself or as parts of a date."""
     old = {(it.key, name) for it in source for name, _ in it.fields}
     for entry in after:
         for name, text in entry.fields:
-            is_named = re.search(rf"note: {re.escape(name)}\b", said)
+            is_named = re.search(rf"note: {'date becomes' if name in DATE_PARTS else re.escape(name)}\b", said)
             if name not in STANDARD_FIELDS and (entry.key, name) not in old and not is_named:
                 yield Difference("unread field", entry.key, name, "", text)
 

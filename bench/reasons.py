@@ -153,8 +153,6 @@ REASONS = [
     Reason(RULE, "BibLaTeX inherits more fields than the library", "resolve", "biber", "field lost", is_child),
     Reason(RULE, "BibTeX prints another case or italics for another type", "there-and-back", "bibtex", "print", has_only_other_case),
     Reason(RULE, "BibTeX reads by its new name what it passed over", "to-bibtex|there-and-back", "bibtex", "print", is_longer),
-    Reason(FAULT, "a date becomes fields that no style of BibTeX reads, and no message says so", "to-bibtex", "bibtool", "unread field",
-           lambda it: it.difference.name in DATE_PARTS),
     Reason(FAULT, "a child has the endyear of its parent beside a date of its own", "to-bibtex", "bibtex", "field changed",
            lambda it: it.difference.name == "date" and is_child(it)),
     Reason(FAULT, "the type of a thesis or report stays a key of BibLaTeX, which BibTeX prints", "to-bibtex", "bibtool", "kind printed"),
