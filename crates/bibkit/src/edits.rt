@@ -309,6 +309,18 @@ fn new_text(alloc: Global, name: &str, bytes: &[u8], edits: &[Edit<'_>]) -> Resu
     }
 }
 
+// Fails if a file no longer has the bytes that were read.
+fn check_unchanged(rt: &HostRuntime, name: &str, bytes: &[u8]) -> Result<(), Stop> {
+    let now = bytes_of(rt, name)?;
+    if now.as_slice() == bytes {
+        return Ok(());
+    }
+    let said = format!(in rt.alloc();
+        "bibkit: {name}: another program changed it, so it isn't written\n"
+    )?;
+    Err(Stop::Said(said, 2))
+}
+
 // Applies edits to a file's bytes, and writes the new text into the file if it differs from them.
 fn write_edited(
     rt: &HostRuntime,
@@ -318,10 +330,10 @@ fn write_edited(
 ) -> Result<(), Stop> {
     let new = new_text(rt.alloc(), name, bytes, edits)?;
     if new.as_bytes() == bytes {
-        Ok(())
-    } else {
-        write(rt, name, &new)
+        return Ok(());
     }
+    check_unchanged(rt, name, bytes)?;
+    write(rt, name, &new)
 }
 
 // Returns the message for a file that isn't in the requested style, with status 1.
