@@ -57,7 +57,7 @@ entry_edited (Err x) old mid new dialect defines text e kind changes other missi
 entry_edited (Ok x) old mid new dialect defines text e kind changes other missing found missing_is other_is mid_is new_is =
     let made : EntryType → Option PrintedType → Option (List ℕ) → (FieldReading → Option Exchanged) → List Edit =
     λ (k : EntryType) (p : Option PrintedType) (m : Option (List ℕ)) (x : FieldReading → Option Exchanged).
-    part_edits e.kind (type_for dialect k p m (stays_one x e.fields)) ++ edits_of_fields text e.fields (field_changes x m e.fields) in
+    part_edits e.kind (type_for dialect k p m (stays_one x e.fields)) ++ edits_of_fields text e.fields (field_changes text x m e.fields) in
     let by_kind : EntryType → List Edit =
     λ (k : EntryType).
     made k (printed_type dialect k e.fields) (missing_type dialect k e.fields) (exchanged_field dialect defines text e) in

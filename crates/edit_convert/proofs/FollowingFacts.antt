@@ -9,7 +9,7 @@ use Rattle.edit_convert.specs.Conversions.{Exchanged, can_all_go_out, can_go_out
 
 -- the edits of some fields, given what takes the place of each and what waits
 abbrev edits_from : (FieldReading → Option Exchanged) → Option (List ℕ) → List ℕ → List FieldReading → List Edit
-edits_from exchanged waiting text fields = edits_of_fields text fields (field_changes exchanged waiting fields)
+edits_from exchanged waiting text fields = edits_of_fields text fields (field_changes text exchanged waiting fields)
 
 module _ {A : Type 0} (view : A → FieldReading) (xs : List A) (i : ℕ) (x : A) (within : i < length xs) (is : x ≡ get_or xs i x) where
   left : map view (drop i xs) ≡ view x ∷ map view (drop (i + 1) xs)
@@ -18,7 +18,8 @@ module _ {A : Type 0} (view : A → FieldReading) (xs : List A) (i : ℕ) (x : A
   -- the edits of one more were added
   pub edits_step : (exchanged : FieldReading → Option Exchanged) (waiting waits : Option (List ℕ)) (text : List ℕ)
       (following : List A) (old new all : List Edit) → following ≡ drop (i + 1) xs
-      → new ≡ old ++ edits_of_field text (view x) (map view following) (change_after waiting (map view following) (exchanged (view x)))
+      → new ≡ old ++ edits_of_field text (view x) (map view following)
+      (change_after text (view x) waiting (map view following) (exchanged (view x)))
       → waits ≡ waits_after waiting (exchanged (view x))
       → old ++ edits_from exchanged waiting text (map view (drop i xs)) ≡ all
       → new ++ edits_from exchanged waits text (map view (drop (i + 1) xs)) ≡ all
@@ -26,7 +27,7 @@ module _ {A : Type 0} (view : A → FieldReading) (xs : List A) (i : ℕ) (x : A
       let rest : List FieldReading = map view (drop (i + 1) xs) in
       let after : Option (List ℕ) = waits_after waiting (exchanged (view x)) in
       let here : List A → List Edit =
-      λ (l : List A). edits_of_field text (view x) (map view l) (change_after waiting (map view l) (exchanged (view x))) in
+      λ (l : List A). edits_of_field text (view x) (map view l) (change_after text (view x) waiting (map view l) (exchanged (view x))) in
       ap (λ w. new ++ edits_from exchanged w text rest) waits_is
       ∙ ap (λ l. l ++ edits_from exchanged after text rest) (added ∙ ap (λ l. old ++ here l) are)
       ∙ append_assoc old (here (drop (i + 1) xs)) (edits_from exchanged after text rest)

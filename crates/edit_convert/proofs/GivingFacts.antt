@@ -58,18 +58,19 @@ some_mapped f None = refl
 -- ---- a value of `type` that waits
 
 -- what waits goes on waiting at a field that gives way
-pub waits_on : (waiting : Option (List ℕ)) (following : List FieldReading) (x : Option Exchanged) → is_some x ≡ true
-    → (field_change following x ≡ change_after waiting following x) × (waiting ≡ waits_after waiting x)
-waits_on waiting following None is = absurd (cc)
-waits_on None following (Some x) is = (refl, refl)
-waits_on (Some value) following (Some x) is = (refl, refl)
+pub waits_on : (text : List ℕ) (f : FieldReading) (waiting : Option (List ℕ)) (following : List FieldReading) (x : Option Exchanged)
+    → is_some x ≡ true
+    → (field_change text f following x ≡ change_after text f waiting following x) × (waiting ≡ waits_after waiting x)
+waits_on text f waiting following None is = absurd (cc)
+waits_on text f None following (Some x) is = (refl, refl)
+waits_on text f (Some value) following (Some x) is = (refl, refl)
 
 -- a value comes before a field that stays
-pub waits_no_more : (waiting : Option (List ℕ)) (value : List ℕ) (following : List FieldReading) (x : Option Exchanged)
-    → waiting ≡ Some value → is_some x ≡ false
-    → (change_after (Some value) following None ≡ change_after waiting following x) × (None ≡ waits_after waiting x)
-waits_no_more waiting value following None same is = (ap (λ w. change_after w following None) (sym same), refl)
-waits_no_more waiting value following (Some x) same is = absurd (cc)
+pub waits_no_more : (text : List ℕ) (f : FieldReading) (waiting : Option (List ℕ)) (value : List ℕ) (following : List FieldReading)
+    (x : Option Exchanged) → waiting ≡ Some value → is_some x ≡ false
+    → (change_after text f (Some value) following None ≡ change_after text f waiting following x) × (None ≡ waits_after waiting x)
+waits_no_more text f waiting value following None same is = (ap (λ w. change_after text f w following None) (sym same), refl)
+waits_no_more text f waiting value following (Some x) same is = absurd (cc)
 
 -- nothing waits after nothing
 pub none_waits : (waiting : Option (List ℕ)) (x : Option Exchanged) → waiting ≡ None → None ≡ waits_after waiting x

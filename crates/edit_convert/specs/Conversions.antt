@@ -201,33 +201,38 @@ exchanged_field dialect defines text e f =
 abbrev pub date_field : List ℕ → NewField
 date_field date = braced_field (codes "date") date
 
--- what becomes of a field before others, given what takes its place: the last part of a date is replaced by the date, and the parts
--- before it are gone; a type that BibTeX has is gone, and if no field follows it says what a style prints
-abbrev pub field_change : List FieldReading → Option Exchanged → FieldChange
-field_change following None = FieldChange.stays
-field_change following (Some (Exchanged.renamed name)) = FieldChange.renamed name
-field_change [] (Some (Exchanged.typed text)) = FieldChange.replaced (type_field text) []
-field_change (g ∷ gs) (Some (Exchanged.typed text)) = FieldChange.gone
-field_change following (Some (Exchanged.divided defines sides)) =
+-- whether a field before others can be removed: one follows it, and no comment stands between the two
+abbrev pub can_be_removed : List ℕ → FieldReading → List FieldReading → Bool
+can_be_removed text f [] = false
+can_be_removed text f (g ∷ gs) = is_comment_free text f (g ∷ gs)
+
+-- the change of a field of a text before others, given what replaces it. The last part of a date is replaced by the date, and the parts
+-- before it are removed. A type that BibTeX has is removed; if it can't be, it says what a style prints.
+abbrev pub field_change : List ℕ → FieldReading → List FieldReading → Option Exchanged → FieldChange
+field_change text f following None = FieldChange.stays
+field_change text f following (Some (Exchanged.renamed name)) = FieldChange.renamed name
+field_change text f following (Some (Exchanged.typed printed)) =
+    if can_be_removed text f following then FieldChange.gone else FieldChange.replaced (type_field printed) []
+field_change text f following (Some (Exchanged.divided defines sides)) =
     FieldChange.replaced (side_year from_names sides.from) (more_fields defines from_names sides.from ++ to_fields defines sides.to)
-field_change following (Some (Exchanged.joined date)) =
+field_change text f following (Some (Exchanged.joined date)) =
     if list_any is_date_part following then FieldChange.gone else FieldChange.replaced (date_field date) []
 
 -- the same, if a value of `type` waits for a field that stays: it comes before that one
-abbrev pub change_after : Option (List ℕ) → List FieldReading → Option Exchanged → FieldChange
-change_after (Some value) following None = FieldChange.preceded (type_field value) (char.space ∷ [])
-change_after waiting following exchanged = field_change following exchanged
+abbrev pub change_after : List ℕ → FieldReading → Option (List ℕ) → List FieldReading → Option Exchanged → FieldChange
+change_after text f (Some value) following None = FieldChange.preceded (type_field value) (char.space ∷ [])
+change_after text f waiting following exchanged = field_change text f following exchanged
 
 -- what waits after a field
 abbrev pub waits_after : Option (List ℕ) → Option Exchanged → Option (List ℕ)
 waits_after waiting None = None
 waits_after waiting (Some exchanged) = waiting
 
--- what becomes of some fields one after another, given what takes the place of each, and a value of `type` that waits
-abbrev pub field_changes : (FieldReading → Option Exchanged) → Option (List ℕ) → List FieldReading → List FieldChange
-field_changes exchanged waiting [] = []
-field_changes exchanged waiting (f ∷ fs) =
-    change_after waiting fs (exchanged f) ∷ field_changes exchanged (waits_after waiting (exchanged f)) fs
+-- the changes of some fields of a text one after another, given what replaces each, and a value of `type` that is still to be added
+abbrev pub field_changes : List ℕ → (FieldReading → Option Exchanged) → Option (List ℕ) → List FieldReading → List FieldChange
+field_changes text exchanged waiting [] = []
+field_changes text exchanged waiting (f ∷ fs) =
+    change_after text f waiting fs (exchanged f) ∷ field_changes text exchanged (waits_after waiting (exchanged f)) fs
 
 -- whether one of some fields stays
 abbrev pub stays_one : (FieldReading → Option Exchanged) → List FieldReading → Bool
@@ -248,7 +253,7 @@ conversion dialect defines text e =
     let missing = missing_type dialect kind e.fields in
     record {
       kind = type_for dialect kind (printed_type dialect kind e.fields) missing (stays_one exchanged e.fields);
-      fields = field_changes exchanged missing e.fields;
+      fields = field_changes text exchanged missing e.fields;
     }
 
 -- what becomes of the entries of a document for a dialect

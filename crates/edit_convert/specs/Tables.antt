@@ -51,7 +51,7 @@ replaced_by changes f =
 
 -- the edits of some fields, by what gives way in their entry and a value of `type` that waits
 abbrev pub change_edits : Changes → Option (List ℕ) → List ℕ → List FieldReading → List edits.Edit
-change_edits changes waiting text fields = edits_of_fields text fields (field_changes (exchanged_by changes) waiting fields)
+change_edits changes waiting text fields = edits_of_fields text fields (field_changes text (exchanged_by changes) waiting fields)
 
 -- the edits of an entry for a dialect, in a text that defines an abbreviation of a month or doesn't
 abbrev pub conversion_edits : Dialect → Bool → List ℕ → EntryReading → List edits.Edit

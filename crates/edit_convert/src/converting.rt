@@ -16,7 +16,7 @@ ghost use Rattle.edit_convert.specs.Tables.{change_edits, conversion_edits, exch
 use crate::changes::{Changes, changes_of};
 use crate::dates::{written_date, written_sides, written_type};
 use crate::fields::{exchanged_date, has_part, is_date_part};
-use crate::joining::defines_month;
+use crate::joining::{can_be_removed, defines_month};
 use crate::names::{other_name, other_type};
 use crate::notes::gives_way;
 use crate::types::{Printed, missing_type};
@@ -60,7 +60,7 @@ fn push_date_edit(
     requires { IsPlaced text.now (field_of field.now) }
     ensures { (following : List FieldReading) → OnOk result (map edit_of edits.new.items ≡ map edit_of edits.old.items ++
         edits_of_field text.now (field_of field.now) following
-        (field_change following (spec.exchanged_for changes.now.defines None None None (date_among changes.now.divides (field_of field.now))))) }
+        (field_change text.now (field_of field.now) following (spec.exchanged_for changes.now.defines None None None (date_among changes.now.divides (field_of field.now))))) }
 {
     let Some(sides) = exchanged_date(alloc, changes.divides, field)? else {
         return Ok(());
@@ -104,7 +104,8 @@ fn push_joined_edit(
 ) -> Result<(), AllocError>
     requires { IsPlaced text.now (field_of field.now) }
     ensures { OnOk result (map edit_of edits.new.items ≡ map edit_of edits.old.items ++
-        edits_of_field text.now (field_of field.now) (map field_of following.now) (field_change (map field_of following.now) (Some (Exchanged.joined date.now)))) }
+        edits_of_field text.now (field_of field.now) (map field_of following.now)
+        (field_change text.now (field_of field.now) (map field_of following.now) (Some (Exchanged.joined date.now)))) }
 {
     if has_part(following) {
         return push_removal(edits, alloc, field, following);
@@ -130,7 +131,7 @@ fn joined_among<'c>(joined: &'c Option<String>, field: &Pair<'_>) -> Option<&'c 
     }
 }
 
-// Adds the edit of a field `type` that is a type of BibTeX: it is gone, or says what a style prints if no field follows.
+// Adds the edit of a field `type` that is a type of BibTeX: it is removed, or if it can't be, it says what a style prints.
 fn push_type_edit(
     edits: &mut Vec<Edit>,
     alloc: Global,
@@ -141,9 +142,10 @@ fn push_type_edit(
 ) -> Result<(), AllocError>
     requires { IsPlaced text.now (field_of field.now) }
     ensures { OnOk result (map edit_of edits.new.items ≡ map edit_of edits.old.items ++
-        edits_of_field text.now (field_of field.now) (map field_of following.now) (field_change (map field_of following.now) (Some (Exchanged.typed printed.now)))) }
+        edits_of_field text.now (field_of field.now) (map field_of following.now)
+        (field_change text.now (field_of field.now) (map field_of following.now) (Some (Exchanged.typed printed.now)))) }
 {
-    if !following.is_empty() {
+    if can_be_removed(text, field, following) {
         return push_removal(edits, alloc, field, following);
     }
     edits.push(Edit {
@@ -177,7 +179,7 @@ fn push_value_edit(
     requires { IsPlaced text.now (field_of field.now) }
     ensures { OnOk result (map edit_of edits.new.items ≡ map edit_of edits.old.items ++
         edits_of_field text.now (field_of field.now) (map field_of following.now)
-        (field_change (map field_of following.now) (spec.exchanged_for changes.now.defines None None (spec.typed_among (printed_of changes.now.printed) (field_of field.now)) (date_among changes.now.divides (field_of field.now))))) }
+        (field_change text.now (field_of field.now) (map field_of following.now) (spec.exchanged_for changes.now.defines None None (spec.typed_among (printed_of changes.now.printed) (field_of field.now)) (date_among changes.now.divides (field_of field.now))))) }
 {
     match typed_among(changes.printed, field) {
         Some(printed) => push_type_edit(edits, alloc, text, printed.text, field, following),
@@ -196,7 +198,8 @@ fn push_field_edit(
 ) -> Result<(), AllocError>
     requires { IsPlaced text.now (field_of field.now) }
     ensures { OnOk result (map edit_of edits.new.items ≡ map edit_of edits.old.items ++
-        edits_of_field text.now (field_of field.now) (map field_of following.now) (field_change (map field_of following.now) (exchanged_by changes.now (field_of field.now)))) }
+        edits_of_field text.now (field_of field.now) (map field_of following.now)
+        (field_change text.now (field_of field.now) (map field_of following.now) (exchanged_by changes.now (field_of field.now)))) }
 {
     if let Some(date) = joined_among(&changes.joined, field) {
         return push_joined_edit(edits, alloc, text, date, field, following);
@@ -215,7 +218,7 @@ fn push_missing_type(
     value: &str,
 ) -> Result<(), AllocError>
     ensures { OnOk result ((text : List ℕ) (following : List FieldReading) → map edit_of edits.new.items ≡ map edit_of edits.old.items ++
-        edits_of_field text (field_of field.now) following (spec.change_after (Some value.now) following None)) }
+        edits_of_field text (field_of field.now) following (spec.change_after text (field_of field.now) (Some value.now) following None)) }
 {
     let mut text = written_type(alloc, value)?;
     text.push_str(", ")?;
@@ -241,7 +244,7 @@ fn push_waiting_edit(
     requires { IsPlaced text.now (field_of field.now) }
     ensures edits { OnOk result (map edit_of edits.new.items ≡ map edit_of edits.old.items ++
         edits_of_field text.now (field_of field.now) (map field_of following.now)
-        (spec.change_after (lent_text waiting.entry) (map field_of following.now) (exchanged_by changes.now (field_of field.now)))) }
+        (spec.change_after text.now (field_of field.now) (lent_text waiting.entry) (map field_of following.now) (exchanged_by changes.now (field_of field.now)))) }
     ensures waits { IfOk result (λ waits. lent_text waits ≡ spec.waits_after (lent_text waiting.entry) (exchanged_by changes.now (field_of field.now))) }
 {
     let Some(value) = waiting else {
@@ -366,7 +369,8 @@ fn edits(
 /// For BibLaTeX a Master's thesis, a PhD thesis and a technical report without a field `type` get `type = {mathesis}`, `{phdthesis}`
 /// or `{techreport}`, as Biber reads them, before the first field that doesn't change; if each field changes, the name of the type
 /// stays. For BibTeX a thesis or report with one field `type` of these values becomes that type, and the field is removed. If it is
-/// the last field, it says what the standard styles print: `Master's thesis`, `PhD thesis` or `Technical Report`.
+/// the last field, or a comment stands between it and the next one, it says what the standard styles print: `Master's thesis`,
+/// `PhD thesis` or `Technical Report`.
 ///
 /// For BibTeX the field `date` gives way to `year`, and where they are there `month` and `day`, of a range to `endyear`, `endmonth` and
 /// `endday` too: where its value is one literal that is read as a date, with a year in four digits, and perhaps a month and a day in

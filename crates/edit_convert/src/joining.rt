@@ -263,6 +263,13 @@ fn is_comment_free(text: &str, field: &Pair<'_>, following: &[Pair<'_>]) -> bool
     }
 }
 
+// Returns whether a field can be removed: one follows it, and no comment stands between the two.
+pub(crate) fn can_be_removed(text: &str, field: &Pair<'_>, following: &[Pair<'_>]) -> bool
+    ensures { result ≡ conversions.can_be_removed text.now (field_of field.now) (map field_of following.now) }
+{
+    !following.is_empty() && is_comment_free(text, field, following)
+}
+
 // Whether a field can go out: it is no part of a date that has another part after it, or no comment stands after it.
 fn can_go_out(text: &str, field: &Pair<'_>, following: &[Pair<'_>]) -> bool
     ensures { result ≡ conversions.can_go_out text.now (field_of field.now) (map field_of following.now) }
