@@ -14,7 +14,7 @@ use Rattle.edit_entries.proofs.NewFieldFacts.{CanBePut}
 use Rattle.edit_strings.proofs.NameFacts.{plain_can}
 use Rattle.edit_strings.specs.Collecting.{is_plain_name}
 use Rattle.edit_convert.specs.Conversions.{is_field_there, literal_of, missing_type, printed_type, read_type, times_named, typed_among}
-use Rattle.edit_convert.specs.Types.{PrintedType, type_by_value, type_field, type_value, types_by_value}
+use Rattle.edit_convert.specs.Types.{PrintedType, reports_by_value, theses_by_value, type_by_value, type_field, type_value, types_by_value}
 use Rattle.edit_convert.proofs.DateFacts.{is_plain_ascii, plain_read}
 
 -- a type's name is plain, and no other block's; its text has neither braces nor backslashes
@@ -28,12 +28,21 @@ text_put text all = record { name = (plain_can (codes "type") refl).0; value = p
 
 -- ---- the types that values of `type` stand for
 
-rows_printed : (kind : EntryType) → AllByRecursion (λ row. IsPrinted row.1) (types_by_value kind)
-rows_printed Thesis = (
+theses_printed : AllByRecursion (λ row. IsPrinted row.1) theses_by_value
+theses_printed = (
   record { plain = refl; entry = refl; put = text_put (codes "Master's thesis") refl },
   (record { plain = refl; entry = refl; put = text_put (codes "PhD thesis") refl }, tt),
 )
-rows_printed Report = (record { plain = refl; entry = refl; put = text_put (codes "Technical Report") refl }, tt)
+
+reports_printed : AllByRecursion (λ row. IsPrinted row.1) reports_by_value
+reports_printed = (record { plain = refl; entry = refl; put = text_put (codes "Technical Report") refl }, tt)
+
+rows_printed : (kind : EntryType) → AllByRecursion (λ row. IsPrinted row.1) (types_by_value kind)
+rows_printed Thesis = theses_printed
+rows_printed MastersThesis = theses_printed
+rows_printed PhdThesis = theses_printed
+rows_printed Report = reports_printed
+rows_printed TechReport = reports_printed
 rows_printed kind = tt
 
 row_printed : (rows : List (List ℕ × PrintedType)) (value : List ℕ) (type : PrintedType)

@@ -20,12 +20,23 @@ pub record PrintedType : Type 0 where
   pub name : List ℕ
   pub text : List ℕ
 
--- the types of BibTeX that values of `type` stand for in entries of a type
-abbrev pub types_by_value : EntryType → List (List ℕ × PrintedType)
-types_by_value Thesis =
+-- the types of BibTeX that values of `type` stand for in a thesis
+abbrev pub theses_by_value : List (List ℕ × PrintedType)
+theses_by_value =
     (codes "mathesis", record { name = codes "mastersthesis"; text = codes "Master's thesis" })
     ∷ (codes "phdthesis", record { name = codes "phdthesis"; text = codes "PhD thesis" }) ∷ []
-types_by_value Report = (codes "techreport", record { name = codes "techreport"; text = codes "Technical Report" }) ∷ []
+
+-- the type of BibTeX that a value of `type` stands for in a report
+abbrev pub reports_by_value : List (List ℕ × PrintedType)
+reports_by_value = (codes "techreport", record { name = codes "techreport"; text = codes "Technical Report" }) ∷ []
+
+-- the types of BibTeX that values of `type` stand for in entries of a type, which may be one of BibTeX itself
+abbrev pub types_by_value : EntryType → List (List ℕ × PrintedType)
+types_by_value Thesis = theses_by_value
+types_by_value MastersThesis = theses_by_value
+types_by_value PhdThesis = theses_by_value
+types_by_value Report = reports_by_value
+types_by_value TechReport = reports_by_value
 types_by_value kind = []
 
 -- the type of BibTeX that a type and a value of `type` stand for

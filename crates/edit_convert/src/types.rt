@@ -67,8 +67,10 @@ fn type_by_value(kind: &EntryType, value: &str) -> Option<Printed>
     ensures { printed_of result ≡ spec.type_by_value kind.now (Some value.now) }
 {
     match kind {
-        EntryType::Thesis => thesis_by_value(value),
-        EntryType::Report => report_by_value(value),
+        EntryType::Thesis | EntryType::MastersThesis | EntryType::PhdThesis => {
+            thesis_by_value(value)
+        }
+        EntryType::Report | EntryType::TechReport => report_by_value(value),
         _ => None,
     }
 }
