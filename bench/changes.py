@@ -238,7 +238,7 @@ def canonical(entry, dialect):
     known = {}
     for name, text in entry.fields:
         known.setdefault(name, text)
-    kind = KINDS.get((entry.entry_type, known.get("type")))
+    kind = KINDS.get((TYPES["biblatex"].get(entry.entry_type, entry.entry_type), known.get("type")))
     if kind is None and "type" not in known and entry.entry_type in KINDS.values():
         kind = entry.entry_type
     left_out = {*DATE_PARTS, "type"} if kind else set(DATE_PARTS)
@@ -268,7 +268,7 @@ def unread_fields(source, after, said):
     old = {(it.key, name) for it in source for name, _ in it.fields}
     for entry in after:
         for name, text in entry.fields:
-            is_named = re.search(rf"note: {'date becomes' if name in DATE_PARTS else re.escape(name)}\b", said)
+            is_named = re.search(rf"note: {'date becomes' if name in DATE_PARTS else re.escape(name)}\b", said, re.I)
             if name not in STANDARD_FIELDS and (entry.key, name) not in old and not is_named:
                 yield Difference("unread field", entry.key, name, "", text)
 
