@@ -160,6 +160,8 @@ REASONS = [
     Reason(RULE, "BibTeX reads by its new name what it passed over", "to-bibtex|there-and-back", "bibtex", "print", is_longer),
     Reason(FAULT, "a child has the endyear of its parent beside a date of its own", "to-bibtex", "bibtex", "field changed",
            lambda it: it.difference.name == "date" and is_child(it)),
+    Reason(RULE, "a child doesn't inherit the field type of a thesis, which chose the type of the thesis", "to-bibtex", "bibtex", "field lost",
+           lambda it: it.difference.name == "type" and is_child(it)),
     Reason(FAULT, "the type of a thesis or report stays a key of BibLaTeX, which BibTeX prints", "to-bibtex", "bibtool", "kind printed"),
     Reason(RULE, "a new key that an entry has in another case is refused", "(add|rename)-case", "bibkit", "refused",
            lambda it: same_key(it) and "an entry has the key already" in it.difference.after),

@@ -46,7 +46,7 @@ class Endings(unittest.TestCase):
             biblatex.parse(TEXT)
 
     def test_a_status_that_is_none(self) -> None:
-        with self.ends_with(10), self.assertRaises(RuntimeError):
+        with self.ends_with(255), self.assertRaises(RuntimeError):
             native.call("biblatex_keys", b"")
 
     def test_not_utf8_and_refused(self) -> None:
