@@ -1,4 +1,4 @@
--- What gives way gives way to nothing that is there.
+-- A field gets no name, and a date no parts, that its entry already has.
 use Rattle.std.proofs.Common.{◌≡◌, ℕ, Bool, true, false, cond, List, [], ◌∷◌, refl, subst, Option, Some, None}
 use Rattle.std.specs.Prelude.{◌&&◌, ◌||◌, ◌==◌, codes, filter, length, nat_lt, not}
 use Rattle.std.specs.List.{find, list_any}
@@ -10,7 +10,7 @@ use Rattle.bib_tables.specs.EntryType.{entry_type_of}
 use Rattle.bib_tables.specs.declared.dialects.Dialect.{Dialect}
 use Rattle.bib_tables.specs.declared.dialects.Dialect.TheVariants.{Biblatex, Bibtex}
 use Rattle.edit_strings.specs.Collected.{single_text}
-use Rattle.edit_convert.specs.Conversions.{divides_date, exchanged_date, free_names, is_field_there, joined_date, literal_of, new_field_name, other_date_names, other_name, other_names, times_named, value_sides}
+use Rattle.edit_convert.specs.Conversions.{divides_date, date_to_divide, free_names, is_field_there, joined_date, literal_of, new_field_name, other_date_names, other_name, other_names, times_named, value_sides}
 use Rattle.edit_convert.specs.Dates.{Sides, part_names}
 use Rattle.edit_convert.specs.Laws.{IsDateOfParts}
 use Rattle.edit_convert.proofs.JoinedFacts.{joined_read}
@@ -22,7 +22,7 @@ word_case : (fields : List FieldReading) (w : Bool) (other name : List ℕ) (res
 word_case fields true other name rest free later is = let same : other ≡ name = cc in subst (λ n. is_field_there fields n ≡ false) same free
 word_case fields false other name rest free later is = later is
 
--- of some rows with one before them, which is free or isn't
+-- rows with one more row before them, which is free or isn't
 row_case : (fields : List FieldReading) (b : Bool) (row : List ℕ × List ℕ) (rows : List (List ℕ × List ℕ))
     (text name : List ℕ) → is_field_there fields row.1 ≡ b
     → (other_name rows text ≡ Some name → is_field_there fields name ≡ false)
@@ -54,7 +54,7 @@ sides_case true found sides is = refl
 sides_case false found sides is = absurd (cc)
 
 pub parts_apart : (dialect : Dialect) (e : EntryReading) (f : FieldReading) (sides : Sides)
-    → exchanged_date dialect e f ≡ Some sides → list_any (is_field_there e.fields) part_names ≡ false
+    → date_to_divide dialect e f ≡ Some sides → list_any (is_field_there e.fields) part_names ≡ false
 parts_apart dialect e f sides is =
     let divides : Bool = divides_date dialect e.fields in
     let both = sides_case (has_name (codes "date") f && divides) (value_sides (single_text f.value.pieces)) sides is in
@@ -64,7 +64,7 @@ none_first : (first rest : Bool) → (first || rest) ≡ false → first ≡ fal
 none_first true rest is = absurd (cc)
 none_first false rest is = refl
 
--- the parts of a date are joined where there is no date
+-- the parts of a date are joined only if there is no date
 pub joined_apart : (dialect : Dialect) (defines : Bool) (text : List ℕ) (e : EntryReading) (date : List ℕ)
     → joined_date dialect defines text e.fields ≡ Some date → is_field_there e.fields (codes "date") ≡ false
 joined_apart dialect defines text e date is =
@@ -81,7 +81,7 @@ joined_apart dialect defines text e date is =
     (list_any (is_field_there fields) (codes "endyear" ∷ codes "endmonth" ∷ codes "endday" ∷ []))
     (not-true there days.1)
 
--- and the date is the one that they are
+-- and the new date is the date of its parts
 pub joined_is_the_same : (dialect : Dialect) (defines : Bool) (text : List ℕ) (e : EntryReading) (date : List ℕ)
     → joined_date dialect defines text e.fields ≡ Some date → IsDateOfParts defines e.fields date
 joined_is_the_same dialect defines text e date is =

@@ -29,7 +29,7 @@ use Rattle.edit_convert.specs.Dates.{Side, SideNames, Sides, are_digits, braced_
 use Rattle.edit_entries.proofs.NewFieldFacts.{CanBePut, element_read}
 use Rattle.bib_text.proofs.ListFacts.{all_append}
 
--- ---- texts of ASCII without braces and backslashes, in braces
+-- ---- ASCII texts without braces and backslashes, in braces
 
 -- whether a byte is a character of ASCII that is neither a brace nor a backslash
 abbrev pub is_plain_ascii : ℕ → Bool
@@ -50,7 +50,7 @@ bytes_parts whole at (b ∷ bs) rest here all =
     (parts.plain (ascii_stands whole (bs ++ rest) at b fits.0 here) fits.1
     (bytes_parts whole (at + 1) bs rest (sym (drop-drop 1 at whole) ∙ ap (drop 1) here) both.1))
 
--- in braces they are read as a text
+-- in braces such a text reads as itself
 pub plain_read : (text : List ℕ) → list_all is_plain_ascii text ≡ true
     → CanBeRead (record { bytes = in_braces text; pieces = literal (text_at 1 text) ∷ [] })
 plain_read text all =
@@ -76,7 +76,7 @@ plain_read text all =
 date_plain : (c : ℕ) → is_date_byte c ≡ true → is_plain_ascii c ≡ true
 date_plain c digit = grind (arith, nat_tests)
 
--- and so are digits and hyphens
+-- in braces, digits and hyphens read as themselves
 pub date_bytes_read : (text : List ℕ) → list_all is_date_byte text ≡ true
     → CanBeRead (record { bytes = in_braces text; pieces = literal (text_at 1 text) ∷ [] })
 date_bytes_read text all = plain_read text (all_more is_date_byte is_plain_ascii date_plain text all)
@@ -87,12 +87,12 @@ digit_bytes (b ∷ bs) all =
     let both = and_parts (is_ascii_digit b) (list_all is_ascii_digit bs) all in
     and_from (is_date_byte b) (list_all is_date_byte bs) (rw both.0 refl) (digit_bytes bs both.1)
 
--- digits are, too
+-- in braces, digits read as themselves
 digits_read : (text : List ℕ) → list_all is_ascii_digit text ≡ true
     → CanBeRead (record { bytes = in_braces text; pieces = literal (text_at 1 text) ∷ [] })
 digits_read text all = date_bytes_read text (digit_bytes text all)
 
--- a plain name is read as an abbreviation
+-- a plain name reads as an abbreviation
 name_read : (name : List ℕ) → is_plain_name name ≡ true → CanBeRead (name_value name)
 name_read name is =
     let can = plain_can name is in
@@ -207,7 +207,7 @@ date_known text sides is =
     date_case (is_some (readable_value (date_of text))) (sides_of (slice_split (λ c. c == 47) text)) sides
     (sides_known (slice_split (λ c. c == 47) text) sides) is
 
--- ---- their fields
+-- ---- the fields of these parts
 
 -- the names of a side's fields are plain
 record ArePlain (names : SideNames) : Type 0 where

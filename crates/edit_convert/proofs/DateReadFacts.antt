@@ -1,4 +1,4 @@
--- Whether a text is a date, and which date three texts are, by what the calls that read them answer.
+-- Whether a text is a date, and which date three texts are, by the results of the calls that parse them.
 use Rattle.std.proofs.Common.{◌≡◌, ℕ, true, false, List, inl, inr, sym, ap, ◌∙◌, Option, Some, None, Result, Ok, Err}
 use Rattle.std.specs.Prelude.{IfOk, is_some, option_map}
 use Rattle.std.specs.Str.{IsUtf8}
@@ -23,7 +23,7 @@ pub date_is : (chunks : Value) (t : List ℕ) (date : Date) → IsUtf8 t → chu
     → readable_value (date_reading chunks) ≡ Some date → true ≡ is_some (readable_value (date_of t))
 date_is chunks t date utf8 is read = sym (ap (λ r. is_some (readable_value r)) (sym (verbatim_reading chunks t utf8 is)) ∙ ap is_some read)
 
--- a refusal that is none of memory
+-- an error that isn't out of memory
 unread : (read : Option Date) (may : TypeErrorKind → Type 0) (e : TypeError) → IsRefusal read may e
     → (e.kind ≡ OutOfMemory → ⊥) → read ≡ None
 unread read may e (inl memory) other = absurd (other (ap (λ x. x.kind) memory))

@@ -1,4 +1,4 @@
--- The parts of a date among an entry's fields that are joined.
+-- The parts of a date among an entry's fields, when they are joined.
 use Rattle.std.proofs.Common.{◌≡◌, ℕ, Bool, true, false, cond, List, Option, Some, None, refl}
 use Rattle.std.specs.Prelude.{◌&&◌, codes}
 use Rattle.std.specs.List.{find}
@@ -9,12 +9,12 @@ use Rattle.bib_tables.specs.declared.dialects.Dialect.{Dialect}
 use Rattle.bib_tables.specs.declared.dialects.Dialect.TheVariants.{Biblatex, Bibtex}
 use Rattle.edit_strings.specs.Collected.{single_text}
 use Rattle.edit_strings.proofs.NameFacts.{plain_can}
-use Rattle.edit_convert.specs.Conversions.{can_all_go_out, date_field, date_of_fields, date_of_parts, date_on_day, has_parts_once, joined_date, literal_of, month_of}
+use Rattle.edit_convert.specs.Conversions.{keep_comments, date_field, date_of_fields, date_of_parts, date_on_day, has_parts_once, joined_date, literal_of, month_of}
 use Rattle.edit_convert.proofs.DateFacts.{date_bytes_read}
 use Rattle.edit_entries.proofs.NewFieldFacts.{CanBePut}
 use Rattle.edit_convert.proofs.JoinedTextFacts.{IsJoined, joined_bytes, joined_known}
 
--- a year, a month and perhaps a day whose date this is
+-- a year, a month and perhaps a day with this date
 pub record ArePartsOf (years months : Option (List ℕ)) (day : Option FieldReading) (date : List ℕ) : Type 0 where
   pub year : List ℕ
   pub month : List ℕ
@@ -46,7 +46,7 @@ parts_known (Some year) (Some month) (Some f) date is = record {
   joined = day_known year month (single_text f.value.pieces) date is;
 }
 
--- what is known where parts are joined
+-- what is known if parts are joined
 pub record IsJoinedDate (defines : Bool) (fields : List FieldReading) (date : List ℕ) : Type 0 where
   pub once : has_parts_once fields ≡ true
   pub parts : ArePartsOf (literal_of (find (has_name (codes "year")) fields))
@@ -68,7 +68,7 @@ pub joined_read : (dialect : Dialect) (defines : Bool) (text : List ℕ) (fields
     → joined_date dialect defines text fields ≡ Some date → IsJoinedDate defines fields date
 joined_read Bibtex defines text fields date is = absurd (cc)
 joined_read Biblatex defines text fields date is =
-    let clear : Bool = can_all_go_out text fields in
+    let clear : Bool = keep_comments text fields in
     read_case defines fields date (has_parts_once fields && clear) (λ both. (and_parts (has_parts_once fields) clear both).0) is
 
 -- the field of their date can be put in

@@ -293,7 +293,7 @@ date_fails n m k year month day past =
 
 -- ---- the date of three fields
 
--- what is known of a text that the parts of a date give way to
+-- what is known of a text that replaces the parts of a date
 pub record IsJoined (year month : List ℕ) (day : Option (List ℕ)) (text : List ℕ) : Type 0 where
   pub date : Datetime
   pub read : three_fields_of year (Some month) day ≡ says (record { value = At date; uncertain = false; approximate = false })

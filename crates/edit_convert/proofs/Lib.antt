@@ -5,7 +5,7 @@ mod DateFacts
 mod DateReadFacts
 mod EntryEditFacts
 mod FollowingFacts
-mod GivingFacts
+mod ReplacementFacts
 mod JoinedFacts
 mod JoinedTextFacts
 mod NewNameFacts

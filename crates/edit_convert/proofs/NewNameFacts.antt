@@ -13,13 +13,13 @@ use Rattle.bib_tables.specs.declared.dialects.Dialect.{Dialect}
 use Rattle.bib_tables.specs.declared.dialects.Dialect.TheVariants.{Biblatex, Bibtex}
 use Rattle.edit_strings.specs.Collecting.{is_plain_name}
 use Rattle.edit_strings.proofs.NameFacts.{plain_can}
-use Rattle.edit_convert.specs.Conversions.{exchanged_names, is_field_there, is_unnamed_type, new_field_name, other_name, other_names, other_type, type_for}
+use Rattle.edit_convert.specs.Conversions.{replaced_names, is_field_there, is_unnamed_type, new_field_name, other_name, other_names, other_type, type_for}
 use Rattle.edit_convert.specs.Types.{PrintedType}
 use Rattle.edit_convert.proofs.TypeFacts.{IsPrinted}
 
 -- ---- types
 
--- the name of a type is plain, and no other block's
+-- the name of a type is plain and not that of another kind of block
 type_plain : (kind : EntryType) → (is_plain_name (entry_type_name kind) ≡ true) × (block_kind (entry_type_name kind) ≡ BlockKind.entry)
 type_plain Article = (refl, refl)
 type_plain Book = (refl, refl)
@@ -130,7 +130,7 @@ names_plain : (dialect : Dialect) (kind : EntryType) → AllByRecursion IsPlainR
 names_plain Biblatex kind = biblatex_plain
 names_plain Bibtex kind = bibtex_plain kind
 
--- of some rows with one before them, which is kept or isn't
+-- rows with one more row before them, which is kept or isn't
 kept_case : (b : Bool) (row : List ℕ × List ℕ) (rows : List (List ℕ × List ℕ)) → IsPlainRow row
     → AllByRecursion IsPlainRow rows → AllByRecursion IsPlainRow (cond b (row ∷ rows) rows)
 kept_case true row rows here all = (here, all)
@@ -157,4 +157,4 @@ pub name_known : (dialect : Dialect) (e : EntryReading) (f : FieldReading) (name
 name_known dialect e f name is =
     let kind = entry_type_of e.kind.text in
     let all = kept_plain (λ row. not (is_field_there e.fields row.1)) (other_names dialect kind) (names_plain dialect kind) in
-    (plain_can name (found_plain (exchanged_names dialect e) f.name.text name all is)).0
+    (plain_can name (found_plain (replaced_names dialect e) f.name.text name all is)).0

@@ -1,10 +1,10 @@
--- What comes of the elements of a list and their indices, as they are gone through.
+-- The loop over a list that adds the results for each element and its index.
 use Rattle.std.proofs.Common.{◌≡◌, ℕ, suc, ◌+◌, ◌<◌, ◌≤◌, List, ◌∷◌, ◌++◌, length, map, drop, get_or, sym, ap, ◌∙◌, append_assoc, append-nil, arith}
 use Rattle.std.proofs.lemmas.List.{drop_all, drop_more}
 use Rattle.edit_convert.specs.Notes.{indexed}
 
 module _ {A B C : Type 0} (view : A → B) (each : ℕ → B → List C) (xs : List A) (i : ℕ) where
-  -- what comes of one more element was added
+  -- the results for one more element were added
   pub indexed_step : (x : A) (within : i < length xs) (is : x ≡ get_or xs i x) (old new all : List C)
       → new ≡ old ++ each i (view x) → old ++ indexed each i (map view (drop i xs)) ≡ all
       → new ++ indexed each (i + 1) (map view (drop (i + 1) xs)) ≡ all
@@ -16,6 +16,6 @@ module _ {A B C : Type 0} (view : A → B) (each : ℕ → B → List C) (xs : L
       ∙ ap (λ n. old ++ (each i (view x) ++ indexed each n rest)) next
       ∙ ap (λ l. old ++ indexed each i l) (sym left) ∙ so_far
 
-  -- of all of them
+  -- for all of them
   pub indexed_end : (old all : List C) → length xs ≤ i → old ++ indexed each i (map view (drop i xs)) ≡ all → old ≡ all
   indexed_end old all past so_far = sym (append-nil old) ∙ ap (λ l. old ++ indexed each i (map view l)) (sym (drop_all i xs past)) ∙ so_far

@@ -13,11 +13,11 @@ use Rattle.edit_entries.specs.Documents.{has_name}
 use Rattle.edit_entries.proofs.NewFieldFacts.{CanBePut}
 use Rattle.edit_strings.proofs.NameFacts.{plain_can}
 use Rattle.edit_strings.specs.Collecting.{is_plain_name}
-use Rattle.edit_convert.specs.Conversions.{is_field_there, literal_of, missing_type, printed_type, read_type, times_named, typed_among}
+use Rattle.edit_convert.specs.Conversions.{is_field_there, literal_of, missing_type, printed_type, read_type, times_named, type_if_named}
 use Rattle.edit_convert.specs.Types.{PrintedType, reports_by_value, theses_by_value, type_by_value, type_field, type_value, types_by_value}
 use Rattle.edit_convert.proofs.DateFacts.{is_plain_ascii, plain_read}
 
--- a type's name is plain, and no other block's; its text has neither braces nor backslashes
+-- a type's name is plain and not that of another kind of block, and its text can be put in
 pub record IsPrinted (type : PrintedType) : Type 0 where
   pub plain : is_plain_name type.name ≡ true
   pub entry : block_kind type.name ≡ BlockKind.entry
@@ -26,7 +26,7 @@ pub record IsPrinted (type : PrintedType) : Type 0 where
 text_put : (text : List ℕ) → list_all is_plain_ascii text ≡ true → CanBePut (type_field text)
 text_put text all = record { name = (plain_can (codes "type") refl).0; value = plain_read text all }
 
--- ---- the types that values of `type` stand for
+-- ---- the types that values of `type` mean
 
 theses_printed : AllByRecursion (λ row. IsPrinted row.1) theses_by_value
 theses_printed = (
@@ -69,15 +69,15 @@ read_printed kind fields type is = by_case (times_named fields (codes "type") ==
     by_case true same = value_printed kind (literal_of (find (has_name (codes "type")) fields)) type same
     by_case false same = absurd (cc)
 
--- the type of BibTeX that an entry's type and its `type` stand for can take its place
+-- the type of BibTeX that an entry's type and its field `type` mean can replace the entry's type
 pub type_printed : (dialect : Dialect) (kind : EntryType) (fields : List FieldReading) (type : PrintedType)
     → printed_type dialect kind fields ≡ Some type → IsPrinted type
 type_printed Biblatex kind fields type is = absurd (cc)
 type_printed Bibtex kind fields type is = read_printed kind fields type is
 
--- what a style prints for it can be put in
+-- the text that styles print for it can be put in
 pub typed_put : (dialect : Dialect) (kind : EntryType) (fields : List FieldReading) (f : FieldReading) (type : PrintedType)
-    → typed_among (printed_type dialect kind fields) f ≡ Some type → CanBePut (type_field type.text)
+    → type_if_named (printed_type dialect kind fields) f ≡ Some type → CanBePut (type_field type.text)
 typed_put dialect kind fields f type is = by_case (has_name (codes "type") f) is
   where
     by_case : (b : Bool) → cond b (printed_type dialect kind fields) None ≡ Some type → CanBePut (type_field type.text)

@@ -1,5 +1,5 @@
 -- Meaning: words of public contracts.
--- A file with the types of entries and the fields that BibLaTeX has, or BibTeX. Values stay as they stand.
+-- A file with its entry types and fields converted to those of BibLaTeX or of BibTeX. Values are kept, except those of dates and types.
 use Rattle.std.specs.Prelude.{◌==◌, ◌&&◌, ℕ, Bool, true, false, not, ◌||◌, if◌then◌else◌, List, [], ◌∷◌, ◌++◌, codes, filter, length, nat_lt, bytes_eq, is_some, Option, Some, None}
 use Rattle.std.specs.List.{find, list_any}
 use Rattle.bib_syntax.specs.Grammar.{is_word}
@@ -19,18 +19,18 @@ use Rattle.bib_text.specs.Characters as char
 use Rattle.edit_convert.specs.Dates.{Sides, braced_field, date_sides, from_names, more_fields, part_names, to_fields, side_year}
 use Rattle.edit_convert.specs.Joined.{is_month_name, joined_text, month_value}
 
--- whether a type is none of those that BibTeX and BibLaTeX have
+-- whether neither BibTeX nor BibLaTeX has a type
 abbrev pub is_unnamed_type : EntryType → Bool
 is_unnamed_type (Unknown name) = true
 is_unnamed_type kind = false
 
--- the name of the type that a dialect has for a type, if that is another one; a type that neither has stays
+-- the name of the type that a dialect uses for a type, if it is another one; a type that neither dialect has is kept
 abbrev pub other_type : Dialect → EntryType → Option (List ℕ)
 other_type dialect kind =
     if is_unnamed_type kind || bytes_eq (entry_type_name (kind_in dialect kind)) (entry_type_name kind) then None
     else Some (entry_type_name (kind_in dialect kind))
 
--- the names of fields for which a dialect has others in entries of a type, each with the other
+-- the names of fields that a dialect calls otherwise in entries of a type, each with the dialect's name
 abbrev pub other_names : Dialect → EntryType → List (List ℕ × List ℕ)
 other_names Biblatex kind = biblatex_names
 other_names Bibtex kind = names_in kind
@@ -39,58 +39,58 @@ other_names Bibtex kind = names_in kind
 abbrev pub is_field_there : List FieldReading → List ℕ → Bool
 is_field_there fields name = list_any (has_name name) fields
 
--- those of some names whose other name none of the fields has
+-- the rows whose second name no field has
 abbrev pub free_names : List FieldReading → List (List ℕ × List ℕ) → List (List ℕ × List ℕ)
 free_names fields names = filter (λ row. not (is_field_there fields row.1)) names
 
--- the other name beside a name, in any ASCII case
+-- the second name of the first row whose first name is a name, in any ASCII case
 abbrev pub other_name : List (List ℕ × List ℕ) → List ℕ → Option (List ℕ)
 other_name [] name = None
 other_name (row ∷ rows) name = if is_word name row.0 then Some row.1 else other_name rows name
 
--- the names of an entry's fields that give way, each with the one that takes its place: the type of the entry is its own
-abbrev pub exchanged_names : Dialect → EntryReading → List (List ℕ × List ℕ)
-exchanged_names dialect e = free_names e.fields (other_names dialect (entry_type_of e.kind.text))
+-- the names of fields that are replaced in an entry, each with its new name. The type is the entry's type before the conversion.
+abbrev pub replaced_names : Dialect → EntryReading → List (List ℕ × List ℕ)
+replaced_names dialect e = free_names e.fields (other_names dialect (entry_type_of e.kind.text))
 
--- the name that takes the place of that of an entry's field, if one does
+-- the new name of an entry's field, if its name is replaced
 abbrev pub new_field_name : Dialect → EntryReading → FieldReading → Option (List ℕ)
-new_field_name dialect e f = other_name (exchanged_names dialect e) f.name.text
+new_field_name dialect e f = other_name (replaced_names dialect e) f.name.text
 
--- how many of some fields have a name, in any ASCII case
+-- the number of fields with a name, in any ASCII case
 abbrev pub times_named : List FieldReading → List ℕ → ℕ
 times_named fields name = length (filter (has_name name) fields)
 
--- whether a date may give way to fields of its parts: there is one, and none of these fields is there already
+-- whether a date may be replaced by fields of its parts: there is one `date`, and the entry has none of these fields
 abbrev pub is_date_free : List FieldReading → Bool
 is_date_free fields = (times_named fields (codes "date") == 1) && not (list_any (is_field_there fields) part_names)
 
--- the sides of the date that a value is, if it is one literal
+-- the sides of a date, if its value is one literal that is such a date
 abbrev pub value_sides : Option (List ℕ) → Option Sides
 value_sides None = None
 value_sides (Some text) = date_sides text
 
--- whether an entry's date gives way to fields of its parts: for BibTeX, where it may
+-- whether an entry's date is replaced by fields of its parts: for BibTeX, if it may be
 abbrev pub divides_date : Dialect → List FieldReading → Bool
 divides_date Biblatex fields = false
 divides_date Bibtex fields = is_date_free fields
 
--- the sides of the date that a field is, where an entry's date gives way, if it is one
-abbrev pub date_among : Bool → FieldReading → Option Sides
-date_among divides f = if has_name (codes "date") f && divides then value_sides (single_text f.value.pieces) else None
+-- the sides of a field that is a date, if the entry's date is to be divided
+abbrev pub date_if_divided : Bool → FieldReading → Option Sides
+date_if_divided divides f = if has_name (codes "date") f && divides then value_sides (single_text f.value.pieces) else None
 
--- the sides of the date that gives way, if an entry's field is it
-abbrev pub exchanged_date : Dialect → EntryReading → FieldReading → Option Sides
-exchanged_date dialect e f = date_among (divides_date dialect e.fields) f
+-- the sides of a field of an entry, if it is the date that is replaced by fields of its parts
+abbrev pub date_to_divide : Dialect → EntryReading → FieldReading → Option Sides
+date_to_divide dialect e f = date_if_divided (divides_date dialect e.fields) f
 
--- whether a field is a part of a date: its year, its month or its day
+-- whether a field is a part of a date: a year, a month or a day
 abbrev pub is_date_part : FieldReading → Bool
 is_date_part f = has_name (codes "year") f || has_name (codes "month") f || has_name (codes "day") f
 
--- the fields beside which no parts are joined
+-- the fields that prevent the parts of a date from being joined
 abbrev pub other_date_names : List (List ℕ)
 other_date_names = codes "date" ∷ codes "endyear" ∷ codes "endmonth" ∷ codes "endday" ∷ []
 
--- whether a date's parts may be joined: there is one year, one month and at most one day, and none of the other fields
+-- whether there is one year, one month and at most one day, and none of the other fields of dates
 abbrev pub has_parts_once : List FieldReading → Bool
 has_parts_once fields =
     (times_named fields (codes "year") == 1)
@@ -100,166 +100,168 @@ has_parts_once fields =
     (nat_lt (times_named fields (codes "day")) 2
     && not (list_any (is_field_there fields) other_date_names)))
 
--- whether no comment stands between a field and the one after it
+-- whether no comment occurs between a field and the next one
 abbrev pub is_comment_free : List ℕ → FieldReading → List FieldReading → Bool
 is_comment_free text f [] = true
 is_comment_free text f (g ∷ gs) = not (has_percent text f.value.end g.name.start)
 
--- whether a field can go out: it is no part of a date that has another part after it, or no comment stands after it
-abbrev pub can_go_out : List ℕ → FieldReading → List FieldReading → Bool
-can_go_out text f following = not (is_date_part f && list_any is_date_part following) || is_comment_free text f following
+-- whether joining the parts of a date removes no comment after a field: it doesn't remove the field, or no comment follows it. The
+-- field is removed if it is a part and another part follows.
+abbrev pub keeps_comments : List ℕ → FieldReading → List FieldReading → Bool
+keeps_comments text f following = not (is_date_part f && list_any is_date_part following) || is_comment_free text f following
 
--- whether each of some fields can
-abbrev pub can_all_go_out : List ℕ → List FieldReading → Bool
-can_all_go_out text [] = true
-can_all_go_out text (f ∷ fs) = can_go_out text f fs && can_all_go_out text fs
+-- whether this holds for each field
+abbrev pub keep_comments : List ℕ → List FieldReading → Bool
+keep_comments text [] = true
+keep_comments text (f ∷ fs) = keeps_comments text f fs && keep_comments text fs
 
--- the text of a field, if there is one and its value is one literal
+-- the text of a field that is there, if its value is one literal
 abbrev pub literal_of : Option FieldReading → Option (List ℕ)
 literal_of None = None
 literal_of (Some f) = single_text f.value.pieces
 
--- the type of BibTeX that an entry's type and its one field `type` stand for, if they stand for one
+-- the type of BibTeX that an entry's type and its field `type` mean, if it has one such field and they mean one
 abbrev pub read_type : EntryType → List FieldReading → Option PrintedType
 read_type kind fields =
     if times_named fields (codes "type") == 1 then type_by_value kind (literal_of (find (has_name (codes "type")) fields)) else None
 
--- the same for BibTeX; BibLaTeX has no use for it
+-- the type of BibTeX that is written instead of a field `type`; for BibLaTeX there is none
 abbrev pub printed_type : Dialect → EntryType → List FieldReading → Option PrintedType
 printed_type Biblatex kind fields = None
 printed_type Bibtex kind fields = read_type kind fields
 
--- the value of `type` that an entry of a type needs for BibLaTeX: if it has none
+-- the value of the field `type` that is added to an entry: for BibLaTeX, if the type needs one and the entry has no field `type`
 abbrev pub missing_type : Dialect → EntryType → List FieldReading → Option (List ℕ)
 missing_type Biblatex kind fields = if is_field_there fields (codes "type") then None else type_value kind
 missing_type Bibtex kind fields = None
 
--- the text of a month, if there is one
+-- the text of a month, if there is such a field
 abbrev pub month_of : Bool → Option FieldReading → Option (List ℕ)
 month_of defines None = None
 month_of defines (Some f) = month_value defines f.value.pieces
 
--- the text of the date of a year, a month and a day, if the day is one literal
+-- the text of the date with a year, a month and a day, if the day is one literal
 abbrev pub date_on_day : List ℕ → List ℕ → Option (List ℕ) → Option (List ℕ)
 date_on_day year month None = None
 date_on_day year month (Some day) = joined_text year month (Some day)
 
--- the text of the date of a year, a month and perhaps a field of a day
+-- the text of the date with a year and a month, and with a day if there is such a field
 abbrev pub date_of_parts : Option (List ℕ) → Option (List ℕ) → Option FieldReading → Option (List ℕ)
 date_of_parts None month day = None
 date_of_parts (Some year) None day = None
 date_of_parts (Some year) (Some month) None = joined_text year month None
 date_of_parts (Some year) (Some month) (Some day) = date_on_day year month (single_text day.value.pieces)
 
--- the text of the date that the parts among an entry's fields are
+-- the text of the date whose parts are among an entry's fields
 abbrev pub date_of_fields : Bool → List FieldReading → Option (List ℕ)
 date_of_fields defines fields =
     date_of_parts (literal_of (find (has_name (codes "year")) fields))
     (month_of defines (find (has_name (codes "month")) fields)) (find (has_name (codes "day")) fields)
 
--- the text of the date that takes the place of its parts among an entry's fields, if one does: for BibLaTeX, where they may be joined
+-- the text of the date that replaces its parts among an entry's fields, if they are joined: for BibLaTeX, if there is one of each, no
+-- other date, and no comment that would be removed
 abbrev pub joined_date : Dialect → Bool → List ℕ → List FieldReading → Option (List ℕ)
 joined_date Biblatex defines text fields =
-    if has_parts_once fields && can_all_go_out text fields then date_of_fields defines fields else None
+    if has_parts_once fields && keep_comments text fields then date_of_fields defines fields else None
 joined_date Bibtex defines text fields = None
 
--- whether a file defines an abbreviation of a month itself, in any ASCII case
+-- whether a file defines the abbreviation of a month, in any ASCII case
 abbrev pub defines_month : List FieldReading → Bool
 defines_month abbreviations = list_any (λ f. is_month_name f.name.text) abbreviations
 
--- the text of the date that parts are joined to, if a field is one of them
-abbrev pub joined_among : Option (List ℕ) → FieldReading → Option (List ℕ)
-joined_among joined f = if is_date_part f then joined else None
+-- the text of the joined date, if a field is one of its parts
+abbrev pub date_if_part : Option (List ℕ) → FieldReading → Option (List ℕ)
+date_if_part joined f = if is_date_part f then joined else None
 
--- what takes the place of a field: the field with another name, what a style prints for a type, fields of a date's parts in a text that
--- defines an abbreviation of a month or doesn't, or with the other parts one date
-pub data Exchanged : Type 0 where
-  renamed : List ℕ → Exchanged
-  typed : List ℕ → Exchanged
-  divided : Bool → Sides → Exchanged
-  joined : List ℕ → Exchanged
+-- what replaces a field: the field with another name, the text that styles print for a type, the parts of a date (with its sides, and
+-- whether the file defines the abbreviation of a month), or together with the other parts a date
+pub data Replacement : Type 0 where
+  with_name : List ℕ → Replacement
+  with_type : List ℕ → Replacement
+  with_parts : Bool → Sides → Replacement
+  with_date : List ℕ → Replacement
 
--- a date, or else another name, or else a type, or else the parts of a date, if there is one of them
-abbrev pub exchanged_for : Bool → Option (List ℕ) → Option (List ℕ) → Option PrintedType → Option Sides → Option Exchanged
-exchanged_for defines (Some date) name type sides = Some (Exchanged.joined date)
-exchanged_for defines None (Some name) type sides = Some (Exchanged.renamed name)
-exchanged_for defines None None (Some type) sides = Some (Exchanged.typed type.text)
-exchanged_for defines None None None (Some sides) = Some (Exchanged.divided defines sides)
-exchanged_for defines None None None None = None
+-- the first that there is: a joined date, another name, a type, the sides of a date
+abbrev pub first_replacement : Bool → Option (List ℕ) → Option (List ℕ) → Option PrintedType → Option Sides → Option Replacement
+first_replacement defines (Some date) name type sides = Some (Replacement.with_date date)
+first_replacement defines None (Some name) type sides = Some (Replacement.with_name name)
+first_replacement defines None None (Some type) sides = Some (Replacement.with_type type.text)
+first_replacement defines None None None (Some sides) = Some (Replacement.with_parts defines sides)
+first_replacement defines None None None None = None
 
--- a type, if a field is `type`
-abbrev pub typed_among : Option PrintedType → FieldReading → Option PrintedType
-typed_among type f = if has_name (codes "type") f then type else None
+-- a type, if a field's name is `type`
+abbrev pub type_if_named : Option PrintedType → FieldReading → Option PrintedType
+type_if_named type f = if has_name (codes "type") f then type else None
 
--- what takes the place of an entry's field, if anything does, in a text that defines an abbreviation of a month or doesn't
-abbrev pub exchanged_field : Dialect → Bool → List ℕ → EntryReading → FieldReading → Option Exchanged
-exchanged_field dialect defines text e f =
-    exchanged_for defines (joined_among (joined_date dialect defines text e.fields) f) (new_field_name dialect e f)
-    (typed_among (printed_type dialect (entry_type_of e.kind.text) e.fields) f) (exchanged_date dialect e f)
+-- what replaces an entry's field, if anything does. `defines` is whether the file defines the abbreviation of a month.
+abbrev pub field_replacement : Dialect → Bool → List ℕ → EntryReading → FieldReading → Option Replacement
+field_replacement dialect defines text e f =
+    first_replacement defines (date_if_part (joined_date dialect defines text e.fields) f) (new_field_name dialect e f)
+    (type_if_named (printed_type dialect (entry_type_of e.kind.text) e.fields) f) (date_to_divide dialect e f)
 
--- the field of a date
+-- a field `date`
 abbrev pub date_field : List ℕ → NewField
 date_field date = braced_field (codes "date") date
 
--- whether a field before others can be removed: one follows it, and no comment stands between the two
+-- whether a field can be removed: another one follows, with no comment between the two
 abbrev pub can_be_removed : List ℕ → FieldReading → List FieldReading → Bool
 can_be_removed text f [] = false
 can_be_removed text f (g ∷ gs) = is_comment_free text f (g ∷ gs)
 
--- the change of a field of a text before others, given what replaces it. The last part of a date is replaced by the date, and the parts
--- before it are removed. A type that BibTeX has is removed; if it can't be, it says what a style prints.
-abbrev pub field_change : List ℕ → FieldReading → List FieldReading → Option Exchanged → FieldChange
-field_change text f following None = FieldChange.stays
-field_change text f following (Some (Exchanged.renamed name)) = FieldChange.renamed name
-field_change text f following (Some (Exchanged.typed printed)) =
-    if can_be_removed text f following then FieldChange.gone else FieldChange.replaced (type_field printed) []
-field_change text f following (Some (Exchanged.divided defines sides)) =
+-- the change of a field before others, by what replaces it. The last part of a date is replaced by the date, and the parts before it are
+-- removed. A `type` that became the entry's type is removed; if it can't be, its value becomes what styles print for the type.
+abbrev pub field_change : List ℕ → FieldReading → List FieldReading → Option Replacement → FieldChange
+field_change text f following None = FieldChange.kept
+field_change text f following (Some (Replacement.with_name name)) = FieldChange.renamed name
+field_change text f following (Some (Replacement.with_type printed)) =
+    if can_be_removed text f following then FieldChange.removed else FieldChange.replaced (type_field printed) []
+field_change text f following (Some (Replacement.with_parts defines sides)) =
     FieldChange.replaced (side_year from_names sides.from) (more_fields defines from_names sides.from ++ to_fields defines sides.to)
-field_change text f following (Some (Exchanged.joined date)) =
-    if list_any is_date_part following then FieldChange.gone else FieldChange.replaced (date_field date) []
+field_change text f following (Some (Replacement.with_date date)) =
+    if list_any is_date_part following then FieldChange.removed else FieldChange.replaced (date_field date) []
 
--- the same, if a value of `type` waits for a field that stays: it comes before that one
-abbrev pub change_after : List ℕ → FieldReading → Option (List ℕ) → List FieldReading → Option Exchanged → FieldChange
-change_after text f (Some value) following None = FieldChange.preceded (type_field value) (char.space ∷ [])
-change_after text f waiting following exchanged = field_change text f following exchanged
+-- the changes of fields, by what replaces each
+abbrev pub field_changes : List ℕ → (FieldReading → Option Replacement) → List FieldReading → List FieldChange
+field_changes text replacement [] = []
+field_changes text replacement (f ∷ fs) = field_change text f fs (replacement f) ∷ field_changes text replacement fs
 
--- what waits after a field
-abbrev pub waits_after : Option (List ℕ) → Option Exchanged → Option (List ℕ)
-waits_after waiting None = None
-waits_after waiting (Some exchanged) = waiting
+-- these changes, with a new field before the first field that is kept
+abbrev pub with_field_before_kept : NewField → List FieldChange → List FieldChange
+with_field_before_kept new [] = []
+with_field_before_kept new (FieldChange.kept ∷ changes) = FieldChange.preceded new (char.space ∷ []) ∷ changes
+with_field_before_kept new (change ∷ changes) = change ∷ with_field_before_kept new changes
 
--- the changes of some fields of a text one after another, given what replaces each, and a value of `type` that is still to be added
-abbrev pub field_changes : List ℕ → (FieldReading → Option Exchanged) → Option (List ℕ) → List FieldReading → List FieldChange
-field_changes text exchanged waiting [] = []
-field_changes text exchanged waiting (f ∷ fs) =
-    change_after text f waiting fs (exchanged f) ∷ field_changes text exchanged (waits_after waiting (exchanged f)) fs
+-- the same with a field `type`, if it is missing
+abbrev pub with_missing_type : Option (List ℕ) → List FieldChange → List FieldChange
+with_missing_type None changes = changes
+with_missing_type (Some value) changes = with_field_before_kept (type_field value) changes
 
--- whether one of some fields stays
-abbrev pub stays_one : (FieldReading → Option Exchanged) → List FieldReading → Bool
-stays_one exchanged fields = list_any (λ f. not (is_some (exchanged f))) fields
+-- whether a field is kept
+abbrev pub keeps_one : (FieldReading → Option Replacement) → List FieldReading → Bool
+keeps_one replacement fields = list_any (λ f. not (is_some (replacement f))) fields
 
--- the name of the type that takes the place of an entry's, given that of BibTeX, a missing value of `type`, and whether a field
--- stays, without which the value isn't added
+-- the new name of an entry's type, if it is replaced: by the type of BibTeX that its field `type` means, or else by the dialect's type.
+-- If a missing field `type` can't be added, since no field is kept, the type is kept too.
 abbrev pub type_for : Dialect → EntryType → Option PrintedType → Option (List ℕ) → Bool → Option (List ℕ)
-type_for dialect kind (Some type) missing stays = Some type.name
-type_for dialect kind None None stays = other_type dialect kind
-type_for dialect kind None (Some value) stays = if stays then other_type dialect kind else None
+type_for dialect kind (Some type) missing keeps = Some type.name
+type_for dialect kind None None keeps = other_type dialect kind
+type_for dialect kind None (Some value) keeps = if keeps then other_type dialect kind else None
 
--- what becomes of an entry for a dialect, in a text that defines an abbreviation of a month or doesn't
+-- the change of an entry for a dialect. `defines` is whether the file defines the abbreviation of a month.
 abbrev pub conversion : Dialect → Bool → List ℕ → EntryReading → EntryChange
 conversion dialect defines text e =
     let kind = entry_type_of e.kind.text in
-    let exchanged = exchanged_field dialect defines text e in
+    let replacement = field_replacement dialect defines text e in
     let missing = missing_type dialect kind e.fields in
     record {
-      kind = type_for dialect kind (printed_type dialect kind e.fields) missing (stays_one exchanged e.fields);
-      fields = field_changes text exchanged missing e.fields;
+      kind = type_for dialect kind (printed_type dialect kind e.fields) missing (keeps_one replacement e.fields);
+      fields = with_missing_type missing (field_changes text replacement e.fields);
     }
 
--- what becomes of the entries of a document for a dialect
+-- the changes of a document's entries for a dialect
 abbrev pub document_conversion : Dialect → Document → EntryReading → EntryChange
 document_conversion dialect d = conversion dialect (defines_month d.says.abbreviations) d.text
 
--- a text is a document's with the types and the fields of a dialect, and is read so
+-- a text is a document's, converted to a dialect, and reads so
 abbrev pub IsConverted : Dialect → Document → List ℕ → Type 0
 IsConverted dialect d text = IsChanged (document_conversion dialect d) d text

@@ -1,5 +1,5 @@
 -- Meaning: words of public contracts.
--- Dates in fields of their own, as BibTeX has them. Years and days stay as they stand in the date.
+-- The parts of a date in fields of their own, as BibTeX has them. Years and days are copied from the date.
 use Rattle.std.specs.Prelude.{ℕ, Bool, ◌&&◌, ◌==◌, if◌then◌else◌, List, [], ◌∷◌, ◌++◌, length, codes, is_some, Option, Some, None}
 use Rattle.std.specs.Char.{is_ascii_digit}
 use Rattle.std.specs.List.{list_all, slice_split}
@@ -30,22 +30,22 @@ numbered_months =
     ∷ (codes "07", July) ∷ (codes "08", August) ∷ (codes "09", September) ∷ (codes "10", October) ∷ (codes "11", November)
     ∷ (codes "12", December) ∷ []
 
--- a side of a date: its year, and if they are there its month and its day
+-- a side of a date: its year, and its month and day if it has them
 pub record Side : Type 0 where
   pub year : List ℕ
   pub month : Option Month
   pub day : Option (List ℕ)
 
--- whether a text is so many digits
+-- whether a text is a number of digits
 abbrev pub are_digits : ℕ → List ℕ → Bool
 are_digits count text = (length text == count) && list_all is_ascii_digit text
 
--- a side with a month, if there is one
+-- a side with a month, if the month is known
 abbrev pub month_side : List ℕ → Option Month → Option (List ℕ) → Option Side
 month_side year None day = None
 month_side year (Some month) day = Some (record { year = year; month = Some month; day = day })
 
--- the side that some parts are: a year in four digits, and perhaps a month and a day in two
+-- the side with these parts: a year in four digits, and perhaps a month and a day in two each
 abbrev pub side_of : List (List ℕ) → Option Side
 side_of [] = None
 side_of (year ∷ []) = if are_digits 4 year then Some (record { year = year; month = None; day = None }) else None
@@ -54,7 +54,7 @@ side_of (year ∷ month ∷ day ∷ []) =
     if are_digits 4 year && are_digits 2 day then month_side year (value_named numbered_months month) (Some day) else None
 side_of (year ∷ month ∷ day ∷ other ∷ rest) = None
 
--- the side that the parts of a text between its hyphens are
+-- the side whose parts are separated by hyphens in a text
 abbrev pub side_in : List ℕ → Option Side
 side_in text = side_of (slice_split (λ c. c == char.hyphen) text)
 
@@ -63,26 +63,26 @@ pub record Sides : Type 0 where
   pub from : Side
   pub to : Option Side
 
--- the one side of a date, if it is one
+-- a date with one side
 abbrev pub one_side : Option Side → Option Sides
 one_side None = None
 one_side (Some side) = Some (record { from = side; to = None })
 
--- the two sides of a range, if each is one
+-- a range with two sides
 abbrev pub two_sides : Option Side → Option Side → Option Sides
 two_sides None to = None
 two_sides (Some from) None = None
 two_sides (Some from) (Some to) = Some (record { from = from; to = Some to })
 
--- the sides that some texts are
+-- the date with one side, or the range with two
 abbrev pub sides_of : List (List ℕ) → Option Sides
 sides_of [] = None
 sides_of (from ∷ []) = one_side (side_in from)
 sides_of (from ∷ to ∷ []) = two_sides (side_in from) (side_in to)
 sides_of (from ∷ to ∷ other ∷ rest) = None
 
--- the sides of a date or a range that BibTeX has fields for: it is read as one, and is written with a year in four digits, and perhaps
--- a month and a day in two, on each side
+-- the sides of a date or a range that BibTeX has fields for: it reads as a date, and each side is a year in four digits, perhaps with a
+-- month and a day in two each
 abbrev pub date_sides : List ℕ → Option Sides
 date_sides text = if is_some (readable_value (date_of text)) then sides_of (slice_split (λ c. c == char.slash) text) else None
 
@@ -92,23 +92,23 @@ pub record SideNames : Type 0 where
   pub month : List ℕ
   pub day : List ℕ
 
--- these names after a prefix
+-- the names with a prefix
 abbrev pub names_after : List ℕ → SideNames
 names_after prefix = record { year = prefix ++ codes "year"; month = prefix ++ codes "month"; day = prefix ++ codes "day" }
 
--- those of a date, and of the first side of a range
+-- the names for a date, and for the first side of a range
 abbrev pub from_names : SideNames
 from_names = names_after []
 
--- those of the second side of a range
+-- the names for the second side of a range
 abbrev pub to_names : SideNames
 to_names = names_after (codes "end")
 
--- all of them
+-- all these names
 abbrev pub part_names : List (List ℕ)
 part_names = codes "year" ∷ codes "month" ∷ codes "day" ∷ codes "endyear" ∷ codes "endmonth" ∷ codes "endday" ∷ []
 
--- the field of a month: its abbreviation, or its name in a text that defines an abbreviation of a month itself
+-- the field of a month: its abbreviation, or its name if the file defines the abbreviation of a month
 abbrev pub month_as_field : Bool → List ℕ → Month → NewField
 month_as_field defines name month = if defines then braced_field name (month_name month) else bare_field name (month_abbreviation month)
 
@@ -135,7 +135,7 @@ abbrev pub to_fields : Bool → Option Side → List NewField
 to_fields defines None = []
 to_fields defines (Some side) = side_year to_names side ∷ more_fields defines to_names side
 
--- the fields of a date's parts as they are written
+-- the text of the fields of a date's parts
 abbrev pub written_sides : Bool → Sides → List ℕ
 written_sides defines sides =
     new_field_text (side_year from_names sides.from)

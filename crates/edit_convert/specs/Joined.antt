@@ -1,5 +1,6 @@
 -- Meaning: words of public contracts.
--- A year, a month and perhaps a day as the text of one date, as BibLaTeX has them: of the date that the library reads of the three fields.
+-- A year, a month and perhaps a day joined to the text of one date, as BibLaTeX has it: the date that the library reads from the three
+-- fields.
 use Rattle.std.specs.Prelude.{ℕ, Bool, true, ◌&&◌, ◌||◌, if◌then◌else◌, List, [], ◌∷◌, is_some, not, Option, Some, None}
 use Rattle.std.specs.Char.{is_ascii_alphabetic}
 use Rattle.std.specs.List.{list_all}
@@ -17,23 +18,23 @@ use Rattle.edit_convert.specs.Dates.{are_digits}
 abbrev pub is_short_number : List ℕ → Bool
 is_short_number text = are_digits 1 text || are_digits 2 text
 
--- whether a text can be the number or the name of a month, and no more
+-- whether a text can be the number or the name of a month, with nothing else
 abbrev pub is_month_alone : List ℕ → Bool
 is_month_alone text = is_short_number text || list_all is_ascii_alphabetic text
 
--- whether there is no day, or one that is a number of one or two digits
+-- whether there is no day, or the day is a number of one or two digits
 abbrev pub is_day_alone : Option (List ℕ) → Bool
 is_day_alone None = true
 is_day_alone (Some text) = is_short_number text
 
--- the text of a date that has a month, if it is read as a date
+-- the text of a date with a month, if it reads as a date
 abbrev pub month_date_text : Option Date → Option (List ℕ)
 month_date_text None = None
 month_date_text (Some d) =
     if is_some (first_side d.value).month && is_some (readable_value (date_of (datetime_text (first_side d.value))))
     then Some (datetime_text (first_side d.value)) else None
 
--- the text of the date that a year in four digits, a month and perhaps a day are read as
+-- the text of the date that a year in four digits, a month and perhaps a day read as
 abbrev pub joined_text : List ℕ → List ℕ → Option (List ℕ) → Option (List ℕ)
 joined_text year month day =
     if are_digits 4 year && (is_month_alone month && is_day_alone day)
@@ -43,7 +44,7 @@ joined_text year month day =
 abbrev pub is_month_name : List ℕ → Bool
 is_month_name name = is_some (month_of_abbreviation name)
 
--- the text of a month: of one literal, or the name of one abbreviation of a month, where the file doesn't define that itself
+-- the text of a month: one literal, or the name of one abbreviation of a month, if the file doesn't define it
 abbrev pub month_value : Bool → List Piece → Option (List ℕ)
 month_value defines [] = None
 month_value defines (literal p ∷ []) = Some p.text

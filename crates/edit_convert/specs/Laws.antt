@@ -1,5 +1,5 @@
 -- Meaning: words of public contracts.
--- Laws of what gives way.
+-- Laws of conversion.
 use Rattle.std.specs.Prelude.{◌≡◌, ℕ, Bool, false, List, codes, Some}
 use Rattle.std.specs.List.{find, list_any}
 use Rattle.bib_syntax.specs.Reading.{EntryReading, FieldReading}
@@ -7,22 +7,22 @@ use Rattle.bib_tables.specs.declared.dialects.Dialect.{Dialect}
 use Rattle.edit_entries.specs.Documents.{has_name}
 use Rattle.bib_dates.specs.Dates.{date_of}
 use Rattle.bib_dates.specs.ThreeFields.{three_fields_of}
-use Rattle.edit_convert.specs.Conversions.{exchanged_date, is_field_there, joined_date, literal_of, month_of, new_field_name}
+use Rattle.edit_convert.specs.Conversions.{date_to_divide, is_field_there, joined_date, literal_of, month_of, new_field_name}
 use Rattle.edit_convert.specs.Dates.{Sides, part_names}
 
--- the name of a field gives way to none that its entry has already
+-- the new name of a field is not that of another field of its entry
 abbrev pub NamesStayApart : Type 0
 NamesStayApart =
     (dialect : Dialect) (e : EntryReading) (f : FieldReading) (name : List ℕ) → new_field_name dialect e f ≡ Some name
     → is_field_there e.fields name ≡ false
 
--- a date gives way to fields of its parts only where its entry has none of these
+-- a date is replaced by fields of its parts only if its entry has none of these fields
 abbrev pub PartsStayApart : Type 0
 PartsStayApart =
-    (dialect : Dialect) (e : EntryReading) (f : FieldReading) (sides : Sides) → exchanged_date dialect e f ≡ Some sides
+    (dialect : Dialect) (e : EntryReading) (f : FieldReading) (sides : Sides) → date_to_divide dialect e f ≡ Some sides
     → list_any (is_field_there e.fields) part_names ≡ false
 
--- a date's text is read as the date that the year, the month and perhaps the day among some fields are
+-- the text of a date reads as the date of the year, the month and perhaps the day among some fields
 pub record IsDateOfParts (defines : Bool) (fields : List FieldReading) (date : List ℕ) : Type 0 where
   pub year : List ℕ
   pub month : List ℕ
@@ -30,13 +30,13 @@ pub record IsDateOfParts (defines : Bool) (fields : List FieldReading) (date : L
   pub month_is : month_of defines (find (has_name (codes "month")) fields) ≡ Some month
   pub same : date_of date ≡ three_fields_of year (Some month) (literal_of (find (has_name (codes "day")) fields))
 
--- the parts of a date give way to the date that they are
+-- the date that replaces its parts reads as the date of these parts
 abbrev pub JoinedIsTheSame : Type 0
 JoinedIsTheSame =
     (dialect : Dialect) (defines : Bool) (text : List ℕ) (e : EntryReading) (date : List ℕ)
     → joined_date dialect defines text e.fields ≡ Some date → IsDateOfParts defines e.fields date
 
--- the parts of a date give way to it only where their entry has no date
+-- the parts of a date are joined only if their entry has no date
 abbrev pub JoinedStaysApart : Type 0
 JoinedStaysApart =
     (dialect : Dialect) (defines : Bool) (text : List ℕ) (e : EntryReading) (date : List ℕ)

@@ -8,29 +8,29 @@ use Rattle.bib_tables.specs.declared.mechanics.EntryType.TheVariants.{MastersThe
 use Rattle.edit_entries.specs.Changes.{NewField}
 use Rattle.edit_convert.specs.Dates.{braced_field}
 
--- the value of `type` that says of which type of BibTeX a thesis or a report is
+-- the value of `type` that BibLaTeX uses for a type of BibTeX that it merges with others
 abbrev pub type_value : EntryType → Option (List ℕ)
 type_value MastersThesis = Some (codes "mathesis")
 type_value PhdThesis = Some (codes "phdthesis")
 type_value TechReport = Some (codes "techreport")
 type_value kind = None
 
--- a type of BibTeX, and what its standard styles print for it
+-- a type of BibTeX, and the text that its standard styles print for it
 pub record PrintedType : Type 0 where
   pub name : List ℕ
   pub text : List ℕ
 
--- the types of BibTeX that values of `type` stand for in a thesis
+-- the types of BibTeX that values of `type` mean in a thesis
 abbrev pub theses_by_value : List (List ℕ × PrintedType)
 theses_by_value =
     (codes "mathesis", record { name = codes "mastersthesis"; text = codes "Master's thesis" })
     ∷ (codes "phdthesis", record { name = codes "phdthesis"; text = codes "PhD thesis" }) ∷ []
 
--- the type of BibTeX that a value of `type` stands for in a report
+-- the type of BibTeX that a value of `type` means in a report
 abbrev pub reports_by_value : List (List ℕ × PrintedType)
 reports_by_value = (codes "techreport", record { name = codes "techreport"; text = codes "Technical Report" }) ∷ []
 
--- the types of BibTeX that values of `type` stand for in entries of a type, which may be one of BibTeX itself
+-- the types of BibTeX that values of `type` mean in entries of a type
 abbrev pub types_by_value : EntryType → List (List ℕ × PrintedType)
 types_by_value Thesis = theses_by_value
 types_by_value MastersThesis = theses_by_value
@@ -39,7 +39,7 @@ types_by_value Report = reports_by_value
 types_by_value TechReport = reports_by_value
 types_by_value kind = []
 
--- the type of BibTeX that a type and a value of `type` stand for
+-- the type of BibTeX that a type and a value of `type` mean
 abbrev pub type_by_value : EntryType → Option (List ℕ) → Option PrintedType
 type_by_value kind None = None
 type_by_value kind (Some value) = value_named (types_by_value kind) value

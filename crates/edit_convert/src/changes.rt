@@ -1,4 +1,4 @@
-//! What gives way in an entry.
+//! The changes of an entry.
 
 ghost use Rattle.std.specs.Prelude.{◌≡◌, IfOk, map};
 ghost use Rattle.std.specs.Option.{option_map};
@@ -9,16 +9,15 @@ ghost use Rattle.edit_convert.specs.Tables.{lent_names, printed_of};
 
 use crate::fields::divides_date;
 use crate::joining::joined_date;
-use crate::names::exchanged_names;
+use crate::names::replaced_names;
 use crate::types::{Printed, printed_type};
 use bib_syntax::raw::Pair;
 use bib_tables::dialects::Dialect;
 use bib_tables::mechanics::EntryType;
 use std::alloc::{AllocError, Global};
 
-// What changes in an entry of a text that defines an abbreviation of a month or doesn't: names of fields, each with the one that takes
-// its place, perhaps its `type` to a type of BibTeX, perhaps its date to fields of the date's parts, and perhaps these to a date with
-// this text.
+// The changes of an entry: whether the file defines the abbreviation of a month; names of fields with their new names; the type of BibTeX
+// that its field `type` means; whether its date is divided; and the text of the date that its parts are joined to.
 #[derive(Drop)]
 pub(crate) struct Changes {
     pub(crate) defines: bool,
@@ -28,7 +27,7 @@ pub(crate) struct Changes {
     pub(crate) joined: Option<String>,
 }
 
-// What gives way in an entry of a text that defines an abbreviation of a month or doesn't.
+// Returns the changes of an entry. `defines` is whether the file defines the abbreviation of a month.
 pub(crate) fn changes_of(
     alloc: Global,
     dialect: Dialect,
@@ -45,7 +44,7 @@ pub(crate) fn changes_of(
 {
     Ok(Changes {
         defines,
-        names: exchanged_names(alloc, dialect, kind, fields)?,
+        names: replaced_names(alloc, dialect, kind, fields)?,
         printed: printed_type(dialect, kind, fields),
         divides: divides_date(dialect, fields),
         joined: joined_date(alloc, dialect, defines, text, fields)?,

@@ -1,4 +1,4 @@
-//! Files with the types and the fields of a dialect.
+//! Converts the entry types and fields of a file to those of a dialect.
 
 ghost use Rattle.std.specs.Prelude.{◌≡◌, ◌++◌, ℕ, IfOk, List, OnOk, None, Some, map};
 ghost use Rattle.std.specs.List.{AllByRecursion};
@@ -7,18 +7,18 @@ ghost use Rattle.std.specs.String.{string_bytes};
 ghost use Rattle.bib_syntax.specs.Reading.{FieldReading};
 ghost use Rattle.bib_syntax.specs.Views.{entry_reading_of, field_of, part_of};
 ghost use Rattle.edit_entries.specs.Placed.{IsPlaced};
-ghost use Rattle.edit_convert.specs.Conversions.{Exchanged, IsConverted, conversion, date_among, field_change};
-ghost use Rattle.edit_entries.specs.Changes.{edits_of_entries, edits_of_field, going_out, part_edits};
+ghost use Rattle.edit_convert.specs.Conversions.{Replacement, IsConverted, conversion, date_if_divided, field_change};
+ghost use Rattle.edit_entries.specs.Changes.{edits_of_entries, edits_of_field, removal_edits, part_edits};
 ghost use Rattle.edit_convert.specs.Conversions as spec;
 ghost use Rattle.edit_entries.specs.EditList.{edit_of};
-ghost use Rattle.edit_convert.specs.Tables.{change_edits, conversion_edits, exchanged_by, lent_text, printed_of};
+ghost use Rattle.edit_convert.specs.Tables.{change_edits, conversion_edits, lent_text, pending_after, pending_change, printed_of, replacement_by};
 
 use crate::changes::{Changes, changes_of};
 use crate::dates::{written_date, written_sides, written_type};
-use crate::fields::{exchanged_date, has_part, is_date_part};
+use crate::fields::{date_to_divide, has_part, is_date_part};
 use crate::joining::{can_be_removed, defines_month};
 use crate::names::{other_name, other_type};
-use crate::notes::gives_way;
+use crate::notes::is_replaced;
 use crate::types::{Printed, missing_type};
 use bib_syntax::raw::{Pair, RawEntry, is_word};
 use bib_tables::dialects::Dialect;
@@ -29,7 +29,7 @@ use edit_entries::editing::{Edit, edited_all};
 use edit_entries::values::value_end;
 use std::alloc::{AllocError, Global};
 
-// Adds the edit of a part of a text that gives way to another text, if it does.
+// Adds the edit that replaces a part of a text, if there is a new text.
 fn push_part_edit(
     edits: &mut Vec<Edit>,
     alloc: Global,
@@ -49,7 +49,7 @@ fn push_part_edit(
     Ok(())
 }
 
-// Adds the edit of a field that is a date, if it gives way to fields of its parts.
+// Adds the edit of a field that is a date, if it is replaced by fields of its parts.
 fn push_date_edit(
     edits: &mut Vec<Edit>,
     alloc: Global,
@@ -60,9 +60,9 @@ fn push_date_edit(
     requires { IsPlaced text.now (field_of field.now) }
     ensures { (following : List FieldReading) → OnOk result (map edit_of edits.new.items ≡ map edit_of edits.old.items ++
         edits_of_field text.now (field_of field.now) following
-        (field_change text.now (field_of field.now) following (spec.exchanged_for changes.now.defines None None None (date_among changes.now.divides (field_of field.now))))) }
+        (field_change text.now (field_of field.now) following (spec.first_replacement changes.now.defines None None None (date_if_divided changes.now.divides (field_of field.now))))) }
 {
-    let Some(sides) = exchanged_date(alloc, changes.divides, field)? else {
+    let Some(sides) = date_to_divide(alloc, changes.divides, field)? else {
         return Ok(());
     };
     edits.push(Edit {
@@ -73,14 +73,14 @@ fn push_date_edit(
     Ok(())
 }
 
-// Adds the edit that takes a field out, up to the one after it.
+// Adds the edit that removes a field, up to the next one.
 fn push_removal(
     edits: &mut Vec<Edit>,
     alloc: Global,
     field: &Pair<'_>,
     following: &[Pair<'_>],
 ) -> Result<(), AllocError>
-    ensures { OnOk result (map edit_of edits.new.items ≡ map edit_of edits.old.items ++ going_out (field_of field.now) (map field_of following.now)) }
+    ensures { OnOk result (map edit_of edits.new.items ≡ map edit_of edits.old.items ++ removal_edits (field_of field.now) (map field_of following.now)) }
 {
     let [next, ..] = following else {
         return Ok(());
@@ -93,7 +93,7 @@ fn push_removal(
     Ok(())
 }
 
-// Adds the edit of a part of a date that gives way to it with the others.
+// Adds the edit of a part of a date that is joined with the others.
 fn push_joined_edit(
     edits: &mut Vec<Edit>,
     alloc: Global,
@@ -105,7 +105,7 @@ fn push_joined_edit(
     requires { IsPlaced text.now (field_of field.now) }
     ensures { OnOk result (map edit_of edits.new.items ≡ map edit_of edits.old.items ++
         edits_of_field text.now (field_of field.now) (map field_of following.now)
-        (field_change text.now (field_of field.now) (map field_of following.now) (Some (Exchanged.joined date.now)))) }
+        (field_change text.now (field_of field.now) (map field_of following.now) (Some (Replacement.with_date date.now)))) }
 {
     if has_part(following) {
         return push_removal(edits, alloc, field, following);
@@ -118,9 +118,9 @@ fn push_joined_edit(
     Ok(())
 }
 
-// The text of the date that parts are joined to, if a field is one of them.
-fn joined_among<'c>(joined: &'c Option<String>, field: &Pair<'_>) -> Option<&'c str>
-    ensures { lent_text result ≡ spec.joined_among (option_map string_bytes joined.now) (field_of field.now) }
+// Returns the text of the joined date, if a field is one of its parts.
+fn date_if_part<'c>(joined: &'c Option<String>, field: &Pair<'_>) -> Option<&'c str>
+    ensures { lent_text result ≡ spec.date_if_part (option_map string_bytes joined.now) (field_of field.now) }
 {
     if !is_date_part(field) {
         return None;
@@ -131,7 +131,7 @@ fn joined_among<'c>(joined: &'c Option<String>, field: &Pair<'_>) -> Option<&'c 
     }
 }
 
-// Adds the edit of a field `type` that is a type of BibTeX: it is removed, or if it can't be, it says what a style prints.
+// Adds the edit of a field `type` that became the entry's type: it is removed or, if it can't be, replaced by the text that styles print.
 fn push_type_edit(
     edits: &mut Vec<Edit>,
     alloc: Global,
@@ -143,7 +143,7 @@ fn push_type_edit(
     requires { IsPlaced text.now (field_of field.now) }
     ensures { OnOk result (map edit_of edits.new.items ≡ map edit_of edits.old.items ++
         edits_of_field text.now (field_of field.now) (map field_of following.now)
-        (field_change text.now (field_of field.now) (map field_of following.now) (Some (Exchanged.typed printed.now)))) }
+        (field_change text.now (field_of field.now) (map field_of following.now) (Some (Replacement.with_type printed.now)))) }
 {
     if can_be_removed(text, field, following) {
         return push_removal(edits, alloc, field, following);
@@ -156,9 +156,9 @@ fn push_type_edit(
     Ok(())
 }
 
-// The type of BibTeX, if a field is `type`.
-fn typed_among(printed: Option<Printed>, field: &Pair<'_>) -> Option<Printed>
-    ensures { printed_of result ≡ spec.typed_among (printed_of printed) (field_of field.now) }
+// Returns the type, if a field's name is `type`.
+fn type_if_named(printed: Option<Printed>, field: &Pair<'_>) -> Option<Printed>
+    ensures { printed_of result ≡ spec.type_if_named (printed_of printed) (field_of field.now) }
 {
     if is_word(field.key.v, "type") {
         printed
@@ -167,7 +167,7 @@ fn typed_among(printed: Option<Printed>, field: &Pair<'_>) -> Option<Printed>
     }
 }
 
-// Adds the edit of a field that keeps its name, if something takes its place.
+// Adds the edit of a field that keeps its name, if it is replaced.
 fn push_value_edit(
     edits: &mut Vec<Edit>,
     alloc: Global,
@@ -179,15 +179,15 @@ fn push_value_edit(
     requires { IsPlaced text.now (field_of field.now) }
     ensures { OnOk result (map edit_of edits.new.items ≡ map edit_of edits.old.items ++
         edits_of_field text.now (field_of field.now) (map field_of following.now)
-        (field_change text.now (field_of field.now) (map field_of following.now) (spec.exchanged_for changes.now.defines None None (spec.typed_among (printed_of changes.now.printed) (field_of field.now)) (date_among changes.now.divides (field_of field.now))))) }
+        (field_change text.now (field_of field.now) (map field_of following.now) (spec.first_replacement changes.now.defines None None (spec.type_if_named (printed_of changes.now.printed) (field_of field.now)) (date_if_divided changes.now.divides (field_of field.now))))) }
 {
-    match typed_among(changes.printed, field) {
+    match type_if_named(changes.printed, field) {
         Some(printed) => push_type_edit(edits, alloc, text, printed.text, field, following),
         None => push_date_edit(edits, alloc, text, changes, field),
     }
 }
 
-// Adds the edit of a field, if something takes its place.
+// Adds the edit of a field, if it is replaced.
 fn push_field_edit(
     edits: &mut Vec<Edit>,
     alloc: Global,
@@ -199,9 +199,9 @@ fn push_field_edit(
     requires { IsPlaced text.now (field_of field.now) }
     ensures { OnOk result (map edit_of edits.new.items ≡ map edit_of edits.old.items ++
         edits_of_field text.now (field_of field.now) (map field_of following.now)
-        (field_change text.now (field_of field.now) (map field_of following.now) (exchanged_by changes.now (field_of field.now)))) }
+        (field_change text.now (field_of field.now) (map field_of following.now) (replacement_by changes.now (field_of field.now)))) }
 {
-    if let Some(date) = joined_among(&changes.joined, field) {
+    if let Some(date) = date_if_part(&changes.joined, field) {
         return push_joined_edit(edits, alloc, text, date, field, following);
     }
     match other_name(&changes.names, field.key.v) {
@@ -210,7 +210,7 @@ fn push_field_edit(
     }
 }
 
-// Adds the edit of a field that stays, with a field `type` before it.
+// Adds the edit of a field that is kept, with a field `type` before it.
 fn push_missing_type(
     edits: &mut Vec<Edit>,
     alloc: Global,
@@ -218,7 +218,7 @@ fn push_missing_type(
     value: &str,
 ) -> Result<(), AllocError>
     ensures { OnOk result ((text : List ℕ) (following : List FieldReading) → map edit_of edits.new.items ≡ map edit_of edits.old.items ++
-        edits_of_field text (field_of field.now) following (spec.change_after text (field_of field.now) (Some value.now) following None)) }
+        edits_of_field text (field_of field.now) following (pending_change text (field_of field.now) (Some value.now) following None)) }
 {
     let mut text = written_type(alloc, value)?;
     text.push_str(", ")?;
@@ -231,35 +231,36 @@ fn push_missing_type(
     Ok(())
 }
 
-// Adds the edit of a field, if something takes its place, or if it stays and a value of `type` waits. Returns what still waits.
-fn push_waiting_edit(
+// Adds the edit of a field, if it is replaced, or if it is kept and `pending` is to be added before it. Returns the value of `type` that is
+// still to be added.
+fn push_pending_edit(
     edits: &mut Vec<Edit>,
     alloc: Global,
     text: &str,
     changes: &Changes,
-    waiting: Option<&'static str>,
+    pending: Option<&'static str>,
     field: &Pair<'_>,
     following: &[Pair<'_>],
 ) -> Result<Option<&'static str>, AllocError>
     requires { IsPlaced text.now (field_of field.now) }
     ensures edits { OnOk result (map edit_of edits.new.items ≡ map edit_of edits.old.items ++
         edits_of_field text.now (field_of field.now) (map field_of following.now)
-        (spec.change_after text.now (field_of field.now) (lent_text waiting.entry) (map field_of following.now) (exchanged_by changes.now (field_of field.now)))) }
-    ensures waits { IfOk result (λ waits. lent_text waits ≡ spec.waits_after (lent_text waiting.entry) (exchanged_by changes.now (field_of field.now))) }
+        (pending_change text.now (field_of field.now) (lent_text pending.entry) (map field_of following.now) (replacement_by changes.now (field_of field.now)))) }
+    ensures left { IfOk result (λ left. lent_text left ≡ pending_after (lent_text pending.entry) (replacement_by changes.now (field_of field.now))) }
 {
-    let Some(value) = waiting else {
+    let Some(value) = pending else {
         push_field_edit(edits, alloc, text, changes, field, following)?;
         return Ok(None);
     };
-    if gives_way(alloc, changes, field)? {
+    if is_replaced(alloc, changes, field)? {
         push_field_edit(edits, alloc, text, changes, field, following)?;
-        return Ok(waiting);
+        return Ok(pending);
     }
     push_missing_type(edits, alloc, field, value)?;
     Ok(None)
 }
 
-// Adds the edits of fields, where a value of `type` may wait for the first that stays.
+// Adds the edits of fields. A missing value of `type` is added before the first field that is kept.
 fn push_field_edits(
     edits: &mut Vec<Edit>,
     alloc: Global,
@@ -271,14 +272,14 @@ fn push_field_edits(
     requires { AllByRecursion (IsPlaced text.now) (map field_of fields.now) }
     ensures { OnOk result (map edit_of edits.new.items ≡ map edit_of edits.old.items ++ change_edits changes.now (lent_text missing.entry) text.now (map field_of fields.now)) }
 {
-    let mut waiting = missing;
+    let mut pending = missing;
     'fields: for (at, field) in fields.iter().enumerate() {
-        waiting = push_waiting_edit(
+        pending = push_pending_edit(
             edits,
             alloc,
             text,
             changes,
-            waiting,
+            pending,
             field,
             &fields[at + 1..],
         )?;
@@ -286,19 +287,19 @@ fn push_field_edits(
     Ok(())
 }
 
-// Returns whether one of some fields stays.
-fn stays_one(alloc: Global, changes: &Changes, fields: &[Pair<'_>]) -> Result<bool, AllocError>
-    ensures { IfOk result (λ stays. stays ≡ spec.stays_one (exchanged_by changes.now) (map field_of fields.now)) }
+// Returns whether a field is kept.
+fn keeps_one(alloc: Global, changes: &Changes, fields: &[Pair<'_>]) -> Result<bool, AllocError>
+    ensures { IfOk result (λ stays. stays ≡ spec.keeps_one (replacement_by changes.now) (map field_of fields.now)) }
 {
     'fields: for field in fields {
-        if !gives_way(alloc, changes, field)? {
+        if !is_replaced(alloc, changes, field)? {
             return Ok(true);
         }
     }
     Ok(false)
 }
 
-// Returns the name of the type that takes the place of an entry's.
+// Returns the new name of an entry's type, if it is replaced.
 fn new_type(
     alloc: Global,
     dialect: Dialect,
@@ -308,12 +309,12 @@ fn new_type(
     fields: &[Pair<'_>],
 ) -> Result<Option<&'static str>, AllocError>
     ensures { IfOk result (λ name. lent_text name ≡ spec.type_for dialect kind.now (printed_of changes.now.printed) (lent_text missing.entry)
-        (spec.stays_one (exchanged_by changes.now) (map field_of fields.now))) }
+        (spec.keeps_one (replacement_by changes.now) (map field_of fields.now))) }
 {
     if let Some(printed) = changes.printed {
         return Ok(Some(printed.name));
     }
-    if missing.is_some() && !stays_one(alloc, changes, fields)? {
+    if missing.is_some() && !keeps_one(alloc, changes, fields)? {
         return Ok(None);
     }
     Ok(other_type(dialect, kind))
@@ -340,7 +341,7 @@ fn push_entry_edits(
     push_field_edits(edits, alloc, text, &changes, missing, fields)
 }
 
-// The edits of entries of a text that defines an abbreviation of a month or doesn't.
+// Returns the edits of entries. `defines` is whether the file defines the abbreviation of a month.
 fn edits(
     alloc: Global,
     dialect: Dialect,
@@ -358,32 +359,37 @@ fn edits(
     Ok(edits)
 }
 
-/// The text with the types of entries and the fields that a dialect has. Every other byte stays: values but for dates, comments, and what
-/// stands between entries.
+/// Returns the text of a document with its entry types and fields converted to those of `dialect`. Every other byte is kept: other values,
+/// comments, and the text between entries.
 ///
-/// The name of a type for which the dialect has another, in any ASCII case, gives way to that one's; a type that neither BibTeX nor
-/// BibLaTeX has stays. For BibLaTeX the fields `journal`, `address` and `school` become `journaltitle`, `location` and `institution`.
-/// For BibTeX `journaltitle` and `location` become `journal` and `address`, and in an entry whose own type is a thesis's `institution`
-/// becomes `school`. A name stays where the entry has a field with the other one.
+/// **Types.** The name of a type that the dialect calls otherwise is replaced, in any ASCII case. A type that neither BibTeX nor BibLaTeX
+/// has is kept.
 ///
-/// For BibLaTeX a Master's thesis, a PhD thesis and a technical report without a field `type` get `type = {mathesis}`, `{phdthesis}`
-/// or `{techreport}`, as Biber reads them, before the first field that doesn't change; if each field changes, the name of the type
-/// stays. For BibTeX a thesis or report with one field `type` of these values becomes that type, and the field is removed. If it is
-/// the last field, or a comment stands between it and the next one, it says what the standard styles print: `Master's thesis`,
+/// For BibLaTeX a Master's thesis, a PhD thesis and a technical report without a field `type` get `type = {mathesis}`, `{phdthesis}` or
+/// `{techreport}`, as Biber reads them, before the first field that is kept. If no field is kept, the name of the type is kept too.
+///
+/// For BibTeX a thesis or report with one field `type` of these values becomes that type, and the field is removed. If the field is the
+/// last one, or a comment occurs between it and the next one, it gets the text that the standard styles print: `Master's thesis`,
 /// `PhD thesis` or `Technical Report`.
 ///
-/// For BibTeX the field `date` gives way to `year`, and where they are there `month` and `day`, of a range to `endyear`, `endmonth` and
-/// `endday` too: where its value is one literal that is read as a date, with a year in four digits, and perhaps a month and a day in
-/// two, on each side, and the entry has one `date` and none of these fields. A month is written as its abbreviation, or as its English
-/// name in braces if the file defines an abbreviation of a month itself, which may stand for another text.
+/// **Names of fields.** For BibLaTeX `journal`, `address` and `school` become `journaltitle`, `location` and `institution`. For BibTeX
+/// `journaltitle` and `location` become `journal` and `address`; in an entry whose type before the conversion is a thesis, `institution`
+/// becomes `school`. A name is kept if the entry has a field with the other name.
 ///
-/// For BibLaTeX the fields `year` and `month`, and `day` if it is there, give way to one `date`: the last of them to the date, and the
-/// others go out up to the field after them. They do where the entry has one of each and no other date, where the year is one literal
-/// of four digits, the month one abbreviation that the file doesn't define itself or one literal that is a month's English name, the
-/// first three letters of it or its number, and the day one literal of one or two digits, where there is such a day, and where no
-/// comment would go out.
+/// **Dates.** For BibTeX a `date` is replaced by `year`, and by `month` and `day` if it has them; a range also by `endyear`, `endmonth`
+/// and `endday`. This is done if its value is one literal that reads as a date, if each side is a year in four digits, perhaps with a
+/// month and a day in two each, and if the entry has one `date` and none of these fields. A month is written as its abbreviation. It is
+/// written as its English name in braces if the file defines the abbreviation of a month, since that may have another text.
 ///
-/// Fails only where there is no memory.
+/// For BibLaTeX `year` and `month`, and `day` if there is one, are joined to one `date`: the last of them is replaced by the date, and
+/// the others are removed. This is done if all of the following hold. The entry has one of each and no other date. The year is one
+/// literal of four digits. The month is one abbreviation that the file doesn't define, or one literal that is the English name of a
+/// month, its first three letters or its number. The day, if there is one, is one literal of one or two digits. No comment would be
+/// removed.
+///
+/// # Errors
+///
+/// Returns an error only if out of memory.
 pub fn convert(
     alloc: Global,
     document: &RawDocument<'_>,

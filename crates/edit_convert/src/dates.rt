@@ -1,4 +1,4 @@
-//! Dates in fields of their own, as BibTeX has them.
+//! The parts of a date in fields of their own, as BibTeX has them.
 
 ghost use Rattle.std.specs.Prelude.{◌≡◌, ◌++◌, ◌<◌, ◌==◌, ◌∷◌, [], IfOk, OnOk, codes, is_some};
 ghost use Rattle.std.specs.List.{list_all, slice_split};
@@ -22,7 +22,7 @@ use bib_dates::date::Date;
 use bib_tables::months::Month;
 use std::alloc::{AllocError, Global};
 
-// A side of a date: its year, and if they are there its month and its day.
+// A side of a date: its year, and its month and day if it has them.
 #[derive(Drop)]
 pub(crate) struct Side<'t> {
     year: &'t str,
@@ -37,7 +37,7 @@ pub(crate) struct Sides<'t> {
     to: Option<Side<'t>>,
 }
 
-// The month with a number.
+// Returns the month with a number of two digits.
 fn month_numbered(number: &str) -> Option<Month>
     ensures { result ≡ value_named numbered_months number.now }
 {
@@ -58,7 +58,7 @@ fn month_numbered(number: &str) -> Option<Month>
     }
 }
 
-// Whether each character of a text is a digit.
+// Returns whether each byte of a text is a digit.
 fn all_digits(text: &str) -> bool
     ensures { result ≡ list_all is_ascii_digit text.now }
 {
@@ -70,14 +70,14 @@ fn all_digits(text: &str) -> bool
     true
 }
 
-// Whether a text is so many digits.
+// Returns whether a text is a number of `count` digits.
 pub(crate) fn are_digits(count: usize, text: &str) -> bool
     ensures { result ≡ spec.are_digits count text.now }
 {
     text.len() == count && all_digits(text)
 }
 
-// The side with a year alone, if the year has four digits.
+// Returns the side with only a year, if the year has four digits.
 fn year_side(year: &str) -> Option<Side<'_>>
     ensures { option_map side_as_written result ≡ spec.side_of (year.now ∷ []) }
 {
@@ -91,7 +91,7 @@ fn year_side(year: &str) -> Option<Side<'_>>
     })
 }
 
-// The side with a month, if there is one with this number.
+// Returns the side with a month, if there is a month with this number.
 fn month_side<'t>(year: &'t str, month: &str, day: Option<&'t str>) -> Option<Side<'t>>
     ensures { option_map side_as_written result ≡
         spec.month_side year.now (value_named numbered_months month.now) (lent_text day.entry) }
@@ -103,7 +103,7 @@ fn month_side<'t>(year: &'t str, month: &str, day: Option<&'t str>) -> Option<Si
     })
 }
 
-// The side that some parts are: a year in four digits, and perhaps a month and a day in two.
+// Returns the side with these parts: a year in four digits, and perhaps a month and a day in two each.
 fn side_of<'t>(parts: &[&'t str]) -> Option<Side<'t>>
     ensures { option_map side_as_written result ≡ spec.side_of (lent_texts parts.now) }
 {
@@ -125,7 +125,7 @@ fn side_of<'t>(parts: &[&'t str]) -> Option<Side<'t>>
     }
 }
 
-// The parts of a text between the places where a character of ASCII stands.
+// Returns the parts of a text between the occurrences of an ASCII character.
 fn parts<'t>(alloc: Global, text: &'t str, separator: char) -> Result<Vec<&'t str>, AllocError>
     requires { separator < 128 }
     ensures { IfOk result (λ parts. lent_texts parts.items ≡ slice_split (λ c. c == separator) text.now) }
@@ -137,7 +137,7 @@ fn parts<'t>(alloc: Global, text: &'t str, separator: char) -> Result<Vec<&'t st
     Ok(parts)
 }
 
-// The side that the parts of a text between its hyphens are.
+// Returns the side whose parts are separated by hyphens in a text.
 fn side_in<'t>(alloc: Global, text: &'t str) -> Result<Option<Side<'t>>, AllocError>
     ensures { IfOk result (λ side. option_map side_as_written side ≡ spec.side_in text.now) }
 {
@@ -145,7 +145,7 @@ fn side_in<'t>(alloc: Global, text: &'t str) -> Result<Option<Side<'t>>, AllocEr
     Ok(side_of(&parts))
 }
 
-// The two sides of a range.
+// Returns the range with two sides.
 fn two_sides<'t>(alloc: Global, from: &'t str, to: &'t str) -> Result<Option<Sides<'t>>, AllocError>
     ensures { IfOk result (λ sides. option_map sides_as_written sides ≡ spec.two_sides (spec.side_in from.now) (spec.side_in to.now)) }
 {
@@ -158,7 +158,7 @@ fn two_sides<'t>(alloc: Global, from: &'t str, to: &'t str) -> Result<Option<Sid
     Ok(Some(Sides { from, to: Some(to) }))
 }
 
-// The one side of a date.
+// Returns the date with one side.
 fn one_side<'t>(alloc: Global, text: &'t str) -> Result<Option<Sides<'t>>, AllocError>
     ensures { IfOk result (λ sides. option_map sides_as_written sides ≡ spec.one_side (spec.side_in text.now)) }
 {
@@ -168,7 +168,7 @@ fn one_side<'t>(alloc: Global, text: &'t str) -> Result<Option<Sides<'t>>, Alloc
     Ok(Some(Sides { from, to: None }))
 }
 
-// The sides that some texts are.
+// Returns the date with one side, or the range with two.
 fn sides_of<'t>(alloc: Global, texts: &[&'t str]) -> Result<Option<Sides<'t>>, AllocError>
     ensures { IfOk result (λ sides. option_map sides_as_written sides ≡ spec.sides_of (lent_texts texts.now)) }
 {
@@ -179,7 +179,7 @@ fn sides_of<'t>(alloc: Global, texts: &[&'t str]) -> Result<Option<Sides<'t>>, A
     }
 }
 
-// Whether a text is read as a date or a range.
+// Returns whether a text reads as a date or a range.
 pub(crate) fn is_date(alloc: Global, text: &str) -> Result<bool, AllocError>
     ensures { IfOk result (λ is. is ≡ is_some (readable_value (date_of text.now))) }
 {
@@ -193,7 +193,7 @@ pub(crate) fn is_date(alloc: Global, text: &str) -> Result<bool, AllocError>
     }
 }
 
-// The sides of a date or a range that BibTeX has fields for.
+// Returns the sides of a date or a range that BibTeX has fields for.
 pub(crate) fn date_sides<'t>(alloc: Global, text: &'t str) -> Result<Option<Sides<'t>>, AllocError>
     ensures { IfOk result (λ sides. option_map sides_as_written sides ≡ spec.date_sides text.now) }
 {
@@ -204,7 +204,7 @@ pub(crate) fn date_sides<'t>(alloc: Global, text: &'t str) -> Result<Option<Side
     sides_of(alloc, &texts)
 }
 
-// Whether a date has parts that no standard style of BibTeX reads: a day, or a second side.
+// Returns whether a date has parts that no standard style of BibTeX reads: a day, or a second side.
 pub(crate) fn has_unread_parts(sides: &Sides<'_>) -> bool
     ensures { result ≡ has_unread_parts (sides_as_written sides.now) }
 {
@@ -270,7 +270,7 @@ fn push_side(
     push_day(out, prefix, side.day)
 }
 
-// The fields of a date's parts as they are written, in a text that defines an abbreviation of a month or doesn't.
+// Returns the text of the fields of a date's parts. `defines` is whether the file defines the abbreviation of a month.
 pub(crate) fn written_sides(
     alloc: Global,
     defines: bool,
@@ -288,7 +288,7 @@ pub(crate) fn written_sides(
     Ok(out)
 }
 
-// The field of a date as it is written.
+// Returns the text of a field `date`.
 pub(crate) fn written_date(alloc: Global, date: &str) -> Result<String, AllocError>
     ensures { IfOk result (λ text. string_bytes text ≡ new_field_text (conversions.date_field date.now)) }
 {
@@ -297,7 +297,7 @@ pub(crate) fn written_date(alloc: Global, date: &str) -> Result<String, AllocErr
     Ok(out)
 }
 
-// The field `type` with a text as it is written.
+// Returns the text of a field `type`.
 pub(crate) fn written_type(alloc: Global, text: &str) -> Result<String, AllocError>
     ensures { IfOk result (λ written. string_bytes written ≡ new_field_text (type_field text.now)) }
 {

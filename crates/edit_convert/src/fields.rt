@@ -1,4 +1,4 @@
-//! Fields of entries: their values, and those that are dates or parts of dates.
+//! Fields of entries: their values, dates and parts of dates.
 
 ghost use Rattle.std.specs.Prelude.{◌≡◌, IfOk, map};
 ghost use Rattle.std.specs.List.{find, list_any};
@@ -17,7 +17,7 @@ use bib_tables::dialects::Dialect;
 use bib_text::spanned::Spanned;
 use std::alloc::{AllocError, Global};
 
-// The text that elements are, if they are one literal.
+// Returns the text of a value that is one literal.
 pub(crate) fn single_text<'s>(pieces: &[Spanned<RawChunk<'s>>]) -> Option<&'s str>
     ensures { lent_text result ≡ values.single_text (map piece_of pieces.now) }
 {
@@ -30,7 +30,7 @@ pub(crate) fn single_text<'s>(pieces: &[Spanned<RawChunk<'s>>]) -> Option<&'s st
     }
 }
 
-// Whether one of some fields has one of these names.
+// Returns whether a field has one of these names, in any ASCII case.
 pub(crate) fn has_any(fields: &[Pair<'_>], names: &[&str]) -> bool
     ensures { result ≡ list_any (spec.is_field_there (map field_of fields.now)) (lent_texts names.now) }
 {
@@ -42,7 +42,7 @@ pub(crate) fn has_any(fields: &[Pair<'_>], names: &[&str]) -> bool
     false
 }
 
-// The first of some fields with a name, in any ASCII case.
+// Returns the first field with a name, in any ASCII case.
 pub(crate) fn first_named<'f, 's>(fields: &'f [Pair<'s>], name: &str) -> Option<&'f Pair<'s>>
     ensures { option_map (λ f. field_of f.now) result ≡ find (has_name name.now) (map field_of fields.now) }
 {
@@ -54,7 +54,7 @@ pub(crate) fn first_named<'f, 's>(fields: &'f [Pair<'s>], name: &str) -> Option<
     None
 }
 
-// How many of some fields have a name, in any ASCII case.
+// Returns the number of fields with a name, in any ASCII case.
 pub(crate) fn count_named(fields: &[Pair<'_>], name: &str) -> usize
     ensures { result ≡ spec.times_named (map field_of fields.now) name.now }
 {
@@ -67,7 +67,7 @@ pub(crate) fn count_named(fields: &[Pair<'_>], name: &str) -> usize
     count
 }
 
-// Whether a field is a part of a date: its year, its month or its day.
+// Returns whether a field is a part of a date: a year, a month or a day.
 pub(crate) fn is_date_part(field: &Pair<'_>) -> bool
     ensures { result ≡ spec.is_date_part (field_of field.now) }
 {
@@ -75,7 +75,7 @@ pub(crate) fn is_date_part(field: &Pair<'_>) -> bool
     is_word(name, "year") || is_word(name, "month") || is_word(name, "day")
 }
 
-// Whether one of some fields is.
+// Returns whether one of these fields is a part of a date.
 pub(crate) fn has_part(fields: &[Pair<'_>]) -> bool
     ensures { result ≡ list_any spec.is_date_part (map field_of fields.now) }
 {
@@ -87,7 +87,7 @@ pub(crate) fn has_part(fields: &[Pair<'_>]) -> bool
     false
 }
 
-// Whether a date may give way to fields of its parts: there is one, and none of these fields is there already.
+// Returns whether a date may be replaced by fields of its parts: there is one `date`, and the entry has none of these fields.
 fn is_date_free(fields: &[Pair<'_>]) -> bool
     ensures { result ≡ spec.is_date_free (map field_of fields.now) }
 {
@@ -98,7 +98,7 @@ fn is_date_free(fields: &[Pair<'_>]) -> bool
         )
 }
 
-// Whether an entry's date gives way to fields of its parts: for BibTeX, where it may.
+// Returns whether an entry's date is replaced by fields of its parts: for BibTeX, if it may be.
 pub(crate) fn divides_date(dialect: Dialect, fields: &[Pair<'_>]) -> bool
     ensures { result ≡ spec.divides_date dialect (map field_of fields.now) }
 {
@@ -108,13 +108,13 @@ pub(crate) fn divides_date(dialect: Dialect, fields: &[Pair<'_>]) -> bool
     }
 }
 
-// The sides of the date that a field is, where an entry's date gives way, if it is one.
-pub(crate) fn exchanged_date<'s>(
+// Returns the sides of a field that is a date, if the entry's date is to be divided.
+pub(crate) fn date_to_divide<'s>(
     alloc: Global,
     divides: bool,
     field: &Pair<'s>,
 ) -> Result<Option<Sides<'s>>, AllocError>
-    ensures { IfOk result (λ sides. option_map sides_as_written sides ≡ spec.date_among divides (field_of field.now)) }
+    ensures { IfOk result (λ sides. option_map sides_as_written sides ≡ spec.date_if_divided divides (field_of field.now)) }
 {
     if !is_word(field.key.v, "date") || !divides {
         return Ok(None);

@@ -1,4 +1,4 @@
-//! The parts of a date in one field, as BibLaTeX has them.
+//! The parts of a date joined to one field, as BibLaTeX has it.
 
 ghost use Rattle.std.specs.Prelude.{◌≡◌, IfOk, Some, codes, map};
 ghost use Rattle.std.specs.Char.{is_ascii_alphabetic};
@@ -28,7 +28,7 @@ use bib_tables::months::Month;
 use bib_text::spanned::Spanned;
 use std::alloc::{AllocError, Global};
 
-// Whether each character of a text is a letter of ASCII.
+// Returns whether each byte of a text is an ASCII letter.
 fn all_letters(text: &str) -> bool
     ensures { result ≡ list_all is_ascii_alphabetic text.now }
 {
@@ -40,21 +40,21 @@ fn all_letters(text: &str) -> bool
     true
 }
 
-// Whether a text is a number of one or two digits.
+// Returns whether a text is a number of one or two digits.
 fn is_short_number(text: &str) -> bool
     ensures { result ≡ spec.is_short_number text.now }
 {
     are_digits(1, text) || are_digits(2, text)
 }
 
-// Whether a text can be the number or the name of a month, and no more.
+// Returns whether a text can be the number or the name of a month, with nothing else.
 fn is_month_alone(text: &str) -> bool
     ensures { result ≡ spec.is_month_alone text.now }
 {
     is_short_number(text) || all_letters(text)
 }
 
-// Whether there is no day, or one that is a number of one or two digits.
+// Returns whether there is no day, or the day is a number of one or two digits.
 fn is_day_alone(day: Option<&str>) -> bool
     ensures { result ≡ spec.is_day_alone (lent_text day.entry) }
 {
@@ -64,14 +64,14 @@ fn is_day_alone(day: Option<&str>) -> bool
     }
 }
 
-// Chunks of a text.
+// Returns the chunks of a text.
 fn chunks_of(alloc: Global, text: &str) -> Result<Chunks, AllocError>
     ensures { IfOk result (λ chunks. values.text chunks ≡ text.now) }
 {
     verbatim(alloc, text)
 }
 
-// Those of a text, if there is one.
+// Returns the chunks of a text, if there is one.
 fn chunks_of_some(alloc: Global, text: Option<&str>) -> Result<Option<Chunks>, AllocError>
     ensures { IfOk result (λ chunks. option_map values.text chunks ≡ lent_text text.entry) }
 {
@@ -81,7 +81,7 @@ fn chunks_of_some(alloc: Global, text: Option<&str>) -> Result<Option<Chunks>, A
     }
 }
 
-// Chunks, if there are some.
+// Borrows chunks, if there are any.
 fn lent_chunks(chunks: &Option<Chunks>) -> Option<ChunksRef<'_>>
     ensures { option_copied result ≡ chunks.now }
 {
@@ -91,7 +91,7 @@ fn lent_chunks(chunks: &Option<Chunks>) -> Option<ChunksRef<'_>>
     }
 }
 
-// The date that a year, a month and perhaps a day are read as, if they are.
+// Returns the date that a year, a month and perhaps a day read as, if they can be read.
 fn three_fields(
     alloc: Global,
     year: &str,
@@ -117,7 +117,7 @@ fn three_fields(
     }
 }
 
-// The text of a date that has a month, if it is read as a date.
+// Returns the text of a date with a month, if it reads as a date.
 fn month_date_text(alloc: Global, date: &Date) -> Result<Option<String>, AllocError>
     ensures { IfOk result (λ text. option_map string_bytes text ≡ spec.month_date_text (Some date.now)) }
 {
@@ -132,7 +132,7 @@ fn month_date_text(alloc: Global, date: &Date) -> Result<Option<String>, AllocEr
     Ok(Some(text))
 }
 
-// The text of the date that a year in four digits, a month and perhaps a day are read as.
+// Returns the text of the date that a year in four digits, a month and perhaps a day read as.
 fn joined_text(
     alloc: Global,
     year: &str,
@@ -150,14 +150,14 @@ fn joined_text(
     month_date_text(alloc, &date)
 }
 
-// Whether a name is that of an abbreviation of a month, in any ASCII case.
+// Returns whether a name is the abbreviation of a month, in any ASCII case.
 fn is_month_name(name: &str) -> bool
     ensures { result ≡ spec.is_month_name name.now }
 {
     Month::from_abbreviation(name).is_some()
 }
 
-// Whether a file defines an abbreviation of a month itself, in any ASCII case.
+// Returns whether a file defines the abbreviation of a month, in any ASCII case.
 pub(crate) fn defines_month(abbreviations: &[Pair<'_>]) -> bool
     ensures { result ≡ conversions.defines_month (map field_of abbreviations.now) }
 {
@@ -169,7 +169,7 @@ pub(crate) fn defines_month(abbreviations: &[Pair<'_>]) -> bool
     false
 }
 
-// The text of a month: of one literal, or the name of one abbreviation of a month, where the file doesn't define that itself.
+// Returns the text of a month: one literal, or the name of one abbreviation of a month, if the file doesn't define it.
 fn month_value<'s>(defines: bool, pieces: &[Spanned<RawChunk<'s>>]) -> Option<&'s str>
     ensures { lent_text result ≡ spec.month_value defines (map piece_of pieces.now) }
 {
@@ -188,7 +188,7 @@ fn month_value<'s>(defines: bool, pieces: &[Spanned<RawChunk<'s>>]) -> Option<&'
     }
 }
 
-// The text of the first field with a name, if its value is one literal.
+// Returns the text of the first field with a name, if its value is one literal.
 fn literal_named<'s>(fields: &[Pair<'s>], name: &str) -> Option<&'s str>
     ensures { lent_text result ≡ conversions.literal_of (find (has_name name.now) (map field_of fields.now)) }
 {
@@ -196,7 +196,7 @@ fn literal_named<'s>(fields: &[Pair<'s>], name: &str) -> Option<&'s str>
     single_text(&field.value.v)
 }
 
-// The text of the first month.
+// Returns the text of the first month.
 fn month_among<'s>(defines: bool, fields: &[Pair<'s>]) -> Option<&'s str>
     ensures { lent_text result ≡ conversions.month_of defines (find (has_name (codes "month")) (map field_of fields.now)) }
 {
@@ -204,7 +204,7 @@ fn month_among<'s>(defines: bool, fields: &[Pair<'s>]) -> Option<&'s str>
     month_value(defines, &field.value.v)
 }
 
-// The text of the date that the parts among an entry's fields are.
+// Returns the text of the date whose parts are among an entry's fields.
 fn date_of_fields(
     alloc: Global,
     defines: bool,
@@ -227,7 +227,7 @@ fn date_of_fields(
     joined_text(alloc, year, month, Some(day))
 }
 
-// Whether a date's parts may be joined: there is one year, one month and at most one day, and none of the other fields.
+// Returns whether there is one year, one month and at most one day, and none of the other fields of dates.
 fn has_parts_once(fields: &[Pair<'_>]) -> bool
     ensures { result ≡ conversions.has_parts_once (map field_of fields.now) }
 {
@@ -237,7 +237,7 @@ fn has_parts_once(fields: &[Pair<'_>]) -> bool
         && !has_any(fields, &["date", "endyear", "endmonth", "endday"])
 }
 
-// The bytes between two places of a text.
+// Returns the bytes between two byte offsets of a text.
 fn stretch(text: &str, start: usize, end: usize) -> &[u8]
     ensures { result.now ≡ between (place text.now start) (place text.now end) }
 {
@@ -246,14 +246,14 @@ fn stretch(text: &str, start: usize, end: usize) -> &[u8]
     &bytes[start.min(end)..end]
 }
 
-// Whether a percent sign stands between two places of a text.
+// Returns whether a percent sign occurs between two byte offsets of a text.
 fn has_percent(text: &str, start: usize, end: usize) -> bool
     ensures { result ≡ formatted.has_percent text.now start end }
 {
     stretch(text, start, end).contains(&b'%')
 }
 
-// Whether no comment stands between a field and the one after it.
+// Returns whether no comment occurs between a field and the next one.
 fn is_comment_free(text: &str, field: &Pair<'_>, following: &[Pair<'_>]) -> bool
     ensures { result ≡ conversions.is_comment_free text.now (field_of field.now) (map field_of following.now) }
 {
@@ -263,33 +263,33 @@ fn is_comment_free(text: &str, field: &Pair<'_>, following: &[Pair<'_>]) -> bool
     }
 }
 
-// Returns whether a field can be removed: one follows it, and no comment stands between the two.
+// Returns whether a field can be removed: another one follows, with no comment between the two.
 pub(crate) fn can_be_removed(text: &str, field: &Pair<'_>, following: &[Pair<'_>]) -> bool
     ensures { result ≡ conversions.can_be_removed text.now (field_of field.now) (map field_of following.now) }
 {
     !following.is_empty() && is_comment_free(text, field, following)
 }
 
-// Whether a field can go out: it is no part of a date that has another part after it, or no comment stands after it.
-fn can_go_out(text: &str, field: &Pair<'_>, following: &[Pair<'_>]) -> bool
-    ensures { result ≡ conversions.can_go_out text.now (field_of field.now) (map field_of following.now) }
+// Returns whether joining the parts of a date removes no comment after a field: it doesn't remove the field, or no comment follows it.
+fn keeps_comments(text: &str, field: &Pair<'_>, following: &[Pair<'_>]) -> bool
+    ensures { result ≡ conversions.keeps_comments text.now (field_of field.now) (map field_of following.now) }
 {
     !(is_date_part(field) && has_part(following)) || is_comment_free(text, field, following)
 }
 
-// Whether each of some fields can.
-fn can_all_go_out(text: &str, fields: &[Pair<'_>]) -> bool
-    ensures { result ≡ conversions.can_all_go_out text.now (map field_of fields.now) }
+// Returns whether joining the parts of a date removes no comment.
+fn keep_comments(text: &str, fields: &[Pair<'_>]) -> bool
+    ensures { result ≡ conversions.keep_comments text.now (map field_of fields.now) }
 {
     'fields: for (at, field) in fields.iter().enumerate() {
-        if !can_go_out(text, field, &fields[at + 1..]) {
+        if !keeps_comments(text, field, &fields[at + 1..]) {
             return false;
         }
     }
     true
 }
 
-// The text of the date that takes the place of its parts, where they may be joined.
+// Returns the text of the date that replaces its parts, if they may be joined.
 fn allowed_date(
     alloc: Global,
     defines: bool,
@@ -298,13 +298,13 @@ fn allowed_date(
 ) -> Result<Option<String>, AllocError>
     ensures { IfOk result (λ date. option_map string_bytes date ≡ conversions.joined_date Biblatex defines text.now (map field_of fields.now)) }
 {
-    if !has_parts_once(fields) || !can_all_go_out(text, fields) {
+    if !has_parts_once(fields) || !keep_comments(text, fields) {
         return Ok(None);
     }
     date_of_fields(alloc, defines, fields)
 }
 
-// The text of the date that takes the place of its parts among an entry's fields, if one does.
+// Returns the text of the date that replaces its parts among an entry's fields, if they are joined.
 pub(crate) fn joined_date(
     alloc: Global,
     dialect: Dialect,

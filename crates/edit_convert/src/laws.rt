@@ -1,23 +1,23 @@
-//! Laws of what gives way. These functions do nothing: what they ensure is proved of the definitions alone.
+//! Laws of conversion. These functions do nothing; their clauses are proved of the definitions.
 
 ghost use Rattle.edit_convert.specs.Laws.{JoinedIsTheSame, JoinedStaysApart, NamesStayApart, PartsStayApart};
 
-/// The name of a field gives way to none that its entry has already.
+/// The new name of a field is not that of another field of its entry.
 pub fn names_stay_apart()
     ensures { NamesStayApart }
 {}
 
-/// A date gives way to fields of its parts only where its entry has none of these.
+/// A date is replaced by fields of its parts only if its entry has none of these fields.
 pub fn parts_stay_apart()
     ensures { PartsStayApart }
 {}
 
-/// The parts of a date give way to a date that is read as the one that they are.
+/// The date that replaces its parts reads as the date of these parts.
 pub fn joined_is_the_same()
     ensures { JoinedIsTheSame }
 {}
 
-/// They do only where their entry has no date.
+/// The parts of a date are joined only if their entry has no date.
 pub fn joined_stays_apart()
     ensures { JoinedStaysApart }
 {}

@@ -1,12 +1,11 @@
 //! Converts the entry types and fields of a file to those of BibLaTeX or of BibTeX.
 //!
-//! A name or a date that gives way is an edit of the text, and all edits are made in one go over it; the new text isn't read. What it says is proved of the file grammar, edit by edit from the last to the first (`ConvertedFacts`): a document
-//! agrees with the old one up to where its last edit begins (`MadeFacts`), so the next name is where it was. An entry with another name
-//! of its type is read in `KindFacts`, one with other fields in the place of one in `PutFacts`, and the fields of a date's parts where
-//! they are written in `DividedFacts`. Years and days are put in as they stand in the date, and no number is made of them.
+//! The definitions are in specs/Conversions: what replaces each field, and the change of an entry. The edits of all entries are made in one
+//! pass over the text. The new text isn't parsed again: `edit_entries` proves the reading of a text with such changes, and `ConvertedFacts`
+//! that the changes of a conversion can be made. Years and days are copied from the date as texts.
 //!
-//! The parts of a date that are joined are read and written by `bib_dates`, so that the new date is read as theirs (`JoinedFacts`). The last
-//! of them gives way to the date; each of the others goes out up to the field after it, which is known to begin where it did.
+//! The parts of a date are joined by `bib_dates`, which parses and writes them, so the new date reads as the date of its parts
+//! (`JoinedFacts`). The last part is replaced by the date. Each other part is removed, up to the next field.
 #![tactic(auto)]
 
 mod changes;

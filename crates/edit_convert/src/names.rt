@@ -1,4 +1,4 @@
-//! The names of types and fields for which a dialect has others.
+//! Types and fields that a dialect calls otherwise.
 
 ghost use Rattle.std.specs.Prelude.{◌≡◌, IfOk, map};
 ghost use Rattle.std.specs.List.{list_any};
@@ -14,7 +14,7 @@ use bib_tables::dialects::Dialect;
 use bib_tables::mechanics::EntryType;
 use std::alloc::{AllocError, Global};
 
-// The type that a dialect has for a type.
+// Returns the type that a dialect uses for a type.
 fn kind_in(dialect: Dialect, kind: &EntryType) -> EntryType
     ensures { result ≡ kind_in dialect kind.now }
 {
@@ -24,14 +24,14 @@ fn kind_in(dialect: Dialect, kind: &EntryType) -> EntryType
     }
 }
 
-// Whether a type is none of those that BibTeX and BibLaTeX have.
+// Returns whether neither BibTeX nor BibLaTeX has a type.
 fn is_unknown(kind: &EntryType) -> bool
     ensures { result ≡ spec.is_unnamed_type kind.now }
 {
     matches!(kind, EntryType::Unknown(_))
 }
 
-// The name of the type that a dialect has for a type, if that is another one; a type that neither has stays.
+// Returns the name of the type that a dialect uses for a type, if it is another one; a type that neither dialect has is kept.
 pub(crate) fn other_type(dialect: Dialect, kind: &EntryType) -> Option<&'static str>
     ensures { lent_text result ≡ spec.other_type dialect kind.now }
 {
@@ -42,7 +42,7 @@ pub(crate) fn other_type(dialect: Dialect, kind: &EntryType) -> Option<&'static 
     Some(other.name())
 }
 
-// The names for which BibTeX has others in entries of a type, each with the other.
+// Returns the names of fields that BibTeX calls otherwise in entries of a type, each with BibTeX's name.
 fn bibtex_names(kind: &EntryType) -> &'static [(&'static str, &'static str)]
     ensures { lent_names result.now ≡ spec.other_names Dialect.Bibtex kind.now }
 {
@@ -56,7 +56,7 @@ fn bibtex_names(kind: &EntryType) -> &'static [(&'static str, &'static str)]
     }
 }
 
-// The names for which a dialect has others in entries of a type, each with the other.
+// Returns the names of fields that a dialect calls otherwise in entries of a type, each with the dialect's name.
 pub(crate) fn other_names(
     dialect: Dialect,
     kind: &EntryType,
@@ -73,7 +73,7 @@ pub(crate) fn other_names(
     }
 }
 
-// Whether one of some fields has a name, in any ASCII case.
+// Returns whether a field has a name, in any ASCII case.
 pub(crate) fn has_field(fields: &[Pair<'_>], name: &str) -> bool
     ensures { result ≡ spec.is_field_there (map field_of fields.now) name.now }
 {
@@ -85,8 +85,8 @@ pub(crate) fn has_field(fields: &[Pair<'_>], name: &str) -> bool
     false
 }
 
-// The names of an entry's fields that give way, each with the one that takes its place.
-pub(crate) fn exchanged_names(
+// Returns the names of fields that are replaced in an entry, each with its new name.
+pub(crate) fn replaced_names(
     alloc: Global,
     dialect: Dialect,
     kind: &EntryType,
@@ -104,7 +104,7 @@ pub(crate) fn exchanged_names(
     Ok(free)
 }
 
-// Whether a name is one of these, in any ASCII case.
+// Returns whether a name is one of these, in any ASCII case.
 pub(crate) fn is_one_of(names: &[&str], name: &str) -> bool
     ensures { result ≡ list_any (is_word name.now) (lent_texts names.now) }
 {
@@ -116,7 +116,7 @@ pub(crate) fn is_one_of(names: &[&str], name: &str) -> bool
     false
 }
 
-// The other name beside a name, in any ASCII case.
+// Returns the second name of the first row whose first name is `name`, in any ASCII case.
 pub(crate) fn other_name(names: &[(&'static str, &'static str)], name: &str) -> Option<&'static str>
     ensures { lent_text result ≡ spec.other_name (lent_names names.now) name.now }
 {

@@ -1,4 +1,4 @@
-//! What is to know of fields beside those of a dialect.
+//! Notes on the fields that a conversion keeps although the dialect doesn't read them, or on what it doesn't read after a change.
 
 ghost use Rattle.std.specs.Prelude.{◌≡◌, ◌++◌, IfOk, OnOk, is_some, map};
 ghost use Rattle.std.specs.Option.{option_and_then, option_map};
@@ -9,11 +9,11 @@ ghost use Rattle.edit_convert.specs.Conversions as conversions;
 ghost use Rattle.edit_convert.specs.Notes as spec;
 ghost use Rattle.edit_convert.specs.Notes.{file_notes, indexed, note_at};
 ghost use Rattle.edit_convert.specs.Rules.{rules_note};
-ghost use Rattle.edit_convert.specs.Tables.{exchanged_by, lent_names, lent_text, printed_of, replaced_by};
+ghost use Rattle.edit_convert.specs.Tables.{lent_names, lent_text, printed_of, replacement_by, replacement_by_one};
 
 use crate::changes::{Changes, changes_of};
 use crate::dates::has_unread_parts;
-use crate::fields::{exchanged_date, is_date_part};
+use crate::fields::{date_to_divide, is_date_part};
 use crate::joining::defines_month;
 use crate::names::{is_one_of, other_name, other_names};
 use bib_syntax::raw::{Pair, RawEntry, is_word};
@@ -23,18 +23,18 @@ use bib_text::spanned::Spanned;
 use edit_entries::document::RawDocument;
 use std::alloc::{AllocError, Global};
 
-/// What is to know of a field.
+/// The reason for a note on a field.
 #[derive(Debug, Clone, Copy, PartialEq, Eq)]
 pub enum NoteKind {
-    /// It keeps its name, since its entry has a field with the one that the dialect has for it.
+    /// It keeps its name, because its entry has a field with the dialect's name for it.
     NameIsThere,
-    /// It is a date that BibTeX has no fields for, or whose fields are there already.
+    /// It is a date that BibTeX has no fields for, or whose entry already has such fields.
     DateStays,
-    /// It is a month that is joined with no year to a date.
+    /// It is a month that isn't joined with a year to a date.
     MonthStays,
-    /// No standard style of BibTeX reads a field with its name.
+    /// No standard style of BibTeX reads a field with this name.
     NotRead,
-    /// It is a date that gives way to fields of its parts, and no standard style of BibTeX reads one of these: it has a day, or is a range.
+    /// It is a date that is replaced by fields of its parts, and no standard style of BibTeX reads all of them: it has a day, or is a range.
     PartsNotRead,
 }
 
@@ -45,11 +45,11 @@ pub struct Note {
     pub entry: usize,
     /// Its index among the fields of its entry, from 0.
     pub field: usize,
-    /// What is to know.
+    /// The reason for the note.
     pub kind: NoteKind,
 }
 
-// Whether a name is that of a field that the standard styles of BibTeX read, in any ASCII case.
+// Returns whether the standard styles of BibTeX read a field with a name, in any ASCII case.
 fn is_bibtex_field(name: &str) -> bool
     ensures { result ≡ spec.is_bibtex_field name.now }
 {
@@ -83,7 +83,7 @@ fn is_bibtex_field(name: &str) -> bool
     )
 }
 
-// What is to know of a field whose name stays, for BibTeX.
+// Returns the note on a field that is kept, for BibTeX.
 fn bibtex_note(field: &Pair<'_>) -> Option<NoteKind>
     ensures { result ≡ spec.bibtex_note (field_of field.now) }
 {
@@ -96,7 +96,7 @@ fn bibtex_note(field: &Pair<'_>) -> Option<NoteKind>
     Some(NoteKind::NotRead)
 }
 
-// What is to know of a field whose name stays, for BibLaTeX.
+// Returns the note on a field that is kept, for BibLaTeX.
 fn biblatex_note(field: &Pair<'_>) -> Option<NoteKind>
     ensures { result ≡ spec.biblatex_note (field_of field.now) }
 {
@@ -107,9 +107,9 @@ fn biblatex_note(field: &Pair<'_>) -> Option<NoteKind>
     }
 }
 
-// What is to know of a field that stays, given the name that the dialect has in the place of its own, if it has one.
-fn stays_note(dialect: Dialect, other: Option<&str>, field: &Pair<'_>) -> Option<NoteKind>
-    ensures { result ≡ spec.stays_note dialect (lent_text other.entry) (field_of field.now) }
+// Returns the note on a field that is kept. `other` is the dialect's other name for it.
+fn kept_note(dialect: Dialect, other: Option<&str>, field: &Pair<'_>) -> Option<NoteKind>
+    ensures { result ≡ spec.kept_note dialect (lent_text other.entry) (field_of field.now) }
 {
     if other.is_some() {
         return Some(NoteKind::NameIsThere);
@@ -120,7 +120,7 @@ fn stays_note(dialect: Dialect, other: Option<&str>, field: &Pair<'_>) -> Option
     }
 }
 
-// What is to know of the fields of an entry: the names for which the dialect has others, and what gives way.
+// What decides the notes on an entry's fields: the names that the dialect calls otherwise, and the changes of the entry.
 #[derive(Drop)]
 struct Rules {
     dialect: Dialect,
@@ -128,7 +128,7 @@ struct Rules {
     changes: Changes,
 }
 
-// The rules of an entry of a text that defines an abbreviation of a month or doesn't.
+// Returns the rules of an entry. `defines` is whether the file defines the abbreviation of a month.
 fn rules_of(
     alloc: Global,
     dialect: Dialect,
@@ -153,9 +153,9 @@ fn rules_of(
     })
 }
 
-// Whether something but fields of its parts takes the place of a field.
-fn is_replaced(changes: &Changes, field: &Pair<'_>) -> bool
-    ensures { result ≡ is_some (replaced_by changes.now (field_of field.now)) }
+// Returns whether a field is replaced, and not by fields of the parts of a date.
+fn is_replaced_by_one(changes: &Changes, field: &Pair<'_>) -> bool
+    ensures { result ≡ is_some (replacement_by_one changes.now (field_of field.now)) }
 {
     if is_date_part(field) && changes.joined.is_some() {
         return true;
@@ -166,32 +166,32 @@ fn is_replaced(changes: &Changes, field: &Pair<'_>) -> bool
     is_word(field.key.v, "type") && changes.printed.is_some()
 }
 
-// Whether something takes the place of a field.
-pub(crate) fn gives_way(
+// Returns whether a field is replaced.
+pub(crate) fn is_replaced(
     alloc: Global,
     changes: &Changes,
     field: &Pair<'_>,
 ) -> Result<bool, AllocError>
-    ensures { IfOk result (λ gives. gives ≡ is_some (exchanged_by changes.now (field_of field.now))) }
+    ensures { IfOk result (λ gives. gives ≡ is_some (replacement_by changes.now (field_of field.now))) }
 {
-    if is_replaced(changes, field) {
+    if is_replaced_by_one(changes, field) {
         return Ok(true);
     }
-    Ok(exchanged_date(alloc, changes.divides, field)?.is_some())
+    Ok(date_to_divide(alloc, changes.divides, field)?.is_some())
 }
 
-// What is to know of a field that gives way.
-fn given_note(
+// Returns the note on a field that is replaced, if there is one.
+fn replaced_note(
     alloc: Global,
     changes: &Changes,
     field: &Pair<'_>,
 ) -> Result<Option<NoteKind>, AllocError>
-    ensures { IfOk result (λ note. note ≡ option_and_then spec.given_note (exchanged_by changes.now (field_of field.now))) }
+    ensures { IfOk result (λ note. note ≡ option_and_then spec.replaced_note (replacement_by changes.now (field_of field.now))) }
 {
-    if is_replaced(changes, field) {
+    if is_replaced_by_one(changes, field) {
         return Ok(None);
     }
-    let Some(sides) = exchanged_date(alloc, changes.divides, field)? else {
+    let Some(sides) = date_to_divide(alloc, changes.divides, field)? else {
         return Ok(None);
     };
     if has_unread_parts(&sides) {
@@ -200,7 +200,7 @@ fn given_note(
     Ok(None)
 }
 
-// What is to know of a field.
+// Returns the note on a field, if there is one.
 fn field_note(
     alloc: Global,
     rules: &Rules,
@@ -208,13 +208,13 @@ fn field_note(
 ) -> Result<Option<NoteKind>, AllocError>
     ensures { IfOk result (λ note. note ≡ rules_note rules.now (field_of field.now)) }
 {
-    if gives_way(alloc, &rules.changes, field)? {
-        return given_note(alloc, &rules.changes, field);
+    if is_replaced(alloc, &rules.changes, field)? {
+        return replaced_note(alloc, &rules.changes, field);
     }
-    Ok(stays_note(rules.dialect, other_name(rules.names, field.key.v), field))
+    Ok(kept_note(rules.dialect, other_name(rules.names, field.key.v), field))
 }
 
-// Adds the note of the field with an index, if there is something to know of it.
+// Adds the note on the field with an index, if there is one.
 fn push_note(
     notes: &mut Vec<Note>,
     entry: usize,
@@ -230,7 +230,7 @@ fn push_note(
     Ok(())
 }
 
-// Adds the notes of fields of the entry with an index.
+// Adds the notes on fields of the entry with an index.
 fn push_field_notes(
     notes: &mut Vec<Note>,
     alloc: Global,
@@ -246,7 +246,7 @@ fn push_field_notes(
     Ok(())
 }
 
-// Adds the notes of the fields of the entry with an index.
+// Adds the notes on the fields of the entry with an index.
 fn push_entry_notes(
     notes: &mut Vec<Note>,
     alloc: Global,
@@ -262,7 +262,7 @@ fn push_entry_notes(
     push_field_notes(notes, alloc, &rules, index, &entry.v.fields)
 }
 
-// The notes of entries of a text that defines an abbreviation of a month or doesn't.
+// Returns the notes on the fields of entries. `defines` is whether the file defines the abbreviation of a month.
 fn entry_notes(
     alloc: Global,
     dialect: Dialect,
@@ -279,10 +279,15 @@ fn entry_notes(
     Ok(notes)
 }
 
-/// What is to know of the fields that don't give way where a document is converted for a dialect, in the order of the file. A field
-/// that the dialect has another name for keeps its own where its entry has a field with the other. For BibLaTeX a month is named that
-/// isn't joined with a year. For BibTeX a date stays where it isn't divided, and a field that no standard style reads is named. Fails
-/// only where there is no memory.
+/// Returns the notes on the fields of a document for a conversion to `dialect`, in file order.
+///
+/// In both dialects there is a note on a field that keeps its name because its entry has a field with the dialect's name for it. For
+/// BibLaTeX there is a note on a month that isn't joined with a year. For BibTeX there is a note on a date that isn't divided, on a date
+/// that is divided and has a day or a second side, and on a field that no standard style reads.
+///
+/// # Errors
+///
+/// Returns an error only if out of memory.
 pub fn notes(
     alloc: Global,
     document: &RawDocument<'_>,

@@ -13,14 +13,14 @@ use bib_syntax::raw::Pair;
 use bib_tables::dialects::Dialect;
 use bib_tables::mechanics::EntryType;
 
-// A type of BibTeX, and what its standard styles print for it.
+// A type of BibTeX, and the text that its standard styles print for it.
 #[derive(Clone, Copy)]
 pub(crate) struct Printed {
     pub(crate) name: &'static str,
     pub(crate) text: &'static str,
 }
 
-// Returns the value of `type` that says of which type of BibTeX a thesis or a report is.
+// Returns the value of `type` that BibLaTeX uses for a type of BibTeX that it merges with others.
 fn type_value(kind: &EntryType) -> Option<&'static str>
     ensures { lent_text result ≡ spec.type_value kind.now }
 {
@@ -32,7 +32,7 @@ fn type_value(kind: &EntryType) -> Option<&'static str>
     }
 }
 
-// Returns the type of BibTeX that a value of `type` stands for in a thesis.
+// Returns the type of BibTeX that a value of `type` means in a thesis.
 fn thesis_by_value(value: &str) -> Option<Printed>
     ensures { printed_of result ≡ spec.type_by_value EntryType.Thesis (Some value.now) }
 {
@@ -49,7 +49,7 @@ fn thesis_by_value(value: &str) -> Option<Printed>
     }
 }
 
-// Returns the type of BibTeX that a value of `type` stands for in a report.
+// Returns the type of BibTeX that a value of `type` means in a report.
 fn report_by_value(value: &str) -> Option<Printed>
     ensures { printed_of result ≡ spec.type_by_value EntryType.Report (Some value.now) }
 {
@@ -62,7 +62,7 @@ fn report_by_value(value: &str) -> Option<Printed>
     }
 }
 
-// Returns the type of BibTeX that a type and a value of `type` stand for.
+// Returns the type of BibTeX that a type and a value of `type` mean.
 fn type_by_value(kind: &EntryType, value: &str) -> Option<Printed>
     ensures { printed_of result ≡ spec.type_by_value kind.now (Some value.now) }
 {
@@ -75,7 +75,7 @@ fn type_by_value(kind: &EntryType, value: &str) -> Option<Printed>
     }
 }
 
-// Returns the type of BibTeX that an entry's type and its one field `type` stand for, if they stand for one.
+// Returns the type of BibTeX that an entry's type and its field `type` mean, if it has one such field and they mean one.
 fn read_type(kind: &EntryType, fields: &[Pair<'_>]) -> Option<Printed>
     ensures { printed_of result ≡ conversions.read_type kind.now (map field_of fields.now) }
 {
@@ -87,7 +87,7 @@ fn read_type(kind: &EntryType, fields: &[Pair<'_>]) -> Option<Printed>
     type_by_value(kind, value)
 }
 
-// Returns the same for BibTeX; BibLaTeX has no use for it.
+// Returns the type of BibTeX that is written instead of a field `type`; for BibLaTeX there is none.
 pub(crate) fn printed_type(
     dialect: Dialect,
     kind: &EntryType,
@@ -101,7 +101,7 @@ pub(crate) fn printed_type(
     }
 }
 
-// Returns the value of `type` that an entry of a type needs for BibLaTeX, if it has none.
+// Returns the value of the field `type` that is added to an entry: for BibLaTeX, if the type needs one and the entry has no field `type`.
 pub(crate) fn missing_type(
     dialect: Dialect,
     kind: &EntryType,

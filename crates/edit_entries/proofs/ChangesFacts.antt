@@ -62,12 +62,12 @@ name_put d f name can is = record {
 -- a field before others can have this change: a new name can be one, a new value is read wherever it stands, what follows a comma is
 -- white space, and a field that is gone has another one after it
 abbrev pub CanChange : List FieldReading → FieldChange → Type 0
-CanChange following FieldChange.stays = Unit {0}
+CanChange following FieldChange.kept = Unit {0}
 CanChange following (FieldChange.preceded n white) = CanBePut n × AreWhite white
 CanChange following (FieldChange.renamed name) = CanBeName name
 CanChange following (FieldChange.valued new) = CanBeRead new
 CanChange following (FieldChange.replaced n ns) = CanBePut n × AllByRecursion CanBePut ns
-CanChange following FieldChange.gone = (g : FieldReading) × (gs : List FieldReading) × (following ≡ g ∷ gs)
+CanChange following FieldChange.removed = (g : FieldReading) × (gs : List FieldReading) × (following ≡ g ∷ gs)
 
 -- fields can have these changes
 abbrev pub CanFieldsChange : List FieldReading → List FieldChange → Type 0
@@ -92,7 +92,7 @@ module _ (d : Document) (changes : EntryReading → EntryChange) (read : IsDocum
       → (next : (g : FieldReading) × (gs : List FieldReading) × (fs ≡ g ∷ gs))
       → d.says.entries ≡ before ++ e ∷ rest → e.fields ≡ fb ++ f ∷ fs
       → MadeFrom d later (before ++ with_fields e (fb ++ f ∷ now) ∷ others) f.value.end (length before) (suc (length fb)) fs
-      → MadeFrom d (edits_of_field d.text f fs FieldChange.gone ++ later) (before ++ with_fields e (fb ++ now) ∷ others)
+      → MadeFrom d (edits_of_field d.text f fs FieldChange.removed ++ later) (before ++ with_fields e (fb ++ now) ∷ others)
       f.name.start (length before) (length fb) (f ∷ fs)
   gone_case before rest others later e fb f [] now next whole cut from = let none : ⊥ = cc in absurd none
   gone_case before rest others later e fb f (g ∷ gs) now next whole cut from =
@@ -122,7 +122,7 @@ module _ (d : Document) (changes : EntryReading → EntryChange) (read : IsDocum
       → MadeFrom d (edits_of_field d.text f fs change ++ later)
       (before ++ with_fields e (fb ++ (field_changed f change ++ now)) ∷ others) at (length before) (length fb)
       (f ∷ fs)
-  field_case before rest others later e fb f fs now at FieldChange.stays can whole cut less is trimmed from =
+  field_case before rest others later e fb f fs now at FieldChange.kept can whole cut less is trimmed from =
       let here : slice_get d.says.entries (length before) ≡ Some e =
       ap (λ es. slice_get es (length before)) whole ∙ get_here before e rest in
       let there : slice_get e.fields (length fb) ≡ Some f = ap (λ xs. slice_get xs (length fb)) cut ∙ get_here fb f fs in
@@ -139,7 +139,7 @@ module _ (d : Document) (changes : EntryReading → EntryChange) (read : IsDocum
   field_case before rest others later e fb f fs now at (FieldChange.replaced n ns) can whole cut less is trimmed from =
       put_case before rest others later e fb f fs now at (field_stretch d.text f (new_field_text n ++ more_field_texts ns)) _
       (divided_put d f n ns trimmed (omega (arith, is.name.some, is.ordered)) can.0 can.1 is.value) whole cut less from
-  field_case before rest others later e fb f fs now at FieldChange.gone can whole cut less is trimmed from =
+  field_case before rest others later e fb f fs now at FieldChange.removed can whole cut less is trimmed from =
       less_made_from d _ _ f.name.start at _ _ _ less (gone_case before rest others later e fb f fs now can whole cut from)
 
   fields_made : (before rest others : List EntryReading) (later : List Edit) (e : EntryReading)

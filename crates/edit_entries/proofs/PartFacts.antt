@@ -17,7 +17,7 @@ use Rattle.edit_entries.specs.Edits.{Edit}
 use Rattle.edit_entries.specs.EditList.{AreEditsInOrder}
 use Rattle.edit_entries.proofs.SplitFacts.{EntryBlock, entry_block, one_entry}
 use Rattle.edit_entries.proofs.ValueFacts.{elements_opens, run_stands}
-use Rattle.edit_entries.specs.Changes.{EntryChange, FieldChange, edits_of_entries, edits_of_field, edits_of_fields, field_stretch, going_out, more_field_texts, new_field_text, part_edits, value_end}
+use Rattle.edit_entries.specs.Changes.{EntryChange, FieldChange, edits_of_entries, edits_of_field, edits_of_fields, field_stretch, removal_edits, more_field_texts, new_field_text, part_edits, value_end}
 use Rattle.edit_entries.proofs.TrimmedFacts.{IsFieldPlaced, edits_earlier}
 use Rattle.bib_text.proofs.BoundaryFacts.{run_boundary, char_boundary}
 
@@ -171,7 +171,7 @@ field_in_order : (text : List ℕ) (at end : ℕ) (f : FieldReading) (fs : List 
     (more : List Edit) → at ≤ f.name.start → IsIn text f → IsFieldPlaced text f
     → AreFieldsIn text f.value.end fs end → AreEditsInOrder text (first_place f.value.end fs) more
     → AreEditsInOrder text at (edits_of_field text f fs change ++ more)
-field_in_order text at end f fs FieldChange.stays more before is placed fields order =
+field_in_order text at end f fs FieldChange.kept more before is placed fields order =
     edits_earlier text (first_place f.value.end fs) at more
     (omega (arith, is.name.some, is.ordered, is.value, (first_in text f.value.end end fs fields).0)) order
 field_in_order text at end f fs (FieldChange.preceded n white) more before is placed fields order = (
@@ -200,9 +200,9 @@ field_in_order text at end f fs (FieldChange.replaced n ns) more before is place
     (omega (arith, is.name.some, is.ordered)) is.name.start placed
     (edits_earlier text (first_place f.value.end fs) f.value.end more (first_in text f.value.end end fs fields).0
     order)
-field_in_order text at end f [] FieldChange.gone more before is placed fields order =
+field_in_order text at end f [] FieldChange.removed more before is placed fields order =
     edits_earlier text f.value.end at more (omega (arith, is.name.some, is.ordered, is.value)) order
-field_in_order text at end f (g ∷ gs) FieldChange.gone more before is placed fields order =
+field_in_order text at end f (g ∷ gs) FieldChange.removed more before is placed fields order =
     (before, omega (arith, is.name.some, is.ordered, is.value, fields.0), is.name.start, fields.1.name.start, order)
 
 fields_in_order : (text : List ℕ) (at end : ℕ) (fs : List FieldReading) (changes : List FieldChange)

@@ -10,7 +10,7 @@ Exchange = FieldReading → Option NewValue
 
 -- what becomes of a field, given what takes the place of its value
 abbrev pub exchange_change : Option NewValue → FieldChange
-exchange_change None = FieldChange.stays
+exchange_change None = FieldChange.kept
 exchange_change (Some new) = FieldChange.valued new
 
 -- what becomes of an entry whose values are exchanged

@@ -3,8 +3,8 @@ use Rattle.std.specs.Prelude.{OnOk}
 use Rattle.bib_syntax.specs.Reading.{EntryReading}
 use Rattle.bib_syntax.specs.Views.{entry_reading_of, field_of}
 use Rattle.edit_entries.specs.EditList.{edit_of}
-use Rattle.edit_convert.specs.Conversions.{divides_date, free_names, joined_date, missing_type, other_names, printed_type, stays_one, type_for}
-use Rattle.edit_convert.specs.Tables.{change_edits, exchanged_by, lent_text, printed_of}
+use Rattle.edit_convert.specs.Conversions.{divides_date, free_names, joined_date, missing_type, other_names, printed_type, keeps_one, type_for}
+use Rattle.edit_convert.specs.Tables.{change_edits, replacement_by, lent_text, printed_of}
 use Rattle.edit_convert.proofs.EntryEditFacts.{IsFound, entry_edited}
 use Rattle.edit_convert.proofs.converting.push_entry_edits.Goals as goal
 
@@ -29,9 +29,9 @@ returns c =
     let missing_is : missing ≡ missing_type dialect kind e.fields =
     c.missing_type-missing.ensures ∙ ap (λ fs. missing_type dialect kind (map field_of fs)) c.deref-2.ensures.value in
     let other_is : lent_text c.in_ok-other.other
-    ≡ type_for dialect kind (printed_of changes.printed) missing (stays_one (exchanged_by changes) e.fields) =
+    ≡ type_for dialect kind (printed_of changes.printed) missing (keeps_one (replacement_by changes) e.fields) =
     c.in_ok-other.ensures
-    ∙ ap (λ fs. type_for dialect kind (printed_of changes.printed) missing (stays_one (exchanged_by changes) (map field_of fs)))
+    ∙ ap (λ fs. type_for dialect kind (printed_of changes.printed) missing (keeps_one (replacement_by changes) (map field_of fs)))
     c.deref-3.ensures.value in
     entry_edited c.push_field_edits.result (map edit_of c.args.edits.now.items) (map edit_of c.push_part_edit.new.edits.items)
     (map edit_of c.push_field_edits.new.edits.items) dialect c.args.defines c.args.text.now e kind changes

@@ -6,12 +6,12 @@ use Rattle.edit_entries.specs.Edits.{Edit}
 use Rattle.edit_entries.specs.Placed.{IsPlaced}
 use Rattle.edit_strings.proofs.ListFacts.{all_step}
 use Rattle.edit_entries.specs.EditList.{edit_of}
-use Rattle.edit_convert.specs.Tables.{change_edits, exchanged_by, lent_text}
+use Rattle.edit_convert.specs.Tables.{change_edits, replacement_by, lent_text}
 use Rattle.edit_convert.proofs.FollowingFacts.{edits_step}
 use Rattle.edit_convert.proofs.converting.push_field_edits.Goals as goal
 
-pub push_waiting_edit-requires : goal.push_waiting_edit-requires
-push_waiting_edit-requires c =
+pub push_pending_edit-requires : goal.push_pending_edit-requires
+push_pending_edit-requires c =
     (all_step field_of c.args.fields.now c.fields.at c.index-fields-at.result c.fields-test.true c.index-fields-at.is
     (IsPlaced c.args.text.now) c.fields.invariant.placed).0
 
@@ -25,8 +25,8 @@ fields-preserved c =
     record {
       added =
           edits_step field_of c.args.fields.now c.fields.at c.index-fields-at.result c.fields-test.true
-          c.index-fields-at.is (exchanged_by c.args.changes.now) (lent_text c.fields.waiting) _ c.args.text.now following _
-          _ _ same c.in_ok-waiting.ensures.edits c.in_ok-waiting.ensures.waits c.fields.invariant.added;
+          c.index-fields-at.is (replacement_by c.args.changes.now) (lent_text c.fields.pending) _ c.args.text.now following _
+          _ _ same c.in_ok-pending.ensures.edits c.in_ok-pending.ensures.left c.fields.invariant.added;
       placed =
           (all_step field_of c.args.fields.now c.fields.at c.index-fields-at.result c.fields-test.true
           c.index-fields-at.is (IsPlaced c.args.text.now) c.fields.invariant.placed).1;
@@ -36,5 +36,5 @@ pub returns : goal.returns
 returns c =
     let edits : List Edit = map edit_of c.fields.edits.items in
     sym (append-nil edits)
-    ∙ ap (λ fs. edits ++ change_edits c.args.changes.now (lent_text c.fields.waiting) c.args.text.now (map field_of fs))
+    ∙ ap (λ fs. edits ++ change_edits c.args.changes.now (lent_text c.fields.pending) c.args.text.now (map field_of fs))
     (sym (drop_all c.fields.at c.args.fields.now c.fields-test.false)) ∙ c.fields.invariant.added

@@ -8,7 +8,7 @@ use Rattle.edit_convert.proofs.converting.push_field_edits.Given as goal
 
 abbrev pub invariant-fields : goal.invariant-fields
 invariant-fields l = record {
-  added : map edit_of l.edits.items ++ change_edits l.changes (lent_text l.waiting) l.text (map field_of (drop l.at l.fields))
+  added : map edit_of l.edits.items ++ change_edits l.changes (lent_text l.pending) l.text (map field_of (drop l.at l.fields))
       ≡ map edit_of l.initial.edits.items ++ change_edits l.changes (lent_text l.missing) l.text (map field_of l.fields);
   placed : AllByRecursion (IsPlaced l.text) (map field_of (drop l.at l.fields));
 }

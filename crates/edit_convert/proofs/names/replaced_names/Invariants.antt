@@ -2,7 +2,7 @@ use Rattle.std.proofs.Common.{◌≡◌, ◌++◌, drop, map}
 use Rattle.bib_syntax.specs.Views.{field_of}
 use Rattle.edit_convert.specs.Conversions.{free_names}
 use Rattle.edit_convert.specs.Tables.{lent_names}
-use Rattle.edit_convert.proofs.names.exchanged_names.Given as goal
+use Rattle.edit_convert.proofs.names.replaced_names.Given as goal
 
 abbrev pub invariant-rows : goal.invariant-rows
 invariant-rows l =
