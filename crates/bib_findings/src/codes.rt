@@ -113,8 +113,8 @@ impl Code {
         }
     }
 
-    /// The code of this name.
-    pub fn named(name: &str) -> Option<Self>
+    /// Returns the code with this name, if there is one.
+    pub fn from_name(name: &str) -> Option<Self>
         ensures { result ≡ code_named name.now }
     {
         first_named(&CODES, name)

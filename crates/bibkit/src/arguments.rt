@@ -104,7 +104,7 @@ fn given_codes(
         Some(names) => {
             let codes = names
                 .iter()
-                .filter_map(|name| Code::named(name))
+                .filter_map(|name| Code::from_name(name))
                 .collect(alloc)?;
             Ok(Some(codes))
         }
@@ -114,7 +114,7 @@ fn given_codes(
 
 // Returns the request of `lint`.
 fn lint_asked<'a>(alloc: Global, matches: &ArgMatches<'a>) -> Result<Asked<'a>, AllocError> {
-    if let Some(code) = matches.get_str("explain").and_then(Code::named) {
+    if let Some(code) = matches.get_str("explain").and_then(Code::from_name) {
         return Ok(Asked::Other(Request::Explain(code)));
     }
     let settings = Settings {

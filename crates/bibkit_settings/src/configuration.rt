@@ -84,7 +84,7 @@ fn wrong<T: Drop>(alloc: Global, key: &str, wanted: &str) -> Result<T, Configura
 
 // Returns the code that a value names.
 fn code(alloc: Global, key: &str, value: &Value) -> Result<Code, ConfigurationError> {
-    match value.as_str().and_then(Code::named) {
+    match value.as_str().and_then(Code::from_name) {
         Some(code) => Ok(code),
         None => wrong(alloc, key, "a list of codes"),
     }

@@ -29,7 +29,8 @@ module _ {A : Type 0} (view : A → FieldReading) (xs : List A) (i : ℕ) (x : A
       let rest : List FieldReading = map view (drop (i + 1) xs) in
       let after : Option (List ℕ) = pending_after pending (replacement (view x)) in
       let here : List A → List Edit =
-      λ (l : List A). edits_of_field text (view x) (map view l) (pending_change text (view x) pending (map view l) (replacement (view x))) in
+      λ (l : List A).
+      edits_of_field text (view x) (map view l) (pending_change text (view x) pending (map view l) (replacement (view x))) in
       ap (λ w. new ++ edits_from replacement w text rest) waits_is
       ∙ ap (λ l. l ++ edits_from replacement after text rest) (added ∙ ap (λ l. old ++ here l) are)
       ∙ append_assoc old (here (drop (i + 1) xs)) (edits_from replacement after text rest)
