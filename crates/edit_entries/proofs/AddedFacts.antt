@@ -1,4 +1,4 @@
--- An entry with one more field.
+-- An entry with its first field.
 use Rattle.std.proofs.Common.{◌≡◌, inr, ℕ, ◌+◌, ◌-◌, ◌<◌, ◌≤◌, true, false, List, ◌∷◌, ◌++◌, length, take, drop, map, refl, sym, ap, ◌∙◌, subst, arith, Some, append_assoc, length-append}
 use Rattle.std.proofs.lemmas.Bool.{ne_eqb}
 use Rattle.std.specs.Prelude.{◌==◌, slice_get, codes}
@@ -15,7 +15,8 @@ use Rattle.bib_syntax.proofs.FieldFacts.{ahead_gap, ahead_fields}
 use Rattle.bib_syntax.proofs.FileFacts.{ahead_head}
 use Rattle.bib_syntax.proofs.LawFacts.{start_not_white}
 use Rattle.edit_entries.specs.Edits.{Edit, edited, moved_place, moved_part, moved_field, moved_entry}
-use Rattle.edit_entries.specs.Documents.{CanBeName, CanStandInBraces, Document, IsAfterComma, IsDocument, field_added, field_at, added_line, in_braces, text_at}
+use Rattle.edit_entries.specs.Documents.{CanBeName, CanStandInBraces, Document, IsDocument, in_braces, text_at}
+use Rattle.edit_entries.specs.Setting.{IsAfterComma, only_field, only_field_added, only_field_text}
 use Rattle.edit_entries.proofs.EditFacts.{Fits, before_frame, after_frame, piece_frame, moved_before, moved_after, zone_before, zone_after, zone_piece, new_bytes, ascii_stands, rest_stands, text_stands}
 use Rattle.edit_entries.proofs.ZoneFacts.{Inside, inside_between, char_there, char_there_last, longest_there, part_there, run_there}
 use Rattle.edit_entries.proofs.GrammarFacts.{below_char, gap_there, fields_there, head_there}
@@ -54,74 +55,64 @@ name_stands whole rest name at can here =
       reading = ap (λ t. let p : Part = record { text = t; start = at; end = at + length name } in p) (sym bytes);
     }
 
--- a line with a field, byte for byte
-line_stands : (name value rest : List ℕ)
-    → added_line name value ++ rest ≡ 10 ∷ 32 ∷ 32 ∷ (name ++ (32 ∷ 61 ∷ 32 ∷ (in_braces value ++ (44 ∷ rest))))
-line_stands name value rest =
-    let feed : List ℕ = codes "\n  " in
+-- a space, a field and a comma, byte for byte
+bytes_stand : (name value rest : List ℕ)
+    → only_field_text name value ++ rest ≡ 32 ∷ (name ++ (32 ∷ 61 ∷ 32 ∷ (in_braces value ++ (44 ∷ rest))))
+bytes_stand name value rest =
+    let gap : List ℕ = codes " " in
     let sign : List ℕ = codes " = " in
     let comma : List ℕ = codes "," in
-    append_assoc (feed ++ name ++ sign ++ in_braces value) comma rest
-    ∙ append_assoc (feed ++ name ++ sign) (in_braces value) (comma ++ rest)
-    ∙ append_assoc (feed ++ name) sign (in_braces value ++ (comma ++ rest))
-    ∙ append_assoc feed name (sign ++ (in_braces value ++ (comma ++ rest)))
+    append_assoc (gap ++ name ++ sign ++ in_braces value) comma rest
+    ∙ append_assoc (gap ++ name ++ sign) (in_braces value) (comma ++ rest)
+    ∙ append_assoc (gap ++ name) sign (in_braces value ++ (comma ++ rest))
+    ∙ append_assoc gap name (sign ++ (in_braces value ++ (comma ++ rest)))
 
--- a line with a field, as the file grammar reads it, up to its comma
-record LineRead (whole name value : List ℕ) (at : ℕ) : Type 0 where
-  white : Gap longest (place whole at) (place whole (at + 3))
-  field : Field longest (place whole (at + 3)) (field_at at name value) (place whole (at + 3 + length name + 3 + length (in_braces value)))
-  gap : Gap longest (place whole (at + 3 + length name + 3 + length (in_braces value)))
-      (place whole (at + 3 + length name + 3 + length (in_braces value)))
-  comma : CharAt (place whole (at + 3 + length name + 3 + length (in_braces value))) 44 (place whole (at + length (added_line name value)))
-  feed : CharAt (place whole at) 10 (place whole (at + 1))
+-- a space, a field and a comma, as the file grammar reads them
+record IsFieldRead (whole name value : List ℕ) (at : ℕ) : Type 0 where
+  white : Gap longest (place whole at) (place whole (at + 1))
+  field : Field longest (place whole (at + 1)) (only_field at name value) (place whole (at + 1 + length name + 3 + length (in_braces value)))
+  gap : Gap longest (place whole (at + 1 + length name + 3 + length (in_braces value)))
+      (place whole (at + 1 + length name + 3 + length (in_braces value)))
+  comma : CharAt (place whole (at + 1 + length name + 3 + length (in_braces value))) 44 (place whole (at + length (only_field_text name value)))
+  space : CharAt (place whole at) 32 (place whole (at + 1))
 
 start_no_percent : (c : ℕ) → is_id_start c ≡ true → (c == 37) ≡ false
 start_no_percent c starts = ne_eqb c 37 (λ same. test_clash (is_id_start 37) (subst (λ x. is_id_start x ≡ true) same starts) refl)
 
-line_size : (name value : List ℕ) → length (added_line name value) ≡ 3 + length name + 3 + length (in_braces value) + 1
-line_size name value =
-    let feed : List ℕ = codes "\n  " in
+bytes_size : (name value : List ℕ) → length (only_field_text name value) ≡ 1 + length name + 3 + length (in_braces value) + 1
+bytes_size name value =
+    let gap : List ℕ = codes " " in
     let sign : List ℕ = codes " = " in
     let comma : List ℕ = codes "," in
     omega (
       arith,
-      length-append (feed ++ name ++ sign ++ in_braces value) comma,
-      length-append (feed ++ name ++ sign) (in_braces value),
-      length-append (feed ++ name) sign,
-      length-append feed name,
+      length-append (gap ++ name ++ sign ++ in_braces value) comma,
+      length-append (gap ++ name ++ sign) (in_braces value),
+      length-append (gap ++ name) sign,
+      length-append gap name,
     )
 
-line_read : (whole rest name value : List ℕ) (at : ℕ) → CanBeName name → CanStandInBraces value
-    → drop at whole ≡ added_line name value ++ rest → LineRead whole name value at
-line_read whole rest name value at can_name can_value stands =
-    let n1 : ℕ = at + 3 + length name in
+field_read : (whole rest name value : List ℕ) (at : ℕ) → CanBeName name → CanStandInBraces value
+    → drop at whole ≡ only_field_text name value ++ rest → IsFieldRead whole name value at
+field_read whole rest name value at can_name can_value stands =
+    let n1 : ℕ = at + 1 + length name in
     let n2 : ℕ = n1 + 3 in
     let n3 : ℕ = n2 + length (in_braces value) in
-    let size : at + length (added_line name value) ≡ n3 + 1 = omega (arith, line_size name value) in
+    let size : at + length (only_field_text name value) ≡ n3 + 1 = omega (arith, bytes_size name value) in
     let after_value : List ℕ = 44 ∷ rest in
     let from_value : List ℕ = in_braces value ++ after_value in
     let from_sign : List ℕ = 61 ∷ 32 ∷ from_value in
     let from_name : List ℕ = name ++ (32 ∷ from_sign) in
-    let s0 : drop at whole ≡ 10 ∷ 32 ∷ 32 ∷ from_name = stands ∙ line_stands name value rest in
-    let s1 : drop (at + 1) whole ≡ 32 ∷ 32 ∷ from_name = rest_stands whole (32 ∷ 32 ∷ from_name) at 10 s0 in
-    let s2 : drop (at + 1 + 1) whole ≡ 32 ∷ from_name = rest_stands whole (32 ∷ from_name) (at + 1) 32 s1 in
-    let s3 : drop (at + 3) whole ≡ from_name =
-    let sum : at + 1 + 1 + 1 ≡ at + 3 = omega arith in
-    ap (λ n. drop n whole) (sym sum) ∙ rest_stands whole from_name (at + 1 + 1) 32 s2 in
-    let s4 : drop n1 whole ≡ 32 ∷ from_sign = text_stands whole name (32 ∷ from_sign) (at + 3) s3 in
+    let s0 : drop at whole ≡ 32 ∷ from_name = stands ∙ bytes_stand name value rest in
+    let s1 : drop (at + 1) whole ≡ from_name = rest_stands whole from_name at 32 s0 in
+    let s4 : drop n1 whole ≡ 32 ∷ from_sign = text_stands whole name (32 ∷ from_sign) (at + 1) s1 in
     let s5 : drop (n1 + 1) whole ≡ from_sign = rest_stands whole from_sign n1 32 s4 in
     let s6 : drop (n1 + 1 + 1) whole ≡ 32 ∷ from_value = rest_stands whole (32 ∷ from_value) (n1 + 1) 61 s5 in
     let s7 : drop n2 whole ≡ from_value =
     let sum : n1 + 1 + 1 + 1 ≡ n2 = omega arith in
     ap (λ n. drop n whole) (sym sum) ∙ rest_stands whole from_value (n1 + 1 + 1) 32 s6 in
     let s8 : drop n3 whole ≡ 44 ∷ rest = text_stands whole (in_braces value) (44 ∷ rest) n2 s7 in
-    let feed : CharAt (place whole at) 10 (place whole (at + 1)) = ascii_stands whole (32 ∷ 32 ∷ from_name) at 10 (omega arith) s0 in
-    let blank : CharAt (place whole (at + 1)) 32 (place whole (at + 1 + 1)) =
-    ascii_stands whole (32 ∷ from_name) (at + 1) 32 (omega arith) s1 in
-    let blank' : CharAt (place whole (at + 1 + 1)) 32 (place whole (at + 3)) =
-    let sum : at + 1 + 1 + 1 ≡ at + 3 = omega arith in
-    subst (λ n. CharAt (place whole (at + 1 + 1)) 32 (place whole n)) sum
-    (ascii_stands whole from_name (at + 1 + 1) 32 (omega arith) s2) in
+    let first : CharAt (place whole at) 32 (place whole (at + 1)) = ascii_stands whole from_name at 32 (omega arith) s0 in
     let space : CharAt (place whole n1) 32 (place whole (n1 + 1)) = ascii_stands whole from_sign n1 32 (omega arith) s4 in
     let sign : CharAt (place whole (n1 + 1)) 61 (place whole (n1 + 1 + 1)) =
     ascii_stands whole (32 ∷ from_value) (n1 + 1) 61 (omega arith) s5 in
@@ -130,8 +121,8 @@ line_read whole rest name value at can_name can_value stands =
     subst (λ n. CharAt (place whole (n1 + 1 + 1)) 32 (place whole n)) sum
     (ascii_stands whole from_value (n1 + 1 + 1) 32 (omega arith) s6) in
     let comma : CharAt (place whole n3) 44 (place whole (n3 + 1)) = ascii_stands whole rest n3 44 (omega arith) s8 in
-    let name_read : Identifier longest (place whole (at + 3)) (text_at (at + 3) name) (place whole n1) =
-    name_stands whole from_sign name (at + 3) can_name s3 in
+    let name_read : Identifier longest (place whole (at + 1)) (text_at (at + 1) name) (place whole n1) =
+    name_stands whole from_sign name (at + 1) can_name s1 in
     let braced = braced_stands whole (44 ∷ rest) value n2 can_value s7 (inr (44, place whole (n3 + 1), comma)) in
     let element : Element longest (place whole n2) (literal (text_at (n2 + 1) value)) (place whole n3) = Element.braced braced in
     let none : Longest is_whitespace (place whole n3) (place whole n3) = record { run = stop; stops = stops_at is_whitespace comma refl } in
@@ -139,7 +130,7 @@ line_read whole rest name value at can_name can_value stands =
       white =
           Gap.white
           (record {
-            run = step feed refl (step blank refl (step blank' refl stop));
+            run = step first refl stop;
             stops = stops_at is_whitespace name_read.here (start_not_white name_read.first name_read.starts);
           })
           (stops_at (λ c. c == 37) name_read.here (start_no_percent name_read.first name_read.starts));
@@ -158,7 +149,7 @@ line_read whole rest name value at can_name can_value stands =
       };
       gap = Gap.white none (stops_at (λ c. c == 37) comma refl);
       comma = subst (λ n. CharAt (place whole n3) 44 (place whole n)) (sym size) comma;
-      feed = feed;
+      space = first;
     }
 
 -- the place after the comma after an entry's key
@@ -172,13 +163,13 @@ after_comma_is text e at {u} {v} b same is =
     longest_same is.white (subst (λ p. Longest is_whitespace p b.before_comma) (sym here) b.white) in
     (same_char b.comma (subst (λ p. CharAt p 44 (place text at)) before is.comma)).1
 
-pub field_added_read : (d : Document) (k : ℕ) (e : EntryReading) (at : ℕ) (name value : List ℕ) → IsDocument d
+pub only_field_read : (d : Document) (k : ℕ) (e : EntryReading) (at : ℕ) (name value : List ℕ) → IsDocument d
     → slice_get d.says.entries k ≡ Some e → IsAfterComma d.text e at → CanBeName name → CanStandInBraces value
-    → IsDocument (field_added d k e at name value)
-field_added_read d k e at name value read here is can_name can_value =
+    → IsDocument (only_field_added d k e at name value)
+only_field_read d k e at name value read here is can_name can_value =
     let s = split_file k e read here in
     let b = s.block in
-    let edit : Edit = record { start = at; end = at; bytes = added_line name value } in
+    let edit : Edit = record { start = at; end = at; bytes = only_field_text name value } in
     let move = moved_place edit in
     let to_start = ahead_file_before s.first in
     let to_key = ahead_head b.head in
@@ -192,13 +183,13 @@ field_added_read d k e at name value read here is can_name can_value =
     let at_is : b.after_comma.at ≡ at = ap (λ p. p.at) place_is in
     let closing_within = char_within b.closes in
     let within : at ≤ length d.text = omega (arith, at_is, to_close.at, closing_within, ap length to_close.text, ap length at_comma.text) in
-    let stands : drop at (edited edit d.text) ≡ added_line name value ++ drop at d.text = new_bytes edit d.text within in
-    let line = line_read (edited edit d.text) (drop at d.text) name value at can_name can_value stands in
+    let stands : drop at (edited edit d.text) ≡ only_field_text name value ++ drop at d.text = new_bytes edit d.text within in
+    let line = field_read (edited edit d.text) (drop at d.text) name value at can_name can_value stands in
     let fits : Fits edit d.text =
     record {
       ordered = omega arith;
       within = within;
-      border = inr (10, place (edited edit d.text) (at + 1), line.feed);
+      border = inr (32, place (edited edit d.text) (at + 1), line.space);
     } in
     let z1 = zone_before edit d.text fits in
     let z2 = zone_after edit d.text fits.ordered fits.within in
@@ -233,18 +224,18 @@ field_added_read d k e at name value read here is can_name can_value =
     let comma_end : move b.before_comma.at + 1 ≡ at = omega (arith, moved_before edit b.before_comma.at before_at, b.comma.next, at_is) in
     let comma : CharAt (goes edit d.text b.before_comma) 44 (place (edited edit d.text) at) =
     subst (λ n. CharAt (goes edit d.text b.before_comma) 44 (place (edited edit d.text) n)) comma_end last_char in
-    let end_is : move b.after_comma.at ≡ at + length (added_line name value) =
+    let end_is : move b.after_comma.at ≡ at + length (only_field_text name value) =
     omega (arith, moved_after edit b.after_comma.at (omega (arith, at_is)), at_is) in
-    let others : Gap longest (place (edited edit d.text) (at + length (added_line name value))) (goes edit d.text b.fields_start) =
+    let others : Gap longest (place (edited edit d.text) (at + length (only_field_text name value))) (goes edit d.text b.fields_start) =
     subst (λ n. Gap longest (place (edited edit d.text) n) (goes edit d.text b.fields_start)) end_is
     (gap_there z2 jc jf (omega (arith, (ahead_fields b.fields).at, below_char jd b.closes)) b.gap) in
-    let e' : EntryReading = record (moved_entry move e) { fields = field_at at name value ∷ map (moved_field move) e.fields } in
+    let e' : EntryReading = record (moved_entry move e) { fields = only_field at name value ∷ map (moved_field move) e.fields } in
     let block : EntryBlock (goes edit d.text s.start) e' (goes edit d.text s.end) = record {
       inside = goes edit d.text b.inside;
       key_end = goes edit d.text b.key_end;
       before_comma = goes edit d.text b.before_comma;
       after_comma = place (edited edit d.text) at;
-      fields_start = place (edited edit d.text) (at + 3);
+      fields_start = place (edited edit d.text) (at + 1);
       brace = goes edit d.text b.brace;
       head = head_there z1 iu ia (omega (arith, (ahead_run b.key.run).at, (ahead_run b.white.run).at)) b.head;
       is_entry = b.is_entry;

@@ -11,6 +11,7 @@ mod DefinitionFacts
 pub mod EditFacts
 pub mod ElementFacts
 pub mod ElementStandsFacts
+pub mod EntryChangeFacts
 pub mod EntryFacts
 pub mod FieldNameFacts
 pub mod GrammarFacts
@@ -37,6 +38,7 @@ pub mod SetLawFacts
 pub mod SplitFacts
 pub mod StandsFacts
 pub mod StretchFacts
+mod BalanceFacts
 mod TakenFacts
 mod TargetFacts
 pub mod TrimFacts
@@ -44,5 +46,6 @@ pub mod TrimmedFacts
 pub mod UnsetFacts
 pub mod ValueFacts
 pub mod ValuePutFacts
+pub mod WhiteBeforeFacts
 pub mod WhiteFacts
 pub mod ZoneFacts

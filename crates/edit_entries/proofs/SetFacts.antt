@@ -1,20 +1,37 @@
--- What comes of setting a field.
-use Rattle.std.proofs.Common.{◌≡◌, ℕ, Bool, true, false, List, refl, sym, ap, ◌∙◌, subst, Result, Ok, Err, None, Some}
-use Rattle.std.specs.Prelude.{IfOk, slice_get}
+-- The outcome of setting a field.
+use Rattle.std.proofs.Common.{◌≡◌, inl, ℕ, zero, suc, ◌+◌, ◌-◌, ◌<◌, ◌≤◌, Bool, true, false, cond, List, [], ◌∷◌, ◌++◌, length, take, map, refl, sym, ap, ◌∙◌, subst, arith, append-nil, Option, Some, None, Result, Ok, Err}
+use Rattle.std.specs.Prelude.{IfErr, IfOk, OnOk, slice_get, slice_set, ◌||◌}
 use Rattle.std.specs.Char.{is_whitespace}
-use Rattle.std.specs.Str.{IsCharBoundary}
-use Rattle.bib_text.specs.Places.{CharAt, Longest, Run, place}
+use Rattle.std.specs.List.{AllByRecursion, list_any}
+use Rattle.std.specs.Str.{IsCharBoundary, IsUtf8}
+use Rattle.std.proofs.lemmas.List.{take_all}
+use Rattle.bib_text.specs.Places.{CharAt, Longest, place}
 use Rattle.bib_text.proofs.PlaceFacts.{ahead_run, ahead_then, same_place}
+use Rattle.bib_text.proofs.BoundaryFacts.{char_boundary}
+use Rattle.bib_syntax.specs.Grammar.{Element, IsRawReading}
 use Rattle.bib_syntax.specs.Reading.{EntryReading, FieldReading}
 use Rattle.bib_syntax.proofs.FileFacts.{ahead_head}
-use Rattle.edit_entries.specs.Edits.{edited}
-use Rattle.edit_entries.specs.Documents.{CanBeName, CanStandInBraces, Document, FieldSet, HasEntry, HasField, IsAfterComma, IsEdited, IsDocument, field_added, added_line, first_position, is_keyed, has_name, is_value, last_position, value_changed, value_edit}
-use Rattle.edit_entries.specs.Placed.{HasComma}
+use Rattle.edit_entries.specs.Changes.{FieldChange, braced_field, braced_value, edits_of_entry, edits_of_field, edits_of_fields, field_before, name_edit}
+use Rattle.edit_entries.specs.Documents.{CanBeName, CanStandInBraces, Document, HasEntry, IsEdited, IsDocument, first_position, has_name, in_braces, is_keyed}
+use Rattle.edit_entries.specs.EditList.{AreEditsInOrder}
+use Rattle.edit_entries.specs.Edits.{edited, edited_all}
+use Rattle.edit_entries.specs.Placed.{HasComma, IsNamePlaced, IsPlaced}
+use Rattle.edit_entries.specs.SetTexts.{CanBeSetIn, IsSetText, SetTextIsRefused}
+use Rattle.edit_entries.specs.Setting.{CanBeValue, FieldSet, IsAfterComma, IsEntryChanged, IsSet, SetIsRefused, field_put, has_other_value, only_field_added, only_field_text, set_change, values_set, white_before}
 use Rattle.edit_entries.specs.declared.errors.EditError.{EditError}
+use Rattle.edit_entries.specs.declared.errors.EditError.TheVariants.{UnknownKey, KeyIsThere, NotAKey, NotAName, NotInBraces, DefinitionIsThere, OutOfMemory}
+use Rattle.edit_entries.proofs.AddedFacts.{only_field_read}
+use Rattle.edit_entries.proofs.AllFacts.{all_found}
+use Rattle.edit_entries.proofs.ChangesFacts.{CanChange, CanEntryChange, CanFieldsChange}
+use Rattle.edit_entries.proofs.EntryChangeFacts.{can_be_kept, entry_changed_read, entry_edits_in_order, no_edits}
+use Rattle.edit_entries.proofs.NewFieldFacts.{element_read}
+use Rattle.edit_entries.proofs.NewValueFacts.{CanBeRead}
+use Rattle.edit_entries.proofs.PartFacts.{AreEntriesIn, AreFieldsIn, file_in}
 use Rattle.edit_entries.proofs.SplitFacts.{ahead_file_before, split_file}
-use Rattle.edit_entries.proofs.ValueFacts.{run_stands, value_changed_read}
-use Rattle.edit_entries.proofs.AddedFacts.{field_added_read}
-use Rattle.bib_text.proofs.BoundaryFacts.{char_boundary}
+use Rattle.edit_entries.proofs.ValueFacts.{braced_stands, field_placed, run_stands}
+use Rattle.edit_entries.proofs.WhiteBeforeFacts.{before_white}
+
+-- ---- what the text of an entry offers
 
 -- where the comma after an entry's key stands
 pub comma_known : (d : Document) (k : ℕ) (e : EntryReading) → IsDocument d → slice_get d.says.entries k ≡ Some e → HasComma d.text e
@@ -39,7 +56,167 @@ comma_known d k e read here =
       };
     }
 
--- the entry and the field that were looked up
+names_in : (text : List ℕ) (at end : ℕ) (fs : List FieldReading) → AreFieldsIn text at fs end → AllByRecursion (IsNamePlaced text) fs
+names_in text at end [] order = tt
+names_in text at end (f ∷ fs) order = (
+  record { ordered = omega (arith, order.1.name.some); start = order.1.name.start; end = order.1.name.end },
+  names_in text f.value.end end fs order.2,
+)
+
+names_placed : (text : List ℕ) (at k : ℕ) (es : List EntryReading) (e : EntryReading) → AreEntriesIn text at es
+    → slice_get es k ≡ Some e → AllByRecursion (IsNamePlaced text) e.fields
+names_placed text at k [] e order here = absurd (cc)
+names_placed text at zero (x ∷ xs) e order here =
+    let same : x ≡ e = cc in
+    subst (λ y. AllByRecursion (IsNamePlaced text) y.fields) same (names_in text x.kind.end order.0 x.fields order.3)
+names_placed text at (suc k) (x ∷ xs) e order here = names_placed text order.0 k xs e order.4 here
+
+-- the edits of the fields that get a value are those of their entry
+pub set_asked : (d : Document) (k : ℕ) (e : EntryReading) (name value : List ℕ) → IsDocument d → IsUtf8 d.text
+    → slice_get d.says.entries k ≡ Some e → CanBeSetIn d.text e name value
+set_asked d k e name value read utf8 here = record {
+  comma = comma_known d k e read here;
+  values = all_found (IsPlaced d.text) e.fields (λ j f there. field_placed d k e j f read here there);
+  names = names_placed d.text 0 k d.says.entries e (file_in d.text refl read) here;
+  ordered = entry_edits_in_order d k e (values_set name value e) read utf8 here;
+}
+
+-- ---- the changes can be made
+
+braced_read : (text : List ℕ) → CanStandInBraces text → CanBeRead (braced_value text)
+braced_read text can =
+    let whole : List ℕ = in_braces text in
+    let size : 0 + length whole - 0 ≡ length whole = omega arith in
+    element_read {a = place whole 0} whole
+    (Element.braced (braced_stands whole [] text 0 can (sym (append-nil whole)) (inl (omega arith)))) (omega arith)
+    (ap (λ n. take n whole) size ∙ take_all (length whole) whole (omega arith))
+
+change_can : (value : List ℕ) (following : List FieldReading) (b : Bool) → (b ≡ true → CanBeValue value)
+    → CanChange following (cond b (FieldChange.valued (braced_value value)) FieldChange.kept)
+change_can value following true can = braced_read value (can refl).braced
+change_can value following false can = tt
+
+or_first : (a b : Bool) → a ≡ true → (a || b) ≡ true
+or_first true b is = refl
+or_first false b is = absurd (cc)
+
+or_second : (a b : Bool) → b ≡ true → (a || b) ≡ true
+or_second true b is = refl
+or_second false b is = is
+
+values_can : (name value : List ℕ) (fs : List FieldReading) → (list_any (has_other_value name value) fs ≡ true → CanBeValue value)
+    → CanFieldsChange fs (map (set_change name value) fs)
+values_can name value [] can = tt
+values_can name value (f ∷ fs) can =
+    let here : Bool = has_other_value name value f in
+    let later : Bool = list_any (has_other_value name value) fs in (
+      change_can value fs here (λ is. can (or_first here later is)),
+      values_can name value fs (λ is. can (or_second here later is)),
+    )
+
+set_can : (name value : List ℕ) (e : EntryReading) → (list_any (has_other_value name value) e.fields ≡ true → CanBeValue value)
+    → CanEntryChange e (values_set name value e)
+set_can name value e can = record { kind = λ n is. absurd (cc); fields = values_can name value e.fields can }
+
+put_can : (text name value : List ℕ) (e : EntryReading) (first : FieldReading) (others : List FieldReading)
+    → e.fields ≡ first ∷ others → CanBeName name → CanBeValue value → first.name.start ≤ length text
+    → CanEntryChange e (field_put text name value first)
+put_can text name value e first others are can_name can_value within = record {
+  kind = λ n is. absurd (cc);
+  fields =
+      subst (λ fs. CanFieldsChange fs (field_put text name value first).fields) (sym are) (
+        (record { name = can_name; value = braced_read value can_value.braced }, before_white text first.name.start within),
+        can_be_kept others,
+      );
+}
+
+-- fields that all have the value get no edits
+pub no_value_edits : (text name value : List ℕ) (fs : List FieldReading) → list_any (has_other_value name value) fs ≡ false
+    → edits_of_fields text fs (map (set_change name value) fs) ≡ []
+no_value_edits text name value [] none = refl
+no_value_edits text name value (f ∷ fs) none = by_case (has_other_value name value f) refl none (no_value_edits text name value fs)
+  where
+    by_case : (b : Bool) → has_other_value name value f ≡ b → (b || list_any (has_other_value name value) fs) ≡ false
+        →
+        (list_any (has_other_value name value) fs ≡ false
+        → edits_of_fields text fs (map (set_change name value) fs) ≡ [])
+        → edits_of_fields text (f ∷ fs) (map (set_change name value) (f ∷ fs)) ≡ []
+    by_case true is free rest = absurd (cc)
+    by_case false is free rest =
+        ap
+        (λ b.
+        edits_of_field text f fs (cond b (FieldChange.valued (braced_value value)) FieldChange.kept)
+        ++ edits_of_fields text fs (map (set_change name value) fs)) is
+        ∙ rest free
+
+pub no_element : {A : Type 0} (xs : List A) → length xs < 1 → xs ≡ []
+no_element [] short = refl
+no_element (x ∷ xs) short = absurd (omega (arith, short))
+
+-- a field in an entry that has none
+pub only_made : {S : Type 0} (bytes : S → List ℕ) (r : Result S EditError) (text : List ℕ) (e : EntryReading) (name value : List ℕ)
+    → e.fields ≡ []
+    → IfOk r
+    (λ new.
+    (at : ℕ) × IsAfterComma text e at
+    × (bytes new ≡ edited (record { start = at; end = at; bytes = only_field_text name value }) text))
+    → OnOk r (CanBeName name) → OnOk r (CanBeValue value) → IfOk r (λ new. IsSetText text e name value (bytes new))
+only_made bytes (Err error) text e name value none is can_name can_value = _
+only_made bytes (Ok new) text e name value none is can_name can_value = IsSetText.only none is.1 can_name can_value is.2
+
+-- a field before the first one
+pub put_made : {S : Type 0} (bytes : S → List ℕ) (r : Result S EditError) (text : List ℕ) (e : EntryReading) (name value : List ℕ)
+    (first : FieldReading) (others : List FieldReading) → list_any (has_name name) e.fields ≡ false → e.fields ≡ first ∷ others
+    → IfOk r
+    (λ new.
+    bytes new ≡ edited (name_edit first (field_before (braced_field name value) (white_before text first.name.start))) text)
+    → OnOk r (CanBeName name) → OnOk r (CanBeValue value) → IfOk r (λ new. IsSetText text e name value (bytes new))
+put_made bytes (Err error) text e name value first others none are is can_name can_value = _
+put_made bytes (Ok new) text e name value first others none are is can_name can_value =
+    let lead : List ℕ = field_before (braced_field name value) (white_before text first.name.start) in
+    let edits : edits_of_entry text e (field_put text name value first) ≡ name_edit first lead ∷ [] =
+    ap (λ fs. edits_of_fields text fs (field_put text name value first).fields) are
+    ∙ ap (λ es. name_edit first lead ∷ es) (no_edits text others) in
+    IsSetText.added none are can_name can_value (is ∙ ap (λ es. edited_all es text) (sym edits))
+
+-- ---- the outcome
+
+first_within : (text : List ℕ) (fs : List FieldReading) (first : FieldReading) (others : List FieldReading)
+    → AllByRecursion (IsNamePlaced text) fs → fs ≡ first ∷ others → first.name.start ≤ length text
+first_within text [] first others all are = absurd (cc)
+first_within text (f ∷ fs) first others all are =
+    let same : f ≡ first = cc in
+    subst (λ g. g.name.start ≤ length text) same all.0.start.0
+
+pub text_set : (d : Document) (key name value new : List ℕ) (k : ℕ) (e : EntryReading) → IsDocument d → IsUtf8 d.text
+    → HasEntry d key k e → IsSetText d.text e name value new → IsEdited (FieldSet d key name value) new
+text_set d key name value new k e read utf8 entry (IsSetText.changed there can is) =
+    let r = entry_changed_read d k e (values_set name value e) read utf8 entry.here (set_can name value e can) in
+    record {
+      document = record { text = new; says = r.tells };
+      outcome = FieldSet.changed entry there (record { text = is; alike = r.alike });
+      is = refl;
+      read = subst (λ t. IsRawReading t r.tells) (sym is) r.read;
+    }
+text_set d key name value new k e read utf8 entry (IsSetText.added {first = first} {others = others} none are can_name can_value is) =
+    let names = names_placed d.text 0 k d.says.entries e (file_in d.text refl read) entry.here in
+    let can =
+    put_can d.text name value e first others are can_name can_value (first_within d.text e.fields first others names are) in
+    let r = entry_changed_read d k e (field_put d.text name value first) read utf8 entry.here can in
+    record {
+      document = record { text = new; says = r.tells };
+      outcome = FieldSet.added entry none are (record { text = is; alike = r.alike });
+      is = refl;
+      read = subst (λ t. IsRawReading t r.tells) (sym is) r.read;
+    }
+text_set d key name value new k e read utf8 entry (IsSetText.only {at = at} none comma can_name can_value is) = record {
+  document = only_field_added d k e at name value;
+  outcome = FieldSet.only entry none comma;
+  is = is;
+  read = only_field_read d k e at name value read entry.here comma can_name can_value.braced;
+}
+
+-- the entry that was looked up
 pub has_entry : (d : Document) (listed : List EntryReading) (key : List ℕ) (k : ℕ) (e : EntryReading)
     → listed ≡ d.says.entries → first_position (is_keyed key) listed ≡ Some k → slice_get listed k ≡ Some e
     → HasEntry d key k e
@@ -48,50 +225,43 @@ has_entry d listed key k e same first here = record {
   here = subst (λ es. slice_get es k ≡ Some e) same here;
 }
 
-pub has_field : (e : EntryReading) (listed : List FieldReading) (name : List ℕ) (j : ℕ) (f : FieldReading)
-    → listed ≡ e.fields → last_position (has_name name) listed ≡ Some j → slice_get listed j ≡ Some f
-    → HasField e name j f
-has_field e listed name j f same last here = record {
-  last = subst (λ fs. last_position (has_name name) fs ≡ Some j) same last;
-  here = subst (λ fs. slice_get fs j ≡ Some f) same here;
-}
+-- there is one first entry with a key
+same_entry : (d : Document) (key : List ℕ) (k n : ℕ) (e x : EntryReading) → HasEntry d key k e → HasEntry d key n x → e ≡ x
+same_entry d key k n e x one other =
+    let index : k ≡ n = cc in
+    let here : slice_get d.says.entries n ≡ Some e = subst (λ i. slice_get d.says.entries i ≡ Some e) index one.here in
+    cc
 
--- a value was set
-pub value_set : {S : Type 0} (bytes : S → List ℕ) (d : Document) (key name value : List ℕ) (k j : ℕ) (e : EntryReading)
-    (f : FieldReading) (r : Result S EditError) → IsDocument d → HasEntry d key k e → HasField e name j f
-    → IfOk r (λ new. is_value value f.value.pieces ≡ true → bytes new ≡ d.text)
-    → IfOk r (λ new. is_value value f.value.pieces ≡ false → bytes new ≡ edited (value_edit d.text f value) d.text)
-    → IfOk r (λ _. is_value value f.value.pieces ≡ false → CanStandInBraces value)
-    → IfOk r
-    (λ _.
-    is_value value f.value.pieces ≡ false
-    → Run is_whitespace (place d.text (value_edit d.text f value).end) (place d.text f.value.end))
-    → IfOk r (λ new. IsEdited (FieldSet d key name value) (bytes new))
-value_set bytes d key name value k j e f (Err error) read entry field stays changes can white = _
-value_set bytes d key name value k j e f (Ok new) read entry field stays changes can white = by_case (is_value value f.value.pieces) refl
+pub set_refused : (d : Document) (key name value : List ℕ) (k : ℕ) (e : EntryReading) (error : EditError) → HasEntry d key k e
+    → SetTextIsRefused e name value error → SetIsRefused d key name value error
+set_refused d key name value k e UnknownKey entry why = absurd why
+set_refused d key name value k e KeyIsThere entry why = why
+set_refused d key name value k e NotAKey entry why = why
+set_refused d key name value k e NotAName entry why = why
+set_refused d key name value k e NotInBraces entry why = record {
+  unfit = why.unfit;
+  new = λ set. other set;
+}
   where
-    by_case : (b : Bool) → is_value value f.value.pieces ≡ b → IsEdited (FieldSet d key name value) (bytes new)
-    by_case true is = record { document = d; outcome = FieldSet.same entry field is; is = stays is; read = read }
-    by_case false is = record {
-      document = value_changed d k e j f value;
-      outcome = FieldSet.changed entry field is;
-      is = changes is;
-      read = value_changed_read d k e j f value read entry.here field.here (can is) (white is);
-    }
+    other : IsSet d key name value → ⊥
+    other set =
+        let same : e ≡ set.entry = same_entry d key k set.index e set.entry entry set.has in
+        let is : list_any (has_other_value name value) set.entry.fields ≡ true =
+        subst (λ x. list_any (has_other_value name value) x.fields ≡ true) same
+        (why.new (subst (λ x. list_any (has_name name) x.fields ≡ true) (sym same) set.named)) in
+        absurd (cc)
+set_refused d key name value k e DefinitionIsThere entry why = why
+set_refused d key name value k e OutOfMemory entry why = tt
 
--- a field was added
-pub field_set : {S : Type 0} (bytes : S → List ℕ) (d : Document) (key name value : List ℕ) (k : ℕ) (e : EntryReading)
-    (r : Result S EditError) → IsDocument d → HasEntry d key k e → last_position (has_name name) e.fields ≡ None
-    → IfOk r
-    (λ new.
-    (at : ℕ) × IsAfterComma d.text e at
-    × (bytes new ≡ edited (record { start = at; end = at; bytes = added_line name value }) d.text))
-    → IfOk r (λ _. CanBeName name) → IfOk r (λ _. CanStandInBraces value)
-    → IfOk r (λ new. IsEdited (FieldSet d key name value) (bytes new))
-field_set bytes d key name value k e (Err error) read entry none text can_name can_value = _
-field_set bytes d key name value k e (Ok new) read entry none text can_name can_value = record {
-  document = field_added d k e text.0 name value;
-  outcome = FieldSet.added entry none text.1;
-  is = text.2;
-  read = field_added_read d k e text.0 name value read entry.here text.1 can_name can_value;
-}
+-- ---- the results of calls
+
+pub all_set : {S : Type 0} (bytes : S → List ℕ) (r : Result S EditError) (d : Document) (key name value : List ℕ) (k : ℕ)
+    (e : EntryReading) → IsDocument d → IsUtf8 d.text → HasEntry d key k e
+    → IfOk r (λ new. IsSetText d.text e name value (bytes new)) → IfOk r (λ new. IsEdited (FieldSet d key name value) (bytes new))
+all_set bytes (Err error) d key name value k e read utf8 entry set = _
+all_set bytes (Ok new) d key name value k e read utf8 entry set = text_set d key name value (bytes new) k e read utf8 entry set
+
+pub all_refused : {S : Type 0} (r : Result S EditError) (d : Document) (key name value : List ℕ) (k : ℕ) (e : EntryReading)
+    → HasEntry d key k e → IfErr r (SetTextIsRefused e name value) → IfErr r (SetIsRefused d key name value)
+all_refused (Ok new) d key name value k e entry why = _
+all_refused (Err error) d key name value k e entry why = set_refused d key name value k e error entry why

@@ -1,83 +1,75 @@
--- A field that was set is there.
-use Rattle.std.proofs.Common.{◌≡◌, ℕ, zero, suc, Bool, true, false, cond, List, [], ◌∷◌, map, refl, sym, ap, ◌∙◌, subst, Option, Some, None}
-use Rattle.std.specs.Prelude.{bytes_eq, slice_get, slice_set}
+-- A field that was set has the value.
+use Rattle.std.proofs.Common.{◌≡◌, ℕ, zero, suc, Bool, true, false, cond, List, [], ◌∷◌, ◌++◌, map, refl, sym, ap, ◌∙◌, subst, Option, Some, None}
+use Rattle.std.specs.Prelude.{bytes_eq, not, ◌&&◌, ◌||◌, slice_get, slice_set}
+use Rattle.std.specs.List.{list_any}
 use Rattle.std.specs.Str.{str_to_ascii_lowercase}
 use Rattle.std.proofs.lemmas.Slice.Eq.{bytes_eq-Decides}
-use Rattle.bib_syntax.specs.Reading.{EntryReading, FieldReading}
+use Rattle.bib_syntax.specs.Reading.{EntryReading, FieldReading, Piece}
+use Rattle.bib_syntax.specs.Reading.Piece.{abbreviation, literal}
 use Rattle.bib_syntax.specs.Grammar.{is_word}
-use Rattle.edit_entries.specs.Edits.{Edit, moved_entry, moved_field, moved_place}
-use Rattle.edit_entries.specs.Documents.{Document, FieldSet, HasValue, first_position, has_name, is_keyed, last_position, next_index, or_first, added_line, field_at, value_edit, with_value}
+use Rattle.edit_entries.specs.Changes.{EntryChange, FieldChange, braced_field, braced_value, entry_changed, field_changed, field_reading, fields_changed}
+use Rattle.edit_entries.specs.Documents.{Document, HasEntry, HasField, first_position, has_name, is_keyed, is_value, last_position, next_index, or_first}
+use Rattle.edit_entries.specs.Edits.{Edit, moved_entry, moved_field, moved_piece, moved_place}
+use Rattle.edit_entries.specs.Setting.{FieldSet, HasValue, IsEntryChanged, field_put, has_other_value, only_field, only_field_text, set_change, values_set}
+use Rattle.edit_entries.proofs.EntryChangeFacts.{fields_kept}
 
--- ---- lists with another element in the place of one
+-- ---- indices at which a test is passed
 
--- the first index at which a test is passed stays
-first_set : {A : Type 0} (move : A → A) (test : A → Bool) → ((x : A) → test (move x) ≡ test x)
-    → (xs : List A) (k : ℕ) (y : A) → first_position test xs ≡ Some k → test y ≡ true
-    → first_position test (slice_set (map move xs) k y) ≡ Some k
-first_set move test stays [] k y first passes = absurd (cc)
-first_set {A} move test stays (x ∷ xs) k y first passes = by_case (test x) refl first (λ i. first_set move test stays xs i y)
+first_set : {A : Type 0} (test : A → Bool) (xs : List A) (k : ℕ) (y : A) → first_position test xs ≡ Some k → test y ≡ true
+    → first_position test (slice_set xs k y) ≡ Some k
+first_set test [] k y first passes = absurd (cc)
+first_set {A} test (x ∷ xs) k y first passes = by_case (test x) refl first (λ i is. first_set test xs i y is passes)
   where
     shift : (i : Option ℕ) → first_position test xs ≡ i → next_index i ≡ Some k → test x ≡ false
-        →
-        ((n : ℕ) → first_position test xs ≡ Some n → test y ≡ true
-        → first_position test (slice_set (map move xs) n y) ≡ Some n)
-        → first_position test (slice_set (map move (x ∷ xs)) k y) ≡ Some k
+        → ((n : ℕ) → first_position test xs ≡ Some n → first_position test (slice_set xs n y) ≡ Some n)
+        → first_position test (slice_set (x ∷ xs) k y) ≡ Some k
     shift None is found fails rest = absurd (cc)
     shift (Some i) is found fails rest =
         let same : suc i ≡ k = cc in
-        let tail : first_position test (slice_set (map move xs) i y) ≡ Some i = rest i is passes in
-        subst (λ n. first_position test (slice_set (map move (x ∷ xs)) n y) ≡ Some n) same
-        (ap (λ b. cond b (Some 0) (next_index (first_position test (slice_set (map move xs) i y)))) (stays x ∙ fails) ∙ ap next_index tail)
+        subst (λ n. first_position test (slice_set (x ∷ xs) n y) ≡ Some n) same
+        (ap (λ b. cond b (Some 0) (next_index (first_position test (slice_set xs i y)))) fails
+        ∙ ap next_index (rest i is))
 
     by_case : (b : Bool) → test x ≡ b → cond b (Some 0) (next_index (first_position test xs)) ≡ Some k
-        →
-        ((n : ℕ) → first_position test xs ≡ Some n → test y ≡ true
-        → first_position test (slice_set (map move xs) n y) ≡ Some n)
-        → first_position test (slice_set (map move (x ∷ xs)) k y) ≡ Some k
+        → ((n : ℕ) → first_position test xs ≡ Some n → first_position test (slice_set xs n y) ≡ Some n)
+        → first_position test (slice_set (x ∷ xs) k y) ≡ Some k
     by_case true is found rest =
         let here : 0 ≡ k = cc in
-        subst (λ n. first_position test (slice_set (map move (x ∷ xs)) n y) ≡ Some n) here
-        (ap (λ b. cond b (Some 0) (next_index (first_position test (map move xs)))) passes)
+        subst (λ n. first_position test (slice_set (x ∷ xs) n y) ≡ Some n) here
+        (ap (λ b. cond b (Some 0) (next_index (first_position test xs))) passes)
     by_case false is found rest = shift (first_position test xs) refl found is rest
 
--- the last one too
-last_moved : {A : Type 0} (move : A → A) (test : A → Bool) → ((x : A) → test (move x) ≡ test x) → (xs : List A)
-    → last_position test (map move xs) ≡ last_position test xs
-last_moved move test stays [] = refl
-last_moved move test stays (x ∷ xs) =
-    ap (λ b. or_first b (last_position test (map move xs))) (stays x)
-    ∙ ap (or_first (test x)) (last_moved move test stays xs)
+first_mapped : {A B : Type 0} (view : A → B) (test : A → Bool) (other : B → Bool) → ((x : A) → other (view x) ≡ test x) → (xs : List A)
+    → first_position other (map view xs) ≡ first_position test xs
+first_mapped view test other same [] = refl
+first_mapped view test other same (x ∷ xs) =
+    ap (λ b. cond b (Some 0) (next_index (first_position other (map view xs)))) (same x)
+    ∙ ap (λ i. cond (test x) (Some 0) (next_index i)) (first_mapped view test other same xs)
 
-last_set : {A : Type 0} (move : A → A) (test : A → Bool) → ((x : A) → test (move x) ≡ test x)
-    → (xs : List A) (j : ℕ) (y : A) → last_position test xs ≡ Some j → test y ≡ true
-    → last_position test (slice_set (map move xs) j y) ≡ Some j
-last_set move test stays [] j y last passes = absurd (cc)
-last_set {A} move test stays (x ∷ xs) j y last passes = by_case (last_position test xs) refl last (λ i. last_set move test stays xs i y)
-  where
-    first_passes : (b : Bool) → cond b (Some 0) None ≡ Some j → 0 ≡ j
-    first_passes true found = cc
-    first_passes false found = absurd (cc)
+last_mapped : {A B : Type 0} (view : A → B) (test : A → Bool) (other : B → Bool) → ((x : A) → other (view x) ≡ test x) → (xs : List A)
+    → last_position other (map view xs) ≡ last_position test xs
+last_mapped view test other same [] = refl
+last_mapped view test other same (x ∷ xs) =
+    ap (λ b. or_first b (last_position other (map view xs))) (same x)
+    ∙ ap (or_first (test x)) (last_mapped view test other same xs)
 
-    by_case : (o : Option ℕ) → last_position test xs ≡ o → or_first (test x) o ≡ Some j
-        →
-        ((n : ℕ) → last_position test xs ≡ Some n → test y ≡ true
-        → last_position test (slice_set (map move xs) n y) ≡ Some n)
-        → last_position test (slice_set (map move (x ∷ xs)) j y) ≡ Some j
-    by_case (Some i) is found rest =
-        let same : suc i ≡ j = cc in
-        subst (λ n. last_position test (slice_set (map move (x ∷ xs)) n y) ≡ Some n) same (ap (or_first (test (move x))) (rest i is passes))
-    by_case None is found rest =
-        let here : 0 ≡ j = first_passes (test x) found in
-        subst (λ n. last_position test (slice_set (map move (x ∷ xs)) n y) ≡ Some n) here
-        (ap (or_first (test y)) (last_moved move test stays xs ∙ is) ∙ ap (λ b. cond b (Some 0) None) passes)
+get_set : {A : Type 0} (xs : List A) (k : ℕ) (x y : A) → slice_get xs k ≡ Some x → slice_get (slice_set xs k y) k ≡ Some y
+get_set [] k x y here = absurd (cc)
+get_set (z ∷ zs) zero x y here = refl
+get_set (z ∷ zs) (suc k) x y here = get_set zs k x y here
 
-get_set : {A : Type 0} (move : A → A) (xs : List A) (k : ℕ) (x y : A) → slice_get xs k ≡ Some x
-    → slice_get (slice_set (map move xs) k y) k ≡ Some y
-get_set move [] k x y here = absurd (cc)
-get_set move (z ∷ zs) zero x y here = refl
-get_set move (z ∷ zs) (suc k) x y here = get_set move zs k x y here
+get_mapped : {A B : Type 0} (view : A → B) (xs : List A) (k : ℕ) (x : A) → slice_get xs k ≡ Some x
+    → slice_get (map view xs) k ≡ Some (view x)
+get_mapped view [] k x here = absurd (cc)
+get_mapped view (z ∷ zs) zero x here = let same : z ≡ x = cc in ap (λ y. Some (view y)) same
+get_mapped view (z ∷ zs) (suc k) x here = get_mapped view zs k x here
 
--- ---- what passes at an index
+-- an element of a mapped list comes from one of the list
+from_mapped : {A B : Type 0} (view : A → B) (xs : List A) (k : ℕ) (y : B) → slice_get (map view xs) k ≡ Some y
+    → (x : A) × (slice_get xs k ≡ Some x) × (view x ≡ y)
+from_mapped view [] k y here = absurd (cc)
+from_mapped view (z ∷ zs) zero y here = (z, refl, cc)
+from_mapped view (z ∷ zs) (suc k) y here = from_mapped view zs k y here
 
 passes_first : {A : Type 0} (test : A → Bool) (xs : List A) (k : ℕ) (x : A) → first_position test xs ≡ Some k
     → slice_get xs k ≡ Some x → test x ≡ true
@@ -100,69 +92,200 @@ passes_first {A} test (z ∷ zs) k x first here = by_case (test z) refl first (�
         ap test (sym head) ∙ is
     by_case false is found rest = shift (first_position test zs) refl found rest
 
-passes_last : {A : Type 0} (test : A → Bool) (xs : List A) (j : ℕ) (x : A) → last_position test xs ≡ Some j
-    → slice_get xs j ≡ Some x → test x ≡ true
-passes_last test [] j x last here = absurd (cc)
-passes_last {A} test (z ∷ zs) j x last here = by_case (last_position test zs) refl last (λ i. passes_last test zs i x)
-  where
-    only : (b : Bool) → test z ≡ b → cond b (Some 0) None ≡ Some j → test x ≡ true
-    only true is found =
-        let none : 0 ≡ j = cc in
-        let same : Some z ≡ Some x = subst (λ n. slice_get (z ∷ zs) n ≡ Some x) (sym none) here in
-        let head : z ≡ x = cc in
-        ap test (sym head) ∙ is
-    only false is found = absurd (cc)
+-- the last element that passes, if one does
+record HasLast {A : Type 0} (test : A → Bool) (xs : List A) : Type 0 where
+  index : ℕ
+  element : A
+  last : last_position test xs ≡ Some index
+  here : slice_get xs index ≡ Some element
+  passes : test element ≡ true
 
-    by_case : (o : Option ℕ) → last_position test zs ≡ o → or_first (test z) o ≡ Some j
-        → ((n : ℕ) → last_position test zs ≡ Some n → slice_get zs n ≡ Some x → test x ≡ true) → test x ≡ true
-    by_case (Some i) is found rest =
-        let same : suc i ≡ j = cc in
-        rest i is (subst (λ n. slice_get (z ∷ zs) n ≡ Some x) (sym same) here)
-    by_case None is found rest = only (test z) refl found
+none_last : {A : Type 0} (test : A → Bool) (ys : List A) → list_any test ys ≡ false → last_position test ys ≡ None
+none_last test [] none = refl
+none_last {A} test (y ∷ ys) none = by_case (test y) refl none (none_last test ys)
+  where
+    by_case : (b : Bool) → test y ≡ b → (b || list_any test ys) ≡ false
+        → (list_any test ys ≡ false → last_position test ys ≡ None) → last_position test (y ∷ ys) ≡ None
+    by_case true is fails rest = absurd (cc)
+    by_case false is fails rest = ap (λ b. or_first b (last_position test ys)) is ∙ ap (or_first false) (rest fails)
+
+last_known : {A : Type 0} (test : A → Bool) (xs : List A) → list_any test xs ≡ true → HasLast test xs
+last_known test [] any = absurd (cc)
+last_known {A} test (x ∷ xs) any = by_rest (list_any test xs) refl (last_known test xs)
+  where
+    by_here : (b : Bool) → test x ≡ b → list_any test xs ≡ false → (b || list_any test xs) ≡ true → HasLast test (x ∷ xs)
+    by_here true is none found = record {
+      index = 0;
+      element = x;
+      last = ap (or_first (test x)) (none_last test xs none) ∙ ap (λ b. cond b (Some 0) None) is;
+      here = refl;
+      passes = is;
+    }
+    by_here false is none found = absurd (cc)
+
+    by_rest : (b : Bool) → list_any test xs ≡ b → (list_any test xs ≡ true → HasLast test xs) → HasLast test (x ∷ xs)
+    by_rest true is known =
+        let rest = known is in
+        record {
+          index = suc rest.index;
+          element = rest.element;
+          last = ap (or_first (test x)) rest.last;
+          here = rest.here;
+          passes = rest.passes;
+        }
+    by_rest false is known = by_here (test x) refl is any
+
+-- ---- without byte offsets
+
+abbrev no_offsets : EntryReading → EntryReading
+no_offsets e = moved_entry (λ n. 0) e
+
+abbrev field_no_offsets : FieldReading → FieldReading
+field_no_offsets f = moved_field (λ n. 0) f
+
+value_no_offsets : (move : ℕ → ℕ) (value : List ℕ) (pieces : List Piece) → is_value value (map (moved_piece move) pieces) ≡ is_value value pieces
+value_no_offsets move value [] = refl
+value_no_offsets move value (abbreviation p ∷ rest) = refl
+value_no_offsets move value (literal p ∷ []) = refl
+value_no_offsets move value (literal p ∷ other ∷ rest) = refl
+
+-- the changed entry, in the document after the change
+record IsThere (after : Document) (key : List ℕ) (k : ℕ) (changed : EntryReading) : Type 0 where
+  entry : EntryReading
+  has : HasEntry after key k entry
+  alike : no_offsets entry ≡ no_offsets changed
+
+entry_there : (d after : Document) (key : List ℕ) (k : ℕ) (e : EntryReading) (change : EntryChange) → HasEntry d key k e
+    → IsEntryChanged d k e change after → IsThere after key k (entry_changed e change)
+entry_there d after key k e change entry is =
+    let changed : EntryReading = entry_changed e change in
+    let entries : map no_offsets after.says.entries ≡ map no_offsets (slice_set d.says.entries k changed) = ap (λ s. s.entries) is.alike in
+    let keyed : is_keyed key e ≡ true = passes_first (is_keyed key) d.says.entries k e entry.first entry.here in
+    let first : first_position (is_keyed key) after.says.entries ≡ Some k =
+    sym (first_mapped no_offsets (is_keyed key) (is_keyed key) (λ x. refl) after.says.entries)
+    ∙ ap (first_position (is_keyed key)) entries
+    ∙ first_mapped no_offsets (is_keyed key) (is_keyed key) (λ x. refl) (slice_set d.says.entries k changed)
+    ∙ first_set (is_keyed key) d.says.entries k changed entry.first keyed in
+    let here : slice_get (map no_offsets after.says.entries) k ≡ Some (no_offsets changed) =
+    ap (λ es. slice_get es k) entries
+    ∙ get_mapped no_offsets (slice_set d.says.entries k changed) k changed (get_set d.says.entries k e changed entry.here) in
+    let found = from_mapped no_offsets after.says.entries k (no_offsets changed) here in
+    record { entry = found.0; has = record { first = first; here = found.1 }; alike = found.2 }
 
 -- ---- the law
 
 same_text : (text : List ℕ) → bytes_eq text text ≡ true
 same_text text = (bytes_eq-Decides text text).1 refl
 
+-- a field after its value is set
+abbrev set_field : List ℕ → List ℕ → FieldReading → FieldReading
+set_field name value f = cond (has_other_value name value f) (record f { value = record f.value { pieces = (braced_value value).pieces } }) f
+
+fields_set : (name value : List ℕ) (fs : List FieldReading)
+    → fields_changed fs (map (set_change name value) fs) ≡ map (set_field name value) fs
+fields_set name value [] = refl
+fields_set name value (f ∷ fs) = by_case (has_other_value name value f) ∙ ap (λ gs. set_field name value f ∷ gs) (fields_set name value fs)
+  where
+    rest : List FieldReading
+    rest = fields_changed fs (map (set_change name value) fs)
+
+    by_case : (b : Bool)
+        → field_changed f (cond b (FieldChange.valued (braced_value value)) FieldChange.kept) ++ rest
+        ≡ cond b (record f { value = record f.value { pieces = (braced_value value).pieces } }) f ∷ rest
+    by_case true = refl
+    by_case false = refl
+
+name_kept : (name value other : List ℕ) (f : FieldReading) → has_name other (field_no_offsets (set_field name value f)) ≡ has_name other f
+name_kept name value other f = by_case (has_other_value name value f)
+  where
+    by_case : (b : Bool)
+        → has_name other (field_no_offsets (cond b (record f { value = record f.value { pieces = (braced_value value).pieces } }) f))
+        ≡ has_name other f
+    by_case true = refl
+    by_case false = refl
+
+value_is_set : (name value : List ℕ) (f : FieldReading) → has_name name f ≡ true
+    → is_value value (set_field name value f).value.pieces ≡ true
+value_is_set name value f named = by_case (is_value value f.value.pieces) refl
+  where
+    by_case : (b : Bool) → is_value value f.value.pieces ≡ b → is_value value (set_field name value f).value.pieces ≡ true
+    by_case true is =
+        let other : has_other_value name value f ≡ false = ap (λ b. b && not (is_value value f.value.pieces)) named ∙ ap not is in
+        ap
+        (λ b.
+        is_value value (cond b (record f { value = record f.value { pieces = (braced_value value).pieces } }) f).value.pieces) other
+        ∙ is
+    by_case false is =
+        let other : has_other_value name value f ≡ true = ap (λ b. b && not (is_value value f.value.pieces)) named ∙ ap not is in
+        ap
+        (λ b.
+        is_value value (cond b (record f { value = record f.value { pieces = (braced_value value).pieces } }) f).value.pieces) other
+        ∙ same_text value
+
+map_map : {A B C : Type 0} (f : A → B) (g : B → C) (xs : List A) → map g (map f xs) ≡ map (λ y. g (f y)) xs
+map_map f g [] = refl
+map_map f g (y ∷ ys) = ap (λ zs. g (f y) ∷ zs) (map_map f g ys)
+
 pub set_there : {d after : Document} {key name value : List ℕ} → FieldSet d key name value after → HasValue after key name value
-set_there (FieldSet.same {k = k} {j = j} {e = e} {f = f} entry field is) = record {
-  index = k;
-  entry = e;
-  at = j;
-  field = f;
-  has = entry;
-  named = field;
-  is = is;
-}
-set_there {d} {after} {key} {name} {value} (FieldSet.changed {k = k} {j = j} {e = e} {f = f} entry field other) =
-    let edit : Edit = value_edit d.text f value in
-    let move : ℕ → ℕ = moved_place edit in
-    let f' : FieldReading = with_value value (moved_field move f) in
-    let e' : EntryReading = record (moved_entry move e) { fields = slice_set (map (moved_field move) e.fields) j f' } in
+set_there {d} {after} {key} {name} {value} (FieldSet.changed {k = k} {e = e} entry there is) =
+    let x = entry_there d after key k e (values_set name value e) entry is in
+    let view : FieldReading → FieldReading = λ (f : FieldReading). field_no_offsets (set_field name value f) in
+    let fields : map field_no_offsets x.entry.fields ≡ map view e.fields =
+    ap (λ y. y.fields) x.alike ∙ ap (map field_no_offsets) (fields_set name value e.fields)
+    ∙ map_map (set_field name value) field_no_offsets e.fields in
+    let last = last_known (has_name name) e.fields there in
+    let here : slice_get (map field_no_offsets x.entry.fields) last.index ≡ Some (view last.element) =
+    ap (λ fs. slice_get fs last.index) fields ∙ get_mapped view e.fields last.index last.element last.here in
+    let found = from_mapped field_no_offsets x.entry.fields last.index (view last.element) here in
     record {
       index = k;
-      entry = e';
-      at = j;
-      field = f';
-      has = record {
-        first =
-            first_set (moved_entry move) (is_keyed key) (λ x. refl) d.says.entries k e' entry.first
-            (passes_first (is_keyed key) d.says.entries k e entry.first entry.here);
-        here = get_set (moved_entry move) d.says.entries k e e' entry.here;
-      };
+      entry = x.entry;
+      at = last.index;
+      field = found.0;
+      has = x.has;
       named = record {
         last =
-            last_set (moved_field move) (has_name name) (λ x. refl) e.fields j f' field.last
-            (passes_last (has_name name) e.fields j f field.last field.here);
-        here = get_set (moved_field move) e.fields j f f' field.here;
+            sym (last_mapped field_no_offsets (has_name name) (has_name name) (λ f. refl) x.entry.fields)
+            ∙ ap (last_position (has_name name)) fields
+            ∙ last_mapped view (has_name name) (has_name name) (name_kept name value name) e.fields ∙ last.last;
+        here = found.1;
       };
-      is = same_text value;
+      is = sym (value_no_offsets (λ n. 0) value found.0.value.pieces) ∙ ap (λ f. is_value value f.value.pieces) found.2
+          ∙ value_no_offsets (λ n. 0) value (set_field name value last.element).value.pieces
+          ∙ value_is_set name value last.element last.passes;
     }
-set_there {d} {after} {key} {name} {value} (FieldSet.added {k = k} {at = at} {e = e} entry none comma) =
-    let edit : Edit = record { start = at; end = at; bytes = added_line name value } in
+set_there {d} {after} {key} {name} {value} (FieldSet.added {k = k} {e = e} {first = first} {others = others} entry none are is) =
+    let x = entry_there d after key k e (field_put d.text name value first) entry is in
+    let new : FieldReading = field_reading (braced_field name value) in
+    let put : fields_changed e.fields (field_put d.text name value first).fields ≡ new ∷ e.fields =
+    ap (λ fs. fields_changed fs (field_put d.text name value first).fields) are
+    ∙ ap (λ fs. new ∷ first ∷ fs) (fields_kept others) ∙ ap (λ fs. new ∷ fs) (sym are) in
+    let fields : map field_no_offsets x.entry.fields ≡ map field_no_offsets (new ∷ e.fields) =
+    ap (λ y. y.fields) x.alike ∙ ap (map field_no_offsets) put in
+    let here : slice_get (map field_no_offsets x.entry.fields) 0 ≡ Some (field_no_offsets new) = ap (λ fs. slice_get fs 0) fields in
+    let found = from_mapped field_no_offsets x.entry.fields 0 (field_no_offsets new) here in
+    record {
+      index = k;
+      entry = x.entry;
+      at = 0;
+      field = found.0;
+      has = x.has;
+      named = record {
+        last =
+            sym (last_mapped field_no_offsets (has_name name) (has_name name) (λ f. refl) x.entry.fields)
+            ∙ ap (last_position (has_name name)) fields
+            ∙ last_mapped field_no_offsets (has_name name) (has_name name) (λ f. refl) (new ∷ e.fields)
+            ∙ ap (or_first (is_word name name)) (none_last (has_name name) e.fields none)
+            ∙ ap (λ b. cond b (Some 0) None) (same_text (str_to_ascii_lowercase name));
+        here = found.1;
+      };
+      is = sym (value_no_offsets (λ n. 0) value found.0.value.pieces) ∙ ap (λ f. is_value value f.value.pieces) found.2
+          ∙ same_text value;
+    }
+set_there {d} {after} {key} {name} {value} (FieldSet.only {k = k} {at = at} {e = e} entry none comma) =
+    let edit : Edit = record { start = at; end = at; bytes = only_field_text name value } in
     let move : ℕ → ℕ = moved_place edit in
-    let f' : FieldReading = field_at at name value in
+    let f' : FieldReading = only_field at name value in
     let e' : EntryReading = record (moved_entry move e) { fields = f' ∷ map (moved_field move) e.fields } in
     record {
       index = k;
@@ -171,14 +294,16 @@ set_there {d} {after} {key} {name} {value} (FieldSet.added {k = k} {at = at} {e 
       field = f';
       has = record {
         first =
-            first_set (moved_entry move) (is_keyed key) (λ x. refl) d.says.entries k e' entry.first
+            first_set (is_keyed key) (map (moved_entry move) d.says.entries) k e'
+            (first_mapped (moved_entry move) (is_keyed key) (is_keyed key) (λ x. refl) d.says.entries ∙ entry.first)
             (passes_first (is_keyed key) d.says.entries k e entry.first entry.here);
-        here = get_set (moved_entry move) d.says.entries k e e' entry.here;
+        here =
+            get_set (map (moved_entry move) d.says.entries) k (moved_entry move e) e'
+            (get_mapped (moved_entry move) d.says.entries k e entry.here);
       };
       named = record {
         last =
-            ap (or_first (is_word name name))
-            (last_moved (moved_field move) (has_name name) (λ x. refl) e.fields ∙ none)
+            ap (λ fs. or_first (is_word name name) (last_position (has_name name) (map (moved_field move) fs))) none
             ∙ ap (λ b. cond b (Some 0) None) (same_text (str_to_ascii_lowercase name));
         here = refl;
       };

@@ -9,7 +9,8 @@ use Rattle.bib_text.specs.Characters as char
 use Rattle.bib_text.specs.Places.{Run, place}
 use Rattle.bib_syntax.specs.Grammar.{IsRawReading}
 use Rattle.bib_syntax.specs.Reading.{Part, Piece, FieldReading, EntryReading, FileReading}
-use Rattle.edit_entries.specs.Documents.{Document, text_at, value_stretch}
+use Rattle.bib_syntax.specs.Reading.Piece.{literal}
+use Rattle.edit_entries.specs.Documents.{Document, in_braces, text_at, value_stretch}
 use Rattle.edit_entries.specs.Edits.{Edit, edited_all, placeless}
 
 -- a text has this reading, except for byte offsets
@@ -29,6 +30,14 @@ pub record NewValue : Type 0 where
 pub record NewField : Type 0 where
   pub name : List ℕ
   pub value : NewValue
+
+-- a text in braces as a new value
+abbrev pub braced_value : List ℕ → NewValue
+braced_value text = record { bytes = in_braces text; pieces = literal (text_at 1 text) ∷ [] }
+
+-- a new field with a text in braces as its value
+abbrev pub braced_field : List ℕ → List ℕ → NewField
+braced_field name text = record { name = name; value = braced_value text }
 
 -- the change of a field: it is kept, is preceded by a new field (with a comma and this white space between them), has a new name or a new
 -- value, is replaced by one or more fields, or is removed

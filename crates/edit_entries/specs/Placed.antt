@@ -1,11 +1,10 @@
 -- Machinery: words of private contracts.
 -- Where the parts of a document may be cut out of its text.
-use Rattle.std.specs.Prelude.{◌≡◌, ℕ, ◌+◌, ◌<◌, ◌≤◌, List, length, slice_get, Some, ⊤}
+use Rattle.std.specs.Prelude.{◌≡◌, ℕ, ◌+◌, ◌<◌, ◌≤◌, List, length, slice_get, Some}
 use Rattle.std.specs.Str.{IsCharBoundary}
 use Rattle.bib_syntax.specs.Reading.{EntryReading, FieldReading}
-use Rattle.edit_entries.specs.Documents.{CanBeName, CanStandInBraces, IsAfterComma, field_limit}
-use Rattle.edit_entries.specs.declared.errors.EditError.{EditError}
-use Rattle.edit_entries.specs.declared.errors.EditError.TheVariants.{UnknownKey, KeyIsThere, NotAKey, NotAName, NotInBraces, DefinitionIsThere, OutOfMemory}
+use Rattle.edit_entries.specs.Documents.{field_limit}
+use Rattle.edit_entries.specs.Setting.{IsAfterComma}
 
 -- where the value of a field may be cut out of a text
 pub record IsPlaced (text : List ℕ) (f : FieldReading) : Type 0 where
@@ -42,12 +41,8 @@ pub record HasComma (text : List ℕ) (e : EntryReading) : Type 0 where
   pub at : ℕ
   pub is : IsAfterComma text e at
 
--- why a field with this name and value isn't added
-abbrev pub AddIsRefused : List ℕ → List ℕ → EditError → Type 0
-AddIsRefused name value UnknownKey = ⊥
-AddIsRefused name value KeyIsThere = ⊥
-AddIsRefused name value NotAKey = ⊥
-AddIsRefused name value NotAName = CanBeName name → ⊥
-AddIsRefused name value NotInBraces = CanStandInBraces value → ⊥
-AddIsRefused name value DefinitionIsThere = ⊥
-AddIsRefused name value OutOfMemory = ⊤
+-- where the name of a field may be cut out of a text
+pub record IsNamePlaced (text : List ℕ) (f : FieldReading) : Type 0 where
+  pub ordered : f.name.start ≤ f.name.end
+  pub start : IsCharBoundary text f.name.start
+  pub end : IsCharBoundary text f.name.end

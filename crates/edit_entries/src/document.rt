@@ -6,18 +6,18 @@ ghost use Rattle.bib_syntax.specs.Errors.{Refuses, out_of_memory};
 ghost use Rattle.bib_syntax.specs.Grammar.{IsFile, IsRawReading};
 ghost use Rattle.bib_syntax.specs.SyntaxErrors.{IsReported};
 ghost use Rattle.bib_syntax.specs.Views.{file_of};
-ghost use Rattle.edit_entries.specs.Documents.{Document, EntriesAdded, EntriesAreRefused, EntryIsRefused, EntryRemoved, FieldSet, FieldUnset, IsEdited, IsDocument, SetIsRefused};
+ghost use Rattle.edit_entries.specs.Documents.{Document, EntriesAdded, EntriesAreRefused, EntryIsRefused, EntryRemoved, FieldUnset, IsEdited, IsDocument};
 ghost use Rattle.edit_entries.specs.References.{KeyRenamed, RenameIsRefused};
+ghost use Rattle.edit_entries.specs.Setting.{FieldSet, SetIsRefused};
 
-use crate::adding::with_field;
 use crate::definitions::agree_on_definitions;
 use crate::errors::EditError;
 use crate::joining::{joined, shares_name};
 use crate::keys::can_be_new_key;
-use crate::lookup::{entry_index, entry_with, field_with};
+use crate::lookup::{entry_index, entry_with};
 use crate::removing::{without_entry, without_fields};
 use crate::renaming::with_key_renamed;
-use crate::setting::set_value;
+use crate::setting::with_field_set;
 use crate::taken::is_name_taken;
 use bib_syntax::raw::{ParseError, RawBibliography};
 use std::alloc::Global;
@@ -70,8 +70,15 @@ impl<'s> RawDocument<'s> {
         &self.raw
     }
 
-    /// The text with a field of an entry set to a text in braces: the last field with the name of the first entry with the key. As
-    /// it is where that is the field's value already; a field that isn't there is added before the others.
+    /// Returns the text with the value of a field of the first entry with `key`: each field with `name`, in any ASCII case, gets `value`
+    /// in braces. BibTeX reads the first of several fields with one name, Biber and this library the last. A field that has only this text
+    /// as its value is kept. If the entry has no such field, a new one comes before the others, with the white space that is before the
+    /// first one.
+    ///
+    /// # Errors
+    ///
+    /// `UnknownKey` if no entry has the key; `NotAName` if `name` can't be the name of a field; `NotInBraces` if a field has another value
+    /// and `value` can't stand in braces, for this library or for BibTeX, which also counts a brace after a backslash.
     pub fn set_field(
         &self,
         alloc: Global,
@@ -82,11 +89,9 @@ impl<'s> RawDocument<'s> {
         ensures set { IfOk result (λ new. IsEdited (FieldSet self.now key.now name.now value.now) (string_bytes new)) }
         ensures refused { IfErr result (SetIsRefused self.now key.now name.now value.now) }
     {
+        let text = self.text();
         match entry_with(&self.raw.entries, key) {
-            Some(entry) => match field_with(&entry.v.fields, name) {
-                Some(field) => set_value(alloc, self.text, field, value),
-                None => with_field(alloc, self.text, entry, name, value),
-            },
+            Some(entry) => with_field_set(alloc, text, entry, name, value),
             None => Err(EditError::UnknownKey),
         }
     }

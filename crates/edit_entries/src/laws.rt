@@ -1,9 +1,10 @@
-//! Laws of edits. These functions do nothing: what they ensure is proved of the definitions alone.
+//! Laws of edits. These functions do nothing; their clauses are proved of the definitions.
 
 ghost use Rattle.std.specs.Prelude.{ℕ, List};
-ghost use Rattle.edit_entries.specs.Documents.{Document, FieldSet, HasValue};
+ghost use Rattle.edit_entries.specs.Documents.{Document};
+ghost use Rattle.edit_entries.specs.Setting.{FieldSet, HasValue};
 
-/// A field that is set has the value.
+/// After a field is set, the last field with the name has the value.
 pub fn set_is_there()
     ensures { (d after : Document) (key name value : List ℕ) → FieldSet d key name value after → HasValue after key name value }
 {}

@@ -13,6 +13,7 @@
 #![tactic(auto)]
 
 mod adding;
+mod balance;
 mod braces;
 mod definitions;
 pub mod document;

@@ -1,25 +1,35 @@
-//! Other values in the places of those of fields.
+//! Sets a field of an entry.
 
-ghost use Rattle.std.specs.Prelude.{◌≡◌, ◌⊎◌, ◌+◌, [], length, true, false, IfErr, IfOk, map};
-ghost use Rattle.std.specs.Char.{is_whitespace};
+ghost use Rattle.std.specs.Prelude.{◌≡◌, ◌⊎◌, ◌++◌, ◌∷◌, ℕ, IfErr, IfOk, List, OnOk, codes, map, true};
+ghost use Rattle.std.specs.List.{AllByRecursion, list_any};
+ghost use Rattle.std.specs.Str.{IsCharBoundary};
 ghost use Rattle.std.specs.String.{string_bytes};
-ghost use Rattle.bib_text.specs.Places.{Run, place};
-ghost use Rattle.bib_syntax.specs.Views.{field_of, piece_of};
+ghost use Rattle.bib_text.specs.Characters as char;
+ghost use Rattle.bib_syntax.specs.Reading.{FieldReading};
+ghost use Rattle.bib_syntax.specs.Views.{entry_reading_of, field_of, piece_of};
+ghost use Rattle.edit_entries.specs.Changes.{braced_field, edits_of_field, edits_of_fields, field_before, name_edit};
 ghost use Rattle.edit_entries.specs.Documents as documents;
-ghost use Rattle.edit_entries.specs.Documents.{CanStandInBraces, value_edit};
+ghost use Rattle.edit_entries.specs.Documents.{CanBeName};
+ghost use Rattle.edit_entries.specs.EditList.{AreEditsInOrder, edit_of};
 ghost use Rattle.edit_entries.specs.Edits as edits;
-ghost use Rattle.edit_entries.specs.Placed.{IsPlaced};
+ghost use Rattle.edit_entries.specs.Placed.{HasComma, IsNamePlaced, IsPlaced};
+ghost use Rattle.edit_entries.specs.SetTexts.{AddIsRefused, CanBeSetIn, IsSetText, SetTextIsRefused};
+ghost use Rattle.edit_entries.specs.Setting as spec;
+ghost use Rattle.edit_entries.specs.Setting.{CanBeValue, IsAfterComma};
 ghost use Rattle.edit_entries.specs.declared.errors.EditError.TheVariants.{NotInBraces, OutOfMemory};
 
+use crate::adding::{after_comma, only_field_text};
+use crate::balance::is_balanced;
 use crate::braces::in_braces;
-use crate::editing::edited;
+use crate::editing::{Edit, edited, edited_all};
 use crate::errors::EditError;
+use crate::names::can_be_name;
 use crate::values::value_end;
-use bib_syntax::raw::{Pair, RawChunk};
+use bib_syntax::raw::{Pair, RawChunk, RawEntry, is_word};
 use bib_text::spanned::Spanned;
 use std::alloc::{AllocError, Global};
 
-// Whether a value is this text, alone.
+// Returns whether a value is only this text.
 pub(crate) fn is_value(pieces: &[Spanned<RawChunk<'_>>], value: &str) -> bool
     ensures { result ≡ documents.is_value value.now (map piece_of pieces.now) }
 {
@@ -32,43 +42,219 @@ pub(crate) fn is_value(pieces: &[Spanned<RawChunk<'_>>], value: &str) -> bool
     }
 }
 
-// The text with another value in the place of a field's.
-pub(crate) fn with_value(
-    alloc: Global,
-    text: &str,
-    field: &Pair<'_>,
-    braced: &str,
-) -> Result<String, AllocError>
-    requires { IsPlaced text.now (field_of field.now) }
-    ensures text { IfOk result (λ new. string_bytes new ≡ edits.edited (record (value_edit text.now (field_of field.now) []) { bytes = braced.now }) text.now) }
-    ensures white { IfOk result (λ _. Run is_whitespace (place text.now (value_edit text.now (field_of field.now) []).end) (place text.now (field_of field.now).value.end)) }
+// Returns whether a field has a name, in any ASCII case, and another value than this text.
+fn has_other_value(field: &Pair<'_>, name: &str, value: &str) -> bool
+    ensures { result ≡ spec.has_other_value name.now value.now (field_of field.now) }
 {
-    let end = value_end(text, field);
-    edited(alloc, text, field.value.span.start, end, braced)
+    is_word(field.key.v, name) && !is_value(&field.value.v, value)
 }
 
-// The text with a text in braces as a field's value: as it is, where that is its value already.
-pub(crate) fn set_value(
+// Returns whether one of these fields has a name, in any ASCII case.
+fn has_field(fields: &[Pair<'_>], name: &str) -> bool
+    ensures { result ≡ list_any (documents.has_name name.now) (map field_of fields.now) }
+{
+    'fields: for field in fields {
+        if is_word(field.key.v, name) {
+            return true;
+        }
+    }
+    false
+}
+
+// Returns whether one of these fields has a name, in any ASCII case, and another value than this text.
+fn has_field_to_set(fields: &[Pair<'_>], name: &str, value: &str) -> bool
+    ensures { result ≡ list_any (spec.has_other_value name.now value.now) (map field_of fields.now) }
+{
+    'fields: for field in fields {
+        if has_other_value(field, name, value) {
+            return true;
+        }
+    }
+    false
+}
+
+// Returns a text between two braces, if it can be a value.
+fn value_in_braces(alloc: Global, value: &str) -> Result<String, EditError>
+    ensures found { IfOk result (λ braced. string_bytes braced ≡ documents.in_braces value.now) }
+    ensures can { OnOk result (CanBeValue value.now) }
+    ensures refused { IfErr result (λ e. (e ≡ OutOfMemory) ⊎ ((e ≡ NotInBraces) × (CanBeValue value.now → ⊥))) }
+{
+    let braced = in_braces(alloc, value)?;
+    if !is_balanced(value) {
+        return Err(EditError::NotInBraces);
+    }
+    Ok(braced)
+}
+
+// Adds the edit of a field that gets a value if it has a name. `braced` is the value in braces.
+fn push_new_value(
+    edits: &mut Vec<Edit>,
     alloc: Global,
     text: &str,
     field: &Pair<'_>,
+    name: &str,
+    value: &str,
+    braced: &str,
+) -> Result<(), AllocError>
+    requires placed { IsPlaced text.now (field_of field.now) }
+    requires braced { braced.now ≡ documents.in_braces value.now }
+    ensures { OnOk result ((following : List FieldReading) → map edit_of edits.new.items ≡ map edit_of edits.old.items ++
+        edits_of_field text.now (field_of field.now) following (spec.set_change name.now value.now (field_of field.now))) }
+{
+    if !has_other_value(field, name, value) {
+        return Ok(());
+    }
+    edits.push(Edit {
+        start: field.value.span.start,
+        end: value_end(text, field),
+        text: String::from_str(alloc, braced)?,
+    })?;
+    Ok(())
+}
+
+// Returns the edits of fields in which those with a name get a value. `braced` is the value in braces.
+fn value_edits(
+    alloc: Global,
+    text: &str,
+    fields: &[Pair<'_>],
+    name: &str,
+    value: &str,
+    braced: &str,
+) -> Result<Vec<Edit>, AllocError>
+    requires placed { AllByRecursion (IsPlaced text.now) (map field_of fields.now) }
+    requires braced { braced.now ≡ documents.in_braces value.now }
+    ensures { IfOk result (λ edits. map edit_of edits.items ≡
+        edits_of_fields text.now (map field_of fields.now) (map (spec.set_change name.now value.now) (map field_of fields.now))) }
+{
+    let mut edits = Vec::new(alloc);
+    'fields: for field in fields {
+        push_new_value(&mut edits, alloc, text, field, name, value, braced)?;
+    }
+    Ok(edits)
+}
+
+// Returns the text with a value for each of these fields with a name. The text is the same if they all have it.
+fn with_values(
+    alloc: Global,
+    text: &str,
+    fields: &[Pair<'_>],
+    name: &str,
     value: &str,
 ) -> Result<String, EditError>
-    requires { IsPlaced text.now (field_of field.now) }
-    ensures same { IfOk result (λ new. documents.is_value value.now (field_of field.now).value.pieces ≡ true →
-        string_bytes new ≡ text.now) }
-    ensures changed { IfOk result (λ new. documents.is_value value.now (field_of field.now).value.pieces ≡ false →
-        string_bytes new ≡ edits.edited (value_edit text.now (field_of field.now) value.now) text.now) }
-    ensures can { IfOk result (λ _. documents.is_value value.now (field_of field.now).value.pieces ≡ false →
-        CanStandInBraces value.now) }
-    ensures white { IfOk result (λ _. documents.is_value value.now (field_of field.now).value.pieces ≡ false →
-        Run is_whitespace (place text.now (value_edit text.now (field_of field.now) value.now).end)
-        (place text.now (field_of field.now).value.end)) }
-    ensures refused { IfErr result (λ e. (e ≡ OutOfMemory) ⊎ ((e ≡ NotInBraces) × (CanStandInBraces value.now → ⊥))) }
+    requires placed { AllByRecursion (IsPlaced text.now) (map field_of fields.now) }
+    requires ordered { AreEditsInOrder text.now 0
+        (edits_of_fields text.now (map field_of fields.now) (map (spec.set_change name.now value.now) (map field_of fields.now))) }
+    ensures text { IfOk result (λ new. string_bytes new ≡ edits.edited_all
+        (edits_of_fields text.now (map field_of fields.now) (map (spec.set_change name.now value.now) (map field_of fields.now))) text.now) }
+    ensures can { OnOk result (list_any (spec.has_other_value name.now value.now) (map field_of fields.now) ≡ true → CanBeValue value.now) }
+    ensures refused { IfErr result (λ e. (e ≡ OutOfMemory) ⊎ ((e ≡ NotInBraces) × (CanBeValue value.now → ⊥)
+        × (list_any (spec.has_other_value name.now value.now) (map field_of fields.now) ≡ true))) }
 {
-    if is_value(&field.value.v, value) {
+    if !has_field_to_set(fields, name, value) {
         return Ok(String::from_str(alloc, text)?);
     }
-    let braced = in_braces(alloc, value)?;
-    Ok(with_value(alloc, text, field, &braced)?)
+    let braced = value_in_braces(alloc, value)?;
+    let edits = value_edits(alloc, text, fields, name, value, &braced)?;
+    Ok(edited_all(alloc, text, &edits)?)
+}
+
+// Returns the ASCII white space directly before a byte offset of a text.
+fn white_before(text: &str, at: usize) -> &str
+    requires { IsCharBoundary text.now at }
+    ensures { result.now ≡ spec.white_before text.now at }
+{
+    let before = &text[..at];
+    let rest = before.trim_ascii_end();
+    &before[rest.len()..]
+}
+
+// Returns a new field, a comma, white space, and the name of the field that follows.
+fn text_before(
+    alloc: Global,
+    name: &str,
+    braced: &str,
+    white: &str,
+    following: &str,
+) -> Result<String, AllocError>
+    ensures { IfOk result (λ text. string_bytes text ≡ (name.now ++ (codes " = " ++ braced.now) ++ char.comma ∷ white.now) ++ following.now) }
+{
+    let mut text = String::new(alloc);
+    text.push_str(name)?;
+    text.push_str(" = ")?;
+    text.push_str(braced)?;
+    text.push_str(",")?;
+    text.push_str(white)?;
+    text.push_str(following)?;
+    Ok(text)
+}
+
+// Returns the text with a new field before the first field of an entry.
+fn with_field_before(
+    alloc: Global,
+    text: &str,
+    first: &Pair<'_>,
+    name: &str,
+    value: &str,
+) -> Result<String, EditError>
+    requires { IsNamePlaced text.now (field_of first.now) }
+    ensures text { IfOk result (λ new. string_bytes new ≡ edits.edited (name_edit (field_of first.now)
+        (field_before (braced_field name.now value.now) (spec.white_before text.now (field_of first.now).name.start))) text.now) }
+    ensures name { OnOk result (CanBeName name.now) }
+    ensures value { OnOk result (CanBeValue value.now) }
+    ensures refused { IfErr result (AddIsRefused name.now value.now) }
+{
+    if !can_be_name(name) {
+        return Err(EditError::NotAName);
+    }
+    let braced = value_in_braces(alloc, value)?;
+    let start = first.key.span.start;
+    let white = white_before(text, start);
+    let bytes = text_before(alloc, name, &braced, white, first.key.v)?;
+    Ok(edited(alloc, text, start, first.key.span.end, &bytes)?)
+}
+
+// Returns the text with a field in an entry without fields.
+fn with_only_field(
+    alloc: Global,
+    text: &str,
+    entry: &Spanned<RawEntry<'_>>,
+    name: &str,
+    value: &str,
+) -> Result<String, EditError>
+    requires { HasComma text.now (entry_reading_of entry.now) }
+    ensures text { IfOk result (λ new. (at : ℕ) × IsAfterComma text.now (entry_reading_of entry.now) at ×
+        (string_bytes new ≡ edits.edited (record { start = at; end = at; bytes = spec.only_field_text name.now value.now }) text.now)) }
+    ensures name { OnOk result (CanBeName name.now) }
+    ensures value { OnOk result (CanBeValue value.now) }
+    ensures refused { IfErr result (AddIsRefused name.now value.now) }
+{
+    if !can_be_name(name) {
+        return Err(EditError::NotAName);
+    }
+    let braced = value_in_braces(alloc, value)?;
+    let field = only_field_text(alloc, name, &braced)?;
+    let at = after_comma(text, entry);
+    Ok(edited(alloc, text, at, at, &field)?)
+}
+
+// Returns the text with a field of an entry set.
+pub(crate) fn with_field_set(
+    alloc: Global,
+    text: &str,
+    entry: &Spanned<RawEntry<'_>>,
+    name: &str,
+    value: &str,
+) -> Result<String, EditError>
+    requires { CanBeSetIn text.now (entry_reading_of entry.now) name.now value.now }
+    ensures set { IfOk result (λ new. IsSetText text.now (entry_reading_of entry.now) name.now value.now (string_bytes new)) }
+    ensures refused { IfErr result (SetTextIsRefused (entry_reading_of entry.now) name.now value.now) }
+{
+    let fields = entry.v.fields.as_slice();
+    if has_field(fields, name) {
+        return with_values(alloc, text, fields, name, value);
+    }
+    match fields {
+        [first, ..] => with_field_before(alloc, text, first, name, value),
+        [] => with_only_field(alloc, text, entry, name, value),
+    }
 }

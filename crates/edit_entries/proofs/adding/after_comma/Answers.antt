@@ -6,7 +6,7 @@ use Rattle.bib_text.proofs.PlaceFacts.{ahead_char, ahead_run, ahead_then, longes
 use Rattle.bib_syntax.specs.Reading.{EntryReading}
 use Rattle.bib_syntax.specs.Views.{entry_reading_of}
 use Rattle.bib_syntax.proofs.ReadingFacts.{taken_if}
-use Rattle.edit_entries.specs.Documents.{IsAfterComma}
+use Rattle.edit_entries.specs.Setting.{IsAfterComma}
 use Rattle.edit_entries.specs.Placed.{HasComma}
 use Rattle.edit_entries.proofs.adding.after_comma.Goals as goal
 

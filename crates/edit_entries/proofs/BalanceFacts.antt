@@ -1,0 +1,124 @@
+-- Braces of a text, counted from its start.
+use Rattle.std.proofs.Common.{◌≡◌, ◌⊎◌, inl, inr, ℕ, zero, suc, ◌+◌, ◌-◌, ◌<◌, ◌≤◌, Bool, true, false, cond, List, length, take, get_or, refl, sym, ap, ◌∙◌, subst, arith}
+use Rattle.std.specs.Prelude.{◌==◌}
+use Rattle.std.proofs.lemmas.Bool.Decides.{nat_tests}
+use Rattle.std.proofs.lemmas.List.{take_all}
+use Rattle.std.proofs.lemmas.List.Filters.{length-filter_more}
+use Rattle.edit_entries.specs.Balance.{IsBalanced, times}
+
+-- the first bytes of a text: no prefix has more closing braces than opening ones, and this many braces are open
+pub record IsCounted (text : List ℕ) (i depth : ℕ) : Type 0 where
+  pub open_braces : depth + times 125 (take i text) ≡ times 123 (take i text)
+  pub closes : (n : ℕ) → n ≤ i → times 125 (take n text) ≤ times 123 (take n text)
+  pub small : depth ≤ i
+
+at_or_before : (n i : ℕ) → n ≤ i + 1 → (n ≡ i + 1) ⊎ (n ≤ i)
+at_or_before zero i within = inr (omega arith)
+at_or_before (suc n) zero within = inl (omega (arith, within))
+at_or_before (suc n) (suc i) within = by_rest (at_or_before n i (omega (arith, within)))
+  where
+    by_rest : (n ≡ i + 1) ⊎ (n ≤ i) → (suc n ≡ suc i + 1) ⊎ (suc n ≤ suc i)
+    by_rest (inl same) = inl (omega (arith, same))
+    by_rest (inr less) = inr (omega (arith, less))
+
+-- what holds of each earlier prefix and of this one
+one_more : (text : List ℕ) (i : ℕ) → ((n : ℕ) → n ≤ i → times 125 (take n text) ≤ times 123 (take n text))
+    → times 125 (take (i + 1) text) ≤ times 123 (take (i + 1) text) → (n : ℕ) → n ≤ i + 1
+    → times 125 (take n text) ≤ times 123 (take n text)
+one_more text i before this n within = by_place (at_or_before n i within)
+  where
+    by_place : (n ≡ i + 1) ⊎ (n ≤ i) → times 125 (take n text) ≤ times 123 (take n text)
+    by_place (inl same) = subst (λ m. times 125 (take m text) ≤ times 123 (take m text)) (sym same) this
+    by_place (inr less) = before n less
+
+module _ (text : List ℕ) (i depth byte : ℕ) (within : i < length text) (is : byte ≡ get_or text i byte) (counted : IsCounted text i depth)
+  where
+  more : (c : ℕ) (b : Bool) → (byte == c) ≡ b → times c (take (i + 1) text) ≡ times c (take i text) + cond b 1 0
+  more c b test =
+      length-filter_more (λ x. x == c) text i byte within
+      ∙ ap (λ x. times c (take i text) + cond (x == c) 1 0) (sym is) ∙ ap (λ t. times c (take i text) + cond t 1 0) test
+
+  pub opening_brace : (byte == 123) ≡ true → IsCounted text (i + 1) (depth + 1)
+  opening_brace opens =
+      let closing : (byte == 125) ≡ false = grind (arith, nat_tests) in
+      let now : depth + 1 + times 125 (take (i + 1) text) ≡ times 123 (take (i + 1) text) =
+      omega (arith, counted.open_braces, more 123 true opens, more 125 false closing) in
+      record {
+        open_braces = now;
+        closes = one_more text i counted.closes (omega (arith, now));
+        small = omega (arith, counted.small);
+      }
+
+  pub closing_brace : (byte == 123) ≡ false → (byte == 125) ≡ true → 0 < depth → IsCounted text (i + 1) (depth - 1)
+  closing_brace opens closing some =
+      let now : depth - 1 + times 125 (take (i + 1) text) ≡ times 123 (take (i + 1) text) =
+      omega (arith, some, counted.open_braces, more 123 false opens, more 125 true closing) in
+      record {
+        open_braces = now;
+        closes = one_more text i counted.closes (omega (arith, now));
+        small = omega (arith, counted.small);
+      }
+
+  pub other_byte : (byte == 123) ≡ false → (byte == 125) ≡ false → IsCounted text (i + 1) depth
+  other_byte opens closing =
+      let now : depth + times 125 (take (i + 1) text) ≡ times 123 (take (i + 1) text) =
+      omega (arith, counted.open_braces, more 123 false opens, more 125 false closing) in
+      record {
+        open_braces = now;
+        closes = one_more text i counted.closes (omega (arith, now));
+        small = omega (arith, counted.small);
+      }
+
+  -- a brace that closes none
+  pub closes_none : (byte == 123) ≡ false → (byte == 125) ≡ true → depth ≡ 0 → IsBalanced text → ⊥
+  closes_none opens closing none balanced =
+      omega (
+        arith,
+        none,
+        counted.open_braces,
+        more 123 false opens,
+        more 125 true closing,
+        balanced.closes (i + 1),
+      )
+
+pub counted_start : (text : List ℕ) → IsCounted text 0 0
+counted_start text = record { open_braces = refl; closes = λ n within. start n within; small = omega arith }
+  where
+    start : (n : ℕ) → n ≤ 0 → times 125 (take n text) ≤ times 123 (take n text)
+    start zero within = omega arith
+    start (suc n) within = absurd (omega (arith, within))
+
+-- the whole text
+module _ (text : List ℕ) (i depth : ℕ) (past : length text ≤ i) (counted : IsCounted text i depth) where
+  whole : take i text ≡ text
+  whole = take_all i text past
+
+  pub all_closed : depth ≡ 0 → IsBalanced text
+  all_closed none = record { closes = λ n. prefix n (earlier n i); closed = closed }
+    where
+      closed : times 123 text ≡ times 125 text
+      closed = omega (arith, ap (times 123) whole, ap (times 125) whole, counted.open_braces, none)
+
+      earlier : (n m : ℕ) → (n ≤ m) ⊎ (m ≤ n)
+      earlier zero m = inl (omega arith)
+      earlier (suc n) zero = inr (omega arith)
+      earlier (suc n) (suc m) = by_rest (earlier n m)
+        where
+          by_rest : (n ≤ m) ⊎ (m ≤ n) → (suc n ≤ suc m) ⊎ (suc m ≤ suc n)
+          by_rest (inl less) = inl (omega (arith, less))
+          by_rest (inr past') = inr (omega (arith, past'))
+
+      prefix : (n : ℕ) → (n ≤ i) ⊎ (i ≤ n) → times 125 (take n text) ≤ times 123 (take n text)
+      prefix n (inl less) = counted.closes n less
+      prefix n (inr later) =
+          let all : take n text ≡ text = take_all n text (omega (arith, past, later)) in
+          subst (λ xs. times 125 xs ≤ times 123 xs) (sym all) (omega (arith, closed))
+
+  pub one_open : (depth ≡ 0 → ⊥) → IsBalanced text → ⊥
+  one_open some balanced =
+      some
+      (omega (
+        arith,
+        subst (λ xs. depth + times 125 xs ≡ times 123 xs) whole counted.open_braces,
+        balanced.closed,
+      ))

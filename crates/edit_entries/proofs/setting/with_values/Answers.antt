@@ -1,0 +1,13 @@
+use Rattle.std.proofs.Common.{map, sym, ap, ◌∙◌}
+use Rattle.bib_syntax.specs.Views.{field_of}
+use Rattle.edit_entries.specs.Edits.{edited_all}
+use Rattle.edit_entries.proofs.SetFacts.{no_value_edits}
+use Rattle.edit_entries.proofs.setting.with_values.Goals as goal
+
+pub returns-then-not-has_field_to_set-clause-text : goal.returns-then-not-has_field_to_set-clause-text
+returns-then-not-has_field_to_set-clause-text c =
+    c.in_ok-from_str.ensures.ok
+    ∙ ap (λ edits. edited_all edits c.args.text.now)
+    (sym
+    (no_value_edits c.args.text.now c.args.name.now c.args.value.now (map field_of c.args.fields.now)
+    (sym c.has_field_to_set.ensures ∙ c.if-not-has_field_to_set.true)))
