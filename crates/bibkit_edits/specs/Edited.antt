@@ -8,8 +8,9 @@ use Rattle.bib_syntax.specs.SyntaxErrors.{IsReported}
 use Rattle.bib_syntax.specs.declared.raw.ParseError.{ParseError}
 use Rattle.bib_source.specs.Encoding.{IsFirstInvalid, byte_order_mark, without_byte_order_mark}
 use Rattle.edit_convert.specs.Conversions.{IsConverted}
-use Rattle.edit_entries.specs.Documents.{Document, EntriesAdded, EntriesAreRefused, EntryIsRefused, EntryRemoved, FieldSet, FieldUnset, IsDocument, IsEdited, SetIsRefused}
+use Rattle.edit_entries.specs.Documents.{Document, EntriesAdded, EntriesAreRefused, EntryIsRefused, EntryRemoved, FieldUnset, IsDocument, IsEdited}
 use Rattle.edit_entries.specs.References.{KeyRenamed, RenameIsRefused}
+use Rattle.edit_entries.specs.Setting.{FieldSet, SetIsRefused}
 use Rattle.edit_entries.specs.declared.errors.EditError.{EditError}
 use Rattle.bib_tables.specs.declared.dialects.Dialect.{Dialect}
 use Rattle.bib_tables.specs.declared.dialects.Dialect.TheVariants.{Biblatex, Bibtex}

@@ -2,7 +2,8 @@
 
 ghost use Rattle.std.specs.Prelude.{◌≡◌, [], ◌∷◌, IfOk, IfErr};
 ghost use Rattle.std.specs.String.{string_bytes};
-ghost use Rattle.edit_entries.specs.Documents.{EntryIsRefused, EntryRemoved, FieldSet, FieldUnset, SetIsRefused};
+ghost use Rattle.edit_entries.specs.Documents.{EntryIsRefused, EntryRemoved, FieldUnset};
+ghost use Rattle.edit_entries.specs.Setting.{FieldSet, SetIsRefused};
 ghost use Rattle.edit_entries.specs.References.{KeyRenamed, RenameIsRefused};
 ghost use Rattle.biblatex_c.specs.Calls.{AddFails, EditFails, IsEditedText, IsLaidOut, IsNoFile, IsNumberedEnd, TextFails, WithEntriesOf};
 

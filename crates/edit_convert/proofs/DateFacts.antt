@@ -25,7 +25,8 @@ use Rattle.edit_entries.proofs.NewValueFacts.{CanBeRead}
 use Rattle.bib_dates.specs.Dates.{date_of}
 use Rattle.bib_dates.specs.Readings.{readable_value}
 use Rattle.bib_dates.proofs.DatesReread.{all_more, is_date_byte}
-use Rattle.edit_convert.specs.Dates.{Side, SideNames, Sides, are_digits, braced_field, date_sides, day_fields, from_names, month_as_field, month_fields, month_side, more_fields, numbered_months, side_in, side_of, sides_of, one_side, two_sides, to_fields, to_names, side_year}
+use Rattle.edit_convert.specs.Dates.{Side, SideNames, Sides, are_digits, date_sides, day_fields, from_names, month_as_field, month_fields, month_side, more_fields, numbered_months, side_in, side_of, sides_of, one_side, two_sides, to_fields, to_names, side_year}
+use Rattle.edit_entries.specs.Changes.{braced_field}
 use Rattle.edit_entries.proofs.NewFieldFacts.{CanBePut, element_read}
 use Rattle.bib_text.proofs.ListFacts.{all_append}
 

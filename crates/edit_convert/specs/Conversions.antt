@@ -13,10 +13,10 @@ use Rattle.bib_tables.specs.declared.dialects.Dialect.TheVariants.{Biblatex, Bib
 use Rattle.edit_entries.specs.Documents.{Document, has_name}
 use Rattle.edit_format.specs.Formatted.{has_percent}
 use Rattle.edit_strings.specs.Collected.{single_text}
-use Rattle.edit_entries.specs.Changes.{EntryChange, FieldChange, IsChanged, NewField}
+use Rattle.edit_entries.specs.Changes.{EntryChange, FieldChange, IsChanged, NewField, braced_field}
 use Rattle.edit_convert.specs.Types.{PrintedType, type_by_value, type_field, type_value}
 use Rattle.bib_text.specs.Characters as char
-use Rattle.edit_convert.specs.Dates.{Sides, braced_field, date_sides, from_names, more_fields, part_names, to_fields, side_year}
+use Rattle.edit_convert.specs.Dates.{Sides, date_sides, from_names, more_fields, part_names, to_fields, side_year}
 use Rattle.edit_convert.specs.Joined.{is_month_name, joined_text, month_value}
 
 -- whether neither BibTeX nor BibLaTeX has a type

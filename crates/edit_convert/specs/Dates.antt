@@ -8,16 +8,10 @@ use Rattle.bib_text.specs.Enums.{value_named}
 use Rattle.bib_tables.specs.Months.{month_abbreviation, month_name}
 use Rattle.bib_tables.specs.declared.months.Month.{Month}
 use Rattle.bib_tables.specs.declared.months.Month.TheVariants.{January, February, March, April, May, June, July, August, September, October, November, December}
-use Rattle.bib_syntax.specs.Reading.Piece.{literal}
 use Rattle.bib_dates.specs.Dates.{date_of}
 use Rattle.bib_dates.specs.Readings.{readable_value}
-use Rattle.edit_entries.specs.Documents.{in_braces, text_at}
 use Rattle.edit_strings.specs.Collected.{name_value}
-use Rattle.edit_entries.specs.Changes.{NewField, more_field_texts, new_field_text}
-
--- a field whose value is a text in braces
-abbrev pub braced_field : List ℕ → List ℕ → NewField
-braced_field name text = record { name = name; value = record { bytes = in_braces text; pieces = literal (text_at 1 text) ∷ [] } }
+use Rattle.edit_entries.specs.Changes.{NewField, braced_field, more_field_texts, new_field_text}
 
 -- a field whose value is an abbreviation
 abbrev pub bare_field : List ℕ → List ℕ → NewField

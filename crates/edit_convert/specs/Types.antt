@@ -5,8 +5,7 @@ use Rattle.std.specs.Prelude.{ℕ, List, [], ◌∷◌, codes, Option, Some, Non
 use Rattle.bib_text.specs.Enums.{value_named}
 use Rattle.bib_tables.specs.declared.mechanics.EntryType.{EntryType}
 use Rattle.bib_tables.specs.declared.mechanics.EntryType.TheVariants.{MastersThesis, PhdThesis, Report, TechReport, Thesis}
-use Rattle.edit_entries.specs.Changes.{NewField}
-use Rattle.edit_convert.specs.Dates.{braced_field}
+use Rattle.edit_entries.specs.Changes.{NewField, braced_field}
 
 -- the value of `type` that BibLaTeX uses for a type of BibTeX that it merges with others
 abbrev pub type_value : EntryType → Option (List ℕ)

@@ -188,6 +188,19 @@ fn text_before(
     Ok(text)
 }
 
+// Returns the value of a new field in braces.
+fn new_value(alloc: Global, name: &str, value: &str) -> Result<String, EditError>
+    ensures found { IfOk result (λ braced. string_bytes braced ≡ documents.in_braces value.now) }
+    ensures name { OnOk result (CanBeName name.now) }
+    ensures value { OnOk result (CanBeValue value.now) }
+    ensures refused { IfErr result (AddIsRefused name.now value.now) }
+{
+    if !can_be_name(name) {
+        return Err(EditError::NotAName);
+    }
+    value_in_braces(alloc, value)
+}
+
 // Returns the text with a new field before the first field of an entry.
 fn with_field_before(
     alloc: Global,
@@ -203,10 +216,7 @@ fn with_field_before(
     ensures value { OnOk result (CanBeValue value.now) }
     ensures refused { IfErr result (AddIsRefused name.now value.now) }
 {
-    if !can_be_name(name) {
-        return Err(EditError::NotAName);
-    }
-    let braced = value_in_braces(alloc, value)?;
+    let braced = new_value(alloc, name, value)?;
     let start = first.key.span.start;
     let white = white_before(text, start);
     let bytes = text_before(alloc, name, &braced, white, first.key.v)?;
@@ -228,10 +238,7 @@ fn with_only_field(
     ensures value { OnOk result (CanBeValue value.now) }
     ensures refused { IfErr result (AddIsRefused name.now value.now) }
 {
-    if !can_be_name(name) {
-        return Err(EditError::NotAName);
-    }
-    let braced = value_in_braces(alloc, value)?;
+    let braced = new_value(alloc, name, value)?;
     let field = only_field_text(alloc, name, &braced)?;
     let at = after_comma(text, entry);
     Ok(edited(alloc, text, at, at, &field)?)

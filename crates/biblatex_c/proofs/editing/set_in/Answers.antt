@@ -1,6 +1,6 @@
 use Rattle.std.proofs.Common.{◌∙◌, [], ◌∷◌, sym}
 use Rattle.std.proofs.lemmas.Result.{err_from_is_err_and}
-use Rattle.edit_entries.specs.Documents.{SetIsRefused}
+use Rattle.edit_entries.specs.Setting.{SetIsRefused}
 use Rattle.biblatex_c.proofs.FailureFacts.{edit_fails, unread_fails}
 use Rattle.biblatex_c.proofs.editing.set_in.Goals as goal
 
