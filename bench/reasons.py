@@ -164,7 +164,7 @@ REASONS = [
            lambda it: it.difference.name == "type" and is_child(it)),
     Reason(FAULT, "the type of a thesis or report stays a key of BibLaTeX, which BibTeX prints", "to-bibtex", "bibtool", "kind printed"),
     Reason(RULE, "a new key that an entry has in another case is refused", "(add|rename)-case", "bibkit", "refused",
-           lambda it: same_key(it) and "an entry has the key already" in it.difference.after),
+           lambda it: same_key(it) and "an entry has the name already" in it.difference.after),
     Reason(RULE, "a definition of an abbreviation that the file has with another text is refused", "add-string", "bibkit", "refused",
            lambda it: "an abbreviation is defined already" in it.difference.after),
     Reason(FAULT, "each abbreviation gets the last of its definitions", "expand", ".*", "field changed|print", defines_twice),

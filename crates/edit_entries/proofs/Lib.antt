@@ -13,6 +13,7 @@ pub mod ElementFacts
 pub mod ElementStandsFacts
 pub mod EntryFacts
 pub mod FieldNameFacts
+mod FoundKeyFacts
 pub mod GrammarFacts
 pub mod JoinedFacts
 mod KeyFacts
