@@ -112,11 +112,6 @@ def is_emptied(case):
     return entry is not None and {name for name, _ in entry.fields} <= set(case.command.words)
 
 
-def has_hard_key(case):
-    """Whether the key of the command has a character that bibtool doesn't read in a key."""
-    return re.search(r"[={}~\"#()%]", case.command.key) is not None
-
-
 def has_escaped_brace(case):
     """Whether the command sets a text with a backslash before a brace."""
     return re.search(r"\\[{}]", case.command.words[2]) is not None
@@ -171,7 +166,6 @@ REASONS = [
     Reason(FAULT, "set changes the last of two fields with one name, and BibTeX reads the first", "set-twice", "bibtex", "field changed"),
     Reason(FAULT, "rename leaves a reference by an abbreviation", "rename", ".*", ".*", refers_by_abbreviation),
     Reason(FAULT, "bibtool loses an entry without fields, and what follows it", "(walk-)?unset.*", "bibtool", ".*", is_emptied),
-    Reason(FAULT, "bibtool doesn't read an added key with one of = { } ~ \" # ( ) %", "walk-add", "bibtool", ".*", has_hard_key),
     Reason(FAULT, "BibTeX and bibtool count a brace after a backslash", "walk-set", ".*", ".*", has_escaped_brace),
     Reason(FAULT, "BibTeX doesn't end a text in quotes at a quote in braces, as this library and bibtool do", f"{LAYOUTS}|{EDITS}", "bibtex|bibtool",
            ".*", hides_quote),

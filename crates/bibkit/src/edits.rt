@@ -121,10 +121,7 @@ fn refused_line(
         }
         Some(Edit::Remove { key }) => format!(in alloc; "bibkit: {name}: {key}: {why}\n"),
         Some(Edit::Add { text }) if why == EditError::NotAKey => unsafe_key_line(
-            alloc,
-            name,
-            text,
-            why,
+            alloc, name, text, why,
         ),
         _ => format!(in alloc; "bibkit: {name}: {why}\n"),
     }

@@ -13,37 +13,38 @@ use Rattle.std.proofs.lemmas.Slice.Eq.{bytes_eq-Decides}
 use Rattle.bib_syntax.specs.Grammar.{is_word}
 use Rattle.bib_syntax.specs.Reading.{EntryReading}
 use Rattle.edit_entries.specs.Keys.{key_for}
-use Rattle.edit_entries.specs.References.{biber_key, bibtex_key, finds, finds_another, first_key, or_else, refers_to_key}
+use Rattle.edit_entries.specs.References.{biber_key, bibtex_key, finds, finds_another, first_key, first_found, refers_to_key}
 use Rattle.edit_entries.proofs.NameSetFacts.{seen_more}
 
 -- ---- one key or else another
 
-pub none_after : (found : Option (List ℕ)) → or_else found None ≡ found
+pub none_after : (found : Option (List ℕ)) → first_found found None ≡ found
 none_after None = refl
 none_after (Some key) = refl
 
-pub else_else : (first second third : Option (List ℕ)) → or_else (or_else first second) third ≡ or_else first (or_else second third)
+pub else_else : (first second third : Option (List ℕ))
+    → first_found (first_found first second) third ≡ first_found first (first_found second third)
 else_else None second third = refl
 else_else (Some key) second third = refl
 
 -- the key for a name that has one stays
 pub stays : (is : Bool) (found : Option (List ℕ)) (key : List ℕ) → (is ≡ true → is_some found ≡ true)
-    → found ≡ or_else found (cond is (Some key) None)
+    → found ≡ first_found found (cond is (Some key) None)
 stays true None key some = absurd (let clash : false ≡ true = some refl in cc)
 stays true (Some own) key some = refl
 stays false found key some = sym (none_after found)
 
 -- the key for a name that has none is given
 pub given : (is : Bool) (old new : Option (List ℕ)) (key : List ℕ) → (is ≡ true → is_some old ≡ false)
-    → new ≡ cond is (Some key) old → new ≡ or_else old (cond is (Some key) None)
+    → new ≡ cond is (Some key) old → new ≡ first_found old (cond is (Some key) None)
 given true None new key none same = same
 given true (Some own) new key none same = absurd (let clash : true ≡ false = none refl in cc)
 given false old new key none same = same ∙ sym (none_after old)
 
 -- the key is given to one more name
 pub given_more : (found : Option (List ℕ)) (one others : Bool) (key : List ℕ)
-    → or_else (or_else found (cond others (Some key) None)) (cond one (Some key) None)
-    ≡ or_else found (cond (cond one true others) (Some key) None)
+    → first_found (first_found found (cond others (Some key) None)) (cond one (Some key) None)
+    ≡ first_found found (cond (cond one true others) (Some key) None)
 given_more (Some own) one others key = refl
 given_more None true true key = refl
 given_more None true false key = refl
@@ -62,7 +63,7 @@ map_cond f false x y = refl
 -- a map with a key for a name stays
 pub has_key : (keys : BTreeMap (Bor (List ℕ)) (Bor (List ℕ))) (name key other : List ℕ)
     → is_some (get_by (λ k. slice_cmp nat_cmp name k.now) keys) ≡ true
-    → key_for keys other ≡ or_else (key_for keys other) (cond (bytes_eq name other) (Some key) None)
+    → key_for keys other ≡ first_found (key_for keys other) (cond (bytes_eq name other) (Some key) None)
 has_key keys name key other some =
     stays (bytes_eq name other) (key_for keys other) key
     (λ is.
@@ -74,7 +75,7 @@ pub gets_key : (old new : BTreeMap (Bor (List ℕ)) (Bor (List ℕ))) (name othe
     → is_some (get_by (λ k. slice_cmp nat_cmp name k.now) old) ≡ false
     → get_by (λ k. slice_cmp nat_cmp other k.now) new
     ≡ cond (bytes_eq name other) (Some key) (get_by (λ k. slice_cmp nat_cmp other k.now) old)
-    → key_for new other ≡ or_else (key_for old other) (cond (bytes_eq name other) (Some key.now) None)
+    → key_for new other ≡ first_found (key_for old other) (cond (bytes_eq name other) (Some key.now) None)
 gets_key old new name other key none same =
     given (bytes_eq name other) (key_for old other) (key_for new other) key.now
     (λ is.
@@ -86,13 +87,13 @@ gets_key old new name other key none same =
 -- ---- the first key that passes a test
 
 pub first_append : (test : EntryReading → Bool) (xs ys : List EntryReading)
-    → first_key test (xs ++ ys) ≡ or_else (first_key test xs) (first_key test ys)
+    → first_key test (xs ++ ys) ≡ first_found (first_key test xs) (first_key test ys)
 first_append test [] ys = refl
 first_append test (x ∷ xs) ys =
     here (test x) x.key.text (first_key test xs) (first_key test (xs ++ ys)) (first_key test ys) (first_append test xs ys)
   where
-    here : (is : Bool) (key : List ℕ) (now all later : Option (List ℕ)) → all ≡ or_else now later
-        → cond is (Some key) all ≡ or_else (cond is (Some key) now) later
+    here : (is : Bool) (key : List ℕ) (now all later : Option (List ℕ)) → all ≡ first_found now later
+        → cond is (Some key) all ≡ first_found (cond is (Some key) now) later
     here true key now all later same = refl
     here false key now all later same = same
 
@@ -100,14 +101,14 @@ module _ {A : Type 0} (view : A → EntryReading) (test : EntryReading → Bool)
     (within : i < length xs) (is : x ≡ get_or xs i x) where
   -- the first key among some entries and one more
   pub first_more : first_key test (map view (take (i + 1) xs))
-      ≡ or_else (first_key test (map view (take i xs))) (cond (test (view x)) (Some (view x).key.text) None)
+      ≡ first_found (first_key test (map view (take i xs))) (cond (test (view x)) (Some (view x).key.text) None)
   first_more = ap (first_key test) (seen_more view xs i x within is) ∙ first_append test (map view (take i xs)) (view x ∷ [])
 
   -- no key so far, and none of one more
   pub none_more : first_key test (map view (take i xs)) ≡ None → test (view x) ≡ false
       → first_key test (map view (take (i + 1) xs)) ≡ None
   none_more none fails =
-      first_more ∙ ap₂ (λ o b. or_else o (cond b (Some (view x).key.text) None)) none fails
+      first_more ∙ ap₂ (λ o b. first_found o (cond b (Some (view x).key.text) None)) none fails
 
   -- the key of an entry that passes, after others that fail
   pub first_at : first_key test (map view (take i xs)) ≡ None → test (view x) ≡ true
@@ -120,7 +121,7 @@ module _ {A : Type 0} (view : A → EntryReading) (test : EntryReading → Bool)
       ap (λ l. first_key test (map view l)) whole
       ∙ ap (first_key test) (map-append view (take i xs) (x ∷ drop (i + 1) xs))
       ∙ first_append test (map view (take i xs)) (view x ∷ rest)
-      ∙ ap₂ (λ o b. or_else o (cond b (Some (view x).key.text) (first_key test rest))) none passes
+      ∙ ap₂ (λ o b. first_found o (cond b (Some (view x).key.text) (first_key test rest))) none passes
 
 -- ---- the key that BibTeX finds
 

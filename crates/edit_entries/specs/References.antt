@@ -16,7 +16,7 @@ use Rattle.edit_entries.specs.NewNames.{CanBeNewKey, IsNameTaken}
 use Rattle.edit_entries.specs.declared.errors.EditError.{EditError}
 use Rattle.edit_entries.specs.declared.errors.EditError.TheVariants.{UnknownKey, KeyIsThere, NotAKey, NotAName, NotInBraces, DefinitionIsThere, OutOfMemory}
 
--- the elements of a comma list, with the white space round them
+-- the elements of a comma list, with the white space around them
 abbrev pub elements_of : List ℕ → List (List ℕ)
 elements_of list = slice_split (λ c. c == char.comma) list
 
@@ -25,10 +25,10 @@ abbrev pub first_key : (EntryReading → Bool) → List EntryReading → Option 
 first_key test [] = None
 first_key test (e ∷ es) = if test e then Some e.key.text else first_key test es
 
--- a key, or else another one
-abbrev pub or_else : Option (List ℕ) → Option (List ℕ) → Option (List ℕ)
-or_else (Some key) other = Some key
-or_else None other = other
+-- the first of two keys that is found, if there is one
+abbrev pub first_found : Option (List ℕ) → Option (List ℕ) → Option (List ℕ)
+first_found (Some key) other = Some key
+first_found None other = other
 
 -- whether an entry has a name in its fields `ids`
 abbrev pub has_alias : List ℕ → EntryReading → Bool
@@ -40,7 +40,7 @@ bibtex_key entries name = first_key (λ e. is_word e.key.text name) entries
 
 -- the key that Biber finds by a name: the key that is the name, or else the key of the first entry with the name in its fields `ids`
 abbrev pub biber_key : List EntryReading → List ℕ → Option (List ℕ)
-biber_key entries name = or_else (first_key (is_keyed name) entries) (first_key (has_alias name) entries)
+biber_key entries name = first_found (first_key (is_keyed name) entries) (first_key (has_alias name) entries)
 
 -- whether a key is found, and is this one
 abbrev pub finds : List ℕ → Option (List ℕ) → Bool
@@ -52,9 +52,10 @@ abbrev pub finds_another : List ℕ → Option (List ℕ) → Bool
 finds_another key None = false
 finds_another key (Some found) = not (bytes_eq found key)
 
--- whether a name refers to a key among entries: the name is the key; or BibTeX finds the key by it, and Biber finds no other key.
--- So each program that found the entry by the name finds it by the new key. If BibTeX and Biber find different keys, a change
--- would be wrong for one of them, and no change for the other: then the key that Biber finds counts, since its names are exact.
+-- whether a name refers to a key among entries: the name is the key; or BibTeX finds the key by the name, and Biber finds no other
+-- key. Then a program that found the entry by the name finds it by a new key. If the programs find different keys, no rule serves
+-- both: a changed name is wrong for one of them, and an unchanged name for the other. The key that Biber finds counts then, since the
+-- name is that key, or is in the field `ids` of its entry, letter for letter.
 abbrev pub refers_to_key : List EntryReading → List ℕ → List ℕ → Bool
 refers_to_key entries key name =
     bytes_eq name key || (finds key (bibtex_key entries name) && not (finds_another key (biber_key entries name)))

@@ -6,7 +6,7 @@ ghost use Rattle.bib_syntax.specs.Views.{entry_reading_of};
 ghost use Rattle.edit_entries.specs.Documents.{is_keyed};
 ghost use Rattle.edit_entries.specs.Keys.{AreBiberKeys, key_for};
 ghost use Rattle.edit_entries.specs.References as references;
-ghost use Rattle.edit_entries.specs.References.{bibtex_key, finds, first_key, or_else, refers_to_key};
+ghost use Rattle.edit_entries.specs.References.{bibtex_key, finds, first_key, first_found, refers_to_key};
 ghost use Rattle.edit_entries.specs.Targets.{is_name_of};
 
 use bib_queries::names::entry_names;
@@ -32,7 +32,7 @@ fn give_key<'s>(
     key: &'s str,
 ) -> Result<(), AllocError>
     ensures { OnOk result ((other : List ℕ) → key_for keys.new other ≡
-        or_else (key_for keys.old other) (if bytes_eq name.now other then Some key.now else None)) }
+        first_found (key_for keys.old other) (if bytes_eq name.now other then Some key.now else None)) }
 {
     if keys.contains_key(name) {
         return Ok(());
@@ -48,7 +48,7 @@ fn give_keys<'s>(
     key: &'s str,
 ) -> Result<(), AllocError>
     ensures { OnOk result ((other : List ℕ) → key_for keys.new other ≡
-        or_else (key_for keys.old other) (if is_listed (map (λ n. n.now) names.now) other then Some key.now else None)) }
+        first_found (key_for keys.old other) (if is_listed (map (λ n. n.now) names.now) other then Some key.now else None)) }
 {
     'names: for name in names {
         give_key(keys, name, key)?;
@@ -63,7 +63,7 @@ fn give_alias_keys<'s>(
     entry: &Spanned<RawEntry<'s>>,
 ) -> Result<(), AllocError>
     ensures { OnOk result ((other : List ℕ) → key_for keys.new other ≡
-        or_else (key_for keys.old other) (if references.has_alias other (entry_reading_of entry.now) then Some entry.now.v.key.v.now else None)) }
+        first_found (key_for keys.old other) (if references.has_alias other (entry_reading_of entry.now) then Some entry.now.v.key.v.now else None)) }
 {
     let names = entry_names(alloc, entry)?;
     give_keys(keys, &names[1..], entry.v.key.v)
@@ -122,7 +122,11 @@ impl<'k, 's> Target<'k, 's> {
     {
         let keys = found_keys(alloc, entries)?;
         let is_first = is_found_first(entries, key);
-        Ok(Target { key, is_first, keys })
+        Ok(Target {
+            key,
+            is_first,
+            keys,
+        })
     }
 
     // Returns whether Biber finds another key by a name.
@@ -140,7 +144,6 @@ impl<'k, 's> Target<'k, 's> {
     pub(crate) fn is_named(&self, name: &str) -> bool
         ensures { result ≡ is_name_of self.now name.now }
     {
-        name == self.key
-            || (self.is_first && is_word(name, self.key) && !self.finds_another(name))
+        name == self.key || (self.is_first && is_word(name, self.key) && !self.finds_another(name))
     }
 }

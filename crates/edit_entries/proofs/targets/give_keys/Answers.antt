@@ -4,7 +4,7 @@ use Rattle.std.specs.Borrow.{Bor}
 use Rattle.bib_queries.specs.Needed.{is_listed}
 use Rattle.bib_queries.proofs.MarkFacts.{any_more}
 use Rattle.edit_entries.specs.Keys.{key_for}
-use Rattle.edit_entries.specs.References.{or_else}
+use Rattle.edit_entries.specs.References.{first_found}
 use Rattle.edit_entries.proofs.FoundKeyFacts.{given_more, none_after}
 use Rattle.edit_entries.proofs.targets.give_keys.Goals as goal
 
@@ -19,7 +19,7 @@ names-preserved c = λ other.
     let key : List ℕ = c.args.key.now in
     let listed = is_listed (map (λ n. n.now) (take c.names.name-index c.args.names.now)) other in
     c.in_ok-give_key.ensures other
-    ∙ ap (λ o. or_else o (cond (bytes_eq name other) (Some key) None)) (c.names.invariant other)
+    ∙ ap (λ o. first_found o (cond (bytes_eq name other) (Some key) None)) (c.names.invariant other)
     ∙ given_more before (bytes_eq name other) listed key
-    ∙ ap (λ b. or_else before (cond b (Some key) None))
+    ∙ ap (λ b. first_found before (cond b (Some key) None))
     (sym (any_more (λ n. n.now) (λ one. bytes_eq one other) c.args.names.now c.names.name-index nobody (omega arith)))
