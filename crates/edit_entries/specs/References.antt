@@ -163,11 +163,13 @@ pub record IsNoNewKey (old new : List ℕ) : Type 0 where
   pub other : bytes_eq old new ≡ false
   pub cant : 0 < length old → CanBeNewKey new → ⊥
 
--- a key is to be renamed to another text, which can be a new key and isn't taken, but a changed reference can't be written in braces
+-- a key that isn't empty is to be renamed to another text, which can be a new key and is no name of another entry, but a reference to
+-- the new key can't be written in braces
 pub record CantBeWritten (d : Document) (old new : List ℕ) : Type 0 where
   pub index : ℕ
   pub entry : EntryReading
   pub has : HasEntry d old index entry
+  pub filled : 0 < length old
   pub other : bytes_eq old new ≡ false
   pub can_be_key : CanBeNewKey new
   pub free : IsNameTaken d.says.entries index new → ⊥

@@ -118,12 +118,12 @@ impl<'s> RawDocument<'s> {
 
     /// Returns the text with another key of the first entry with the key `old`, also in each reference to it: in the elements of the
     /// comma lists that the fields `crossref`, `xref`, `xdata`, `entryset`, `related` and `set` of all entries are, if the value is one
-    /// text. An element refers to the entry if it is the key. It also refers to it if BibTeX finds the entry by it and Biber finds no
-    /// other entry: the key is the first one that is the element in any ASCII case, no entry has the element as its key, and no
-    /// earlier entry than this one has it in its field `ids`. A value that changes is written in braces. Joined values,
-    /// abbreviations, and keys that are written with TeX stay. The text stays if `new` is `old`. The edit is refused if no entry has
-    /// the key `old`, if `new` isn't a key for BibTeX, Biber and bibtool, if it is a name of another entry or an alias of this one in
-    /// any ASCII case, if `old` is empty, or if a value that changes can't be written in braces.
+    /// text. An element refers to the entry if it is the key, or if BibTeX finds the entry by it and Biber finds no other entry.
+    /// BibTeX finds the first key that is the element in any ASCII case. Biber finds the key that is exactly the element, or else the
+    /// first entry with the element in its field `ids`. A value that changes is written in braces. Joined values, abbreviations, and
+    /// keys that are written with TeX stay. The text stays if `new` is `old`. The edit is refused if no entry has the key `old`, if
+    /// `new` isn't a key for BibTeX, Biber and bibtool or is `*`, if it is a name of another entry or an alias of this one in any ASCII
+    /// case, if `old` is empty, or if a value that changes can't be written in braces.
     pub fn rename_key(&self, alloc: Global, old: &str, new: &str) -> Result<String, EditError>
         ensures renamed { IfOk result (λ text. IsEdited (KeyRenamed self.now old.now new.now) (string_bytes text)) }
         ensures refused { IfErr result (RenameIsRefused self.now old.now new.now) }

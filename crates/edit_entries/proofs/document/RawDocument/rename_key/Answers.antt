@@ -109,4 +109,5 @@ returns-clause-refused c =
     subst (λ x. IfErr c.with_key_renamed.result (RenameIsRefused x c.args.old.now c.args.new.now)) seen
     (renamed_refusal d (map entry_reading_of c.deref-3.result.now) c.args.old.now c.args.new.now c.in-Some.index found.0
     c.with_key_renamed.result (ap (map entry_reading_of) c.deref-3.ensures.value) found.1
-    (sym c.eq.ensures ∙ c.if-eq.false) c.if-not-can_be_new_key.ensures free c.with_key_renamed.ensures.refused)
+    (some_text c.args.old.now c.is_empty.result c.is_empty.ensures c.if-is_empty.false) (sym c.eq.ensures ∙ c.if-eq.false)
+    c.if-not-can_be_new_key.ensures free c.with_key_renamed.ensures.refused)
