@@ -112,11 +112,6 @@ def is_emptied(case):
     return entry is not None and {name for name, _ in entry.fields} <= set(case.command.words)
 
 
-def has_hard_key(case):
-    """Whether the key of the command has a character that bibtool doesn't read in a key."""
-    return re.search(r"[={}~\"#()%]", case.command.key) is not None
-
-
 def has_escaped_brace(case):
     """Whether the command sets a text with a backslash before a brace."""
     return re.search(r"\\[{}]", case.command.words[2]) is not None
@@ -164,14 +159,13 @@ REASONS = [
            lambda it: it.difference.name == "type" and is_child(it)),
     Reason(FAULT, "the type of a thesis or report stays a key of BibLaTeX, which BibTeX prints", "to-bibtex", "bibtool", "kind printed"),
     Reason(RULE, "a new key that an entry has in another case is refused", "(add|rename)-case", "bibkit", "refused",
-           lambda it: same_key(it) and "an entry has the key already" in it.difference.after),
+           lambda it: same_key(it) and "an entry has the name already" in it.difference.after),
     Reason(RULE, "a definition of an abbreviation that the file has with another text is refused", "add-string", "bibkit", "refused",
            lambda it: "an abbreviation is defined already" in it.difference.after),
     Reason(FAULT, "each abbreviation gets the last of its definitions", "expand", ".*", "field changed|print", defines_twice),
     Reason(FAULT, "set changes the last of two fields with one name, and BibTeX reads the first", "set-twice", "bibtex", "field changed"),
     Reason(FAULT, "rename leaves a reference by an abbreviation", "rename", ".*", ".*", refers_by_abbreviation),
     Reason(FAULT, "bibtool loses an entry without fields, and what follows it", "(walk-)?unset.*", "bibtool", ".*", is_emptied),
-    Reason(FAULT, "bibtool doesn't read an added key with one of = { } ~ \" # ( ) %", "walk-add", "bibtool", ".*", has_hard_key),
     Reason(FAULT, "BibTeX and bibtool count a brace after a backslash", "walk-set", ".*", ".*", has_escaped_brace),
     Reason(FAULT, "BibTeX doesn't end a text in quotes at a quote in braces, as this library and bibtool do", f"{LAYOUTS}|{EDITS}", "bibtex|bibtool",
            ".*", hides_quote),

@@ -84,6 +84,8 @@ static void check_edits(void)
           "a name that is none");
     check(biblatex_set(bytes(text), strlen(text), bytes("a"), 1, bytes("note"), 4, bytes("U}"), 2, out, sizeof out, &size) == BIBLATEX_NOT_IN_BRACES,
           "a value with a brace that closes nothing");
+    check(biblatex_add(bytes(text), strlen(text), bytes("@misc{b{,}"), 10, out, sizeof out, &size) == BIBLATEX_NOT_A_KEY && size == 77,
+          "an added key that is none");
     check(biblatex_set(bytes("@misc{a"), 7, bytes("a"), 1, bytes("note"), 4, bytes("U"), 1, out, sizeof out, &size) == BIBLATEX_REFUSED && size == 77,
           "an edit of a text with an error");
 }
@@ -156,7 +158,7 @@ static void check_buffers(void)
     check(biblatex_biblatex(bytes("@a{b,}@a{b,}"), 12, out, 8, &size) == BIBLATEX_REFUSED && size == 77, "two entries of one key");
     uint8_t words[64];
     static const char *const said[] = {"done", "the buffer is too short", "not UTF-8", "refused", "out of memory", "no entry has the key",
-        "an entry has the key already", "the text can't be a key", "the text can't be the name of a field",
+        "an entry has the name already, as its key or in its field `ids`", "not a key for BibTeX, Biber and bibtool", "the text can't be the name of a field",
         "the value can't stand between braces", "an abbreviation is defined already with another text", "no status"};
     for (uint32_t status = 0; status < 12; status++) {
         check(biblatex_message(status, words, sizeof words, &size) == BIBLATEX_DONE && size == strlen(said[status])

@@ -391,17 +391,21 @@ refuses() {
 }
 refuses 'no such key' 1 $'bibkit: two.bib: z: title: no entry has the key\n' set z title=A -f two.bib
 refuses 'no such key, after an edit that is made' 1 $'bibkit: two.bib: z: no entry has the key\n' remove a z -f two.bib
-refuses 'a key that is there' 1 $'bibkit: two.bib: a to b: an entry has the key already\n' rename a b -f two.bib
-no_key=$': a key for BibTeX, Biber and bibtool isn\'t empty, and has no white space, comma, quote, brace, parenthesis, `--` or any of # $ % = \\ ~\n'
+is_there=': an entry has the name already, as its key or in its field `ids`'
+refuses 'a key that is there' 1 "bibkit: two.bib: a to b$is_there"$'\n' rename a b -f two.bib
+no_key=$': a key for BibTeX, Biber and bibtool isn\'t empty or `*`, and has no white space, comma, quote, brace, parenthesis, `--` or any of # $ % = \\ ~\n'
 refuses 'no key' 1 "bibkit: two.bib: a to b c$no_key" rename a 'b c' -f two.bib
 refuses 'a key that Biber cuts' 1 "bibkit: two.bib: a to o'hara$no_key" rename a "o'hara" -f two.bib
-refuses 'a key of another entry in another case' 1 $'bibkit: two.bib: a to B: an entry has the key already\n' rename a B -f two.bib
+refuses 'a key that cites all entries' 1 "bibkit: two.bib: a to *$no_key" rename a '*' -f two.bib
+refuses 'a key of another entry in another case' 1 "bibkit: two.bib: a to B$is_there"$'\n' rename a B -f two.bib
 refuses 'no name of a field' 1 $'bibkit: two.bib: a: a b: the text can\'t be the name of a field\n' set a 'a b=c' -f two.bib
 refuses 'no value' 1 $'bibkit: two.bib: a: title: the value can\'t stand between braces\n' set a 'title=}' -f two.bib
 refuses 'a value that is not closed' 1 $'bibkit: two.bib: a: title: the value can\'t stand between braces\n' set a 'title=a\' -f two.bib
-refuses 'entries that are there' 1 $'bibkit: two.bib: an entry has the key already\n' add -f two.bib
+refuses 'entries that are there' 1 "bibkit: two.bib$is_there"$'\n' add -f two.bib
 printf '@misc{c, ids={B}}\n' >input
-refuses 'an entry whose ids are there' 1 $'bibkit: two.bib: an entry has the key already\n' add -f two.bib
+refuses 'an entry whose ids are there' 1 "bibkit: two.bib$is_there"$'\n' add -f two.bib
+printf '@misc{c,}@misc{d{,}@misc{*,}\n' >input
+refuses 'an entry whose key Biber cuts' 1 "bibkit: two.bib: d{$no_key" add -f two.bib
 printf '@string{s = {x}}\n@misc{a, title=s}\n' >defined.bib
 printf '@STRING{S = {y}}\n' >input
 refuses 'an abbreviation that is there' 1 $'bibkit: defined.bib: an abbreviation is defined already with another text\n' add -f defined.bib

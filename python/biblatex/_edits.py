@@ -66,13 +66,13 @@ def rename_key(text: Text, old: str, new: str) -> Text:
     """Returns the text with the key `old` replaced by `new`, also in each reference to it, for example in `crossref`.
 
     Raises an `EditError` if no entry has the key `old`, if another entry has the key `new`, or has it in its field `ids`, in
-    any ASCII case, or if BibTeX, Biber or bibtool wouldn't read the key `new`. An empty key can't be renamed.
+    any ASCII case, if BibTeX, Biber or bibtool wouldn't read the key `new`, or if `new` is `*`. An empty key can't be renamed.
     """
     # each key of a file can be renamed, except the empty one: if `old` isn't empty, the status is about `new`
     refused = new if old else old
     why = {
         **_unknown_key(old),
-        Status.KEY_IS_THERE: f"an entry has the key {new!r} already",
+        Status.KEY_IS_THERE: f"an entry has the name {new!r} already",
         Status.NOT_A_KEY: f"{refused!r} can't be a key",
         Status.NOT_IN_BRACES: f"{new!r} can't stand in a reference",
     }
@@ -92,12 +92,23 @@ def _keys(text: bytes) -> frozenset[str]:
     return frozenset(call("biblatex_keys", text, capacity=len(text) + 1).decode().split("\n")[:-1])
 
 
+def _is_unsafe(key: str) -> bool:
+    # an entry with the key isn't added to an empty text
+    try:
+        call("biblatex_add", b"", f"@misc{{{key},}}".encode())
+    except EditRefused as refusal:
+        return refusal.status == Status.NOT_A_KEY
+    return False
+
+
 def _why_not_added(status: Status, text: bytes, added: bytes) -> str:
     if status == Status.DEFINITION_IS_THERE:
         return "an abbreviation is defined already with another text"
+    if status == Status.NOT_A_KEY:
+        return f"{min(filter(_is_unsafe, _keys(added)))!r} can't be a key"
     common = _keys(text) & _keys(added)
     if common:
-        return f"an entry has the key {min(common)!r} already"
+        return f"an entry has the name {min(common)!r} already"
     return "an added entry has a name of another entry"
 
 
@@ -105,7 +116,8 @@ def add_entries(text: Text, added: Text) -> Text:
     """Returns the text, and the text `added` after it on a new line.
 
     Raises an `EditError` if an added entry has the key of another entry, or a name in its field `ids`, in any ASCII case, if
-    `added` defines an abbreviation of the text with another value, or if `added` has a syntax error or isn't UTF-8.
+    BibTeX, Biber or bibtool wouldn't read its key, if its key is `*`, if `added` defines an abbreviation of the text with another
+    value, or if `added` has a syntax error or isn't UTF-8.
     """
     data, more = as_bytes(text), as_bytes(added)
     try:

@@ -85,15 +85,18 @@ class Refusals(unittest.TestCase):
         self.refuses(biblatex.set_field, BOTH, "a", "note", "N}", why="the value can't stand between braces: 'N}'")
 
     def test_keys_that_are_there_or_can_be_none(self) -> None:
-        self.refuses(biblatex.rename_key, BOTH, "a", "b", why="an entry has the key 'b' already")
+        self.refuses(biblatex.rename_key, BOTH, "a", "b", why="an entry has the name 'b' already")
         self.refuses(biblatex.rename_key, BOTH, "a", "c d", why="'c d' can't be a key")
         self.refuses(biblatex.rename_key, BOTH, "a", "", why="'' can't be a key")
         self.refuses(biblatex.rename_key, BOTH, "a", "c{", why="'c{' can't be a key")
-        self.refuses(biblatex.rename_key, BOTH, "a", "B", why="an entry has the key 'B' already")
+        self.refuses(biblatex.rename_key, BOTH, "a", "*", why="'*' can't be a key")
+        self.refuses(biblatex.rename_key, BOTH, "a", "B", why="an entry has the name 'B' already")
         text = '@misc{a, related="a,{"}'
         self.refuses(biblatex.rename_key, text, "a", "c", why="'c' can't stand in a reference")
         self.refuses(biblatex.rename_key, "@misc{,}", "", "a", why="'' can't be a key")
-        self.refuses(biblatex.add_entries, BOTH, "@misc{c,}@misc{b,}", why="an entry has the key 'b' already")
+        self.refuses(biblatex.add_entries, BOTH, "@misc{c,}@misc{b,}", why="an entry has the name 'b' already")
+        self.refuses(biblatex.add_entries, BOTH, "@misc{c,}@misc{d{,}", why="'d{' can't be a key")
+        self.refuses(biblatex.add_entries, BOTH, "@misc{,}", why="'' can't be a key")
         self.refuses(biblatex.add_entries, BOTH, "@misc{c, ids={B}}", why="an added entry has a name of another entry")
 
     def test_an_abbreviation_that_is_defined_already(self) -> None:

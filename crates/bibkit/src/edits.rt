@@ -9,6 +9,7 @@ use bibkit_edits::edit::{Edit, Refusal};
 use bibkit_edits::editing::edit_file;
 use bibkit_edits::printing::{Unprinted, print_difference, print_edited};
 use biblatex::Output;
+use edit_entries::document::RawDocument;
 use edit_entries::errors::EditError;
 use edit_resolve::errors::ResolveError;
 use std::alloc::{AllocError, Global};
@@ -84,6 +85,21 @@ pub fn after_mark(bytes: &[u8]) -> &[u8] {
     }
 }
 
+// Returns the message for an added text whose first key that can't be a new key is the reason `why`. It names no key if there is none.
+fn unsafe_key_line(
+    alloc: Global,
+    name: &str,
+    text: &str,
+    why: EditError,
+) -> Result<String, AllocError> {
+    if let Ok(added) = RawDocument::parse(alloc, text) {
+        if let Some(key) = added.first_unsafe_key() {
+            return format!(in alloc; "bibkit: {name}: {key}: {why}\n");
+        }
+    }
+    format!(in alloc; "bibkit: {name}: {why}\n")
+}
+
 // Returns the message for an edit that is refused.
 fn refused_line(
     alloc: Global,
@@ -104,6 +120,9 @@ fn refused_line(
             format!(in alloc; "bibkit: {name}: {old} to {new}: {why}\n")
         }
         Some(Edit::Remove { key }) => format!(in alloc; "bibkit: {name}: {key}: {why}\n"),
+        Some(Edit::Add { text }) if why == EditError::NotAKey => unsafe_key_line(
+            alloc, name, text, why,
+        ),
         _ => format!(in alloc; "bibkit: {name}: {why}\n"),
     }
 }

@@ -111,7 +111,8 @@ pub add_fails : (bytes added : List â„•) (d more : Document) (why : EditError) â
 add_fails bytes added d more edit_error.UnknownKey same read same' read' because = absurd because
 add_fails bytes added d more edit_error.KeyIsThere same read same' read' because =
     record { document = d; more = more; same = same; read = read; same_added = same'; read_added = read'; refused = because }
-add_fails bytes added d more edit_error.NotAKey same read same' read' because = absurd because
+add_fails bytes added d more edit_error.NotAKey same read same' read' because =
+    record { document = d; more = more; same = same; read = read; same_added = same'; read_added = read'; refused = because }
 add_fails bytes added d more edit_error.NotAName same read same' read' because = absurd because
 add_fails bytes added d more edit_error.NotInBraces same read same' read' because = absurd because
 add_fails bytes added d more edit_error.DefinitionIsThere same read same' read' because =

@@ -139,12 +139,14 @@ pub record IsAddingRefused (text added : List ℕ) (why : EditError) : Type 0 wh
   pub refused : EntriesAreRefused document more why
 
 -- adding the second text to the first may fail with this status: not UTF-8 only if one of them isn't, refused only if one of them
--- isn't a file of the grammar, out of memory always, key or definition in use only if adding is refused for it, and no other status
+-- isn't a file of the grammar, out of memory always, a name or definition in use or not a key only if adding is refused for it, and
+-- no other status
 abbrev pub AddFails : List ℕ → List ℕ → Status → Type 0
 AddFails text added NotUtf8 = AllByRecursion IsUtf8 (text ∷ added ∷ []) → ⊥
 AddFails text added Refused = IsNoFile text ⊎ IsNoFile added
 AddFails text added OutOfMemory = ⊤
 AddFails text added KeyIsThere = IsAddingRefused text added edit_error.KeyIsThere
+AddFails text added NotAKey = IsAddingRefused text added edit_error.NotAKey
 AddFails text added DefinitionIsThere = IsAddingRefused text added edit_error.DefinitionIsThere
 AddFails text added _ = ⊥
 

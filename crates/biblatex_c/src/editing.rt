@@ -166,7 +166,8 @@ fn add_to(alloc: Global, text: &[u8], added: &[u8]) -> Result<String, Status>
 }
 
 /// Writes the text, a line feed, and the text `added`. Returns `KeyIsThere` if an entry of `added` has a name of another entry,
-/// in any ASCII case, and `DefinitionIsThere` if `added` defines an abbreviation of the text with another value.
+/// in any ASCII case, `NotAKey` if BibTeX, Biber or bibtool wouldn't read the key of one, and `DefinitionIsThere` if `added` defines an
+/// abbreviation of the text with another value.
 #[unsafe(no_mangle)]
 pub extern "C" fn biblatex_add(
     alloc: Global,

@@ -24,9 +24,9 @@ pub enum Status {
     OutOfMemory,
     /// No entry has the key.
     UnknownKey,
-    /// Another entry has the key already, or a name of an added entry, in any ASCII case.
+    /// Another entry has the name already, as its key or in its field `ids`, in any ASCII case.
     KeyIsThere,
-    /// The text can't be a new key.
+    /// The new key, or the key of an added entry, isn't one for BibTeX, Biber and bibtool.
     NotAKey,
     /// The text can't be a field name.
     NotAName,
@@ -68,8 +68,8 @@ fn text_of(number: u32) -> &'static str
         3 => "refused",
         4 => "out of memory",
         5 => "no entry has the key",
-        6 => "an entry has the key already",
-        7 => "the text can't be a key",
+        6 => "an entry has the name already, as its key or in its field `ids`",
+        7 => "not a key for BibTeX, Biber and bibtool",
         8 => "the text can't be the name of a field",
         9 => "the value can't stand between braces",
         10 => "an abbreviation is defined already with another text",

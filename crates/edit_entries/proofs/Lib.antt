@@ -14,6 +14,7 @@ pub mod ElementStandsFacts
 pub mod EntryChangeFacts
 pub mod EntryFacts
 pub mod FieldNameFacts
+mod FoundKeyFacts
 pub mod GrammarFacts
 pub mod JoinedFacts
 mod KeyFacts

@@ -1,4 +1,4 @@
--- A file that is cut round an entry, and an entry's fields that are cut round one of them, in an edited text.
+-- A file that is cut around an entry, and an entry's fields that are cut around one of them, in an edited text.
 use Rattle.std.proofs.Common.{◌≡◌, ℕ, ◌+◌, ◌<◌, ◌≤◌, Bool, List, ◌∷◌, ◌++◌, length, map, refl, sym, ap, ◌∙◌, subst, arith}
 use Rattle.std.specs.Prelude.{slice_set}
 use Rattle.std.proofs.lemmas.List.{length-map, map-append, set_at}

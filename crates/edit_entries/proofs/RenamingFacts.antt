@@ -258,19 +258,25 @@ renamed_answer bytes d listed old new k e (Ok made) read same entry some other k
     (subst (λ es. bytes made ≡ edited_all (map (change_edit d.text) (key_renaming old new k es)) d.text) same text)
 
 pub renamed_refusal : {S : Type 0} (d : Document) (listed : List EntryReading) (old new : List ℕ) (k : ℕ)
-    (e : EntryReading) (r : Result S EditError) → listed ≡ d.says.entries → HasEntry d old k e
+    (e : EntryReading) (r : Result S EditError) → listed ≡ d.says.entries → HasEntry d old k e → 0 < length old
+    → bytes_eq old new ≡ false → CanBeNewKey new → (IsNameTaken d.says.entries k new → ⊥)
     → IfErr r
     (λ error.
     (error ≡ OutOfMemory)
     ⊎ ((error ≡ NotInBraces) × (AllByRecursion CanBeMade (key_renaming old new k listed) → ⊥)))
     → IfErr r (RenameIsRefused d old new)
-renamed_refusal d listed old new k e (Ok made) same entry known = _
-renamed_refusal d listed old new k e (Err error) same entry (inl memory) = subst (RenameIsRefused d old new) (sym memory) tt
-renamed_refusal d listed old new k e (Err error) same entry (inr braces) =
+renamed_refusal d listed old new k e (Ok made) same entry filled other can free known = _
+renamed_refusal d listed old new k e (Err error) same entry filled other can free (inl memory) =
+    subst (RenameIsRefused d old new) (sym memory) tt
+renamed_refusal d listed old new k e (Err error) same entry filled other can free (inr braces) =
     subst (RenameIsRefused d old new) (sym braces.0)
     (record {
       index = k;
       entry = e;
       has = entry;
+      filled = filled;
+      other = other;
+      can_be_key = can;
+      free = free;
       cant = λ all. braces.1 (subst (λ es. AllByRecursion CanBeMade (key_renaming old new k es)) (sym same) all);
     })

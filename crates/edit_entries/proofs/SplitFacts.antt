@@ -1,4 +1,4 @@
--- A file cut round one of its entries, and an entry's fields cut round one of them.
+-- A file cut around one of its entries, and an entry's fields cut around one of them.
 use Rattle.std.proofs.Common.{◌≡◌, ◌⊎◌, inl, inr, ℕ, zero, suc, true, List, [], ◌∷◌, ◌++◌, length, refl, sym, ap, ◌∙◌, subst, Some}
 use Rattle.std.specs.Prelude.{◌==◌, not, ◌&&◌, slice_get}
 use Rattle.std.specs.Char.{is_whitespace}

@@ -15,43 +15,6 @@ use Rattle.edit_entries.specs.References.{between_white, elements_of, is_element
 use Rattle.edit_entries.proofs.NameSetFacts.{any_same}
 use Rattle.edit_entries.proofs.ReferenceFacts.{join_read}
 
--- ---- the keys of entries as a set
-
-some_next : (o : Option ℕ) → is_some (next_index o) ≡ is_some o
-some_next None = refl
-some_next (Some i) = refl
-
-some_if : (here : Bool) (later : Option ℕ) → is_some (cond here (Some 0) (next_index later)) ≡ cond here true (is_some later)
-some_if true later = refl
-some_if false later = some_next later
-
-swapped : (one other rest : Bool) → cond one true (cond other true rest) ≡ cond other true (cond one true rest)
-swapped true true rest = refl
-swapped true false rest = refl
-swapped false true rest = refl
-swapped false false rest = refl
-
--- whether a test is passed by items and one more
-first_more : {A : Type 0} (test : A → Bool) (items : List A) (item : A)
-    → is_some (first_position test (items ++ item ∷ [])) ≡ cond (test item) true (is_some (first_position test items))
-first_more test [] item = some_if (test item) None
-first_more test (first ∷ items) item =
-    some_if (test first) (first_position test (items ++ item ∷ [])) ∙ ap (cond (test first) true) (first_more test items item)
-    ∙ swapped (test first) (test item) (is_some (first_position test items))
-    ∙ ap (cond (test item) true) (sym (some_if (test first) (first_position test items)))
-
--- whether one of some entries and one more has a key
-pub key_more : (entries : List (Spanned RawEntry)) (index : ℕ) (entry : Spanned RawEntry) (key : List ℕ)
-    → index < length entries → entry ≡ get_or entries index entry
-    → is_some (first_position (is_keyed key) (map entry_reading_of (take (index + 1) entries)))
-    ≡ cond (bytes_eq entry.v.key.v.now key) true
-    (is_some (first_position (is_keyed key) (map entry_reading_of (take index entries))))
-key_more entries index entry key within is =
-    ap (λ l. is_some (first_position (is_keyed key) (map entry_reading_of l)))
-    (take_more entries index entry within ∙ ap (λ e. take index entries ++ e ∷ []) (sym is))
-    ∙ ap (λ l. is_some (first_position (is_keyed key) l)) (map-append entry_reading_of (take index entries) (entry ∷ []))
-    ∙ first_more (is_keyed key) (map entry_reading_of (take index entries)) (entry_reading_of entry)
-
 -- ---- tests that agree
 
 module _ (f g : List ℕ → Bool) (same : (name : List ℕ) → f name ≡ g name) (new : List ℕ) where

@@ -1,5 +1,5 @@
 -- Machinery: words of private contracts.
--- Where a text may be cut round its entries and their parts.
+-- Where a text may be cut around its entries and their parts.
 use Rattle.std.specs.Prelude.{ℕ, ◌+◌, ◌≤◌, List, [], ◌∷◌, ⊤}
 use Rattle.std.specs.List.{AllByRecursion}
 use Rattle.std.specs.Str.{IsCharBoundary}

@@ -14,7 +14,7 @@ use Rattle.bib_syntax.specs.Reading.Piece.{literal, abbreviation}
 use Rattle.edit_entries.specs.declared.errors.EditError.{EditError}
 use Rattle.edit_entries.specs.declared.errors.EditError.TheVariants.{UnknownKey, KeyIsThere, NotAKey, NotAName, NotInBraces, DefinitionIsThere, OutOfMemory}
 use Rattle.edit_entries.specs.Edits.{Edit, edited, moved_place, moved_piece, moved_field, moved_entry, moved_file}
-use Rattle.edit_entries.specs.NewNames.{shares_name}
+use Rattle.edit_entries.specs.NewNames.{HaveNewKeys, shares_name}
 
 -- a text, and what it says
 pub record Document : Type 0 where
@@ -217,14 +217,15 @@ AgreeOnDefinitions definitions others =
 
 -- the outcome of adding a document
 pub data EntriesAdded (d more : Document) : Document → Type 0 where
-  added : SharesNoName d more → AgreeOnDefinitions d.says.abbreviations more.says.abbreviations
+  added : SharesNoName d more → HaveNewKeys more.says.entries
+      → AgreeOnDefinitions d.says.abbreviations more.says.abbreviations
       → EntriesAdded d more (joined_documents d more)
 
 -- why adding a document is refused
 abbrev pub EntriesAreRefused : Document → Document → EditError → Type 0
 EntriesAreRefused d more UnknownKey = ⊥
 EntriesAreRefused d more KeyIsThere = SharesNoName d more → ⊥
-EntriesAreRefused d more NotAKey = ⊥
+EntriesAreRefused d more NotAKey = HaveNewKeys more.says.entries → ⊥
 EntriesAreRefused d more NotAName = ⊥
 EntriesAreRefused d more NotInBraces = ⊥
 EntriesAreRefused d more DefinitionIsThere = AgreeOnDefinitions d.says.abbreviations more.says.abbreviations → ⊥

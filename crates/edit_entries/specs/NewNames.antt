@@ -1,6 +1,6 @@
 -- Meaning: words of public contracts.
 -- New keys of entries: what they may contain, and the names that entries have already.
-use Rattle.std.specs.Prelude.{◌≡◌, ℕ, ◌<◌, Bool, true, not, ◌&&◌, ◌||◌, ◌==◌, if◌then◌else◌, List, length, codes, Some, slice_get}
+use Rattle.std.specs.Prelude.{◌≡◌, ℕ, ◌<◌, Bool, true, false, not, ◌&&◌, ◌||◌, ◌==◌, if◌then◌else◌, List, length, codes, Some, bytes_eq, slice_get}
 use Rattle.std.specs.List.{list_any}
 use Rattle.std.specs.Str.Iter.{HasSubslice}
 use Rattle.bib_text.specs.Characters as char
@@ -22,11 +22,26 @@ is_unsafe_in_key c =
 abbrev pub is_new_key : ℕ → Bool
 is_new_key c = is_key c && not (is_unsafe_in_key c)
 
--- a text can be a new key: BibTeX, Biber and bibtool read it as one, and a reference to it is read as it is written
+-- a text can be a new key: BibTeX, Biber and bibtool read it as one, a reference to it is read as it is written, and a citation of it
+-- isn't one of all entries, as `*` is
 pub record CanBeNewKey (text : List ℕ) : Type 0 where
   pub some : 0 < length text
+  pub no_star : bytes_eq text (codes "*") ≡ false
   pub run : Run is_new_key (place text 0) (place text (length text))
   pub hyphens : HasSubslice text (codes "--") → ⊥
+
+-- the key of each entry can be a new key
+abbrev pub HaveNewKeys : List EntryReading → Type 0
+HaveNewKeys entries = (k : ℕ) (e : EntryReading) → slice_get entries k ≡ Some e → CanBeNewKey e.key.text
+
+-- a key is the first key of these entries that can't be a new key
+pub record IsFirstUnsafeKey (entries : List EntryReading) (key : List ℕ) : Type 0 where
+  pub index : ℕ
+  pub entry : EntryReading
+  pub here : slice_get entries index ≡ Some entry
+  pub is : key ≡ entry.key.text
+  pub cant : CanBeNewKey key → ⊥
+  pub before : (k : ℕ) (e : EntryReading) → k < index → slice_get entries k ≡ Some e → CanBeNewKey e.key.text
 
 -- whether one of these names is `name`, in any ASCII case
 abbrev pub has_word : List (List ℕ) → List ℕ → Bool

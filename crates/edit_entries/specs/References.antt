@@ -8,19 +8,57 @@ use Rattle.bib_syntax.specs.Grammar.{is_word}
 use Rattle.bib_syntax.specs.Reading.{Part, Piece, FieldReading, EntryReading}
 use Rattle.bib_syntax.specs.Reading.Piece.{literal, abbreviation}
 use Rattle.bib_tables.specs.ReferenceFields.{is_reference_field}
+use Rattle.bib_queries.specs.Names.{aliases_of}
+use Rattle.bib_queries.specs.Needed.{is_listed}
 use Rattle.edit_entries.specs.Documents.{CanBeKey, CanStandInBraces, Document, HasEntry, entry_renamed, first_position, is_keyed, value_changed, value_edit}
 use Rattle.edit_entries.specs.Edits.{Edit}
 use Rattle.edit_entries.specs.NewNames.{CanBeNewKey, IsNameTaken}
 use Rattle.edit_entries.specs.declared.errors.EditError.{EditError}
 use Rattle.edit_entries.specs.declared.errors.EditError.TheVariants.{UnknownKey, KeyIsThere, NotAKey, NotAName, NotInBraces, DefinitionIsThere, OutOfMemory}
 
--- the elements of a comma list, with the white space round them
+-- the elements of a comma list, with the white space around them
 abbrev pub elements_of : List ℕ → List (List ℕ)
 elements_of list = slice_split (λ c. c == char.comma) list
 
--- whether a name refers to a key among entries: it is the key, or the key in another ASCII case if it is no key itself
+-- the key of the first entry that passes a test, if there is one
+abbrev pub first_key : (EntryReading → Bool) → List EntryReading → Option (List ℕ)
+first_key test [] = None
+first_key test (e ∷ es) = if test e then Some e.key.text else first_key test es
+
+-- the first of two keys that is found, if there is one
+abbrev pub first_found : Option (List ℕ) → Option (List ℕ) → Option (List ℕ)
+first_found (Some key) other = Some key
+first_found None other = other
+
+-- whether an entry has a name in its fields `ids`
+abbrev pub has_alias : List ℕ → EntryReading → Bool
+has_alias name e = is_listed (aliases_of e.fields) name
+
+-- the key that BibTeX finds by a name: the first key that is the name in any ASCII case
+abbrev pub bibtex_key : List EntryReading → List ℕ → Option (List ℕ)
+bibtex_key entries name = first_key (λ e. is_word e.key.text name) entries
+
+-- the key that Biber finds by a name: the key that is the name, or else the key of the first entry with the name in its fields `ids`
+abbrev pub biber_key : List EntryReading → List ℕ → Option (List ℕ)
+biber_key entries name = first_found (first_key (is_keyed name) entries) (first_key (has_alias name) entries)
+
+-- whether a key is found, and is this one
+abbrev pub finds : List ℕ → Option (List ℕ) → Bool
+finds key None = false
+finds key (Some found) = bytes_eq found key
+
+-- whether a key is found, and is another one
+abbrev pub finds_another : List ℕ → Option (List ℕ) → Bool
+finds_another key None = false
+finds_another key (Some found) = not (bytes_eq found key)
+
+-- whether a name refers to a key among entries: the name is the key; or BibTeX finds the key by the name, and Biber finds no other
+-- key. Then a program that found the entry by the name finds it by a new key. If the programs find different keys, no rule serves
+-- both: a changed name is wrong for one of them, and an unchanged name for the other. The key that Biber finds counts then, since the
+-- name is that key, or is in the field `ids` of its entry, letter for letter.
 abbrev pub refers_to_key : List EntryReading → List ℕ → List ℕ → Bool
-refers_to_key entries key name = is_word name key && (bytes_eq name key || not (is_some (first_position (is_keyed name) entries)))
+refers_to_key entries key name =
+    bytes_eq name key || (finds key (bibtex_key entries name) && not (finds_another key (biber_key entries name)))
 
 -- whether an element of a comma list is a name that refers to the key, except for the white space around it
 abbrev pub is_element : (List ℕ → Bool) → List ℕ → Bool
@@ -125,11 +163,16 @@ pub record IsNoNewKey (old new : List ℕ) : Type 0 where
   pub other : bytes_eq old new ≡ false
   pub cant : 0 < length old → CanBeNewKey new → ⊥
 
--- a reference with the new key can't stand between braces
+-- a key that isn't empty is to be renamed to another text, which can be a new key and is no name of another entry, but a reference to
+-- the new key can't be written in braces
 pub record CantBeWritten (d : Document) (old new : List ℕ) : Type 0 where
   pub index : ℕ
   pub entry : EntryReading
   pub has : HasEntry d old index entry
+  pub filled : 0 < length old
+  pub other : bytes_eq old new ≡ false
+  pub can_be_key : CanBeNewKey new
+  pub free : IsNameTaken d.says.entries index new → ⊥
   pub cant : AllByRecursion CanBeMade (key_renaming old new index d.says.entries) → ⊥
 
 -- why renaming a key is refused

@@ -1,19 +1,20 @@
 //! A bibliography file's text with its raw reading.
 
-ghost use Rattle.std.specs.Prelude.{◌≡◌, ◌⊎◌, IfOk, IfErr, OnOk};
+ghost use Rattle.std.specs.Prelude.{◌≡◌, ◌⊎◌, IfOk, IfErr, MatchOption, OnOk};
 ghost use Rattle.std.specs.String.{string_bytes};
 ghost use Rattle.bib_syntax.specs.Errors.{Refuses, out_of_memory};
 ghost use Rattle.bib_syntax.specs.Grammar.{IsFile, IsRawReading};
 ghost use Rattle.bib_syntax.specs.SyntaxErrors.{IsReported};
 ghost use Rattle.bib_syntax.specs.Views.{file_of};
 ghost use Rattle.edit_entries.specs.Documents.{Document, EntriesAdded, EntriesAreRefused, EntryIsRefused, EntryRemoved, FieldUnset, IsEdited, IsDocument};
+ghost use Rattle.edit_entries.specs.NewNames.{HaveNewKeys, IsFirstUnsafeKey};
 ghost use Rattle.edit_entries.specs.References.{KeyRenamed, RenameIsRefused};
 ghost use Rattle.edit_entries.specs.Setting.{FieldSet, SetIsRefused};
 
 use crate::definitions::agree_on_definitions;
 use crate::errors::EditError;
 use crate::joining::{joined, shares_name};
-use crate::keys::can_be_new_key;
+use crate::keys::{can_be_new_key, first_unsafe_key, have_new_keys};
 use crate::lookup::{entry_index, entry_with};
 use crate::removing::{without_entry, without_fields};
 use crate::renaming::with_key_renamed;
@@ -43,7 +44,7 @@ impl<'s> Model for RawDocument<'s> {
 }
 
 impl<'s> RawDocument<'s> {
-    /// Reads a text, as `RawBibliography::parse` does.
+    /// Parses a text, like `RawBibliography::parse`.
     pub fn parse(alloc: Global, src: &'s str) -> Result<Self, ParseError>
         ensures read { IfOk result (λ d. IsDocument d) }
         ensures same { IfOk result (λ d. d.text ≡ src.now) }
@@ -55,14 +56,14 @@ impl<'s> RawDocument<'s> {
         Ok(RawDocument { text: src, raw })
     }
 
-    /// The text.
+    /// Returns the text.
     pub fn text(&self) -> &'s str
         ensures { result.now ≡ self.now.text }
     {
         self.text
     }
 
-    /// What the text says.
+    /// Returns the raw reading of the text.
     pub fn raw(&self) -> &RawBibliography<'s>
         ensures says { file_of result.now ≡ self.now.says }
         ensures read { IsDocument self.now }
@@ -96,8 +97,8 @@ impl<'s> RawDocument<'s> {
         }
     }
 
-    /// The text without a field of an entry: each field with the name of the first entry with the key, up to the next field or the
-    /// closing brace. As it is where the field isn't there.
+    /// Returns the text without a field of an entry: each field with the name, of the first entry with the key, is removed up to the
+    /// next field or the closing brace. Returns the same text if the entry lacks the field.
     pub fn unset_field(&self, alloc: Global, key: &str, name: &str) -> Result<String, EditError>
         ensures unset { IfOk result (λ new. IsEdited (FieldUnset self.now key.now name.now) (string_bytes new)) }
         ensures refused { IfErr result (EntryIsRefused self.now key.now) }
@@ -108,7 +109,7 @@ impl<'s> RawDocument<'s> {
         }
     }
 
-    /// The text without the first entry with a key, and without the white space after it.
+    /// Returns the text without the first entry with a key, and without the white space after it.
     pub fn remove_entry(&self, alloc: Global, key: &str) -> Result<String, EditError>
         ensures removed { IfOk result (λ new. IsEdited (EntryRemoved self.now key.now) (string_bytes new)) }
         ensures refused { IfErr result (EntryIsRefused self.now key.now) }
@@ -121,11 +122,12 @@ impl<'s> RawDocument<'s> {
 
     /// Returns the text with another key of the first entry with the key `old`, also in each reference to it: in the elements of the
     /// comma lists that the fields `crossref`, `xref`, `xdata`, `entryset`, `related` and `set` of all entries are, if the value is one
-    /// text. An element refers to the entry if it is the key, or the key in another ASCII case that no entry has as its key, as
-    /// BibTeX finds keys. A value that changes is written in braces. Joined values, abbreviations, and keys that are written with
-    /// TeX stay. The text stays if `new` is `old`. The edit is refused if no entry has the key `old`, if `new` isn't a key for
-    /// BibTeX, Biber and bibtool, if it is a name of another entry or an alias of this one in any ASCII case, if `old` is empty, or
-    /// if a value that changes can't be written in braces.
+    /// text. An element refers to the entry if it is the key, or if BibTeX finds the entry by it and Biber finds no other entry.
+    /// BibTeX finds the first key that is the element in any ASCII case. Biber finds the key that is exactly the element, or else the
+    /// first entry with the element in its field `ids`. A value that changes is written in braces. Joined values, abbreviations, and
+    /// keys that are written with TeX stay. The text stays if `new` is `old`. The edit is refused if no entry has the key `old`, if
+    /// `new` isn't a key for BibTeX, Biber and bibtool or is `*`, if it is a name of another entry or an alias of this one in any ASCII
+    /// case, if `old` is empty, or if a value that changes can't be written in braces.
     pub fn rename_key(&self, alloc: Global, old: &str, new: &str) -> Result<String, EditError>
         ensures renamed { IfOk result (λ text. IsEdited (KeyRenamed self.now old.now new.now) (string_bytes text)) }
         ensures refused { IfErr result (RenameIsRefused self.now old.now new.now) }
@@ -148,15 +150,26 @@ impl<'s> RawDocument<'s> {
         with_key_renamed(alloc, self.text, &self.raw.entries, index, old, new)
     }
 
+    /// Returns the first key of an entry that isn't one for BibTeX, Biber and bibtool, so that `add_entries` refuses the document.
+    pub fn first_unsafe_key(&self) -> Option<&'s str>
+        ensures { MatchOption result (HaveNewKeys self.now.says.entries) (λ key. IsFirstUnsafeKey self.now.says.entries key.now) }
+    {
+        first_unsafe_key(&self.raw.entries)
+    }
+
     /// Returns the text, a line feed, and the text of another document. The edit is refused if an entry of the other document has a
-    /// name, in any ASCII case, of an entry of this one or of an earlier entry of the other, or if both documents define an
-    /// abbreviation, in any ASCII case, with different values. The names of an entry are its key and the names in its field `ids`.
+    /// name, in any ASCII case, of an entry of this one or of an earlier entry of the other, if the key of one isn't a key for BibTeX,
+    /// Biber and bibtool, or if both documents define an abbreviation, in any ASCII case, with different values. The names of an entry
+    /// are its key and the names in its field `ids`.
     pub fn add_entries(&self, alloc: Global, more: &RawDocument<'_>) -> Result<String, EditError>
         ensures added { IfOk result (λ text. IsEdited (EntriesAdded self.now more.now) (string_bytes text)) }
         ensures refused { IfErr result (EntriesAreRefused self.now more.now) }
     {
         if shares_name(alloc, &self.raw.entries, &more.raw.entries)? {
             return Err(EditError::KeyIsThere);
+        }
+        if !have_new_keys(&more.raw.entries) {
+            return Err(EditError::NotAKey);
         }
         if !agree_on_definitions(alloc, &self.raw.abbreviations, &more.raw.abbreviations)? {
             return Err(EditError::DefinitionIsThere);

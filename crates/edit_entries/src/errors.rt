@@ -12,22 +12,25 @@ pub enum EditError {
     /// No entry has the key.
     #[error("no entry has the key")]
     UnknownKey,
-    /// Another entry has the name already, as its key or in its field `ids`, in any ASCII case; or the entry has it in its `ids`.
-    #[error("an entry has the key already")]
+    /// Another entry has the name already, as its key or in its field `ids`, in any ASCII case; or the renamed entry has it in its
+    /// `ids`.
+    #[error("an entry has the name already, as its key or in its field `ids`")]
     KeyIsThere,
-    /// The text can't be a new key: BibTeX, Biber or bibtool wouldn't read it as one, or a reference wouldn't find it.
-    #[error("a key for BibTeX, Biber and bibtool isn't empty, and has no white space, comma, quote, brace, parenthesis, `--` or any of # $ % = \\ ~")]
+    /// The text can't be a new key: BibTeX, Biber or bibtool wouldn't read it as one, a reference wouldn't find it, or a citation of it
+    /// would name all entries; or such a text is the key of an added entry.
+    #[error("a key for BibTeX, Biber and bibtool isn't empty or `*`, and has no white space, comma, quote, brace, parenthesis, `--` or any of # $ % = \\ ~")]
     NotAKey,
-    /// The text isn't one that can be a field's name.
+    /// The text can't be the name of a field.
     #[error("the text can't be the name of a field")]
     NotAName,
     /// The value can't stand between braces: a brace isn't closed, or closes nothing, or a backslash hides the last brace.
     #[error("the value can't stand between braces")]
     NotInBraces,
-    /// An abbreviation is defined already, in any ASCII case, with another text: every use of it would be read anew.
+    /// An abbreviation is defined already, in any ASCII case, with another text: every use of it would get
+    /// another value.
     #[error("an abbreviation is defined already with another text")]
     DefinitionIsThere,
-    /// There was no memory.
+    /// Out of memory.
     #[error("out of memory")]
     OutOfMemory,
 }

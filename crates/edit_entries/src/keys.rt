@@ -1,11 +1,13 @@
 //! New keys.
 
-ghost use Rattle.std.specs.Prelude.{◌≡◌, MatchBool};
+ghost use Rattle.std.specs.Prelude.{◌≡◌, MatchBool, MatchOption, map};
+ghost use Rattle.bib_syntax.specs.Views.{entry_reading_of};
 ghost use Rattle.edit_entries.specs.NewNames as spec;
-ghost use Rattle.edit_entries.specs.NewNames.{CanBeNewKey};
+ghost use Rattle.edit_entries.specs.NewNames.{CanBeNewKey, HaveNewKeys, IsFirstUnsafeKey};
 
-use bib_syntax::raw::is_key;
+use bib_syntax::raw::{RawEntry, is_key};
 use bib_text::scanner::Scanner;
+use bib_text::spanned::Spanned;
 
 // Returns whether a new key may contain a character.
 fn is_new_key(c: char) -> bool
@@ -25,10 +27,39 @@ pub(crate) fn can_be_new_key(text: &str) -> bool
     if text.is_empty() {
         return false;
     }
+    if text == "*" {
+        return false;
+    }
     if text.contains("--") {
         return false;
     }
     let mut s = Scanner::new(text);
     s.eat_while(is_new_key);
     s.done()
+}
+
+// Returns the first key of these entries that can't be a new key.
+pub(crate) fn first_unsafe_key<'s>(entries: &[Spanned<RawEntry<'s>>]) -> Option<&'s str>
+    ensures { MatchOption result
+        (HaveNewKeys (map entry_reading_of entries.now))
+        (λ key. IsFirstUnsafeKey (map entry_reading_of entries.now) key.now) }
+{
+    'entries: for entry in entries {
+        if !can_be_new_key(entry.v.key.v) {
+            return Some(entry.v.key.v);
+        }
+    }
+    None
+}
+
+// Returns whether the key of each of these entries can be a new key.
+pub(crate) fn have_new_keys(entries: &[Spanned<RawEntry<'_>>]) -> bool
+    ensures { MatchBool result
+        (HaveNewKeys (map entry_reading_of entries.now))
+        (HaveNewKeys (map entry_reading_of entries.now) → ⊥) }
+{
+    match first_unsafe_key(entries) {
+        Some(_) => false,
+        None => true,
+    }
 }

@@ -61,6 +61,7 @@ fn edits_into_buffers(rt: HostRuntime) {
     let status = add(alloc, b"@misc{a,}", b"@misc{b,}", &mut out, &mut size);
     agrees(&rt, answer(status, &out, size), "@misc{a,}\n@misc{b,}");
     assert!(rt; add(alloc, FILE, b"@misc{b,}", &mut out, &mut size) == Status::KeyIsThere.number());
+    assert!(rt; add(alloc, FILE, b"@misc{c{,}", &mut out, &mut size) == Status::NotAKey.number());
     assert!(rt; add(alloc, FILE, b"@misc{c", &mut out, &mut size) == Status::Refused.number());
     let status = add(alloc, b"@string{s={x}}", b"@string{S={y}}", &mut out, &mut size);
     assert!(rt; status == Status::DefinitionIsThere.number());
@@ -84,6 +85,10 @@ fn says_why_edits_are_refused(rt: HostRuntime) {
     assert!(rt; misread_key == Status::NotAKey.number());
     let status = message(10, &mut out, &mut size);
     agrees(&rt, answer(status, &out, size), "an abbreviation is defined already with another text");
+    let status = message(7, &mut out, &mut size);
+    agrees(&rt, answer(status, &out, size), "not a key for BibTeX, Biber and bibtool");
+    let status = message(6, &mut out, &mut size);
+    agrees(&rt, answer(status, &out, size), "an entry has the name already, as its key or in its field `ids`");
     let status = message(9, &mut out, &mut size);
     agrees(&rt, answer(status, &out, size), "the value can't stand between braces");
 }

@@ -103,7 +103,11 @@ returns-clause-refused c =
     let found =
     entry_found d (map entry_reading_of c.deref.result.now) c.args.old.now c.in-Some.index
     (ap (map entry_reading_of) c.deref.ensures.value) (sym c.in-Some.ensures.is) in
+    let free : IsNameTaken d.says.entries c.in-Some.index c.args.new.now → ⊥ =
+    subst (λ es. IsNameTaken es c.in-Some.index c.args.new.now → ⊥) (ap (map entry_reading_of) c.deref-2.ensures.value)
+    (on_no _ _ c.in_ok-is_name_taken.field-0 c.if-branch.false c.in_ok-is_name_taken.ensures) in
     subst (λ x. IfErr c.with_key_renamed.result (RenameIsRefused x c.args.old.now c.args.new.now)) seen
     (renamed_refusal d (map entry_reading_of c.deref-3.result.now) c.args.old.now c.args.new.now c.in-Some.index found.0
     c.with_key_renamed.result (ap (map entry_reading_of) c.deref-3.ensures.value) found.1
-    c.with_key_renamed.ensures.refused)
+    (some_text c.args.old.now c.is_empty.result c.is_empty.ensures c.if-is_empty.false) (sym c.eq.ensures ∙ c.if-eq.false)
+    c.if-not-can_be_new_key.ensures free c.with_key_renamed.ensures.refused)
