@@ -70,10 +70,12 @@ bytes_stand name value rest =
 -- a space, a field and a comma, as the file grammar reads them
 record IsFieldRead (whole name value : List ℕ) (at : ℕ) : Type 0 where
   white : Gap longest (place whole at) (place whole (at + 1))
-  field : Field longest (place whole (at + 1)) (only_field at name value) (place whole (at + 1 + length name + 3 + length (in_braces value)))
+  field : Field longest (place whole (at + 1)) (only_field at name value)
+      (place whole (at + 1 + length name + 3 + length (in_braces value)))
   gap : Gap longest (place whole (at + 1 + length name + 3 + length (in_braces value)))
       (place whole (at + 1 + length name + 3 + length (in_braces value)))
-  comma : CharAt (place whole (at + 1 + length name + 3 + length (in_braces value))) 44 (place whole (at + length (only_field_text name value)))
+  comma : CharAt (place whole (at + 1 + length name + 3 + length (in_braces value))) 44
+      (place whole (at + length (only_field_text name value)))
   space : CharAt (place whole at) 32 (place whole (at + 1))
 
 start_no_percent : (c : ℕ) → is_id_start c ≡ true → (c == 37) ≡ false

@@ -4,12 +4,12 @@ use Rattle.std.specs.Prelude.{◌==◌}
 use Rattle.std.proofs.lemmas.Bool.Decides.{nat_tests}
 use Rattle.std.proofs.lemmas.List.{take_all}
 use Rattle.std.proofs.lemmas.List.Filters.{length-filter_more}
-use Rattle.edit_entries.specs.Balance.{IsBalanced, times}
+use Rattle.edit_entries.specs.Balance.{IsBalanced, byte_count}
 
 -- the first bytes of a text: no prefix has more closing braces than opening ones, and this many braces are open
 pub record IsCounted (text : List ℕ) (i depth : ℕ) : Type 0 where
-  pub open_braces : depth + times 125 (take i text) ≡ times 123 (take i text)
-  pub closes : (n : ℕ) → n ≤ i → times 125 (take n text) ≤ times 123 (take n text)
+  pub open_braces : depth + byte_count 125 (take i text) ≡ byte_count 123 (take i text)
+  pub closes : (n : ℕ) → n ≤ i → byte_count 125 (take n text) ≤ byte_count 123 (take n text)
   pub small : depth ≤ i
 
 at_or_before : (n i : ℕ) → n ≤ i + 1 → (n ≡ i + 1) ⊎ (n ≤ i)
@@ -22,26 +22,26 @@ at_or_before (suc n) (suc i) within = by_rest (at_or_before n i (omega (arith, w
     by_rest (inr less) = inr (omega (arith, less))
 
 -- what holds of each earlier prefix and of this one
-one_more : (text : List ℕ) (i : ℕ) → ((n : ℕ) → n ≤ i → times 125 (take n text) ≤ times 123 (take n text))
-    → times 125 (take (i + 1) text) ≤ times 123 (take (i + 1) text) → (n : ℕ) → n ≤ i + 1
-    → times 125 (take n text) ≤ times 123 (take n text)
+one_more : (text : List ℕ) (i : ℕ) → ((n : ℕ) → n ≤ i → byte_count 125 (take n text) ≤ byte_count 123 (take n text))
+    → byte_count 125 (take (i + 1) text) ≤ byte_count 123 (take (i + 1) text) → (n : ℕ) → n ≤ i + 1
+    → byte_count 125 (take n text) ≤ byte_count 123 (take n text)
 one_more text i before this n within = by_place (at_or_before n i within)
   where
-    by_place : (n ≡ i + 1) ⊎ (n ≤ i) → times 125 (take n text) ≤ times 123 (take n text)
-    by_place (inl same) = subst (λ m. times 125 (take m text) ≤ times 123 (take m text)) (sym same) this
+    by_place : (n ≡ i + 1) ⊎ (n ≤ i) → byte_count 125 (take n text) ≤ byte_count 123 (take n text)
+    by_place (inl same) = subst (λ m. byte_count 125 (take m text) ≤ byte_count 123 (take m text)) (sym same) this
     by_place (inr less) = before n less
 
 module _ (text : List ℕ) (i depth byte : ℕ) (within : i < length text) (is : byte ≡ get_or text i byte) (counted : IsCounted text i depth)
   where
-  more : (c : ℕ) (b : Bool) → (byte == c) ≡ b → times c (take (i + 1) text) ≡ times c (take i text) + cond b 1 0
+  more : (c : ℕ) (b : Bool) → (byte == c) ≡ b → byte_count c (take (i + 1) text) ≡ byte_count c (take i text) + cond b 1 0
   more c b test =
       length-filter_more (λ x. x == c) text i byte within
-      ∙ ap (λ x. times c (take i text) + cond (x == c) 1 0) (sym is) ∙ ap (λ t. times c (take i text) + cond t 1 0) test
+      ∙ ap (λ x. byte_count c (take i text) + cond (x == c) 1 0) (sym is) ∙ ap (λ t. byte_count c (take i text) + cond t 1 0) test
 
   pub opening_brace : (byte == 123) ≡ true → IsCounted text (i + 1) (depth + 1)
   opening_brace opens =
       let closing : (byte == 125) ≡ false = grind (arith, nat_tests) in
-      let now : depth + 1 + times 125 (take (i + 1) text) ≡ times 123 (take (i + 1) text) =
+      let now : depth + 1 + byte_count 125 (take (i + 1) text) ≡ byte_count 123 (take (i + 1) text) =
       omega (arith, counted.open_braces, more 123 true opens, more 125 false closing) in
       record {
         open_braces = now;
@@ -51,7 +51,7 @@ module _ (text : List ℕ) (i depth byte : ℕ) (within : i < length text) (is :
 
   pub closing_brace : (byte == 123) ≡ false → (byte == 125) ≡ true → 0 < depth → IsCounted text (i + 1) (depth - 1)
   closing_brace opens closing some =
-      let now : depth - 1 + times 125 (take (i + 1) text) ≡ times 123 (take (i + 1) text) =
+      let now : depth - 1 + byte_count 125 (take (i + 1) text) ≡ byte_count 123 (take (i + 1) text) =
       omega (arith, some, counted.open_braces, more 123 false opens, more 125 true closing) in
       record {
         open_braces = now;
@@ -61,7 +61,7 @@ module _ (text : List ℕ) (i depth byte : ℕ) (within : i < length text) (is :
 
   pub other_byte : (byte == 123) ≡ false → (byte == 125) ≡ false → IsCounted text (i + 1) depth
   other_byte opens closing =
-      let now : depth + times 125 (take (i + 1) text) ≡ times 123 (take (i + 1) text) =
+      let now : depth + byte_count 125 (take (i + 1) text) ≡ byte_count 123 (take (i + 1) text) =
       omega (arith, counted.open_braces, more 123 false opens, more 125 false closing) in
       record {
         open_braces = now;
@@ -84,7 +84,7 @@ module _ (text : List ℕ) (i depth byte : ℕ) (within : i < length text) (is :
 pub counted_start : (text : List ℕ) → IsCounted text 0 0
 counted_start text = record { open_braces = refl; closes = λ n within. start n within; small = omega arith }
   where
-    start : (n : ℕ) → n ≤ 0 → times 125 (take n text) ≤ times 123 (take n text)
+    start : (n : ℕ) → n ≤ 0 → byte_count 125 (take n text) ≤ byte_count 123 (take n text)
     start zero within = omega arith
     start (suc n) within = absurd (omega (arith, within))
 
@@ -96,8 +96,8 @@ module _ (text : List ℕ) (i depth : ℕ) (past : length text ≤ i) (counted :
   pub all_closed : depth ≡ 0 → IsBalanced text
   all_closed none = record { closes = λ n. prefix n (earlier n i); closed = closed }
     where
-      closed : times 123 text ≡ times 125 text
-      closed = omega (arith, ap (times 123) whole, ap (times 125) whole, counted.open_braces, none)
+      closed : byte_count 123 text ≡ byte_count 125 text
+      closed = omega (arith, ap (byte_count 123) whole, ap (byte_count 125) whole, counted.open_braces, none)
 
       earlier : (n m : ℕ) → (n ≤ m) ⊎ (m ≤ n)
       earlier zero m = inl (omega arith)
@@ -108,17 +108,17 @@ module _ (text : List ℕ) (i depth : ℕ) (past : length text ≤ i) (counted :
           by_rest (inl less) = inl (omega (arith, less))
           by_rest (inr past') = inr (omega (arith, past'))
 
-      prefix : (n : ℕ) → (n ≤ i) ⊎ (i ≤ n) → times 125 (take n text) ≤ times 123 (take n text)
+      prefix : (n : ℕ) → (n ≤ i) ⊎ (i ≤ n) → byte_count 125 (take n text) ≤ byte_count 123 (take n text)
       prefix n (inl less) = counted.closes n less
       prefix n (inr later) =
           let all : take n text ≡ text = take_all n text (omega (arith, past, later)) in
-          subst (λ xs. times 125 xs ≤ times 123 xs) (sym all) (omega (arith, closed))
+          subst (λ xs. byte_count 125 xs ≤ byte_count 123 xs) (sym all) (omega (arith, closed))
 
   pub one_open : (depth ≡ 0 → ⊥) → IsBalanced text → ⊥
   one_open some balanced =
       some
       (omega (
         arith,
-        subst (λ xs. depth + times 125 xs ≡ times 123 xs) whole counted.open_braces,
+        subst (λ xs. depth + byte_count 125 xs ≡ byte_count 123 xs) whole counted.open_braces,
         balanced.closed,
       ))

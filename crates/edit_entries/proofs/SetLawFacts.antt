@@ -143,7 +143,8 @@ no_offsets e = moved_entry (λ n. 0) e
 abbrev field_no_offsets : FieldReading → FieldReading
 field_no_offsets f = moved_field (λ n. 0) f
 
-value_no_offsets : (move : ℕ → ℕ) (value : List ℕ) (pieces : List Piece) → is_value value (map (moved_piece move) pieces) ≡ is_value value pieces
+value_no_offsets : (move : ℕ → ℕ) (value : List ℕ) (pieces : List Piece)
+    → is_value value (map (moved_piece move) pieces) ≡ is_value value pieces
 value_no_offsets move value [] = refl
 value_no_offsets move value (abbreviation p ∷ rest) = refl
 value_no_offsets move value (literal p ∷ []) = refl
@@ -159,7 +160,8 @@ entry_there : (d after : Document) (key : List ℕ) (k : ℕ) (e : EntryReading)
     → IsEntryChanged d k e change after → IsThere after key k (entry_changed e change)
 entry_there d after key k e change entry is =
     let changed : EntryReading = entry_changed e change in
-    let entries : map no_offsets after.says.entries ≡ map no_offsets (slice_set d.says.entries k changed) = ap (λ s. s.entries) is.alike in
+    let entries : map no_offsets after.says.entries ≡ map no_offsets (slice_set d.says.entries k changed) =
+    ap (λ s. s.entries) is.alike in
     let keyed : is_keyed key e ≡ true = passes_first (is_keyed key) d.says.entries k e entry.first entry.here in
     let first : first_position (is_keyed key) after.says.entries ≡ Some k =
     sym (first_mapped no_offsets (is_keyed key) (is_keyed key) (λ x. refl) after.says.entries)
@@ -179,7 +181,8 @@ same_text text = (bytes_eq-Decides text text).1 refl
 
 -- a field after its value is set
 abbrev set_field : List ℕ → List ℕ → FieldReading → FieldReading
-set_field name value f = cond (has_other_value name value f) (record f { value = record f.value { pieces = (braced_value value).pieces } }) f
+set_field name value f =
+    cond (has_other_value name value f) (record f { value = record f.value { pieces = (braced_value value).pieces } }) f
 
 fields_set : (name value : List ℕ) (fs : List FieldReading)
     → fields_changed fs (map (set_change name value) fs) ≡ map (set_field name value) fs

@@ -78,7 +78,8 @@ pub white_cut : (text before rest white : List ℕ) (at : ℕ) → at ≤ length
 white_cut text before rest white at within is trimmed cut =
     let kept : ℕ = at - suffix_len is_ascii_whitespace (take at text) in
     let size : length before ≡ at = ap length is ∙ length-take-le at text within in
-    let same : suffix_len is_ascii_whitespace before ≡ suffix_len is_ascii_whitespace (take at text) = ap (suffix_len is_ascii_whitespace) is in
+    let same : suffix_len is_ascii_whitespace before ≡ suffix_len is_ascii_whitespace (take at text) =
+    ap (suffix_len is_ascii_whitespace) is in
     let length_is : length rest ≡ kept =
     ap length (trim_ascii_end_is before rest trimmed)
     ∙ length-take-le (length before - suffix_len is_ascii_whitespace before) before (omega arith) ∙ omega (arith, size, same) in

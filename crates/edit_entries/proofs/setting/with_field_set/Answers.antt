@@ -12,7 +12,8 @@ use Rattle.edit_entries.proofs.setting.with_field_set.Goals as goal
 pub returns-in-empty-clause-set : goal.returns-in-empty-clause-set
 returns-in-empty-clause-set c =
     only_made string_bytes c.with_only_field.result c.args.text.now (entry_reading_of c.args.entry.now) c.args.name.now
-    c.args.value.now (ap (map field_of) (sym c.as_slice-fields.ensures.value ∙ no_element c.as_slice-fields.result.now c.in-empty.len_below))
+    c.args.value.now
+    (ap (map field_of) (sym c.as_slice-fields.ensures.value ∙ no_element c.as_slice-fields.result.now c.in-empty.len_below))
     c.with_only_field.ensures.text c.with_only_field.ensures.name c.with_only_field.ensures.value
 
 pub returns-in-len1-up-clause-set : goal.returns-in-len1-up-clause-set
