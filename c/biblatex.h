@@ -76,8 +76,9 @@ uint32_t biblatex_lint(const uint8_t *text, size_t length, uint8_t *out, size_t 
 /* Writes the text in the default style. */
 uint32_t biblatex_fmt(const uint8_t *text, size_t length, uint8_t *out, size_t capacity, size_t *size);
 
-/* Writes the text with a field of the first entry with the key set to `value`, in braces and without escapes. This call and
-   the next four change no other byte. */
+/* Writes the text with a field of the first entry with the key set to `value`, in braces and without escapes. If several fields
+   have the name, each is set. A new field comes before the others. The braces of `value` must balance, also those after a
+   backslash. This call and the next four change no other byte. */
 uint32_t biblatex_set(const uint8_t *text, size_t length, const uint8_t *key, size_t key_length, const uint8_t
     *name, size_t name_length, const uint8_t *value, size_t value_length, uint8_t *out, size_t capacity,
     size_t *size);

@@ -362,7 +362,7 @@ holds 'the file has the order' cmp -s ordered.bib <(printf '@misc{a,\n}\n\n\n@mi
 # edits: the new text is printed, and the file stays
 entry='@misc{a, title={A}, author={B}}'
 run 'a field that is there is set' 0 $'@misc{a, title={C d}, author={B}}\n\n@misc{b, title={x y}, author={Knuth, D.}, year={1984}}\n' set a 'title=C d' -f two.bib
-run 'a field that is not there is added' 0 $'@misc{a,\n  year = {2000}, title={A}, author={B}}\n\n@misc{b, title={x y}, author={Knuth, D.}, year={1984}}\n' set a year=2000 --file two.bib
+run 'a field that is not there is added' 0 $'@misc{a, year = {2000}, title={A}, author={B}}\n\n@misc{b, title={x y}, author={Knuth, D.}, year={1984}}\n' set a year=2000 --file two.bib
 run 'two fields are set' 0 $'@misc{a, title={C}, author={D}}\n\n@misc{b, title={x y}, author={Knuth, D.}, year={1984}}\n' set a title=C AUTHOR=D -f two.bib
 run 'a value that is there changes nothing' 0 "$(cat two.bib)"$'\n' set b year=1984 -f two.bib
 run 'a value with an equals sign' 0 $'@misc{a, title={A=B}, author={B}}\n\n@misc{b, title={x y}, author={Knuth, D.}, year={1984}}\n' set a title=A=B -f two.bib
@@ -401,6 +401,7 @@ refuses 'a key of another entry in another case' 1 "bibkit: two.bib: a to B$is_t
 refuses 'no name of a field' 1 $'bibkit: two.bib: a: a b: the text can\'t be the name of a field\n' set a 'a b=c' -f two.bib
 refuses 'no value' 1 $'bibkit: two.bib: a: title: the value can\'t stand between braces\n' set a 'title=}' -f two.bib
 refuses 'a value that is not closed' 1 $'bibkit: two.bib: a: title: the value can\'t stand between braces\n' set a 'title=a\' -f two.bib
+refuses 'a brace that only TeX passes over' 1 $'bibkit: two.bib: a: title: the value can\'t stand between braces\n' set a 'title=a \}' -f two.bib
 refuses 'entries that are there' 1 "bibkit: two.bib$is_there"$'\n' add -f two.bib
 printf '@misc{c, ids={B}}\n' >input
 refuses 'an entry whose ids are there' 1 "bibkit: two.bib$is_there"$'\n' add -f two.bib

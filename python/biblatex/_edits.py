@@ -40,8 +40,9 @@ def _unknown_key(key: str) -> Mapping[Status, str]:
 def set_field(text: Text, key: str, name: str, value: str) -> Text:
     """Returns the text with the field `name` of the entry `key` set to `value`, in braces.
 
-    If the entry lacks the field, it is added on a line of its own, before the other fields. `value` is TeX source, and its
-    braces must match. This edit and the others change no other byte.
+    If several fields of the entry have this name, each gets the value. If the entry lacks the field, it is added before the
+    other fields, with the white space before the first of them. `value` is TeX source, and its braces must balance. BibTeX
+    also counts a brace after a backslash. This edit and the others change no other byte.
 
     Raises an `EditError` if no entry has the key, if `name` isn't a field name, or if `value` can't be written in braces.
     Each edit raises a `ParseError` if the text has a syntax error or isn't UTF-8.
