@@ -45,7 +45,7 @@ pub record AllLeadOn (definitions : Definitions) (path : List (List ℕ)) (piece
 pub none_lead_on : {definitions : Definitions} {pieces : List Piece} → AllLeadOn definitions [] pieces
 none_lead_on = record { on = λ name on. absurd on }
 
--- a name that occurs in one piece occurs in it and others
+-- a name that occurs in a piece occurs in each list of pieces that begins with that piece
 held_first : (p : Part) (rest : List Piece) (next : List ℕ) → HoldsName (abbreviation p ∷ []) next → HoldsName (abbreviation p ∷ rest) next
 held_first p rest next (inl same) = inl same
 held_first p rest next (inr held) = absurd held

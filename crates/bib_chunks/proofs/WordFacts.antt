@@ -79,7 +79,7 @@ all_free : (texts : List (List ℕ)) → AreFree false texts → AllByRecursion 
 all_free [] free = tt
 all_free (text ∷ more) free = (free.0, free.1)
 
--- a word at the start of characters is at the start of longer ones
+-- if characters begin with a word `and`, they still begin with it after other characters are appended
 word_longer : (space : Bool) (cs tail : List ℕ) → word_here space cs ≡ true → word_here space (cs ++ tail) ≡ true
 word_longer space [] tail here = absurd (false≢true here)
 word_longer space (a ∷ []) tail here = absurd (false≢true here)

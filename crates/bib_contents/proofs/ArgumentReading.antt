@@ -212,7 +212,7 @@ read_more {is_flat} {whole} {base} {text} {rest} {depth} {after} {now} {more} at
       ∙ sym (written_append is_flat read.atoms atoms led)));
 }
 
--- a run of ordinary characters was parsed
+-- after a run of ordinary characters, the argument is parsed up to the text after the run
 pub read_run : {is_flat : Bool} {whole base text rest : List ℕ} {depth : ℕ} {now more : List ℕ} (run : List ℕ)
     → IsReadTo is_flat whole base text depth now → text ≡ run ++ rest → list_all (is_ordinary false) run ≡ true
     → more ≡ now ++ encode_utf8_all run

@@ -28,7 +28,7 @@ nothing_after base inside short =
     let wide : length inside ≤ length (encode_utf8_all inside) = length-le-encodes inside in
     no_characters inside (omega (arith, short, size, wide))
 
--- a mark is written by itself if the text before it is empty
+-- if a command puts a mark on an empty argument, the mark is written without a letter
 pub marked_none : (base inside : List ℕ) (mark : ℕ) (sign old new : List ℕ) {start : ℕ}
     → length (encode_utf8_all base) ≡ start → old ≡ encode_utf8_all (base ++ inside) → length old ≤ start
     → sign ≡ bare mark → new ≡ old ++ encode_utf8_all sign

@@ -151,7 +151,7 @@ module _ {first_name first_whole first_under : List ℕ} {ends : Ends} {low high
             (waiting_on frame.is_flat on.is_flat kept.is_flat reading.waiting);
       }
 
-  -- the argument ended, and the frame below goes on
+  -- after the end of an argument, parsing continues in the frame below. The text of the command is appended to the output of that frame.
   below_of : {name whole under most : List ℕ} {is_flat : Bool} {below : Frame} {frames : List Frame}
       → AreWaiting first_name first_whole first_under ends low high name whole is_flat under (below ∷ frames)
       → (atoms : List Atom) → Reads false 0 whole atoms

@@ -118,7 +118,7 @@ name_ordered (Parts p) =
     (length p.non_dropping_particle == 0) (length p.suffix == 0)
     p.dropping_particle p.family p.given p.non_dropping_particle p.suffix
 
--- year, month and day
+-- the JSON text of an integer is its decimal text with its sign
 integer_text : (z : ℤ) → number_text (of_integer z) ≡ signed_decimal z
 integer_text (pos n) = refl
 integer_text (negsuc n) = refl

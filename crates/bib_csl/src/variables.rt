@@ -168,7 +168,7 @@ pub enum Variable {
     Issued,
     /// When the address was visited.
     Accessed,
-    /// When the conference took place.
+    /// The date of the event, for example of a conference.
     EventDate,
     /// When the original was published.
     OriginalDate,

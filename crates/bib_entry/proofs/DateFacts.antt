@@ -25,7 +25,7 @@ lowered Event = refl
 lowered Orig = refl
 lowered Url = refl
 
--- and it differs from the names of its parts
+-- the name of a date differs from the names of its parts
 apart_year : (p : Prefix) → eq_by_cmp by_bytes (date_prefix p ++ codes "date") (date_prefix p ++ codes "year") ≡ false
 apart_year Plain = refl
 apart_year Event = refl

@@ -25,7 +25,7 @@ pub record GetsEitherValue {V : Type 0} (type : Ghosts V) (entry : Entry) (name 
     (result : Result V RetrievalError) : Type 0 where
   pub retrieved : IsRetrieved type (field_or entry name other) name result
 
--- `result` is the chunks of the field of this name
+-- `result` contains the chunks of the field of this name. If the field is missing, the error contains the name
 pub record GetsChunks (entry : Entry) (name : List ℕ) (result : Result (Bor Value) RetrievalError) : Type 0 where
   pub chunks : AreChunksOf (by_name.get entry.fields name) name result
 

@@ -143,7 +143,7 @@ left_next is_first characters count c text word before within is none =
     ∙ ap (λ b. cond (not b) (c ∷ kept (drop (count + 1) characters)) (kept (drop (count + 1) characters)))
     none)
 
--- a character of a word
+-- if the next character is neither a brace nor white space, it is appended to the current word
 pub words_letter : (is_first : Bool) (characters : List ℕ) (count c : ℕ) (text word more : List ℕ)
     → AreWordsLeft is_first characters count text word → count < length characters → c ≡ get_or characters count c
     → is_brace c ≡ false → is_whitespace c ≡ false → more ≡ word ++ encode_utf8 c → AreWordsLeft is_first characters (count + 1) text more

@@ -104,7 +104,7 @@ by_parts_or_text None date = option_and_then said_date (date_words date)
 unfoldable pub date_given : Json → Option ItemDate
 date_given date = by_parts_or_text (dates_under date) date
 
--- how many members of an object are parts of the date that it gives
+-- the number of members of an object that its date is made of
 unfoldable pub said_by_parts : Json → ℕ
 said_by_parts date =
     if is_some (dates_under date)

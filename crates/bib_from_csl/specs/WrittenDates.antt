@@ -14,7 +14,7 @@ use Rattle.bib_csl.specs.declared.item.Season.TheVariants.{Spring, Summer, Autum
 use Rattle.bib_from_csl.specs.Tags.{spelled_text}
 use Rattle.bib_from_csl.specs.Values.{braced}
 
--- a year as BibLaTeX counts it, where it has at most four digits: the one before 1 is 0
+-- a year as BibLaTeX counts it, with 0 for the year before 1; `None` if it then has more than four digits
 abbrev pub counted_year : ℤ → Option ℤ
 counted_year year =
     if is_lt (int_cmp year (neg_ℤ (pos 10000))) || is_lt (int_cmp (pos 9999) year) then None

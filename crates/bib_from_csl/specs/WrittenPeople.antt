@@ -53,7 +53,7 @@ has_no_small_word text = not (list_any begins_with_small (words_in text))
 abbrev pub has_small_words : List ℕ → Bool
 has_small_words text = list_all begins_with_small (words_in text)
 
--- whether a particle is a prefix that BibTeX knows by its small letters, or nothing
+-- whether a particle is empty, or consists of plain words that each begin with a lowercase letter, as a prefix in BibTeX does
 abbrev pub is_plain_particle : List ℕ → Bool
 is_plain_particle particle = (length particle == 0) || (are_plain_words particle && has_small_words particle)
 

@@ -114,7 +114,7 @@ fn season_text(
     Ok(Some(Text::from_string(format!(in alloc; "{year}-2{digit}")?)))
 }
 
-// The mark of a date that isn't exact.
+// Returns the mark of an approximate date: `~` if `circa` is true, otherwise an empty text.
 fn mark_of(circa: bool) -> &'static str
     ensures { result.now ≡ spec.circa_mark circa }
 {

@@ -71,7 +71,7 @@ fn said_parts(person: &Value<'_>) -> usize
         + count(person, "non-dropping-particle")
 }
 
-// Whether the name that an object gives is all that it says.
+// Returns whether an object has no members except the parts of its name.
 fn is_whole_name(person: &Value<'_>) -> bool
     ensures { result ≡ spec.says_name_only (value_view person.now) }
 {

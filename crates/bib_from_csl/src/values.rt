@@ -51,7 +51,7 @@ pub(crate) fn plain_value(alloc: Global, field: &str, text: &str) -> Result<Text
     Ok(Text::from_string(value))
 }
 
-// The value of pages: two hyphens stand for an en dash.
+// Returns the value of the field `pages` for a text. Each en dash is replaced by two hyphens.
 #[tactic(auto, unfolding(crate::specs::Values::pages_value))]
 pub(crate) fn pages_value(alloc: Global, text: &str) -> Result<Text, AllocError>
     ensures { IfOk result (λ value. value ≡ spec.pages_value text.now) }

@@ -233,7 +233,7 @@ fn issue_field(kind: &EntryType) -> &'static str
     "issue"
 }
 
-// The field of the number of the work itself, or nothing.
+// Returns the field for the number of the work itself: `number`, or an empty text if the type uses `number` for issues or series.
 fn own_number_field(kind: &EntryType) -> &'static str
     ensures { result.now ≡ spec.own_number_field kind.now }
 {

@@ -41,7 +41,7 @@ person_members p =
 abbrev pub person_json : Person → Data
 person_json p = object_of (person_members p)
 
--- a range of numbers, from the first to the last
+-- the object of a range of numbers, with its `start` and its `end`
 abbrev pub range_json : Range ℕ → Data
 range_json range = object_of (
     (codes "start", Some (number (unsigned range.start)))

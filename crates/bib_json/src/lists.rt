@@ -84,7 +84,7 @@ fn language_or_part(alloc: Global, part: ChunksRef<'_>) -> Result<Value, AllocEr
     }
 }
 
-/// The languages that the parts of a list name, and the texts that stand in the place of one.
+/// Returns an array with the language that each part of a list names, or the text of the part if it names no language.
 pub(crate) fn languages_value(alloc: Global, parts: &[Chunks]) -> Result<Value, AllocError>
     ensures { IfOk result (λ value. view value ≡ array_of language_or_part parts.now) }
 {

@@ -45,7 +45,7 @@ text_plain b text = elim (or_cases (is_name_byte b) (b == 32) text) [
   | inr space ↦ let is : b ≡ 32 = eqb-true b 32 space in rw is refl
 ]
 
--- a text of words
+-- a text of words: an ASCII text without commas that doesn't change if it is formatted or trimmed
 pub record IsText (text : List ℕ) : Type 0 where
   pub ascii : IsAscii text
   pub same : chars text ≡ text

@@ -118,7 +118,7 @@ pub data FileFails : Place → ParseErrorKind → Place → Type 0 where
 abbrev pub error_at_place : ParseErrorKind → Place → ParseError
 error_at_place kind u = record { span = record { start = u.at; end = u.at }; kind = kind }
 
--- `e` is an error with which a rule fails: it has the kind and the place that `Fails` relates
+-- `e` is the error of a rule that fails: `Fails` holds for the kind of `e` and the place of its empty span
 pub record Reports (Fails : ParseErrorKind → Place → Type 0) (e : ParseError) : Type 0 where
   pub kind : ParseErrorKind
   pub place : Place

@@ -12,7 +12,8 @@ use std::fmt;
 /// Why chunks couldn't be parsed as a value, and where.
 #[derive(Debug, Clone, PartialEq, Eq, Drop)]
 pub struct TypeError {
-    /// The span of the chunks that are in error, in bytes; `0..0` for the kind `OutOfMemory`.
+    /// The span of the error, in bytes: that of the chunks, or of the white space that `parse_hyphen` or `parse_colon` consumed. It is
+    /// `0..0` for the kind `OutOfMemory`.
     pub span: Span,
     /// The reason.
     pub kind: TypeErrorKind,

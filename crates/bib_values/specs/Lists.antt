@@ -28,6 +28,6 @@ pub record IsPlain (text : List ℕ) : Type 0 where
   pub utf8 : IsUtf8 text
   pub plain : list_all is_plain_in_list (chars text) ≡ true
 
--- the lists of texts that parse from their written form: at least one text, and each is such a text
+-- the lists of texts that parse from their written form: at least one text, and each text is plain (`IsPlain`)
 abbrev pub StringsKept : List (List ℕ) → Type 0
 StringsKept texts = (0 < length texts) × AllByRecursion IsPlain texts

@@ -50,7 +50,8 @@ pub fn bytes_of(rt: &HostRuntime, name: &str) -> Result<Vec<u8>, Stop> {
     }
 }
 
-/// Returns the line of an error with this text at the offset `at` of `bytes`, with its line and column in the file `name`.
+/// Returns the message for an error at the byte offset `at` of `bytes`: `name:line:column: error: text` and a line feed. `bytes` is the
+/// content of the file `name`.
 pub fn error_line(
     alloc: Global,
     name: &str,

@@ -10,7 +10,7 @@ use bib_queries::excerpts::answer;
 use bib_queries::request::Request as Excerpts;
 use std::alloc::{AllocError, Global};
 
-/// Prints the requested entries of files.
+/// Prints the requested entries of files, or the keys of their entries.
 #[derive(Drop)]
 pub struct Entries<'r, 'a> {
     request: &'r Excerpts<'a>,

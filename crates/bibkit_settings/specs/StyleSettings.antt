@@ -64,6 +64,6 @@ pub record IsStyleSet (set : StyleSettings) (style : Style) : Type 0 where
   pub order : order_of style ≡ names_set set.order
   pub width : style.width ≡ unwrap_or set.width None
 
--- the order of entries, or `None` if it isn't set or is set to keep them
+-- the order of entries; `None` if no order is set, or if the setting says that the entries keep their order
 abbrev pub sort_set : StyleSettings → Option Order
 sort_set set = unwrap_or set.sort None

@@ -224,7 +224,7 @@ all_written : (es : List Entry) → AllByRecursion IsSettledEntry es → AllByRe
 all_written [] all = tt
 all_written (e ∷ es) all = (written_right e all.0, all_written es all.1)
 
--- the output for settled entries has a raw bibliography with what was written
+-- the output for settled entries is parsed as a raw bibliography with the parts of these entries
 pub entries_again : (es : List Entry) → AllByRecursion IsSettledEntry es → IsUtf8 (entries_text biblatex_entry es)
     → FileAgain (map written_of es) (place (entries_text biblatex_entry es) 0)
 entries_again es settled utf8 =

@@ -5,9 +5,10 @@ mod DateFacts
 mod DateReadFacts
 mod EntryEditFacts
 mod FollowingFacts
-mod ReplacementFacts
 mod JoinedFacts
 mod JoinedTextFacts
 mod NewNameFacts
 mod NoteFacts
+mod PendingFacts
+mod ReplacementFacts
 mod TypeFacts

@@ -1,4 +1,4 @@
-//! The parts of a date in fields of their own, as BibTeX has them.
+//! Splits a date into fields of its parts, as in BibTeX.
 
 ghost use Rattle.std.specs.Prelude.{◌≡◌, ◌++◌, ◌<◌, ◌==◌, ◌∷◌, [], IfOk, OnOk, codes, is_some};
 ghost use Rattle.std.specs.List.{list_all, slice_split};

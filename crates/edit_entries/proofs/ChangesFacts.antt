@@ -59,8 +59,8 @@ name_put d f name can is = record {
 
 -- ---- what can be made
 
--- a field before others can have this change: a new name can be one, a new value is read wherever it stands, what follows a comma is
--- white space, and a field that is gone has another one after it
+-- a field before others can have this change: each new name is a valid name, and each new value parses to its pieces at any place. The
+-- text after the comma of a new field is white space. A removed field has another field after it.
 abbrev pub CanChange : List FieldReading → FieldChange → Type 0
 CanChange following FieldChange.kept = Unit {0}
 CanChange following (FieldChange.preceded n white) = CanBePut n × AreWhite white

@@ -392,7 +392,7 @@ pub record IsPut (d : Document) (f : FieldReading) (edit : Edit) (news : List Fi
       → (made : List FieldReading) × (map (moved_field (λ n. 0)) made ≡ map (moved_field (λ n. 0)) news)
       × IsWithin edit after.text × IsDocument (fields_put after edit k entry j made) × Begins made f.name.start
 
--- with other fields read in the place of one
+-- if the edits of later parts are made, an edit that replaces the field `f` by the fields `news` is made too
 field_stepped : (d : Document) (edits : List Edit) (before others : List EntryReading) (e p entry : EntryReading)
     (fb now fs : List FieldReading) (f g : FieldReading) (edit : Edit) (news given : List FieldReading)
     → IsDocument d → slice_get d.says.entries (length before) ≡ Some e

@@ -54,7 +54,7 @@ goes_in_quotes Quotes content = not (has_quote content) && can_stand_in_quotes c
 abbrev pub in_quotes : List ℕ → List ℕ
 in_quotes content = codes "\"" ++ (content ++ codes "\"")
 
--- a text that stands in braces, where the style has it
+-- the output for a text that is in braces in the file: in quotes if the style puts it in quotes, otherwise in braces
 abbrev pub braced_in_style : Delimiters → List ℕ → List ℕ
 braced_in_style delimiters content = cond (goes_in_quotes delimiters content) (in_quotes content) (in_braces content)
 

@@ -1,4 +1,4 @@
--- Keys as indices: a chain of references between entries is a chain of references between the indices of their keys.
+-- Keys as indices: entries have a chain of references exactly if the indices of their keys have a chain of the same length.
 use Rattle.std.proofs.Common.{◌≡◌, ℕ, zero, suc, ◌<◌, Bool, true, false, cond, leb, List, [], ◌∷◌, ◌++◌, Option, Some, None, get_or, is_some, length, map, option_map, slice_get, unwrap_or, refl, sym, ap, ap₂, ◌∙◌, subst, arith}
 use Rattle.std.specs.Prelude.{◌==◌, ◌&&◌, ◌||◌, bytes_eq}
 use Rattle.std.specs.FinMap.{empty, get, get-empty, get-insert, insert}

@@ -34,7 +34,7 @@ fn push_literal(new: &mut String, before: &str, content: &str) -> Result<(), All
     Ok(())
 }
 
-// Adds an element as it stands in the file.
+// Appends a piece of a value as it is in the file, with its delimiters if it has any.
 fn push_piece(new: &mut String, text: &str, piece: &Spanned<RawChunk<'_>>) -> Result<(), AllocError>
     requires { IsPieceCut text.now (piece_of piece.now) }
     ensures { OnOk result (string_bytes new.new ≡ string_bytes new.old ++ piece_as_written Keep text.now (piece_of piece.now)) }
