@@ -1,16 +1,10 @@
 -- Facts on the names that refer to an entry whose key is replaced.
-use Rattle.std.proofs.Common.{◌≡◌, ◌+◌, ◌<◌, ℕ, suc, Bool, true, false, List, [], ◌∷◌, ◌++◌, Option, Some, None, length, map, take, get_or, refl, sym, ap, ap₂, ◌∙◌, cond, if◌then◌else◌}
-use Rattle.std.specs.Prelude.{bytes_eq, is_some, ◌==◌}
-use Rattle.std.specs.List.{list_any}
+use Rattle.std.proofs.Common.{◌≡◌, ℕ, suc, Bool, List, [], ◌∷◌, ◌++◌, Some, None, map, refl, ap, ap₂, if◌then◌else◌}
+use Rattle.std.specs.Prelude.{◌==◌}
 use Rattle.std.specs.Str.{trim}
-use Rattle.std.proofs.lemmas.List.{map-append, take_more}
 use Rattle.bib_tables.specs.ReferenceFields.{is_reference_field}
-use Rattle.bib_text.specs.declared.spanned.Spanned.{Spanned}
 use Rattle.bib_syntax.specs.Reading.{EntryReading, FieldReading, Piece}
 use Rattle.bib_syntax.specs.Reading.Piece.{abbreviation, literal}
-use Rattle.bib_syntax.specs.Views.{entry_reading_of}
-use Rattle.bib_syntax.specs.declared.raw.RawEntry.{RawEntry}
-use Rattle.edit_entries.specs.Documents.{first_position, is_keyed, next_index}
 use Rattle.edit_entries.specs.References.{between_white, elements_of, is_element, key_change, key_renaming, reference_changes, refers_to_key, renamed_element, renamed_list, renamed_text, renamed_value, renamed_where_listed, renaming, value_change}
 use Rattle.edit_entries.proofs.NameSetFacts.{any_same}
 use Rattle.edit_entries.proofs.ReferenceFacts.{join_read}

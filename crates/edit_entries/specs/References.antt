@@ -1,6 +1,6 @@
 -- Meaning: words of public contracts.
 -- References to the keys of entries, and what comes of renaming a key: the entry has the new one, and so has each reference.
-use Rattle.std.specs.Prelude.{◌≡◌, ℕ, suc, ◌-◌, ◌<◌, ◌==◌, Bool, true, false, if◌then◌else◌, List, [], ◌∷◌, ◌++◌, length, take, drop, Option, Some, None, bytes_eq, is_some, not, ◌&&◌, ◌||◌, slice_get, ⊤}
+use Rattle.std.specs.Prelude.{◌≡◌, ℕ, suc, ◌-◌, ◌<◌, ◌==◌, Bool, true, false, if◌then◌else◌, List, [], ◌∷◌, ◌++◌, length, take, drop, Option, Some, None, bytes_eq, not, ◌&&◌, ◌||◌, slice_get, ⊤}
 use Rattle.std.specs.List.{AllByRecursion, flat_map, join_by, list_any, slice_split}
 use Rattle.std.specs.Str.{trim, trim_end, trim_start}
 use Rattle.bib_text.specs.Characters as char

@@ -1,4 +1,4 @@
-use Rattle.std.proofs.Common.{◌∙◌, List, ℕ, Some, None, cond, ap, map, sym, take}
+use Rattle.std.proofs.Common.{◌∙◌, Some, None, cond, ap, map, sym, take}
 use Rattle.bib_syntax.specs.Views.{entry_reading_of}
 use Rattle.edit_entries.specs.Documents.{is_keyed}
 use Rattle.edit_entries.specs.References.{first_key, has_alias, first_found}
