@@ -1,4 +1,0 @@
-use Rattle.bib_typed.proofs.laws.lists_of_texts_are_kept.Goals as goal
-
-pub returns : goal.returns
-returns c value kept = kept
