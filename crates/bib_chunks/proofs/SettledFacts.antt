@@ -1,5 +1,5 @@
 -- Facts about settled texts.
-use Rattle.std.proofs.Common.{◌≡◌, ℕ, Bool, true, false, not, List, [], ◌∷◌, ◌++◌, refl, sym, ap, ◌∙◌, subst, Option, Some, None, MatchOption}
+use Rattle.std.proofs.Common.{◌≡◌, ℕ, Bool, true, false, not, List, [], ◌∷◌, ◌++◌, refl, sym, ap, ◌∙◌, subst, Option, Some, None, MatchOption, MatchBool}
 use Rattle.std.specs.Prelude.{◌↔◌, ◌==◌, is_some}
 use Rattle.std.specs.List.{list_any, list_all, AllByRecursion}
 use Rattle.std.specs.Str.{chars, IsUtf8}
@@ -153,6 +153,12 @@ pub math_stuck : (v : Bool) (before : Before) (chunk : Chunk) (text bytes : List
     → bytes ≡ text → IsUtf8 bytes → (IsSettledMath bytes → ⊥) → IsStuckIn v before (atoms_of chunk)
 math_stuck v before chunk text bytes is same utf8 unsettled =
     rw (math_atoms chunk text bytes is same) (λ rest s. unsettled (s.0.1, subst IsParts (encodes-chars bytes utf8) s.0.2))
+
+-- without a dollar sign, a math text is settled exactly if its braces balance
+pub math_by_parts : (text : List ℕ) (parts : Bool) → list_any (λ c. c == 36) (chars text) ≡ false
+    → MatchBool parts (IsParts text) (IsParts text → ⊥) → MatchBool parts (IsSettledMath text) (IsSettledMath text → ⊥)
+math_by_parts text true none is = (none, is)
+math_by_parts text false none is = λ settled. is settled.1
 
 -- after settled math, outside verbatim fields, the rest decides
 pub math_on : (v : Bool) (before : Before) (chunk : Chunk) (text bytes : List ℕ) → chunk ≡ MathChunk text → bytes ≡ text

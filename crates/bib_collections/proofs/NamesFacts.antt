@@ -1,5 +1,6 @@
 -- Facts about names and the indices that they point to.
-use Rattle.std.proofs.Common.{◌≡◌, ℕ, Bool, true, false, cond, T, List, [], ◌∷◌, ◌++◌, Option, Some, None, refl, sym, ap, subst, ◌∙◌, MatchBool, Equal, Ordering, is_eq, option_map, option_and_then, filter_map}
+use Rattle.std.proofs.Common.{◌≡◌, ℕ, ◌<◌, ◌-◌, arith, Bool, true, false, cond, T, List, [], ◌∷◌, ◌++◌, Option, Some, None, refl, sym, ap, subst, ◌∙◌, MatchBool, Equal, Ordering, is_eq, option_map, option_and_then, filter_map}
+use Rattle.std.proofs.lemmas.Bool.Decides.{nat_tests}
 use Rattle.std.specs.List.{cons_option}
 use Rattle.std.specs.List.Retain.{RetainsInTurn}
 use Rattle.std.specs.Cmp.{IsTotalOrder}
@@ -103,3 +104,8 @@ get-without_index taken m q =
     get-from_sorted by_bytes _ q (sorted-revalued by_bytes (index_after_removal taken) (map.entries m) (entries_sorted m))
     ∙ find-revalued by_bytes (index_after_removal taken) nat_list_cmp_total q (map.entries m) (entries_sorted m)
     ∙ ap (option_and_then (index_after_removal taken)) (sym (get-entries m q))
+
+-- a pair with an index greater than the removed one gets the index below it
+pub moved_lower : (taken : ℕ) (pair : List ℕ × ℕ) → (pair.1 ≡ taken → ⊥) → taken < pair.1
+    → moved_pair taken pair ≡ Some (pair.0, pair.1 - 1)
+moved_lower taken pair other greater = grind (arith, nat_tests)

@@ -1,5 +1,5 @@
 use Rattle.std.proofs.Common.{◌++◌, ◌∷◌, []}
-use Rattle.bib_chunks.proofs.JoinedFacts.{joined_whole, placed_whole, joined_push, placed_push}
+use Rattle.bib_chunks.proofs.JoinedFacts.{styled-push, joined_whole, placed_whole, joined_push, placed_push}
 use Rattle.bib_chunks.proofs.joining.append.Goals as goal
 
 pub returns-in_default-second-clause-joined : goal.returns-in_default-second-clause-joined
@@ -11,6 +11,12 @@ pub returns-in_default-second-clause-placed : goal.returns-in_default-second-cla
 returns-in_default-second-clause-placed c = λ low high placed before ordered.
     let whole = rw c.in_default-second.is at c.in_ok-first.ensures in
     rw c.in_ok-push-2.ensures.items (placed_whole c.pop.new.self _ _ _ low high whole (rw c.in-Some.ensures.items at placed) before ordered)
+
+pub returns-clause-styled : goal.returns-clause-styled
+returns-clause-styled c =
+    let two = rw c.in-Some-second.is at c.in_ok-first.ensures in
+    rw (c.in_ok-push-3.ensures.items, c.in_ok-push-2.ensures.items, two.0, two.1, c.in-Some.ensures.items)
+    (styled-push (c.pop.new.self ++ c.in-Some.last ∷ []) _)
 
 pub returns-clause-joined : goal.returns-clause-joined
 returns-clause-joined c = λ joined.
