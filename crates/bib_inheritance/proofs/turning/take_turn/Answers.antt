@@ -43,3 +43,6 @@ returns-clause-turned c =
           (subst (λ s. option_map styled c.in_ok-date.date ≡ date_for s refs) here c.in_ok-date.ensures.date)
           c.in_ok-set_gain.ensures.fields),
     )
+
+pub returns-clause-turns : goal.returns-clause-turns
+returns-clause-turns c = c.in_ok-push.ensures.items

@@ -1,4 +1,4 @@
-use Rattle.std.proofs.Common.{inr}
+use Rattle.std.proofs.Common.{inr, rules}
 use Rattle.std.proofs.lemmas.Result.{err_from_is_err_and}
 use Rattle.bib_text.proofs.PlaceFacts.{ahead_run, ahead_then, ahead_char, stops_without}
 use Rattle.bib_syntax.proofs.FieldFacts.{ahead_gap, refuses_from}
@@ -37,4 +37,4 @@ pub returns-clause-found : goal.returns-clause-found
 returns-clause-found c u starts =
     rw c.new.ensures (entry_found _ _ _ _ starts c.cursor.ensures.place c.key-key.ensures.reading
     c.key-key.ensures.longest c.eat_whitespace.ensures.longest
-    c.in_ok-expect.ensures.found c.gap.ensures c.in_ok-fields.ensures.found (taken_if 125 _ c.eat_if.ensures c.in_ok-fields.ensures.closed))
+    (search rules) c.gap.ensures c.in_ok-fields.ensures.found (taken_if 125 _ c.eat_if.ensures c.in_ok-fields.ensures.closed))

@@ -1,7 +1,7 @@
 use Rattle.std.proofs.Common.{◌≡◌, ◌∙◌, ap, sym, subst, refl, inl, inr, length, map}
 use Rattle.std.proofs.lemmas.List.{length-map}
 use Rattle.std.proofs.lemmas.Result.{err_from_is_err_and}
-use Rattle.bib_entry.specs.Parents.{has_references}
+use Rattle.bib_collections.specs.Graph.{IsTopologicalOrder}
 use Rattle.bib_collections.specs.Names.{AreIndicesBelow}
 use Rattle.bib_syntax.specs.Views.{entry_reading_of, file_of}
 use Rattle.bib_inheritance.specs.Resolving.{AreResolved, IsResolvingError, graph_by}
@@ -25,6 +25,10 @@ resolve-requires-clause-as_long c =
     ap length spans ∙ length-map c.args.raw.entries.items (λ r. r.span) ∙ sym (length-map c.args.raw.entries.items entry_reading_of)
     ∙ entries_count (map entry_reading_of c.args.raw.entries.items) c.in_ok-entries.entries.items
     c.in_ok-entries.ensures.loaded.read ∙ sym (ap length c.deref_mut.ensures.value)
+
+pub resolve-requires-clause-below : goal.resolve-requires-clause-below
+resolve-requires-clause-below c =
+    subst (λ es. AreIndicesBelow (length es) c.in_ok-entries.names) (sym c.deref_mut.ensures.value) c.in_ok-entries.ensures.below
 
 pub returns-in_err-turns-clause-refused : goal.returns-in_err-turns-clause-refused
 returns-in_err-turns-clause-refused c =
@@ -63,3 +67,15 @@ returns-clause-loaded c =
     (loaded own c.resolve.new.entries names c.in_ok-entries.ensures.loaded.read
     (ap (λ l. l.names) c.in_ok-entries.ensures.loaded.bibliography)
     (subst (λ es. AreResolved es (graph_by names es) c.resolve.new.entries) c.deref_mut.ensures.value c.in_ok-turns.ensures.resolved))
+
+pub returns-clause-turns : goal.returns-clause-turns
+returns-clause-turns c =
+    let own = c.in_ok-entries.entries.items in
+    let turns = c.in_ok-turns.turns.items in (
+      own,
+      c.in_ok-entries.ensures.loaded.read,
+      subst (λ names. IsTopologicalOrder (graph_by names own) turns)
+          (sym (ap (λ l. l.names) c.in_ok-entries.ensures.loaded.bibliography))
+          (subst (λ es. IsTopologicalOrder (graph_by c.in_ok-entries.names es) turns) c.deref_mut.ensures.value
+          c.in_ok-turns.ensures.turns),
+    )

@@ -1,4 +1,4 @@
-use Rattle.std.proofs.Common.{◌++◌, ◌∷◌, [], ◌+◌, ap, arith, length, length-append, ◌∙◌}
+use Rattle.std.proofs.Common.{◌++◌, ◌∷◌, [], ◌+◌, ap, arith, length, length-append, rules, ◌∙◌}
 use Rattle.bib_collections.specs.Names.{AreIndicesBelow}
 use Rattle.bib_file_entries.specs.Bibliography.{claims}
 use Rattle.bib_file_entries.proofs.BibliographyFacts.{below_claimed, below_more}
@@ -17,3 +17,15 @@ invariant_of-self-2 c =
     rw c.in_default-claim_next.ensures.claimed
     (below_claimed (count + 1) (claims c.args.entry) c.self.inside.names count old (omega arith)) in
     below_more (count + 1) _ c.claim_next.new.names new (omega (arith, longer))
+
+pub returns-clause-had : goal.returns-clause-had
+returns-clause-had c = search rules
+
+pub returns-clause-inserted : goal.returns-clause-inserted
+returns-clause-inserted c = search rules
+
+pub returns-in-Some-clause-inserted : goal.returns-in-Some-clause-inserted
+returns-in-Some-clause-inserted c = search rules
+
+pub returns-in-Err-clause-present : goal.returns-in-Err-clause-present
+returns-in-Err-clause-present c = search rules
