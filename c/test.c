@@ -159,7 +159,7 @@ static void check_buffers(void)
     uint8_t words[64];
     static const char *const said[] = {"done", "the buffer is too short", "not UTF-8", "refused", "out of memory", "no entry has the key",
         "an entry has the name already, as its key or in its field `ids`", "not a key for BibTeX, Biber and bibtool", "the text can't be the name of a field",
-        "the value can't stand between braces", "an abbreviation is defined already with another text", "no status"};
+        "the braces of the value don't balance", "an abbreviation is defined already with another text", "no status"};
     for (uint32_t status = 0; status < 12; status++) {
         check(biblatex_message(status, words, sizeof words, &size) == BIBLATEX_DONE && size == strlen(said[status])
                   && memcmp(words, said[status], size) == 0, "the words of each status");

@@ -35,7 +35,7 @@ status_text number =
     else if number == 6 then codes "an entry has the name already, as its key or in its field `ids`"
     else if number == 7 then codes "not a key for BibTeX, Biber and bibtool"
     else if number == 8 then codes "the text can't be the name of a field"
-    else if number == 9 then codes "the value can't stand between braces"
+    else if number == 9 then codes "the braces of the value don't balance"
     else if number == status_number DefinitionIsThere then codes "an abbreviation is defined already with another text"
     else codes "no status"
 

@@ -71,7 +71,7 @@ fn text_of(number: u32) -> &'static str
         6 => "an entry has the name already, as its key or in its field `ids`",
         7 => "not a key for BibTeX, Biber and bibtool",
         8 => "the text can't be the name of a field",
-        9 => "the value can't stand between braces",
+        9 => "the braces of the value don't balance",
         10 => "an abbreviation is defined already with another text",
         _ => "no status",
     }

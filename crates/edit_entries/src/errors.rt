@@ -23,8 +23,9 @@ pub enum EditError {
     /// The text can't be the name of a field.
     #[error("the text can't be the name of a field")]
     NotAName,
-    /// The value can't stand between braces: a brace isn't closed, or closes nothing, or a backslash hides the last brace.
-    #[error("the value can't stand between braces")]
+    /// The value can't be written in braces: a brace isn't closed or closes nothing, for this library or for BibTeX, which also counts a
+    /// brace after a backslash; or a backslash hides the last brace.
+    #[error("the braces of the value don't balance")]
     NotInBraces,
     /// An abbreviation is defined already, in any ASCII case, with another text: every use of it would get
     /// another value.

@@ -90,7 +90,7 @@ fn says_why_edits_are_refused(rt: HostRuntime) {
     let status = message(6, &mut out, &mut size);
     agrees(&rt, answer(status, &out, size), "an entry has the name already, as its key or in its field `ids`");
     let status = message(9, &mut out, &mut size);
-    agrees(&rt, answer(status, &out, size), "the value can't stand between braces");
+    agrees(&rt, answer(status, &out, size), "the braces of the value don't balance");
 }
 
 #[test]
