@@ -112,11 +112,6 @@ def is_emptied(case):
     return entry is not None and {name for name, _ in entry.fields} <= set(case.command.words)
 
 
-def has_escaped_brace(case):
-    """Whether the command sets a text with a backslash before a brace."""
-    return re.search(r"\\[{}]", case.command.words[2]) is not None
-
-
 def refers_by_abbreviation(case):
     """Whether the file has a reference by an abbreviation."""
     return any("\x01" in text for it in case.source.values() for name, text in it.fields if name in REFERENCES)
@@ -163,14 +158,13 @@ REASONS = [
     Reason(RULE, "a definition of an abbreviation that the file has with another text is refused", "add-string", "bibkit", "refused",
            lambda it: "an abbreviation is defined already" in it.difference.after),
     Reason(FAULT, "each abbreviation gets the last of its definitions", "expand", ".*", "field changed|print", defines_twice),
-    Reason(FAULT, "set changes the last of two fields with one name, and BibTeX reads the first", "set-twice", "bibtex", "field changed"),
     Reason(FAULT, "rename leaves a reference by an abbreviation", "rename", ".*", ".*", refers_by_abbreviation),
-    Reason(FAULT, "bibtool loses an entry without fields, and what follows it", "(walk-)?unset.*", "bibtool", ".*", is_emptied),
-    Reason(FAULT, "BibTeX and bibtool count a brace after a backslash", "walk-set", ".*", ".*", has_escaped_brace),
+    Reason(RULE, "unset is refused if the entry would have no field left", "(walk-)?unset.*", "bibkit", "refused",
+           lambda it: is_emptied(it) and "no field left" in it.difference.after),
     Reason(FAULT, "BibTeX doesn't end a text in quotes at a quote in braces, as this library and bibtool do", f"{LAYOUTS}|{EDITS}", "bibtex|bibtool",
            ".*", hides_quote),
     Reason(FAULT, "an abbreviation isn't shorter than its text", "collect", "bytes", "long name"),
-    Reason(FAULT, "LF in a file whose lines end with CR LF", "add.*|set-new|collect", "bytes", "line ends"),
+    Reason(FAULT, "LF in a file whose lines end with CR LF", "add.*|collect", "bytes", "line ends"),
     Reason(RULE, "a comment after the field goes with it", "unset.*|resolve", "bytes", "comment lost"),
 ]
 

@@ -69,8 +69,10 @@ static void check_edits(void)
     wanted = "@misc{b, crossref = {a}}\n";
     status = biblatex_remove(bytes(text), strlen(text), bytes("a"), 1, out, sizeof out, &size);
     check(status == BIBLATEX_DONE && size == strlen(wanted) && memcmp(out, wanted, size) == 0, "remove");
-    status = biblatex_unset(bytes(text), strlen(text), bytes("b"), 1, bytes("crossref"), 8, out, sizeof out, &size);
-    check(status == BIBLATEX_DONE && size < strlen(text), "unset");
+    const char *two = "@misc{b, crossref = {a}, note = {N}}\n";
+    wanted = "@misc{b, note = {N}}\n";
+    status = biblatex_unset(bytes(two), strlen(two), bytes("b"), 1, bytes("crossref"), 8, out, sizeof out, &size);
+    check(status == BIBLATEX_DONE && size == strlen(wanted) && memcmp(out, wanted, size) == 0, "unset");
     size = 77;
     memset(out, 'x', sizeof out);
     status = biblatex_unset(bytes(text), strlen(text), bytes("z"), 1, bytes("title"), 5, out, sizeof out, &size);
@@ -100,6 +102,8 @@ static void check_addition(void)
     size = 77;
     check(biblatex_add(bytes(text), strlen(text), bytes(text), strlen(text), out, sizeof out, &size) == BIBLATEX_KEY_IS_THERE && size == 77,
           "an addition of a key that is there is refused");
+    check(biblatex_unset(bytes(text), strlen(text), bytes("a"), 1, bytes("title"), 5, out, sizeof out, &size) == BIBLATEX_NO_FIELD_LEFT && size == 77,
+          "an entry keeps at least one field");
     check(biblatex_add(bytes("@string{s={x}}"), 14, bytes("@string{S={y}}"), 14, out, sizeof out, &size) == BIBLATEX_DEFINITION_IS_THERE && size == 77,
           "an addition of another definition is refused");
     check(biblatex_add(bytes(text), strlen(text), bytes("@misc{b"), 7, out, sizeof out, &size) == BIBLATEX_REFUSED && size == 77,
@@ -159,8 +163,9 @@ static void check_buffers(void)
     uint8_t words[64];
     static const char *const said[] = {"done", "the buffer is too short", "not UTF-8", "refused", "out of memory", "no entry has the key",
         "an entry has the name already, as its key or in its field `ids`", "not a key for BibTeX, Biber and bibtool", "the text can't be the name of a field",
-        "the braces of the value don't balance", "an abbreviation is defined already with another text", "no status"};
-    for (uint32_t status = 0; status < 12; status++) {
+        "the braces of the value don't balance", "an abbreviation is defined already with another text",
+        "the entry would have no field left", "no status"};
+    for (uint32_t status = 0; status < 13; status++) {
         check(biblatex_message(status, words, sizeof words, &size) == BIBLATEX_DONE && size == strlen(said[status])
                   && memcmp(words, said[status], size) == 0, "the words of each status");
     }

@@ -399,6 +399,7 @@ refuses 'a key that Biber cuts' 1 "bibkit: two.bib: a to o'hara$no_key" rename a
 refuses 'a key that cites all entries' 1 "bibkit: two.bib: a to *$no_key" rename a '*' -f two.bib
 refuses 'a key of another entry in another case' 1 "bibkit: two.bib: a to B$is_there"$'\n' rename a B -f two.bib
 refuses 'no name of a field' 1 $'bibkit: two.bib: a: a b: the text can\'t be the name of a field\n' set a 'a b=c' -f two.bib
+refuses 'no field left' 1 $'bibkit: two.bib: a: author: the entry would have no field left\n' unset a title author -f two.bib
 refuses 'no value' 1 $'bibkit: two.bib: a: title: the braces of the value don\'t balance\n' set a 'title=}' -f two.bib
 refuses 'a value that is not closed' 1 $'bibkit: two.bib: a: title: the braces of the value don\'t balance\n' set a 'title=a\' -f two.bib
 refuses 'a brace that only TeX passes over' 1 $'bibkit: two.bib: a: title: the braces of the value don\'t balance\n' set a 'title=a \}' -f two.bib

@@ -58,9 +58,10 @@ def set_field(text: Text, key: str, name: str, value: str) -> Text:
 def unset_field(text: Text, key: str, name: str) -> Text:
     """Returns the text with each field `name` of the entry `key` removed, or the same text if the entry has none.
 
-    Raises an `EditError` if no entry has the key.
+    Raises an `EditError` if no entry has the key, or if the entry would have no field left.
     """
-    return _edit(text, "biblatex_unset", key, name, why=_unknown_key(key))
+    why = {**_unknown_key(key), Status.NO_FIELD_LEFT: f"the entry {key!r} would have no field left"}
+    return _edit(text, "biblatex_unset", key, name, why=why)
 
 
 def rename_key(text: Text, old: str, new: str) -> Text:

@@ -27,6 +27,7 @@ class Status(IntEnum):
     NOT_A_NAME = 8
     NOT_IN_BRACES = 9
     DEFINITION_IS_THERE = 10
+    NO_FIELD_LEFT = 11
 
 
 class NotUtf8(Exception):
@@ -80,7 +81,7 @@ def _raise_unless_done(name: str, status: int) -> None:
         raise Refused
     if status == Status.OUT_OF_MEMORY:
         raise MemoryError
-    if Status.UNKNOWN_KEY <= status <= Status.DEFINITION_IS_THERE:
+    if Status.UNKNOWN_KEY <= status <= Status.NO_FIELD_LEFT:
         raise EditRefused(Status(status))
     if status != Status.DONE:
         raise RuntimeError(f"{name} returned the unknown status {status}")

@@ -80,6 +80,9 @@ class Refusals(unittest.TestCase):
         self.refuses(biblatex.remove_entry, BOTH, "z", why=why)
         self.refuses(biblatex.remove_entry, "", "", why="no entry has the key ''")
 
+    def test_the_only_field_stays(self) -> None:
+        self.refuses(biblatex.unset_field, "@misc{a, title={A}}", "a", "title", why="the entry 'a' would have no field left")
+
     def test_what_can_be_no_name_and_no_value(self) -> None:
         self.refuses(biblatex.set_field, BOTH, "a", "my note", "N", why="'my note' can't be the name of a field")
         self.refuses(biblatex.set_field, BOTH, "a", "note", "N}", why="the braces of the value don't balance: 'N}'")

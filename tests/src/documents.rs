@@ -18,6 +18,7 @@ fn refusal(error: EditError) -> &'static str {
         EditError::NotAName => "refused: not a name",
         EditError::NotInBraces => "refused: not in braces",
         EditError::DefinitionIsThere => "refused: the definition is there",
+        EditError::NoFieldLeft => "refused: no field left",
         EditError::OutOfMemory => "refused: out of memory",
     }
 }

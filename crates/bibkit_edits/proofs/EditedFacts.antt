@@ -252,6 +252,14 @@ edit_refused edit text index d error.DefinitionIsThere read refused = (
     refused = why_refused edit d (λ out. let clash : error.DefinitionIsThere ≡ error.OutOfMemory = out in cc) refused;
   },
 )
+edit_refused edit text index d error.NoFieldLeft read refused = (
+  refl,
+  record {
+    document = d;
+    read = read;
+    refused = why_refused edit d (λ out. let clash : error.NoFieldLeft ≡ error.OutOfMemory = out in cc) refused;
+  },
+)
 
 -- the same for an edit that can't resolve references
 unresolved_at : (edit : Edit) (text : List ℕ) (index : ℕ) (d : Document) (why : ResolveError) → IsDocumentOf text d

@@ -8,7 +8,7 @@ use Rattle.bib_syntax.specs.SyntaxErrors.{IsReported}
 use Rattle.bib_syntax.specs.declared.raw.ParseError.{ParseError}
 use Rattle.bib_source.specs.Encoding.{IsFirstInvalid, byte_order_mark, without_byte_order_mark}
 use Rattle.edit_convert.specs.Conversions.{IsConverted}
-use Rattle.edit_entries.specs.Documents.{Document, EntriesAdded, EntriesAreRefused, EntryIsRefused, EntryRemoved, FieldUnset, IsDocument, IsEdited}
+use Rattle.edit_entries.specs.Documents.{Document, EntriesAdded, EntriesAreRefused, EntryIsRefused, EntryRemoved, FieldUnset, IsDocument, IsEdited, UnsetIsRefused}
 use Rattle.edit_entries.specs.References.{KeyRenamed, RenameIsRefused}
 use Rattle.edit_entries.specs.Setting.{FieldSet, SetIsRefused}
 use Rattle.edit_entries.specs.declared.errors.EditError.{EditError}
@@ -114,7 +114,7 @@ pub record TextIsRefused (d : Document) (text : List ℕ) (why : EditError) : Ty
 -- an edit of a document may be refused with this error
 abbrev pub IsEditRefused : Edit → Document → EditError → Type 0
 IsEditRefused (Set key name value) d why = SetIsRefused d key.now name.now value.now why
-IsEditRefused (Unset key name) d why = EntryIsRefused d key.now why
+IsEditRefused (Unset key name) d why = UnsetIsRefused d key.now name.now why
 IsEditRefused (Rename old new) d why = RenameIsRefused d old.now new.now why
 IsEditRefused (Remove key) d why = EntryIsRefused d key.now why
 IsEditRefused (Add text) d why = TextIsRefused d text.now why

@@ -20,7 +20,7 @@ use Rattle.bibkit_core.specs.declared.request.Style.TheVariants as style
 use Rattle.bibkit_core.specs.declared.tally.Tally.{Tally}
 use Rattle.biblatex_c.specs.Statuses.{status_number}
 use Rattle.biblatex_c.specs.declared.status.Status.{Status}
-use Rattle.biblatex_c.specs.declared.status.Status.TheVariants.{Done, TooShort, NotUtf8, Refused, OutOfMemory, UnknownKey, KeyIsThere, NotAKey, NotAName, NotInBraces, DefinitionIsThere}
+use Rattle.biblatex_c.specs.declared.status.Status.TheVariants.{Done, TooShort, NotUtf8, Refused, OutOfMemory, UnknownKey, KeyIsThere, NotAKey, NotAName, NotInBraces, DefinitionIsThere, NoFieldLeft}
 
 -- a call on the buffer `out` and the size `size` leaves this buffer and this size, and returns this status. `Answers` says which
 -- bytes may be its result, and `Fails` with which statuses it may fail. A result that fits is at the start of the buffer, and the
@@ -123,6 +123,7 @@ EditFails Refuses text others NotAKey = IsRefusedFor Refuses text edit_error.Not
 EditFails Refuses text others NotAName = IsRefusedFor Refuses text edit_error.NotAName
 EditFails Refuses text others NotInBraces = IsRefusedFor Refuses text edit_error.NotInBraces
 EditFails Refuses text others DefinitionIsThere = IsRefusedFor Refuses text edit_error.DefinitionIsThere
+EditFails Refuses text others NoFieldLeft = IsRefusedFor Refuses text edit_error.NoFieldLeft
 
 -- the second document is the first with the document of the text `added` after it
 abbrev pub WithEntriesOf : List ℕ → Document → Document → Type 0

@@ -2,7 +2,7 @@
 
 ghost use Rattle.std.specs.Prelude.{◌≡◌, [], ◌∷◌, IfOk, IfErr};
 ghost use Rattle.std.specs.String.{string_bytes};
-ghost use Rattle.edit_entries.specs.Documents.{EntryIsRefused, EntryRemoved, FieldUnset};
+ghost use Rattle.edit_entries.specs.Documents.{EntryIsRefused, EntryRemoved, FieldUnset, UnsetIsRefused};
 ghost use Rattle.edit_entries.specs.Setting.{FieldSet, SetIsRefused};
 ghost use Rattle.edit_entries.specs.References.{KeyRenamed, RenameIsRefused};
 ghost use Rattle.biblatex_c.specs.Calls.{AddFails, EditFails, IsEditedText, IsLaidOut, IsNoFile, IsNumberedEnd, TextFails, WithEntriesOf};
@@ -74,7 +74,7 @@ pub extern "C" fn biblatex_set(
 // Returns the text without the field `name` of the entry `key`.
 fn unset_in(alloc: Global, text: &[u8], key: &[u8], name: &[u8]) -> Result<String, Status>
     ensures made { IfOk result (λ edited. IsEditedText (λ d. FieldUnset d key.now name.now) text.now (string_bytes edited)) }
-    ensures fails { IfErr result (EditFails (λ d why. EntryIsRefused d key.now why) text.now (key.now ∷ name.now ∷ [])) }
+    ensures fails { IfErr result (EditFails (λ d why. UnsetIsRefused d key.now name.now why) text.now (key.now ∷ name.now ∷ [])) }
 {
     let document = RawDocument::parse(alloc, text_of(text)?)?;
     let key = text_of(key)?;
@@ -94,7 +94,7 @@ pub extern "C" fn biblatex_unset(
     size: &mut usize,
 ) -> u32
     ensures { IsNumberedEnd (IsEditedText (λ d. FieldUnset d key.now name.now) text.now)
-        (EditFails (λ d why. EntryIsRefused d key.now why) text.now (key.now ∷ name.now ∷ []))
+        (EditFails (λ d why. UnsetIsRefused d key.now name.now why) text.now (key.now ∷ name.now ∷ []))
         out.old size.old out.new size.new result }
 {
     end(unset_in(alloc, text, key, name), out, size).number()

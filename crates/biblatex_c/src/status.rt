@@ -34,10 +34,12 @@ pub enum Status {
     NotInBraces,
     /// An added abbreviation is defined already with another text.
     DefinitionIsThere,
+    /// The entry would have no field left.
+    NoFieldLeft,
 }
 
 impl Status {
-    /// Returns the number of the status, from 0 to 10, as c/biblatex.h lists them.
+    /// Returns the number of the status, from 0 to 11, as c/biblatex.h lists them.
     pub fn number(self) -> u32
         ensures { result ≡ spec.status_number self }
     {
@@ -53,6 +55,7 @@ impl Status {
             Status::NotAName => 8,
             Status::NotInBraces => 9,
             Status::DefinitionIsThere => 10,
+            Status::NoFieldLeft => 11,
         }
     }
 }
@@ -73,6 +76,7 @@ fn text_of(number: u32) -> &'static str
         8 => "the text can't be the name of a field",
         9 => "the braces of the value don't balance",
         10 => "an abbreviation is defined already with another text",
+        11 => "the entry would have no field left",
         _ => "no status",
     }
 }
@@ -117,6 +121,7 @@ impl From<EditError> for Status {
             EditError::NotAName => Status::NotAName,
             EditError::NotInBraces => Status::NotInBraces,
             EditError::DefinitionIsThere => Status::DefinitionIsThere,
+            EditError::NoFieldLeft => Status::NoFieldLeft,
             EditError::OutOfMemory => Status::OutOfMemory,
         }
     }

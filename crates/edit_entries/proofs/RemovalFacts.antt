@@ -8,7 +8,7 @@ use Rattle.std.proofs.lemmas.List.{map-append, take_more, length-map, length-tak
 use Rattle.std.proofs.lemmas.Option.{slice_get-map}
 use Rattle.bib_syntax.specs.Reading.{FieldReading, EntryReading}
 use Rattle.edit_entries.specs.Edits.{Edit, edited, edited_all, moved_place, moved_field, moved_entry}
-use Rattle.edit_entries.specs.Documents.{Document, FieldUnset, FieldsRemoved, HasEntry, IsDocument, IsEdited, field_edit, field_limit, field_removed, has_name, positions}
+use Rattle.edit_entries.specs.Documents.{Document, FieldUnset, FieldsRemoved, HasEntry, IsDocument, IsEdited, field_edit, field_limit, field_removed, has_name, have_only, positions}
 use Rattle.edit_entries.specs.EditList.{AreEditsInOrder}
 use Rattle.edit_entries.specs.Stretches.{removals}
 use Rattle.edit_entries.proofs.EditFacts.{moved_after, moved_before}
@@ -216,10 +216,11 @@ removals_more view name e xs i x within is =
 
 -- a field was unset
 pub field_unset : {S : Type 0} (bytes : S → List ℕ) (d : Document) (key name : List ℕ) (k : ℕ) (e : EntryReading)
-    (new : S) → IsDocument d → HasEntry d key k e → bytes new ≡ edited_all (removals name e 0 e.fields) d.text
+    (new : S) → IsDocument d → HasEntry d key k e → have_only name e.fields ≡ false
+    → bytes new ≡ edited_all (removals name e 0 e.fields) d.text
     → IsEdited (FieldUnset d key name) (bytes new)
-field_unset bytes d key name k e new read entry is =
+field_unset bytes d key name k e new read entry left is =
     let all =
     all_removed d k e name 0 e.fields read entry.here
     (λ i f found. let same : i ≡ 0 + i = omega arith in subst (λ n. slice_get e.fields n ≡ Some f) same found) in
-    record { document = all.after; outcome = FieldUnset.unset entry all.removed; is = is ∙ sym all.text; read = all.read }
+    record { document = all.after; outcome = FieldUnset.unset entry left all.removed; is = is ∙ sym all.text; read = all.read }

@@ -19,7 +19,7 @@ use Rattle.edit_entries.specs.Placed.{HasComma, IsNamePlaced, IsPlaced}
 use Rattle.edit_entries.specs.SetTexts.{CanBeSetIn, IsSetText, SetTextIsRefused}
 use Rattle.edit_entries.specs.Setting.{CanBeValue, FieldSet, IsAfterComma, IsEntryChanged, IsSet, SetIsRefused, field_put, has_other_value, only_field_added, only_field_text, set_change, values_set, white_before}
 use Rattle.edit_entries.specs.declared.errors.EditError.{EditError}
-use Rattle.edit_entries.specs.declared.errors.EditError.TheVariants.{UnknownKey, KeyIsThere, NotAKey, NotAName, NotInBraces, DefinitionIsThere, OutOfMemory}
+use Rattle.edit_entries.specs.declared.errors.EditError.TheVariants.{UnknownKey, KeyIsThere, NotAKey, NotAName, NotInBraces, DefinitionIsThere, NoFieldLeft, OutOfMemory}
 use Rattle.edit_entries.proofs.AddedFacts.{only_field_read}
 use Rattle.edit_entries.proofs.AllFacts.{all_found}
 use Rattle.edit_entries.proofs.ChangesFacts.{CanChange, CanEntryChange, CanFieldsChange}
@@ -251,6 +251,7 @@ set_refused d key name value k e NotInBraces entry why = record {
         (why.new (subst (λ x. list_any (has_name name) x.fields ≡ true) (sym same) set.named)) in
         absurd (cc)
 set_refused d key name value k e DefinitionIsThere entry why = why
+set_refused d key name value k e NoFieldLeft entry why = why
 set_refused d key name value k e OutOfMemory entry why = tt
 
 -- ---- the results of calls

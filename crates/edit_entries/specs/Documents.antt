@@ -1,8 +1,8 @@
 -- Meaning: words of public contracts.
 -- A bibliography's text with what it says, and what an edit makes of the two.
-use Rattle.std.specs.Prelude.{◌≡◌, ℕ, suc, ◌+◌, ◌<◌, Bool, true, false, if◌then◌else◌, List, [], ◌∷◌, ◌++◌, length, map, Option, Some, None, bytes_eq, slice_get, slice_set, take, codes, ⊤}
+use Rattle.std.specs.Prelude.{◌≡◌, ℕ, suc, ◌+◌, ◌<◌, ◌&&◌, Bool, true, false, if◌then◌else◌, List, [], ◌∷◌, ◌++◌, length, map, Option, Some, None, bytes_eq, slice_get, slice_set, take, codes, ⊤}
 use Rattle.std.specs.Char.{is_whitespace}
-use Rattle.std.specs.List.{remove}
+use Rattle.std.specs.List.{list_all, list_any, remove}
 use Rattle.std.specs.Option.{option_map_or}
 use Rattle.std.specs.Str.{trim_end}
 use Rattle.bib_text.specs.Places.{CharAt, Longest, Place, Run, between, place}
@@ -12,7 +12,7 @@ use Rattle.bib_syntax.specs.Grammar.{Braced, Identifier, IsRawReading, is_word, 
 use Rattle.bib_syntax.specs.Reading.{Part, Piece, FieldReading, EntryReading, FileReading, then}
 use Rattle.bib_syntax.specs.Reading.Piece.{literal, abbreviation}
 use Rattle.edit_entries.specs.declared.errors.EditError.{EditError}
-use Rattle.edit_entries.specs.declared.errors.EditError.TheVariants.{UnknownKey, KeyIsThere, NotAKey, NotAName, NotInBraces, DefinitionIsThere, OutOfMemory}
+use Rattle.edit_entries.specs.declared.errors.EditError.TheVariants.{UnknownKey, KeyIsThere, NotAKey, NotAName, NotInBraces, DefinitionIsThere, NoFieldLeft, OutOfMemory}
 use Rattle.edit_entries.specs.Edits.{Edit, edited, moved_place, moved_piece, moved_field, moved_entry, moved_file}
 use Rattle.edit_entries.specs.NewNames.{HaveNewKeys, shares_name}
 
@@ -144,6 +144,7 @@ EntryIsRefused d key NotAKey = ⊥
 EntryIsRefused d key NotAName = ⊥
 EntryIsRefused d key NotInBraces = ⊥
 EntryIsRefused d key DefinitionIsThere = ⊥
+EntryIsRefused d key NoFieldLeft = ⊥
 EntryIsRefused d key OutOfMemory = ⊤
 
 -- where the field after one begins, or else where the entry's closing brace stands
@@ -172,10 +173,32 @@ pub data FieldsRemoved (d : Document) (k : ℕ) : List ℕ → Document → Type
       → FieldsRemoved d k rest after → slice_get after.says.entries k ≡ Some e → slice_get e.fields j ≡ Some f
       → FieldsRemoved d k (j ∷ rest) (field_removed after k e j f)
 
--- what comes of unsetting a field of an entry: each field with the name is taken out
+-- whether there are fields, and each of them has a name
+abbrev pub have_only : List ℕ → List FieldReading → Bool
+have_only name fields = list_any (has_name name) fields && list_all (has_name name) fields
+
+-- the outcome of unsetting a field of an entry: each field with the name is removed, and another field is left
 pub data FieldUnset (d : Document) (key name : List ℕ) : Document → Type 0 where
-  unset : {k : ℕ} {e : EntryReading} {after : Document} → HasEntry d key k e
+  unset : {k : ℕ} {e : EntryReading} {after : Document} → HasEntry d key k e → have_only name e.fields ≡ false
       → FieldsRemoved d k (positions (has_name name) 0 e.fields) after → FieldUnset d key name after
+
+-- the first entry with a key has only fields with a name
+pub record HasOnlyFields (d : Document) (key name : List ℕ) : Type 0 where
+  pub index : ℕ
+  pub entry : EntryReading
+  pub has : HasEntry d key index entry
+  pub only : have_only name entry.fields ≡ true
+
+-- the conditions under which unsetting a field is refused
+abbrev pub UnsetIsRefused : Document → List ℕ → List ℕ → EditError → Type 0
+UnsetIsRefused d key name UnknownKey = first_position (is_keyed key) d.says.entries ≡ None
+UnsetIsRefused d key name KeyIsThere = ⊥
+UnsetIsRefused d key name NotAKey = ⊥
+UnsetIsRefused d key name NotAName = ⊥
+UnsetIsRefused d key name NotInBraces = ⊥
+UnsetIsRefused d key name DefinitionIsThere = ⊥
+UnsetIsRefused d key name NoFieldLeft = HasOnlyFields d key name
+UnsetIsRefused d key name OutOfMemory = ⊤
 
 -- a text can be a key: some characters that a key may have
 pub record CanBeKey (text : List ℕ) : Type 0 where
@@ -229,6 +252,7 @@ EntriesAreRefused d more NotAKey = HaveNewKeys more.says.entries → ⊥
 EntriesAreRefused d more NotAName = ⊥
 EntriesAreRefused d more NotInBraces = ⊥
 EntriesAreRefused d more DefinitionIsThere = AgreeOnDefinitions d.says.abbreviations more.says.abbreviations → ⊥
+EntriesAreRefused d more NoFieldLeft = ⊥
 EntriesAreRefused d more OutOfMemory = ⊤
 
 -- a text is what comes of an edit, and is read so

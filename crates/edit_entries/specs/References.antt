@@ -14,7 +14,7 @@ use Rattle.edit_entries.specs.Documents.{CanBeKey, CanStandInBraces, Document, H
 use Rattle.edit_entries.specs.Edits.{Edit}
 use Rattle.edit_entries.specs.NewNames.{CanBeNewKey, IsNameTaken}
 use Rattle.edit_entries.specs.declared.errors.EditError.{EditError}
-use Rattle.edit_entries.specs.declared.errors.EditError.TheVariants.{UnknownKey, KeyIsThere, NotAKey, NotAName, NotInBraces, DefinitionIsThere, OutOfMemory}
+use Rattle.edit_entries.specs.declared.errors.EditError.TheVariants.{UnknownKey, KeyIsThere, NotAKey, NotAName, NotInBraces, DefinitionIsThere, NoFieldLeft, OutOfMemory}
 
 -- the elements of a comma list, with the white space around them
 abbrev pub elements_of : List ℕ → List (List ℕ)
@@ -183,4 +183,5 @@ RenameIsRefused d old new NotAKey = IsNoNewKey old new
 RenameIsRefused d old new NotAName = ⊥
 RenameIsRefused d old new NotInBraces = CantBeWritten d old new
 RenameIsRefused d old new DefinitionIsThere = ⊥
+RenameIsRefused d old new NoFieldLeft = ⊥
 RenameIsRefused d old new OutOfMemory = ⊤

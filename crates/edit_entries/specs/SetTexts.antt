@@ -10,7 +10,7 @@ use Rattle.edit_entries.specs.Edits.{edited, edited_all}
 use Rattle.edit_entries.specs.Placed.{HasComma, IsNamePlaced, IsPlaced}
 use Rattle.edit_entries.specs.Setting.{CanBeValue, IsAfterComma, field_put, has_other_value, only_field_text, set_change, values_set}
 use Rattle.edit_entries.specs.declared.errors.EditError.{EditError}
-use Rattle.edit_entries.specs.declared.errors.EditError.TheVariants.{UnknownKey, KeyIsThere, NotAKey, NotAName, NotInBraces, DefinitionIsThere, OutOfMemory}
+use Rattle.edit_entries.specs.declared.errors.EditError.TheVariants.{UnknownKey, KeyIsThere, NotAKey, NotAName, NotInBraces, DefinitionIsThere, NoFieldLeft, OutOfMemory}
 
 -- what setting a field of an entry asks of the entry in its text
 pub record CanBeSetIn (text : List ℕ) (e : EntryReading) (name value : List ℕ) : Type 0 where
@@ -38,6 +38,7 @@ AddIsRefused name value NotAKey = ⊥
 AddIsRefused name value NotAName = CanBeName name → ⊥
 AddIsRefused name value NotInBraces = CanBeValue value → ⊥
 AddIsRefused name value DefinitionIsThere = ⊥
+AddIsRefused name value NoFieldLeft = ⊥
 AddIsRefused name value OutOfMemory = ⊤
 
 -- a value can't be written, and the entry doesn't have it
@@ -53,4 +54,5 @@ SetTextIsRefused e name value NotAKey = ⊥
 SetTextIsRefused e name value NotAName = CanBeName name → ⊥
 SetTextIsRefused e name value NotInBraces = CantBeSetIn e name value
 SetTextIsRefused e name value DefinitionIsThere = ⊥
+SetTextIsRefused e name value NoFieldLeft = ⊥
 SetTextIsRefused e name value OutOfMemory = ⊤

@@ -12,7 +12,7 @@ use Rattle.edit_entries.specs.Changes.{EntryChange, FieldChange, braced_field, b
 use Rattle.edit_entries.specs.Documents.{CanBeName, CanStandInBraces, Document, HasEntry, HasField, entry_edited, first_position, has_name, in_braces, is_keyed, is_value, text_at}
 use Rattle.edit_entries.specs.Edits.{Edit, edited_all, moved_entry, moved_field, moved_place, placeless}
 use Rattle.edit_entries.specs.declared.errors.EditError.{EditError}
-use Rattle.edit_entries.specs.declared.errors.EditError.TheVariants.{UnknownKey, KeyIsThere, NotAKey, NotAName, NotInBraces, DefinitionIsThere, OutOfMemory}
+use Rattle.edit_entries.specs.declared.errors.EditError.TheVariants.{UnknownKey, KeyIsThere, NotAKey, NotAName, NotInBraces, DefinitionIsThere, NoFieldLeft, OutOfMemory}
 
 -- ---- values
 
@@ -130,4 +130,5 @@ SetIsRefused d key name value NotAKey = ⊥
 SetIsRefused d key name value NotAName = CanBeName name → ⊥
 SetIsRefused d key name value NotInBraces = CantBeSet d key name value
 SetIsRefused d key name value DefinitionIsThere = ⊥
+SetIsRefused d key name value NoFieldLeft = ⊥
 SetIsRefused d key name value OutOfMemory = ⊤

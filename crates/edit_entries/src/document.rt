@@ -6,7 +6,7 @@ ghost use Rattle.bib_syntax.specs.Errors.{Refuses, out_of_memory};
 ghost use Rattle.bib_syntax.specs.Grammar.{IsFile, IsRawReading};
 ghost use Rattle.bib_syntax.specs.SyntaxErrors.{IsReported};
 ghost use Rattle.bib_syntax.specs.Views.{file_of};
-ghost use Rattle.edit_entries.specs.Documents.{Document, EntriesAdded, EntriesAreRefused, EntryIsRefused, EntryRemoved, FieldUnset, IsEdited, IsDocument};
+ghost use Rattle.edit_entries.specs.Documents.{Document, EntriesAdded, EntriesAreRefused, EntryIsRefused, EntryRemoved, FieldUnset, IsEdited, IsDocument, UnsetIsRefused};
 ghost use Rattle.edit_entries.specs.NewNames.{HaveNewKeys, IsFirstUnsafeKey};
 ghost use Rattle.edit_entries.specs.References.{KeyRenamed, RenameIsRefused};
 ghost use Rattle.edit_entries.specs.Setting.{FieldSet, SetIsRefused};
@@ -16,7 +16,7 @@ use crate::errors::EditError;
 use crate::joining::{joined, shares_name};
 use crate::keys::{can_be_new_key, first_unsafe_key, have_new_keys};
 use crate::lookup::{entry_index, entry_with};
-use crate::removing::{without_entry, without_fields};
+use crate::removing::{have_only, without_entry, without_fields};
 use crate::renaming::with_key_renamed;
 use crate::setting::with_field_set;
 use crate::taken::is_name_taken;
@@ -98,15 +98,19 @@ impl<'s> RawDocument<'s> {
     }
 
     /// Returns the text without a field of an entry: each field with the name, of the first entry with the key, is removed up to the
-    /// next field or the closing brace. Returns the same text if the entry lacks the field.
+    /// next field or the closing brace. Returns the same text if the entry lacks the field. The edit is refused if no other field is
+    /// left: bibtool doesn't read an entry without fields.
     pub fn unset_field(&self, alloc: Global, key: &str, name: &str) -> Result<String, EditError>
         ensures unset { IfOk result (λ new. IsEdited (FieldUnset self.now key.now name.now) (string_bytes new)) }
-        ensures refused { IfErr result (EntryIsRefused self.now key.now) }
+        ensures refused { IfErr result (UnsetIsRefused self.now key.now name.now) }
     {
-        match entry_with(&self.raw.entries, key) {
-            Some(entry) => Ok(without_fields(alloc, self.text, entry, name)?),
-            None => Err(EditError::UnknownKey),
+        let Some(entry) = entry_with(&self.raw.entries, key) else {
+            return Err(EditError::UnknownKey);
+        };
+        if have_only(&entry.v.fields, name) {
+            return Err(EditError::NoFieldLeft);
         }
+        Ok(without_fields(alloc, self.text, entry, name)?)
     }
 
     /// Returns the text without the first entry with a key, and without the white space after it.

@@ -31,6 +31,9 @@ pub enum EditError {
     /// another value.
     #[error("an abbreviation is defined already with another text")]
     DefinitionIsThere,
+    /// The entry would have no field left. bibtool doesn't read such an entry, and loses the one after it too.
+    #[error("the entry would have no field left")]
+    NoFieldLeft,
     /// Out of memory.
     #[error("out of memory")]
     OutOfMemory,

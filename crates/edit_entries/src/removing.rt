@@ -2,6 +2,7 @@
 
 ghost use Rattle.std.specs.Prelude.{◌≡◌, ◌+◌, ◌++◌, ◌≤◌, ◌<◌, ℕ, [], IfOk, OnOk, length, map};
 ghost use Rattle.std.specs.Char.{is_whitespace};
+ghost use Rattle.std.specs.List.{list_all};
 ghost use Rattle.std.specs.Str.{IsCharBoundary};
 ghost use Rattle.std.specs.String.{string_bytes};
 ghost use Rattle.bib_text.specs.Places.{Longest};
@@ -14,6 +15,7 @@ ghost use Rattle.edit_entries.specs.Stretches as stretches;
 ghost use Rattle.edit_entries.specs.EditList.{AreEditsInOrder, edit_of};
 
 use crate::editing::{Edit, edited, edited_all};
+use crate::setting::has_field;
 use bib_syntax::raw::{Pair, RawEntry, is_word};
 use bib_text::scanner::Scanner;
 use bib_text::spanned::Spanned;
@@ -95,6 +97,26 @@ fn removals(
         push_removal(&mut edits, alloc, entry, index, field, name)?;
     }
     Ok(edits)
+}
+
+// Returns whether each of these fields has a name, in any ASCII case.
+fn are_named(fields: &[Pair<'_>], name: &str) -> bool
+    ensures { result ≡ list_all (documents.has_name name.now) (map field_of fields.now) }
+{
+    'fields: for field in fields {
+        let is_named = is_word(field.key.v, name);
+        if !is_named {
+            return false;
+        }
+    }
+    true
+}
+
+// Returns whether there are fields, and each of them has a name, in any ASCII case.
+pub(crate) fn have_only(fields: &[Pair<'_>], name: &str) -> bool
+    ensures { result ≡ documents.have_only name.now (map field_of fields.now) }
+{
+    has_field(fields, name) && are_named(fields, name)
 }
 
 // The text without an entry's fields with a name.

@@ -50,7 +50,7 @@ fn has_other_value(field: &Pair<'_>, name: &str, value: &str) -> bool
 }
 
 // Returns whether one of these fields has a name, in any ASCII case.
-fn has_field(fields: &[Pair<'_>], name: &str) -> bool
+pub(crate) fn has_field(fields: &[Pair<'_>], name: &str) -> bool
     ensures { result ≡ list_any (documents.has_name name.now) (map field_of fields.now) }
 {
     'fields: for field in fields {
