@@ -1,5 +1,5 @@
 -- Machinery: words of private contracts.
--- Where a text may be cut around its entries and their parts.
+-- Byte offsets at which a text may be cut: the ends of its entries and of their parts.
 use Rattle.std.specs.Prelude.{ℕ, ◌+◌, ◌≤◌, List, [], ◌∷◌, ⊤}
 use Rattle.std.specs.List.{AllByRecursion}
 use Rattle.std.specs.Str.{IsCharBoundary}
@@ -21,7 +21,7 @@ IsPieceCut text (abbreviation p) = ⊤
 abbrev pub ArePiecesCut : List ℕ → FieldReading → Type 0
 ArePiecesCut text f = AllByRecursion (IsPieceCut text) f.value.pieces
 
--- what stands between a place, the fields after it and the closing brace may be cut out of a text
+-- the gaps between a byte offset, the fields after it and the closing brace may be cut out of a text
 abbrev pub AreGapsCut : List ℕ → ℕ → List FieldReading → ℕ → Type 0
 AreGapsCut text start [] end = CanBeCut text start end
 AreGapsCut text start (f ∷ fs) end = CanBeCut text start f.name.start × AreGapsCut text f.value.end fs end
@@ -32,7 +32,7 @@ pub record IsEntryCut (text : List ℕ) (e : EntryReading) : Type 0 where
   pub gaps : AreGapsCut text e.key.end e.fields e.end
   pub pieces : AllByRecursion (ArePiecesCut text) e.fields
 
--- entries, and what stands between them from a place on, may be cut out of a text
+-- entries, and the gaps between them from a byte offset on, may be cut out of a text
 abbrev pub AreEntriesCut : List ℕ → ℕ → List EntryReading → Type 0
 AreEntriesCut text at [] = IsCharBoundary text at
 AreEntriesCut text at (e ∷ es) = CanBeCut text at e.start × IsEntryCut text e × AreEntriesCut text (e.end + 1) es

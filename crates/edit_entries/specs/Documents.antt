@@ -1,5 +1,5 @@
 -- Meaning: words of public contracts.
--- A bibliography's text with what it says, and what an edit makes of the two.
+-- The text of a file with its reading, and the outcomes of edits.
 use Rattle.std.specs.Prelude.{◌≡◌, ℕ, suc, ◌+◌, ◌<◌, ◌&&◌, Bool, true, false, if◌then◌else◌, List, [], ◌∷◌, ◌++◌, length, map, Option, Some, None, bytes_eq, slice_get, slice_set, take, codes, ⊤}
 use Rattle.std.specs.Char.{is_whitespace}
 use Rattle.std.specs.List.{list_all, list_any, remove}
@@ -16,12 +16,12 @@ use Rattle.edit_entries.specs.declared.errors.EditError.TheVariants.{UnknownKey,
 use Rattle.edit_entries.specs.Edits.{Edit, edited, moved_place, moved_piece, moved_field, moved_entry, moved_file}
 use Rattle.edit_entries.specs.NewNames.{HaveNewKeys, shares_name}
 
--- a text, and what it says
+-- a text, and a reading
 pub record Document : Type 0 where
   pub text : List ℕ
   pub says : FileReading
 
--- the text says so
+-- the reading is that of the text
 abbrev pub IsDocument : Document → Type 0
 IsDocument d = IsRawReading d.text d.says
 
@@ -33,7 +33,7 @@ is_keyed key e = bytes_eq e.key.text key
 abbrev pub has_name : List ℕ → FieldReading → Bool
 has_name name f = is_word f.name.text name
 
--- the index after one, if there is one
+-- the next index, if there is an index
 abbrev pub next_index : Option ℕ → Option ℕ
 next_index (Some i) = Some (suc i)
 next_index None = None
@@ -43,7 +43,7 @@ abbrev pub first_position : {A : Type 0} → (A → Bool) → List A → Option 
 first_position test [] = None
 first_position test (x ∷ xs) = if test x then Some 0 else next_index (first_position test xs)
 
--- an index after the first, or else the first if a test is passed
+-- the next index if there is an index, or else 0 if a test is passed
 abbrev pub or_first : Bool → Option ℕ → Option ℕ
 or_first passes (Some i) = Some (suc i)
 or_first passes None = if passes then Some 0 else None
@@ -58,7 +58,7 @@ pub record HasEntry (d : Document) (key : List ℕ) (k : ℕ) (e : EntryReading)
   pub first : first_position (is_keyed key) d.says.entries ≡ Some k
   pub here : slice_get d.says.entries k ≡ Some e
 
--- the last field of an entry with a name, which is the one that counts, and its index
+-- the last field of an entry with a name, and its index
 pub record HasField (e : EntryReading) (name : List ℕ) (j : ℕ) (f : FieldReading) : Type 0 where
   pub last : last_position (has_name name) e.fields ≡ Some j
   pub here : slice_get e.fields j ≡ Some f
@@ -67,15 +67,15 @@ pub record HasField (e : EntryReading) (name : List ℕ) (j : ℕ) (f : FieldRea
 abbrev pub in_braces : List ℕ → List ℕ
 in_braces text = char.open_brace ∷ (text ++ char.close_brace ∷ [])
 
--- a text can stand between two braces: with them it is one braced text
+-- a text can be written in braces: with them it is one braced text
 abbrev pub CanStandInBraces : List ℕ → Type 0
 CanStandInBraces text = (p : Part) × Braced (place (in_braces text) 0) p (place (in_braces text) (length (in_braces text)))
 
--- what stands from a value's start to its end
+-- the bytes of a value, from its start to its end
 abbrev pub value_stretch : List ℕ → FieldReading → List ℕ
 value_stretch text f = between (place text f.value.start) (place text f.value.end)
 
--- another value in the place of a field's, up to the white space after it
+-- the edit that replaces a field's value by a text in braces, without the white space after it
 abbrev pub value_edit : List ℕ → FieldReading → List ℕ → Edit
 value_edit text f value = record {
   start = f.value.start;
@@ -83,35 +83,35 @@ value_edit text f value = record {
   bytes = in_braces value;
 }
 
--- a part of a text that is this text
+-- the part with this text at a byte offset
 abbrev pub text_at : ℕ → List ℕ → Part
 text_at start text = record { text = text; start = start; end = start + length text }
 
--- a field with a text in braces as its value, which begins where the value did
+-- a field with a text in braces as its value, at the same byte offset
 abbrev pub with_value : List ℕ → FieldReading → FieldReading
 with_value value f = record f { value = record f.value { pieces = literal (text_at (f.value.start + 1) value) ∷ [] } }
 
--- an edit in one entry: what the text says, with other places and another entry in the place of this one
+-- the document after an edit in one entry: byte offsets are moved, and the entry is replaced by another one
 abbrev pub entry_edited : Document → Edit → ℕ → EntryReading → Document
 entry_edited d edit k e = record {
   text = edited edit d.text;
   says = record (moved_file (moved_place edit) d.says) { entries = slice_set (map (moved_entry (moved_place edit)) d.says.entries) k e };
 }
 
--- an edit in one field of an entry
+-- the document after an edit in one field of an entry
 abbrev pub field_edited : Document → Edit → ℕ → EntryReading → ℕ → FieldReading → Document
 field_edited d edit k e j f =
     entry_edited d edit k
     (record (moved_entry (moved_place edit) e)
     { fields = slice_set (map (moved_field (moved_place edit)) e.fields) j f })
 
--- a field of an entry with another value
+-- the document with another value of a field
 abbrev pub value_changed : Document → ℕ → EntryReading → ℕ → FieldReading → List ℕ → Document
 value_changed d k e j f value =
     let edit = value_edit d.text f value in
     field_edited d edit k e j (with_value value (moved_field (moved_place edit) f))
 
--- whether a value is this text, alone
+-- whether a value is one literal with this text
 abbrev pub is_value : List ℕ → List Piece → Bool
 is_value value [] = false
 is_value value (abbreviation p ∷ rest) = false
@@ -122,7 +122,7 @@ is_value value (literal p ∷ other ∷ rest) = false
 abbrev pub CanBeName : List ℕ → Type 0
 CanBeName text = (p : Part) × Identifier longest (place text 0) p (place text (length text))
 
--- an entry taken out, from its at sign up to a place after it
+-- the document without an entry, from its at sign up to a byte offset after it
 abbrev pub entry_removed : Document → ℕ → EntryReading → ℕ → Document
 entry_removed d k e at =
     let edit : Edit = record { start = e.start; end = at; bytes = [] } in
@@ -131,12 +131,12 @@ entry_removed d k e at =
       says = record (moved_file (moved_place edit) d.says) { entries = remove (map (moved_entry (moved_place edit)) d.says.entries) k };
     }
 
--- what comes of removing an entry: it is taken out with the white space after it
+-- the outcome of removing an entry: it is removed with the white space after it
 pub data EntryRemoved (d : Document) (key : List ℕ) : Document → Type 0 where
   removed : {k at : ℕ} {e : EntryReading} → HasEntry d key k e
       → Longest is_whitespace (place d.text (e.end + 1)) (place d.text at) → EntryRemoved d key (entry_removed d k e at)
 
--- why an edit of an entry is refused that takes no other text
+-- the conditions under which removing an entry is refused
 abbrev pub EntryIsRefused : Document → List ℕ → EditError → Type 0
 EntryIsRefused d key UnknownKey = first_position (is_keyed key) d.says.entries ≡ None
 EntryIsRefused d key KeyIsThere = ⊥
@@ -147,26 +147,26 @@ EntryIsRefused d key DefinitionIsThere = ⊥
 EntryIsRefused d key NoFieldLeft = ⊥
 EntryIsRefused d key OutOfMemory = ⊤
 
--- where the field after one begins, or else where the entry's closing brace stands
+-- the byte offset of the next field, or of the closing brace if there is none
 abbrev pub field_limit : EntryReading → ℕ → ℕ
 field_limit e j = option_map_or (λ f. f.name.start) (slice_get e.fields (suc j)) e.end
 
--- a field taken out, up to the next one or the closing brace
+-- the edit that removes a field, up to the next one or the closing brace
 abbrev pub field_edit : EntryReading → ℕ → FieldReading → Edit
 field_edit e j f = record { start = f.name.start; end = field_limit e j; bytes = [] }
 
--- an entry without one of its fields
+-- the document without one field of an entry
 abbrev pub field_removed : Document → ℕ → EntryReading → ℕ → FieldReading → Document
 field_removed d k e j f =
     let edit = field_edit e j f in
     entry_edited d edit k (record (moved_entry (moved_place edit) e) { fields = remove (map (moved_field (moved_place edit)) e.fields) j })
 
--- the indices at which a test is passed, in a list that begins with one
+-- the indices at which a test is passed; the first element has the given index
 abbrev pub positions : {A : Type 0} → (A → Bool) → ℕ → List A → List ℕ
 positions test index [] = []
 positions test index (x ∷ xs) = if test x then index ∷ positions test (suc index) xs else positions test (suc index) xs
 
--- what comes of taking fields out of an entry, from the last to the first, so that each is where it was
+-- the document after fields of an entry are removed, from the last to the first, so that the others keep their byte offsets
 pub data FieldsRemoved (d : Document) (k : ℕ) : List ℕ → Document → Type 0 where
   none : FieldsRemoved d k [] d
   taken : {after : Document} {rest : List ℕ} {j : ℕ} {e : EntryReading} {f : FieldReading}
@@ -200,18 +200,18 @@ UnsetIsRefused d key name DefinitionIsThere = ⊥
 UnsetIsRefused d key name NoFieldLeft = HasOnlyFields d key name
 UnsetIsRefused d key name OutOfMemory = ⊤
 
--- a text can be a key: some characters that a key may have
+-- a text can be a key: it has at least one character, and only characters of keys
 pub record CanBeKey (text : List ℕ) : Type 0 where
   pub some : 0 < length text
   pub run : Run is_key (place text 0) (place text (length text))
 
--- an entry with another key
+-- the document with another key of an entry
 abbrev pub entry_renamed : Document → ℕ → EntryReading → List ℕ → Document
 entry_renamed d k e key =
     let edit : Edit = record { start = e.key.start; end = e.key.end; bytes = key } in
     entry_edited d edit k (record (moved_entry (moved_place edit) e) { key = text_at (moved_place edit e.key.start) key })
 
--- a text after another, with a line feed between them
+-- the document of two texts with a line feed between them
 abbrev pub joined_documents : Document → Document → Document
 joined_documents d more = record {
   text = d.text ++ char.line_feed ∷ more.text;
@@ -244,7 +244,7 @@ pub data EntriesAdded (d more : Document) : Document → Type 0 where
       → AgreeOnDefinitions d.says.abbreviations more.says.abbreviations
       → EntriesAdded d more (joined_documents d more)
 
--- why adding a document is refused
+-- the conditions under which adding a document is refused
 abbrev pub EntriesAreRefused : Document → Document → EditError → Type 0
 EntriesAreRefused d more UnknownKey = ⊥
 EntriesAreRefused d more KeyIsThere = SharesNoName d more → ⊥
@@ -255,7 +255,7 @@ EntriesAreRefused d more DefinitionIsThere = AgreeOnDefinitions d.says.abbreviat
 EntriesAreRefused d more NoFieldLeft = ⊥
 EntriesAreRefused d more OutOfMemory = ⊤
 
--- a text is what comes of an edit, and is read so
+-- a text is that of a document with this outcome, and has its reading
 pub record IsEdited (Outcome : Document → Type 0) (text : List ℕ) : Type 0 where
   pub document : Document
   pub outcome : Outcome document

@@ -1,5 +1,5 @@
 -- Meaning: words of public contracts.
--- Lists of edits that are made in one go over a text.
+-- Lists of edits that are made in one pass over a text.
 use Rattle.std.specs.Prelude.{ℕ, ◌≤◌, List, [], ◌∷◌, ⊤}
 use Rattle.std.specs.Str.{IsCharBoundary}
 use Rattle.std.specs.String.{string_bytes}
@@ -10,7 +10,7 @@ use Rattle.edit_entries.specs.declared.editing.Edit.{Edit}
 abbrev pub edit_of : Edit → edits.Edit
 edit_of e = record { start = e.start; end = e.end; bytes = string_bytes e.text }
 
--- edits whose stretches stand one after another in a text from a place on, each where it may be cut out
+-- edits in order from a byte offset on: their stretches don't overlap, and each may be cut out of the text
 abbrev pub AreEditsInOrder : List ℕ → ℕ → List edits.Edit → Type 0
 AreEditsInOrder text at [] = ⊤
 AreEditsInOrder text at (edit ∷ rest) =

@@ -1,30 +1,30 @@
 -- Meaning: words of public contracts.
--- Edits of a text that change one stretch or several, and what the text says after one: the same entries, abbreviations and
--- preamble, each part as far from the end of the text as it was where it stands after the stretch.
+-- Edits of a text that replace one stretch or several, and the reading after one: the same entries, abbreviations and preamble. Parts after
+-- the stretch keep their distance from the end of the text.
 use Rattle.std.specs.Prelude.{ℕ, ◌+◌, ◌-◌, List, [], ◌∷◌, ◌++◌, length, take, drop, map, nat_lt, if◌then◌else◌}
 use Rattle.bib_syntax.specs.Reading.{Part, Piece, FieldReading, EntryReading, FileReading}
 use Rattle.bib_syntax.specs.Reading.Piece.{literal, abbreviation}
 
--- a stretch of a text, and the bytes that take its place
+-- a stretch of a text, and the bytes that replace it
 pub record Edit : Type 0 where
   pub start : ℕ
   pub end : ℕ
   pub bytes : List ℕ
 
--- the text with other bytes in the stretch
+-- the text with the stretch replaced
 abbrev pub edited : Edit → List ℕ → List ℕ
 edited edit text = take edit.start text ++ edit.bytes ++ drop edit.end text
 
--- the text with each of these edits made, from the last to the first, so that each stretch is where it was
+-- the text with these edits made, from the last to the first, so that the others keep their byte offsets
 abbrev pub edited_all : List Edit → List ℕ → List ℕ
 edited_all [] text = text
 edited_all (edit ∷ edits) text = edited edit (edited_all edits text)
 
--- a place of the old text in the new: what stands before the end of the stretch stays, what stands after it moves with it
+-- the new byte offset for an old one: those before the end of the stretch are kept, those after it move
 abbrev pub moved_place : Edit → ℕ → ℕ
 moved_place edit at = if nat_lt at edit.end then at else at - edit.end + (edit.start + length edit.bytes)
 
--- a part of a text at another place
+-- a part with moved byte offsets
 abbrev pub moved_part : (ℕ → ℕ) → Part → Part
 moved_part move p = record { text = p.text; start = move p.start; end = move p.end }
 
@@ -47,7 +47,7 @@ moved_entry move e = record {
   end = move e.end;
 }
 
--- what a file says, each part at another place
+-- the reading of a file with moved byte offsets
 abbrev pub moved_file : (ℕ → ℕ) → FileReading → FileReading
 moved_file move says = record {
   preamble = says.preamble;
@@ -55,6 +55,6 @@ moved_file move says = record {
   abbreviations = map (moved_field move) says.abbreviations;
 }
 
--- what a file says, without places
+-- the reading of a file without byte offsets: each is 0
 abbrev pub placeless : FileReading → FileReading
 placeless says = moved_file (λ at. 0) says

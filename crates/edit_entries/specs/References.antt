@@ -1,5 +1,5 @@
 -- Meaning: words of public contracts.
--- References to the keys of entries, and what comes of renaming a key: the entry has the new one, and so has each reference.
+-- References to the keys of entries, and the outcome of renaming a key: the entry and each reference to it have the new key.
 use Rattle.std.specs.Prelude.{◌≡◌, ℕ, suc, ◌-◌, ◌<◌, ◌==◌, Bool, true, false, if◌then◌else◌, List, [], ◌∷◌, ◌++◌, length, take, drop, Option, Some, None, bytes_eq, not, ◌&&◌, ◌||◌, slice_get, ⊤}
 use Rattle.std.specs.List.{AllByRecursion, flat_map, join_by, list_any, slice_split}
 use Rattle.std.specs.Str.{trim, trim_end, trim_start}
@@ -64,50 +64,50 @@ refers_to_key entries key name =
 abbrev pub is_element : (List ℕ → Bool) → List ℕ → Bool
 is_element refers element = refers (trim element)
 
--- a text between the white space at the ends of an element
+-- a text with the white space at the ends of an element
 abbrev pub between_white : List ℕ → List ℕ → List ℕ
 between_white new element = take (length element - length (trim_start element)) element ++ new ++ drop (length (trim_end element)) element
 
--- an element with another key in the place of a name that refers to the old one
+-- an element, with a new key if it refers to the old one
 abbrev pub renamed_element : (List ℕ → Bool) → List ℕ → List ℕ → List ℕ
 renamed_element refers new element = if is_element refers element then between_white new element else element
 
--- a comma list with another key in the place of each name that refers to the old one
+-- a comma list with a new key for each name that refers to the old one
 abbrev pub renamed_list : (List ℕ → Bool) → List ℕ → List ℕ → List ℕ
 renamed_list refers new list = join_by (renamed_element refers new) (char.comma ∷ []) (elements_of list)
 
--- a comma list with another key in the place of each name that refers to the old one, if there is one
+-- the same, or `None` if no name refers to the old key
 abbrev pub renamed_where_listed : (List ℕ → Bool) → List ℕ → List ℕ → Option (List ℕ)
 renamed_where_listed refers new list =
     if list_any (is_element refers) (elements_of list) then Some (renamed_list refers new list) else None
 
--- a value that is one text, with another key in the place of each name that refers to the old one, if there is one
+-- the new text of a value, if it is one literal with a name that refers to the old key
 abbrev pub renamed_text : (List ℕ → Bool) → List ℕ → List Piece → Option (List ℕ)
 renamed_text refers new [] = None
 renamed_text refers new (abbreviation p ∷ rest) = None
 renamed_text refers new (literal p ∷ []) = renamed_where_listed refers new p.text
 renamed_text refers new (literal p ∷ other ∷ rest) = None
 
--- the value of a field with another key in the place of each name that refers to the old one, if there is one
+-- the new text of a field's value, if the field holds references and one of them refers to the old key
 abbrev pub renamed_value : (List ℕ → Bool) → List ℕ → FieldReading → Option (List ℕ)
 renamed_value refers new f = if is_reference_field f.name.text then renamed_text refers new f.value.pieces else None
 
--- a change of one piece of a document: another key in the place of one, or another value of a field
+-- a change of one part of a document: a new key, or a new value of a field
 pub data Change : Type 0 where
   key : Part → List ℕ → Change
   value : FieldReading → List ℕ → Change
 
--- a change as an edit of the text that it is a change of
+-- the edit that makes a change
 abbrev pub change_edit : List ℕ → Change → Edit
 change_edit text (Change.key p new) = record { start = p.start; end = p.end; bytes = new }
 change_edit text (Change.value f new) = value_edit text f new
 
--- a change leaves what a file can have
+-- the new key or value of a change can be written to a file
 abbrev pub CanBeMade : Change → Type 0
 CanBeMade (Change.key p new) = CanBeKey new
 CanBeMade (Change.value f new) = CanStandInBraces new
 
--- the change of a field to a value, if there is one
+-- the change of a field to a new value, if there is one
 abbrev pub value_change : FieldReading → Option (List ℕ) → List Change
 value_change f None = []
 value_change f (Some new) = Change.value f new ∷ []
@@ -121,7 +121,7 @@ abbrev pub key_change : Bool → EntryReading → List ℕ → List Change
 key_change true e new = Change.key e.key new ∷ []
 key_change false e new = []
 
--- the changes in entries, the first of which has an index, where the key of one of them is renamed
+-- the changes of entries if the key of one of them is renamed; the first entry has the given index
 abbrev pub renaming : (List ℕ → Bool) → List ℕ → ℕ → ℕ → List EntryReading → List Change
 renaming refers new renamed index [] = []
 renaming refers new renamed index (e ∷ rest) =
@@ -132,7 +132,7 @@ renaming refers new renamed index (e ∷ rest) =
 abbrev pub key_renaming : List ℕ → List ℕ → ℕ → List EntryReading → List Change
 key_renaming old new renamed entries = renaming (refers_to_key entries old) new renamed 0 entries
 
--- what comes of changes, made from the last to the first, so that each piece is where it was
+-- the document after changes, made from the last to the first, so that the others keep their byte offsets
 pub data Changed (d : Document) : List Change → Document → Type 0 where
   none : Changed d [] d
   key : {after : Document} {changes : List Change} {p : Part} {new : List ℕ} {e : EntryReading} → (k : ℕ)
@@ -142,8 +142,8 @@ pub data Changed (d : Document) : List Change → Document → Type 0 where
       → Changed d changes after → slice_get after.says.entries k ≡ Some e → slice_get e.fields j ≡ Some f
       → Changed d (Change.value f new ∷ changes) (value_changed after k e j f new)
 
--- the outcome of renaming a key: nothing changes if it is the key already; else the entry has the new key, which can be one and is no
--- name of another entry, and so has each reference to the old
+-- the outcome of renaming a key: nothing changes if the new key is the old one. Otherwise the new key can be a key and isn't a name of
+-- another entry, and the entry and each reference to it have the new key.
 pub data KeyRenamed (d : Document) (old new : List ℕ) : Document → Type 0 where
   same : {k : ℕ} {e : EntryReading} → HasEntry d old k e → bytes_eq old new ≡ true → KeyRenamed d old new d
   renamed : {k : ℕ} {e : EntryReading} {after : Document} → HasEntry d old k e → bytes_eq old new ≡ false → CanBeNewKey new
@@ -175,7 +175,7 @@ pub record CantBeWritten (d : Document) (old new : List ℕ) : Type 0 where
   pub free : IsNameTaken d.says.entries index new → ⊥
   pub cant : AllByRecursion CanBeMade (key_renaming old new index d.says.entries) → ⊥
 
--- why renaming a key is refused
+-- the conditions under which renaming a key is refused
 abbrev pub RenameIsRefused : Document → List ℕ → List ℕ → EditError → Type 0
 RenameIsRefused d old new UnknownKey = first_position (is_keyed old) d.says.entries ≡ None
 RenameIsRefused d old new KeyIsThere = IsNewNameTaken d old new

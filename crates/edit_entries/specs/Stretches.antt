@@ -1,5 +1,5 @@
 -- Machinery: words of private contracts.
--- Edits that are made in one go over the text.
+-- Edits that are made in one pass over the text.
 use Rattle.std.specs.Prelude.{◌≡◌, ℕ, suc, ◌≤◌, if◌then◌else◌, List, [], ◌∷◌, ◌++◌, slice_get, Some, ⊤}
 use Rattle.std.specs.Char.{is_whitespace}
 use Rattle.std.specs.Str.{IsCharBoundary}
@@ -10,15 +10,15 @@ use Rattle.edit_entries.specs.Edits as edits
 use Rattle.edit_entries.specs.Placed.{IsPlaced}
 use Rattle.edit_entries.specs.References.{Change, change_edit}
 
--- where the value of each of some fields may be cut out of a text
+-- the value of each field may be cut out of a text
 abbrev pub AreValuesPlaced : List ℕ → List FieldReading → Type 0
 AreValuesPlaced text fields = (j : ℕ) (f : FieldReading) → slice_get fields j ≡ Some f → IsPlaced text f
 
--- where the values of the fields of some entries may be cut out of a text
+-- the values of the fields of entries may be cut out of a text
 abbrev pub AreEntriesPlaced : List ℕ → List EntryReading → Type 0
 AreEntriesPlaced text entries = (k : ℕ) (e : EntryReading) → slice_get entries k ≡ Some e → AreValuesPlaced text e.fields
 
--- where a change begins, and where what it changes ends
+-- the byte offsets of the part that a change replaces
 abbrev pub change_start : Change → ℕ
 change_start (Change.key p new) = p.start
 change_start (Change.value f new) = f.value.start
@@ -27,25 +27,25 @@ abbrev pub change_end : Change → ℕ
 change_end (Change.key p new) = p.end
 change_end (Change.value f new) = f.value.end
 
--- what is changed stands in a text, one after another, from a place on, and may be cut out
+-- the changed parts are in order in a text from a byte offset on, and may be cut out
 abbrev pub AreChangesInOrder : List ℕ → ℕ → List Change → Type 0
 AreChangesInOrder text at [] = ⊤
 AreChangesInOrder text at (change ∷ rest) =
     (at ≤ change_start change) × (change_start change ≤ change_end change) × IsCharBoundary text (change_start change)
     × IsCharBoundary text (change_end change) × AreChangesInOrder text (change_end change) rest
 
--- the stretch of a change ends where white space begins that goes on to the end of what it changes, and may be cut there
+-- from the end of a change's stretch to the end of the changed part there is only white space, and the text may be cut there
 abbrev pub EndsInWhite : List ℕ → Change → Type 0
 EndsInWhite text (Change.key p new) = ⊤
 EndsInWhite text (Change.value f new) =
     Run is_whitespace (place text (change_edit text (Change.value f new)).end) (place text f.value.end)
     × IsCharBoundary text (change_edit text (Change.value f new)).end
 
--- the edit that takes a field out of an entry, if it has a name
+-- the edit that removes a field of an entry, if it has a name
 abbrev pub removal : List ℕ → EntryReading → ℕ → FieldReading → List edits.Edit
 removal name e index f = if has_name name f then field_edit e index f ∷ [] else []
 
--- the edits that take the fields with a name out of an entry, of some fields the first of which has an index
+-- the edits that remove the fields with a name from an entry; the first field has the given index
 abbrev pub removals : List ℕ → EntryReading → ℕ → List FieldReading → List edits.Edit
 removals name e index [] = []
 removals name e index (f ∷ rest) = removal name e index f ++ removals name e (suc index) rest

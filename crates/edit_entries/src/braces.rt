@@ -15,14 +15,14 @@ use crate::errors::EditError;
 use bib_text::scanner::Scanner;
 use std::alloc::{AllocError, Global};
 
-// Whether a character is neither a brace nor a backslash.
+// Returns whether a character is neither a brace nor a backslash.
 fn is_plain(c: char) -> bool
     ensures { result ≡ is_plain c }
 {
     c != '{' && c != '}' && c != '\\'
 }
 
-// The parts of a braced text, up to the brace that closes it, if there is one.
+// Returns the text up to the brace that closes it, if there is one.
 fn parts<'s>(s: &mut Scanner<'s>) -> Option<&'s str>
     ensures { MatchOption result
         ((v w : Place) → Parts s.old v → CharAt v char.close_brace w → ⊥)
@@ -48,7 +48,7 @@ fn parts<'s>(s: &mut Scanner<'s>) -> Option<&'s str>
     }
 }
 
-// Takes the brace that stands here, and says whether the text ends after it.
+// Consumes a closing brace, and returns whether the text ends after it.
 fn closes(s: &mut Scanner<'_>) -> bool
     requires { (v : Place) × CharAt s.old char.close_brace v }
     ensures brace { CharAt s.old char.close_brace s.new }
@@ -58,7 +58,7 @@ fn closes(s: &mut Scanner<'_>) -> bool
     s.done()
 }
 
-// Whether a text is one text in braces.
+// Returns whether a text is one text in braces.
 fn is_braced(text: &str) -> bool
     ensures { MatchBool result
         ((p : Part) × Braced (place text.now 0) p (place text.now (length text.now)))
@@ -74,7 +74,7 @@ fn is_braced(text: &str) -> bool
     }
 }
 
-// A text between two braces.
+// Returns a text between two braces.
 fn between_braces(alloc: Global, text: &str) -> Result<String, AllocError>
     ensures { IfOk result (λ braced. string_bytes braced ≡ documents.in_braces text.now) }
 {
@@ -85,7 +85,7 @@ fn between_braces(alloc: Global, text: &str) -> Result<String, AllocError>
     Ok(braced)
 }
 
-// A text between two braces, if it can stand there.
+// Returns a text between two braces, if it can be written so.
 pub(crate) fn in_braces(alloc: Global, text: &str) -> Result<String, EditError>
     ensures found { IfOk result (λ braced. string_bytes braced ≡ documents.in_braces text.now) }
     ensures can { OnOk result (CanStandInBraces text.now) }

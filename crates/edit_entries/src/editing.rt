@@ -1,4 +1,4 @@
-//! Texts with other bytes in a stretch, or in several.
+//! Texts with one stretch or several replaced.
 
 ghost use Rattle.std.specs.Prelude.{◌≡◌, ◌≤◌, IfOk, map};
 ghost use Rattle.std.specs.Str.{IsCharBoundary};
@@ -8,18 +8,18 @@ ghost use Rattle.edit_entries.specs.EditList.{AreEditsInOrder, edit_of};
 
 use std::alloc::{AllocError, Global};
 
-/// Another text in the place of a stretch of a text.
+/// The replacement of a stretch of a text.
 #[derive(Debug, Drop)]
 pub struct Edit {
-    /// The byte offset where the stretch begins.
+    /// The byte offset at which the stretch begins.
     pub start: usize,
-    /// The byte offset where it ends.
+    /// The byte offset at which it ends.
     pub end: usize,
-    /// The text that takes its place.
+    /// The text that replaces it.
     pub text: String,
 }
 
-// A text with other bytes in a stretch.
+// Returns a text with a stretch replaced.
 pub(crate) fn edited(
     alloc: Global,
     text: &str,
@@ -39,7 +39,7 @@ pub(crate) fn edited(
     Ok(new)
 }
 
-/// Returns the text with each of these edits made. Their stretches stand in order, and don't overlap. The only error is out of memory.
+/// Returns the text with these edits made. Their stretches are in order, and don't overlap. The only error is out of memory.
 pub fn edited_all(alloc: Global, text: &str, edits: &[Edit]) -> Result<String, AllocError>
     requires { AreEditsInOrder text.now 0 (map edit_of edits.now) }
     ensures { IfOk result (λ new. string_bytes new ≡ spec.edited_all (map edit_of edits.now) text.now) }

@@ -1,4 +1,4 @@
-//! Why an edit is refused.
+//! The reasons for refusing an edit.
 
 ghost use Rattle.std.specs.Prelude.{◌≡◌};
 ghost use Rattle.edit_entries.specs.declared.errors.EditError.TheVariants.{OutOfMemory};
@@ -6,7 +6,7 @@ ghost use Rattle.edit_entries.specs.declared.errors.EditError.TheVariants.{OutOf
 use std::alloc::{AllocError, AllocFailed};
 use thiserror::Error;
 
-/// Why an edit is refused. A refused edit changes nothing.
+/// The reason for refusing an edit. A refused edit changes nothing.
 #[derive(Debug, Clone, Copy, PartialEq, Eq, Error)]
 pub enum EditError {
     /// No entry has the key.
@@ -27,8 +27,7 @@ pub enum EditError {
     /// brace after a backslash; or a backslash hides the last brace.
     #[error("the braces of the value don't balance")]
     NotInBraces,
-    /// An abbreviation is defined already, in any ASCII case, with another text: every use of it would get
-    /// another value.
+    /// An abbreviation is defined already, in any ASCII case, with another text: every use of it would get another value.
     #[error("an abbreviation is defined already with another text")]
     DefinitionIsThere,
     /// The entry would have no field left. bibtool doesn't read such an entry, and loses the one after it too.

@@ -8,7 +8,7 @@ ghost use Rattle.edit_entries.specs.Documents.{CanBeName};
 use bib_syntax::raw::{is_id_continue, is_id_start};
 use bib_text::scanner::Scanner;
 
-// Whether the first character of an identifier stands here.
+// Returns whether the next character can begin an identifier.
 fn begins_name(s: &Scanner<'_>) -> bool
     ensures { MatchBool result
         ((c : ℕ) × (v : Place) × CharAt s.now c v × (characters.is_id_start c ≡ true))
@@ -20,7 +20,7 @@ fn begins_name(s: &Scanner<'_>) -> bool
     }
 }
 
-// Whether a text can be a field's name.
+// Returns whether a text can be the name of a field.
 pub(crate) fn can_be_name(text: &str) -> bool
     ensures { MatchBool result (CanBeName text.now) (CanBeName text.now → ⊥) }
 {

@@ -34,7 +34,7 @@ fn lists_target(list: &str, target: &Target<'_, '_>) -> bool
     false
 }
 
-// A text with another between the white space at its ends.
+// Returns a new text with the white space at the ends of another.
 fn between_white(alloc: Global, element: &str, new: &str) -> Result<String, AllocError>
     ensures { IfOk result (λ text. string_bytes text ≡ references.between_white new.now element.now) }
 {
@@ -47,7 +47,7 @@ fn between_white(alloc: Global, element: &str, new: &str) -> Result<String, Allo
     Ok(text)
 }
 
-// Returns an element with another key in the place of a name of the target.
+// Returns an element, with a new key if it is a name of the target.
 fn renamed_element(
     alloc: Global,
     element: &str,
@@ -62,7 +62,7 @@ fn renamed_element(
     between_white(alloc, element, new)
 }
 
-// Returns a comma list with another key in the place of each name of the target.
+// Returns a comma list with a new key for each name of the target.
 fn renamed_list(
     alloc: Global,
     list: &str,
@@ -78,7 +78,7 @@ fn renamed_list(
     parts.join(alloc, ",")
 }
 
-// Returns a comma list with another key in the place of each name of the target, if it has one.
+// Returns a comma list with a new key for each name of the target, if it has one.
 fn renamed_if_listed(
     alloc: Global,
     list: &str,
@@ -93,7 +93,7 @@ fn renamed_if_listed(
     Ok(Some(renamed_list(alloc, list, target, new)?))
 }
 
-// Returns a value that is one text, with another key in the place of each name of the target, if there is one.
+// Returns the new text of a value, if it is one literal with a name of the target.
 fn renamed_text(
     alloc: Global,
     pieces: &[Spanned<RawChunk<'_>>],
@@ -111,7 +111,7 @@ fn renamed_text(
     }
 }
 
-// Returns the value of a field with another key in the place of each name of the target, if there is one.
+// Returns the new text of a field's value, if the field holds references and one of them is a name of the target.
 pub(crate) fn renamed_value(
     alloc: Global,
     field: &Pair<'_>,

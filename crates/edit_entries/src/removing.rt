@@ -1,4 +1,4 @@
-//! Entries and fields that are taken out.
+//! Removes entries and fields.
 
 ghost use Rattle.std.specs.Prelude.{◌≡◌, ◌+◌, ◌++◌, ◌≤◌, ◌<◌, ℕ, [], IfOk, OnOk, length, map};
 ghost use Rattle.std.specs.Char.{is_whitespace};
@@ -21,7 +21,7 @@ use bib_text::scanner::Scanner;
 use bib_text::spanned::Spanned;
 use std::alloc::{AllocError, Global};
 
-// The place after the white space that stands after a place of a text.
+// Returns the byte offset after the white space at a byte offset of a text.
 fn after_white(text: &str, place: usize) -> usize
     requires { IsCharBoundary text.now place }
     ensures white { Longest is_whitespace (places.place text.now place) (places.place text.now result) }
@@ -34,7 +34,7 @@ fn after_white(text: &str, place: usize) -> usize
     s.cursor()
 }
 
-// The text without an entry and the white space after it.
+// Returns the text without an entry and the white space after it.
 pub(crate) fn without_entry(
     alloc: Global,
     text: &str,
@@ -49,7 +49,7 @@ pub(crate) fn without_entry(
     edited(alloc, text, entry.span.start, end, "")
 }
 
-// Where the field after one begins, or else where the entry's closing brace stands.
+// Returns the byte offset of the next field, or of the closing brace if there is none.
 fn field_limit(entry: &Spanned<RawEntry<'_>>, index: usize) -> usize
     requires { index < length (entry_reading_of entry.now).fields }
     ensures { result ≡ documents.field_limit (entry_reading_of entry.now) index }
@@ -60,7 +60,7 @@ fn field_limit(entry: &Spanned<RawEntry<'_>>, index: usize) -> usize
     }
 }
 
-// Adds the edit that takes a field out of an entry, if it has a name.
+// Adds the edit that removes a field of an entry, if it has a name.
 fn push_removal(
     edits: &mut Vec<Edit>,
     alloc: Global,
@@ -84,7 +84,7 @@ fn push_removal(
     Ok(())
 }
 
-// The edits that take the fields with a name out of an entry.
+// Returns the edits that remove the fields with a name from an entry.
 fn removals(
     alloc: Global,
     entry: &Spanned<RawEntry<'_>>,
@@ -119,7 +119,7 @@ pub(crate) fn have_only(fields: &[Pair<'_>], name: &str) -> bool
     has_field(fields, name) && are_named(fields, name)
 }
 
-// The text without an entry's fields with a name.
+// Returns the text without the fields of an entry with a name.
 pub(crate) fn without_fields(
     alloc: Global,
     text: &str,

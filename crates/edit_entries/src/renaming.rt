@@ -1,4 +1,4 @@
-//! The edits that rename a key: that of the key, and one of each field that refers to it.
+//! Renames a key: one edit replaces the key, and one each field that refers to it.
 
 ghost use Rattle.std.specs.Prelude.{◌≡◌, ◌⊎◌, ◌++◌, ◌∷◌, ℕ, List, [], IfErr, IfOk, OnOk, map};
 ghost use Rattle.std.specs.List.{AllByRecursion};
@@ -23,7 +23,7 @@ use bib_syntax::raw::{Pair, RawEntry};
 use bib_text::spanned::Spanned;
 use std::alloc::{AllocError, Global};
 
-// Adds the edit of a field to a text in braces.
+// Adds the edit that gives a field a text in braces as its value.
 fn push_value_edit(
     edits: &mut Vec<Edit>,
     text: &str,
@@ -43,7 +43,7 @@ fn push_value_edit(
     Ok(())
 }
 
-// Adds the edit of a field that refers to a key, if it does.
+// Adds the edit of a field, if it refers to the target.
 fn push_reference_edit(
     edits: &mut Vec<Edit>,
     alloc: Global,
@@ -69,7 +69,7 @@ fn push_reference_edit(
     }
 }
 
-// Adds the edit of each field that refers to a key.
+// Adds the edit of each field that refers to the target.
 fn push_reference_edits(
     edits: &mut Vec<Edit>,
     alloc: Global,
@@ -115,7 +115,7 @@ fn push_key_edit(
     Ok(())
 }
 
-// The edits that rename the key of the entry with an index, and each reference to it.
+// Returns the edits that rename the key of the entry with an index, and each reference to it.
 fn renaming_edits(
     alloc: Global,
     text: &str,
@@ -140,7 +140,7 @@ fn renaming_edits(
     Ok(edits)
 }
 
-// The text with another key of the entry with an index, and in each reference to it.
+// Returns the text with a new key of the entry with an index, and in each reference to it.
 pub(crate) fn with_key_renamed(
     alloc: Global,
     text: &str,

@@ -1,4 +1,4 @@
-//! Where the values of fields stand.
+//! Byte offsets of the values of fields.
 
 ghost use Rattle.std.specs.Prelude.{◌≡◌};
 ghost use Rattle.std.specs.Char.{is_whitespace};
