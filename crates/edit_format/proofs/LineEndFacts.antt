@@ -108,7 +108,7 @@ record EndsNoLine (b : ℕ) : Type 0 where
   no_feed : (b == 10) ≡ false
   no_return : pointwise eqb (13 ∷ []) (b ∷ []) ≡ false
 
--- the line end of a text is the one after the first such byte
+-- if the first line feed of a text ends a line end after such a byte, this is the line end of the text
 after_byte : {line_end : List ℕ} (b : ℕ) (start rest : List ℕ) → EndsNoLine b → LineEnd line_end → has 10 start ≡ false
     → line_end_of (start ++ b ∷ (line_end ++ rest)) ≡ line_end
 after_byte b start rest other LineEnd.return_and_feed none =

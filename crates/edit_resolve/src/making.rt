@@ -139,7 +139,7 @@ fn write_entry(
     write_fields(maker, alloc, said, &fates)
 }
 
-// Returns the text of a document with the inherited fields of each entry in place of its references.
+// Returns the text of a document with the inherited fields of each entry written out.
 pub(crate) fn made(
     alloc: Global,
     document: &RawDocument<'_>,

@@ -64,7 +64,7 @@ SameSigns text at [] (gap ∷ gaps) = ⊥
 SameSigns text at (e ∷ es) [] = ⊥
 SameSigns text at (e ∷ es) (gap ∷ gaps) = (has_byte 64 (gap_before text at e) ≡ has_byte 64 gap) × SameSigns text (e.end + 1) es gaps
 
--- the rest of a formatted file parses, and its gaps contain at signs where these gaps do
+-- the rest of a formatted file parses, and each of its gaps contains an at sign exactly if the given gap at its index does
 record SignsThere (gaps : List (List ℕ)) (u : Place) : Type 0 where
   reading : FileReading
   file : File longest u reading

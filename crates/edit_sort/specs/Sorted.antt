@@ -70,7 +70,7 @@ rank entries e = greatest (λ n. has_chain entries n e) (length entries)
 
 -- ---- gaps: the texts between entries
 
--- where each gap begins: at the start of the text, and after each entry
+-- the start of each gap and of the text after the last entry: 0, and the end of each entry
 abbrev pub gap_starts : List EntryReading → List ℕ
 gap_starts entries = 0 ∷ map (λ e. e.end + 1) entries
 

@@ -19,7 +19,7 @@ use Rattle.edit_format.specs.declared.style.Delimiters.TheVariants.{Keep}
 use Rattle.edit_entries.proofs.ElementFacts.{Ending, NotOpened, before, brace_before, identifier_until, number_until, one_byte, parted, quote_before}
 use Rattle.edit_entries.proofs.StandsFacts.{Stands, copy_frame, copied_before}
 
--- the text between two ASCII characters
+-- a text that begins and ends with an ASCII character is these two and the text between them
 enclosed : {u a b v : Place} (c d : ℕ) → c < 128 → d < 128 → CharAt u c a → Ahead a b → CharAt b d v
     → between u v ≡ c ∷ (between a b ++ d ∷ [])
 enclosed {u} {a} {b} {v} c d small small' opens inside closes =

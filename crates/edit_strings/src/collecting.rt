@@ -173,10 +173,10 @@ fn with_collection(
 }
 
 /// Returns the text of `document` with repeated values replaced by abbreviations. A text is collected if it is the value of at
-/// least `at_least` fields of entries, as one literal, and can be written between braces. Values of 0 and 1 for `at_least`
-/// count as 2. Only fields with one of the names `fields` count, in any ASCII case. Each of these values is replaced by a new
-/// abbreviation. The definitions, one line `@string{name = {text}}` for each, precede the old text in the order of the first
-/// occurrences of the texts. Everything else is unchanged. Returns an error only if memory runs out.
+/// least `at_least` fields of entries, as one literal, and can be written between braces. An `at_least` of 0 or 1 counts as 2.
+/// Only fields with one of the names `fields` count, in any ASCII case. Each collected text gets one new abbreviation, which
+/// replaces all these values. The definitions, one line `@string{name = {text}}` for each, precede the old text in the order of
+/// the first occurrences of the texts. Everything else is unchanged. Returns an error only if memory runs out.
 pub fn collect(
     alloc: Global,
     document: &RawDocument<'_>,

@@ -1,4 +1,4 @@
-//! Names that are taken.
+//! The names that a new name may not have.
 
 ghost use Rattle.std.specs.Prelude.{◌≡◌, ◌≤◌, ◌||◌, ℕ, List, IfOk, OnOk, map};
 ghost use Rattle.std.specs.List.{flat_map};
