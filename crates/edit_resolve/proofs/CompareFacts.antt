@@ -36,7 +36,7 @@ module _ (a b : List (Spanned Chunk)) (i : ℕ) (x y : Spanned Chunk) (within : 
 
 -- ---- fields
 
--- a property of all pairs is one of the pair with a name
+-- if all pairs have a property, so does the pair with a given name
 found_holds : {V : Type 0} (P : List ℕ × V → Type 0) (es : List (List ℕ × V)) (name : List ℕ) (v : V)
     → AllByRecursion P es → find by_bytes name es ≡ Some v → P (name, v)
 found_holds P [] name v all is = absurd (cc)

@@ -8,13 +8,12 @@ module _ {A B : Type 0} (view : A → B) (P : B → Type 0) (xs : List A) (i : �
   left : map view (drop i xs) ≡ view x ∷ map view (drop (i + 1) xs)
   left = ap (map view) (drop_more xs i x within ∙ ap (λ y. y ∷ drop (i + 1) xs) (sym is))
 
-  -- a consequence of a property of all items still to visit follows from the property of the items after the next, if the next has
-  -- it
+  -- if the next item has a property, it is enough that those after it have the property
   pub rest_holds : {W : Type 0} → (AllByRecursion P (map view (drop i xs)) → W) → P (view x)
       → AllByRecursion P (map view (drop (i + 1) xs)) → W
   rest_holds so_far here rest = so_far (subst (AllByRecursion P) (sym left) (here, rest))
 
-  -- a property of the items still to visit is one of the next item and of the items after it
+  -- if all items still to visit have a property, so do the next one and those after it
   pub next_holds : AllByRecursion P (map view (drop i xs)) → P (view x) × AllByRecursion P (map view (drop (i + 1) xs))
   next_holds all = let cut = subst (AllByRecursion P) left all in (cut.0, cut.1)
 

@@ -80,7 +80,7 @@ name_read says name new =
 
 -- ---- the variables of the code
 
--- the values of a document's fields are cut
+-- the values of a document's fields and their literals begin at character boundaries of its text
 pub all_cut : (d : Document) → IsDocument d → AreAllFieldsCut d.text d.says.entries
 all_cut d read = fields_weaker (IsPlaced d.text) (IsValue d.text) (IsFieldCut d.text)
     (λ f placed value.
@@ -89,7 +89,7 @@ all_cut d read = fields_weaker (IsPlaced d.text) (IsValue d.text) (IsFieldCut d.
       pieces = all_weaker (IsElement d.text) (IsPieceCut d.text) (is_cut d.text) (elements f) value.all;
     }) d.says.entries (all_placed d read) (file_stands d.text refl read).entries
 
--- the edits of replaced values are in order
+-- the edits of replaced values are in order and don't overlap
 pub edits_ordered : (d : Document) (exchange : Exchange) → IsDocument d → IsUtf8 d.text
     → AreEditsInOrder d.text 0 (entry_edits exchange d.text d.says.entries)
 edits_ordered d exchange read utf8 = exchange_in_order d exchange read utf8
@@ -151,7 +151,7 @@ module _ (d : Document) (read : IsDocument d) (utf8 : IsUtf8 d.text) (fields tex
             exchanged.alike;
       }
 
--- an answer of `collect`
+-- the result of `collect` meets its contract
 pub collected_answer : {S E : Type 0} (bytes : S → List ℕ) (r : Result S E) (d : Document)
     (fields texts names : List (List ℕ)) (least : ℕ) → IsDocument d → IsUtf8 d.text → length names ≡ length texts
     → AreNewNames d.says names

@@ -43,7 +43,7 @@ pub record IsElement (text : List ℕ) (e : Piece) : Type 0 where
   pub stands : Element longest start e end
   pub opened : NotOpened start
 
--- ---- pieces are cut
+-- ---- literals begin at character boundaries
 
 element_cut : (text : List ℕ) {u v : Place} {e : Piece} → u.text ≡ text → Element longest u e v → IsPieceCut text e
 element_cut text same (element.number (number.whole char digit digits ends)) = cut_stood text same (stood char)

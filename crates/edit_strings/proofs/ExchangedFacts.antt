@@ -35,7 +35,7 @@ edits_are_changes exchange text (e ∷ es) =
     ap (λ xs. xs ++ entry_edits exchange text es) (sym (fields_are exchange text e.fields))
     ∙ ap (λ xs. edits_of_fields text e.fields (map (λ f. exchange_change (exchange f)) e.fields) ++ xs) (edits_are_changes exchange text es)
 
--- the edits of replaced values are in order
+-- the edits of replaced values are in order and don't overlap
 pub exchange_in_order : (d : Document) (exchange : Exchange) → IsDocument d → IsUtf8 d.text
     → AreEditsInOrder d.text 0 (entry_edits exchange d.text d.says.entries)
 exchange_in_order d exchange read utf8 =

@@ -81,7 +81,7 @@ module _ (d : Document) (read : IsDocument d) (written : List (List Piece))
       all_weaker (IsValue d.text) (λ f. AllByRecursion (IsElement d.text) (elements f)) (λ f value. value.all) defined
       values.definitions
 
-  -- the pieces of each expansion are cut, whether the definition is used or not
+  -- the literals of each expansion begin at character boundaries, whether the definition is used or not
   list_cut : (i : ℕ) (b : Bool) → i < length defined → get_or known.used i false ≡ b
       → AllByRecursion (IsPieceCut d.text) (get_or written i [])
   list_cut i true within is =

@@ -15,6 +15,6 @@ module _ {A B : Type 0} (view : A → B) (xs : List A) (i : ℕ) (x : A) (within
       ∙ append_assoc old (each (view x)) (flat_map each (map view (drop (i + 1) xs)))
       ∙ ap (λ l. old ++ flat_map each l) (sym left) ∙ so_far
 
-  -- a property of the rest of a list is one of the next item and of the items after it
+  -- if all items still to visit have a property, so do the next one and those after it
   pub all_step : (P : B → Type 0) → AllByRecursion P (map view (drop i xs)) → P (view x) × AllByRecursion P (map view (drop (i + 1) xs))
   all_step P all = let cut = subst (AllByRecursion P) left all in (cut.0, cut.1)

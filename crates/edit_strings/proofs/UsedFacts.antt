@@ -177,7 +177,7 @@ module _ (graph : Graph) (order : List ℕ) (sorted : IsTopologicalOrder graph o
 
 -- ---- the references of fields
 
--- the definitions that each of some fields refers to are marked, if those of all are
+-- if all definitions that some fields refer to are marked, so are those of each of these fields
 fields_marked : (index : Index) (marks : List Bool) (fs : List FieldReading)
     → ((i : ℕ) → Contains (fields_refer_to index fs) i → HasMark marks i)
     → AllByRecursion (λ f. All (HasMark marks) (definition_references index (elements f))) fs

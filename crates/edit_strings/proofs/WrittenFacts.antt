@@ -305,7 +305,7 @@ module _ (definitions : List FieldReading) (order : List ℕ) (sorted : IsTopolo
       fields = fields;
     }
 
--- ---- a property of all pieces is one of the pieces of their expansions
+-- ---- if all pieces have a property, so do the pieces of their expansions
 
 pub elements_all : (P : Piece → Type 0) (definitions : List FieldReading) (i : ℕ)
     → AllByRecursion (λ f. AllByRecursion P (elements f)) definitions → AllByRecursion P (elements_at definitions i)
@@ -322,7 +322,7 @@ written_all P definitions each all (writes.defined {index = i} {first = first} {
     all_append P first more (written_all P definitions each (elements_all P definitions i each) inner)
     (written_all P definitions each all.1 rest)
 
--- a property of the item at each index is one of all items
+-- if the item at each index has a property, all items have it
 pub all_by_index : {A : Type 0} (P : A → Type 0) (xs : List A) (d : A) → ((i : ℕ) → i < length xs → P (get_or xs i d)) → AllByRecursion P xs
 all_by_index P [] d each = tt
 all_by_index P (x ∷ xs) d each = (each 0 (omega arith), all_by_index P xs d (λ i within. each (suc i) (omega arith)))
@@ -360,7 +360,7 @@ written_some definitions each some (writes.defined {piece = p} {index = i} {firs
     some_append [] ys some = absurd some
     some_append (x ∷ xs) ys some = tt
 
--- a property of some pieces and of all expanded definitions is one of the expansion of these pieces
+-- if some pieces and all expansions of definitions have a property, so does the expansion of these pieces
 pub written_by_all : (P : Piece → Type 0) (names : Index) (written : List (List Piece)) (ps : List Piece)
     → AllByRecursion (AllByRecursion P) written → AllByRecursion P ps → AllByRecursion P (written_by names written ps)
 written_by_all P names written [] each all = tt
