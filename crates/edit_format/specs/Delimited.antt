@@ -11,8 +11,8 @@ use Rattle.bib_syntax.specs.Reading.Piece.{literal, abbreviation}
 use Rattle.edit_format.specs.declared.style.Delimiters.{Delimiters}
 use Rattle.edit_format.specs.declared.style.Delimiters.TheVariants.{Keep, Braces, Quotes}
 
--- whether bytes close this number of open braces and each brace that they open themselves, and have no unfinished escape at their
--- end: a backslash escapes the next byte, and `is_hidden` says whether the first byte is escaped
+-- whether bytes close this number of open braces and all braces that they open. A backslash escapes the next byte, and may not be
+-- the last byte. `is_hidden` says whether the first byte is escaped
 abbrev pub close_braces : Bool → ℕ → List ℕ → Bool
 close_braces is_hidden depth [] = not is_hidden && depth == 0
 close_braces true depth (b ∷ bs) = close_braces false depth bs
@@ -26,8 +26,8 @@ close_braces false depth (b ∷ bs) =
 abbrev pub can_stand_in_braces : List ℕ → Bool
 can_stand_in_braces content = close_braces false 0 content
 
--- whether bytes have no unescaped quote, and no unfinished escape at their end: a backslash escapes the next byte, and `is_hidden`
--- says whether the first byte is escaped
+-- whether bytes have no unescaped quote. A backslash escapes the next byte, and may not be the last byte. `is_hidden` says whether
+-- the first byte is escaped
 abbrev pub hide_quotes : Bool → List ℕ → Bool
 hide_quotes is_hidden [] = not is_hidden
 hide_quotes true (b ∷ bs) = hide_quotes false bs

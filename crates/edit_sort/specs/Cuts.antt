@@ -15,7 +15,8 @@ pub record IsItemCut (text : List ℕ) (index at : ℕ) (e : EntryReading) : Typ
   pub space : CanBeCut text at (e.start - length (comment_in (index == 0) (gap_before text at e)))
   pub whole : CanBeCut text e.start (e.end + 1)
 
--- the same for all entries from an index on, the first of which has its gap at an offset
+-- the spans of the entries from an index on, of their gaps and comments are in order, and their ends are character boundaries. The
+-- gap before the first entry begins at an offset
 abbrev pub AreItemsCut : List ℕ → ℕ → ℕ → List EntryReading → Type 0
 AreItemsCut text index at [] = IsCharBoundary text at
 AreItemsCut text index at (e ∷ es) = IsItemCut text index at e × AreItemsCut text (index + 1) (e.end + 1) es

@@ -38,7 +38,7 @@ pub record IsFieldCut (text : List ℕ) (f : FieldReading) : Type 0 where
   pub placed : IsPlaced text f
   pub pieces : AllByRecursion (IsPieceCut text) (elements f)
 
--- the same for each field of each of some entries
+-- all values of some entries lie in a text, and each value and its literals begin at boundaries of characters
 abbrev pub AreAllFieldsCut : List ℕ → List EntryReading → Type 0
 AreAllFieldsCut text entries = AllByRecursion (λ e. AllByRecursion (IsFieldCut text) e.fields) entries
 
