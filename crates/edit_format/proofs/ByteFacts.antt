@@ -1,4 +1,4 @@
--- Bytes that don't stand in a part of a text.
+-- Bytes that don't occur in a part of a text.
 use Rattle.std.proofs.Common.{◌≡◌, inl, inr, ℕ, ◌+◌, ◌/◌, ◌<◌, ◌≤◌, Bool, true, false, cond, List, [], ◌∷◌, ◌++◌, length, refl, ap, ◌∙◌, subst, ltb, arith}
 use Rattle.std.specs.Prelude.{◌==◌, ◌||◌, encode_utf8}
 use Rattle.std.specs.Char.{is_whitespace}
@@ -14,7 +14,7 @@ use Rattle.edit_entries.proofs.ElementFacts.{parted}
 use Rattle.edit_format.proofs.NameFacts.{none_between}
 use Rattle.edit_entries.proofs.StandsFacts.{AreWhite, between_stands, stands_char}
 
--- whether a byte stands among bytes
+-- whether some bytes contain this byte
 abbrev pub has : ℕ → List ℕ → Bool
 has b bytes = list_any (λ x. x == b) bytes
 
@@ -57,7 +57,7 @@ wide_without b c small large =
     bytes_without (ltb c 128) (ltb c 2048) (ltb c 65536) b c (c / 64) (c / 4096) (c / 262144) c (c / 64) (c / 4096)
     small (λ is. omega (arith, ltb-true c 128 is, large))
 
--- a byte of ASCII stands in no other character
+-- an ASCII byte doesn't occur in the encoding of another character
 pub char_without : (b c : ℕ) → b < 128 → (c ≡ b → ⊥) → has b (encode_utf8 c) ≡ false
 char_without b c small other =
     elim (cases_lt c 128) [
@@ -68,7 +68,7 @@ char_without b c small other =
 pub other_char : (test : ℕ → Bool) (b c : ℕ) → test b ≡ false → test c ≡ true → c ≡ b → ⊥
 other_char test b c fails passes same = test_clash (test b) (subst (λ x. test x ≡ true) same passes) fails
 
--- a byte of ASCII that fails a test stands in no run of characters that pass it
+-- an ASCII byte that fails a test doesn't occur in a run of characters that pass it
 pub run_without : (test : ℕ → Bool) (b : ℕ) {u v : Place} → b < 128 → test b ≡ false → Run test u v
     → v.at ≤ length u.text → has b (between u v) ≡ false
 run_without test b {u} small fails stop within = ap (has b) (none_between u)
@@ -79,7 +79,7 @@ run_without test b {u} {v} small fails (step {v = w} {c = c} char passes rest) w
     ∙ none_append b (encode_utf8 c) (between w v) (char_without b c small (other_char test b c fails passes))
     (run_without test b {u = w} {v = v} small fails rest (omega (arith, within, ap length char.same)))
 
--- nor does a percent sign stand in white space
+-- white space contains no percent sign
 pub white_without : (bytes : List ℕ) → AreWhite bytes → has 37 bytes ≡ false
 white_without [] all = refl
 white_without (x ∷ xs) all =

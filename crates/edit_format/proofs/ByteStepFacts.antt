@@ -1,4 +1,4 @@
--- Tests of bytes, from one byte to the next.
+-- Tests of bytes: one byte in a loop.
 use Rattle.std.proofs.Common.{◌≡◌, ℕ, suc, ◌+◌, ◌-◌, ◌<◌, Bool, true, false, List, ◌∷◌, length, drop, slice_index_or, sym, ap, ◌∙◌, arith}
 use Rattle.std.specs.Prelude.{◌&&◌}
 use Rattle.std.proofs.lemmas.Bool.{lt-ltb}
@@ -6,7 +6,7 @@ use Rattle.std.proofs.lemmas.List.{drop_more}
 use Rattle.edit_format.specs.Delimited.{close_braces, hide_quotes}
 use Rattle.edit_format.proofs.DelimiterFacts.{other_byte, other_sign}
 
--- what a test says from a byte on, it says from the next on
+-- the result of a test of the bytes still to visit is that of the test of the bytes after the next one
 pub next_is : (test test' : List ℕ → Bool) (xs : List ℕ) (i : ℕ) {is : Bool} → i < length xs
     → ((bs : List ℕ) → test (slice_index_or xs i 0 ∷ bs) ≡ test' bs) → test (drop i xs) ≡ is
     → test' (drop (i + 1) xs) ≡ is

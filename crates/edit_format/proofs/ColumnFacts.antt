@@ -1,4 +1,4 @@
--- Columns and commas of entries whose fields are the same but for places and the case of names.
+-- Padded widths and last commas of entries whose fields differ only in spans and in the case of their names.
 use Rattle.std.proofs.Common.{◌≡◌, ℕ, List, [], ◌∷◌, fold, length, map, refl, sym, ap, ◌∙◌}
 use Rattle.std.specs.Prelude.{max, if◌then◌else◌}
 use Rattle.std.specs.Str.{chars}
@@ -8,7 +8,7 @@ use Rattle.edit_format.specs.declared.style.Style.{Style}
 use Rattle.edit_format.proofs.FieldFacts.{field_content}
 use Rattle.edit_format.proofs.WidthFacts.{width_lower}
 
--- names that are the same in lowercase have as many characters
+-- names that are equal in lowercase have the same number of characters
 same_width : (f g : FieldReading) → field_content f ≡ field_content g → length (chars f.name.text) ≡ length (chars g.name.text)
 same_width f g same = sym (width_lower f.name.text) ∙ ap (λ h. length (chars h.name.text)) same ∙ width_lower g.name.text
 

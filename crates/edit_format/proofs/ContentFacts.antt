@@ -1,4 +1,4 @@
--- What is said, without places.
+-- The content of a reading doesn't depend on its spans.
 use Rattle.std.proofs.Common.{◌≡◌, ℕ, List, [], ◌∷◌, ◌++◌, map, refl, ap, ◌∙◌}
 use Rattle.std.proofs.lemmas.List.{map-append}
 use Rattle.bib_syntax.specs.Reading.{Piece, FieldReading, EntryReading, FileReading, then}
@@ -47,7 +47,7 @@ entries_placeless move (e ∷ es) =
     ap (λ x. x ∷ map entry_content (map (moved_entry move) es)) (entry_placeless move e)
     ∙ ap (λ xs. entry_content e ∷ xs) (entries_placeless move es)
 
--- what a file says, from its parts
+-- a reading with these parts
 file_with : List ℕ → List EntryReading → List FieldReading → FileReading
 file_with preamble es fs = record { preamble = preamble; entries = es; abbreviations = fs }
 

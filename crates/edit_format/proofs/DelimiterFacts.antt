@@ -1,4 +1,4 @@
--- Which texts can stand in braces and in quotes, by their bytes and by the file grammar.
+-- The contents that can be written in braces and in quotes: the tests of bytes agree with the file grammar.
 use Rattle.std.proofs.Common.{◌≡◌, inl, inr, ℕ, zero, suc, ◌+◌, ◌-◌, ◌/◌, ◌<◌, ◌≤◌, Bool, true, false, cond, List, [], ◌∷◌, ◌++◌, length, drop, MatchBool, refl, sym, ap, ◌∙◌, subst, ltb, arith, append_assoc}
 use Rattle.std.specs.Prelude.{◌==◌, ◌&&◌, encode_utf8, nat_lt, not}
 use Rattle.std.specs.List.{AllByRecursion}
@@ -22,7 +22,7 @@ use Rattle.edit_entries.proofs.StandsFacts.{between_stands}
 
 -- ---- the bytes of a character
 
--- itself, or bytes that are no characters of ASCII
+-- the bytes of a character are itself, or bytes that aren't ASCII
 pub data Encoded (c : ℕ) : List ℕ → Type 0 where
   one : c < 128 → Encoded c (c ∷ [])
   wide : {b : ℕ} {bs : List ℕ} → 128 ≤ c → AllByRecursion (λ x. 128 ≤ x) (b ∷ bs) → Encoded c (b ∷ bs)
@@ -134,9 +134,9 @@ past_slash rest = ap (λ t. hide_quotes false (t ++ rest)) (encode_ascii 92 (ome
 stops_at_quote : (rest : List ℕ) → hide_quotes false (encode_utf8 34 ++ rest) ≡ false
 stops_at_quote rest = ap (λ t. hide_quotes false (t ++ rest)) (encode_ascii 34 (omega arith))
 
--- ---- which character it is
+-- ---- the cases of a character
 
--- a plain character is none of the three
+-- a plain character is neither a brace nor a backslash
 plain_is : {c : ℕ} (d : ℕ) → is_plain c ≡ true → is_plain d ≡ false → c ≡ d → ⊥
 plain_is d passes fails same = test_clash (is_plain d) (subst (λ x. is_plain x ≡ true) same passes) fails
 
@@ -145,7 +145,7 @@ is_plain_from c no_open no_close no_slash =
     ap (λ x. not x && not (c == 125) && not (c == 92)) (ne_eqb c 123 no_open)
     ∙ ap (λ x. not x && not (c == 92)) (ne_eqb c 125 no_close) ∙ ap not (ne_eqb c 92 no_slash)
 
--- a character of quoted parts is neither a quote nor a backslash
+-- whether a character is neither a quote nor a backslash
 abbrev is_unquoted : ℕ → Bool
 is_unquoted c = not (c == 34) && not (c == 92)
 
@@ -155,7 +155,7 @@ unquoted_is d passes fails same = test_clash (is_unquoted d) (subst (λ x. is_un
 is_unquoted_from : (c : ℕ) → (c ≡ 34 → ⊥) → (c ≡ 92 → ⊥) → is_unquoted c ≡ true
 is_unquoted_from c no_quote no_slash = ap (λ x. not x && not (c == 92)) (ne_eqb c 34 no_quote) ∙ ap not (ne_eqb c 92 no_slash)
 
--- ---- what stands in quotes, in braces
+-- ---- contents of quoted literals, in braces
 
 plain_before : {n : ℕ} {u v w : Place} {c : ℕ} → CharAt u c v → is_plain c ≡ true → ClosesOpen n v w → ClosesOpen n u w
 plain_before char passes (last inner) = last (parts.plain char passes inner)
@@ -218,14 +218,14 @@ parts_of_quoted x within is = closed (closes_quoted 0 x within is)
     closed : {u v : Place} → ClosesOpen 0 u v → Parts u v
     closed (last inner) = inner
 
--- ---- what stands in braces, in quotes
+-- ---- contents of braced literals, in quotes
 
 quoted_append : {u v w : Place} → QuotedParts u v → QuotedParts v w → QuotedParts u w
 quoted_append quotes.none others = others
 quoted_append (quotes.plain char passes rest) others = quotes.plain char passes (quoted_append rest others)
 quoted_append (quotes.hidden slash char rest) others = quotes.hidden slash char (quoted_append rest others)
 
--- parts in quotes, and what follows them
+-- a part parses in quotes, and the bytes after it pass the test
 record AreQuoted (u v : Place) (rest : List ℕ) : Type 0 where
   inside : QuotedParts u v
   following : hide_quotes false rest ≡ true
@@ -298,7 +298,7 @@ quoted_braced {u} {v} bytes (parts.nested {v = w} {w = x} {x = y} opens inner cl
 pub quoted_of_parts : {u v : Place} → Parts u v → v.at ≤ length u.text → hide_quotes false (between u v) ≡ true → QuotedParts u v
 quoted_of_parts {u} {v} x within is = (quoted_braced [] x within (ap (hide_quotes false) (append-nil (between u v)) ∙ is)).inside
 
--- ---- the tests say what the grammar does
+-- ---- the tests agree with the grammar
 
 closes_parts : {u v : Place} (depth : ℕ) (bytes : List ℕ) → Parts u v → v.at ≤ length u.text
     → close_braces false depth (between u v ++ bytes) ≡ close_braces false depth bytes

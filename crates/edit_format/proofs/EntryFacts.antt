@@ -1,4 +1,4 @@
--- An entry in one style, as it is read.
+-- An entry in one style parses to the same entry.
 use Rattle.std.proofs.Common.{◌≡◌, inl, inr, ℕ, ◌+◌, ◌-◌, ◌<◌, ◌≤◌, Bool, true, false, cond, List, [], ◌∷◌, ◌++◌, length, drop, take, map, refl, sym, ap, ◌∙◌, subst, arith}
 use Rattle.std.specs.Prelude.{◌==◌, ◌&&◌, ◌||◌, not}
 use Rattle.std.specs.Char.{is_whitespace, is_control}
@@ -59,7 +59,7 @@ key_read line_end style width text (f ∷ fs) ends stand s =
 
 -- ---- an entry
 
--- an entry of a text, written as these bytes and read in another text
+-- an entry of a text parses from its output in another text, and formatting it again gives the same bytes
 pub record EntryRead (line_end : List ℕ) (style : Style) (bytes : List ℕ) (e : EntryReading) (u v : Place) : Type 0 where
   pub reading : EntryReading
   pub block : Block longest u (entry_alone reading) v
@@ -226,7 +226,7 @@ laid_out_read line_end style {a} {b} {u} {v} {e} ends x s =
       ends = sym next;
     }
 
--- whether a percent sign stands between two places of a zone
+-- a part of a zone has a percent sign in both texts or in neither
 percent_there : {f : Frame} {p q : Place} → Zone f → Inside f p → Inside f q → Ahead p q
     → has_percent f.new (f.move p.at) (f.move q.at) ≡ has_percent f.old p.at q.at
 percent_there {f} {p} {q} z ip iq ahead = ap (has 37) (between_there z ip iq ahead ∙ ap (λ t. take (q.at - p.at) (drop p.at t)) ip.text)
@@ -263,7 +263,7 @@ percents_there {f} {s} {x} {y} z is iy ahead (fields.more {v = w} {f = r} {fs = 
     ∙ ap (λ n. has_percent f.old s.at x.at || has_percent_between f.old n rs y.at) (sym field.ends)
     ∙ ap (λ n. has_percent f.old s.at n || has_percent_between f.old r.value.end rs y.at) (sym begins)
 
--- whether a comment stands in an entry of a zone
+-- an entry of a zone has a comment in both texts or in neither
 comment_there : {f : Frame} {a b : Place} {e : EntryReading} → Zone f → Inside f a → Inside f b → EntryBlock a e b
     → has_comment f.new (moved_entry f.move e) ≡ has_comment f.old e
 comment_there {f} {a} {b} {e} z ia ib x =
@@ -279,7 +279,7 @@ comment_there {f} {a} {b} {e} z ia ib x =
     ∙ ap (λ n. has_percent_between f.old x.key_end.at e.fields n) (sym x.ends)
     ∙ ap (λ n. has_percent_between f.old n e.fields e.end) (sym key_end)
 
--- an entry that stays as it stands
+-- the copy of an entry with a comment parses
 kept_read : (line_end : List ℕ) (style : Style) {a b u v : Place} {e : EntryReading} → has_comment a.text e ≡ true
     → EntryBlock a e b → Stands u (between a b) v → EntryRead line_end style (between a b) e u v
 kept_read line_end style {a} {b} {u} {v} {e} commented x s =
@@ -340,7 +340,7 @@ kept_read line_end style {a} {b} {u} {v} {e} commented x s =
               omega (arith, ap (λ x. x.at) at)
         ]
 
--- ---- either
+-- ---- an entry with a new layout or a copied one
 
 pub entry_read : (line_end : List ℕ) (style : Style) (text : List ℕ) {a b u v : Place} {e : EntryReading}
     → IsLineEnd line_end → a.text ≡ text → EntryBlock a e b → Stands u (entry_in_style line_end style text e) v

@@ -1,4 +1,4 @@
--- A field, laid out, as it is read.
+-- A field in a new layout parses to the same field.
 use Rattle.std.proofs.Common.{◌≡◌, ℕ, zero, suc, ◌-◌, ◌≤◌, Bool, true, false, List, [], ◌∷◌, ◌++◌, length, map, codes, refl, sym, ap, ◌∙◌, subst, arith, append_assoc}
 use Rattle.std.specs.Prelude.{◌==◌, ◌&&◌, bytes_eq, cond, max, nat_lt, replicate}
 use Rattle.std.specs.Char.{is_ascii_whitespace, is_whitespace}
@@ -27,13 +27,13 @@ use Rattle.edit_entries.proofs.StandsFacts.{AreWhite, Stands, ascii, between_sta
 use Rattle.edit_format.proofs.ValueFacts.{IsSeparator, in_line, not_opened_run, not_opened_sign, not_opened_white, signed, unsigned, value_read, written}
 use Rattle.edit_format.proofs.WidthFacts.{width_lower}
 
--- how lines end: with white space, after which and before a closing brace a value ends
+-- a line end is white space, and a value ends before it
 pub record IsLineEnd (line_end : List ℕ) : Type 0 where
   pub white : AreWhite line_end
   pub blank : list_all is_ascii_whitespace line_end ≡ true
   pub ending : (u v : Place) (rest : List ℕ) → Stands u (line_end ++ rest) v → Ending u
 
--- a field without places and with its name in lowercase
+-- a field without spans and with its name in lowercase
 abbrev pub field_content : FieldReading → FieldReading
 field_content f = moved_field (λ n. 0) (field_in_lowercase f)
 
@@ -58,7 +58,7 @@ first_space {u} {v} (suc n) rest s = record {
   no_point = refl;
 }
 
--- a field in a line of its own, after a comma
+-- a field parses from its output, a comma and its line, in another text
 pub record FieldRead (line_end : List ℕ) (style : Style) (text : List ℕ) (width : ℕ) (f : FieldReading) (u v : Place) : Type 0 where
   pub after : Place
   pub start : Place
@@ -70,7 +70,7 @@ pub record FieldRead (line_end : List ℕ) (style : Style) (text : List ℕ) (wi
   pub again : field_laid_out line_end style u.text width reading ≡ field_laid_out line_end style text width f
   pub clear : has_percent u.text u.at reading.name.start ≡ false
 
--- what stands before each element of a value but the first, in a line of its own
+-- the separator before a piece that begins a new line
 abbrev pub at_column : List ℕ → ℕ → ℕ → List ℕ
 at_column line_end indent column = line_end ++ (spaces indent ++ (spaces column ++ codes "   # "))
 
@@ -96,7 +96,7 @@ in_next_line line_end indent column ends =
           (append_assoc line_end (spaces indent ++ (spaces column ++ codes "   # ")) rest) s);
     }
 
--- what stands before each element but the first
+-- `next_sign` is a separator
 separates : (line_end : List ℕ) (style : Style) (width : ℕ) (name : List ℕ) (elements : List (List ℕ))
     → IsLineEnd line_end → IsSeparator (next_sign line_end style width name elements)
 separates line_end style width name elements ends = by_choice (is_broken style width name elements)
@@ -105,7 +105,8 @@ separates line_end style width name elements ends = by_choice (is_broken style w
     by_choice true = in_next_line line_end style.indent (max width (length (chars name))) ends
     by_choice false = in_line
 
--- a field's line, and a field, by its name in lowercase, how many characters that has, and its elements
+-- the line of a field and the field with its comma, given its name in lowercase, the length of the name in characters, and its
+-- pieces
 abbrev line_of : Style → ℕ → List ℕ → List ℕ → ℕ → List (List ℕ) → List ℕ
 line_of style width next name count elements =
     spaces style.indent ++ (name ++ (spaces (width - count) ++ value_laid_out (codes " = ") next elements))
@@ -232,12 +233,12 @@ field_read line_end style width {a} {b} {u} {v} {w} {f} ends field within s endi
 
 -- ---- fields
 
--- a field that says the same as another but for places and the case of its name, and is laid out alike
+-- two fields have the same content except for spans and the case of their names, and the same layout
 pub record IsLaidOutAlike (line_end : List ℕ) (style : Style) (new old : List ℕ) (width : ℕ) (f g : FieldReading) : Type 0 where
   pub alike : field_content f ≡ field_content g
   pub again : field_laid_out line_end style new width f ≡ field_laid_out line_end style old width g
 
--- a field that stands in a text
+-- a field occurs in a text
 pub record FieldIn (text : List ℕ) (f : FieldReading) : Type 0 where
   pub from : Place
   pub to : Place
@@ -262,7 +263,7 @@ fields_in text {a} {b} same (fields.more {v = a1} field g sep g' rest) within =
       fields_in text ((ahead_then (ahead_field field) past_comma).text ∙ same) rest within,
     )
 
--- a comma, fields, and a closing brace
+-- some fields and the closing brace parse from their output after a comma
 pub record CommaRead (line_end : List ℕ) (style : Style) (text : List ℕ) (width : ℕ) (fs : List FieldReading) (u v : Place) : Type 0 where
   pub after : Place
   pub start : Place
@@ -275,7 +276,7 @@ pub record CommaRead (line_end : List ℕ) (style : Style) (text : List ℕ) (wi
   pub each : AllZip (IsLaidOutAlike line_end style u.text text width) reading fs
   pub clear : has_percent_between u.text u.at reading brace.at ≡ false
 
--- white space and a closing brace
+-- white space and a closing brace parse
 pub record CloseRead (u v : Place) : Type 0 where
   pub brace : Place
   pub ending : Ending u
@@ -316,7 +317,7 @@ none_read line_end style text width {u} {v} ends s =
       clear = ap (has 37) bytes ∙ white_without line_end ends.white;
     }
 
--- a field before others, or before the end
+-- a field parses before other fields or before the closing brace
 before_comma : (line_end : List ℕ) (style : Style) (text : List ℕ) (width : ℕ) {u m v : Place} {f : FieldReading}
     {fs : List FieldReading} → IsLineEnd line_end → FieldIn text f
     → Stands u (field_laid_out line_end style text width f) m → CommaRead line_end style text width fs m v
@@ -374,12 +375,12 @@ before_close line_end style text width {u} {m} {v} {f} ends stands s rest =
           ∙ ap (has 37) (none_between (place u.text rest.brace.at)));
     }
 
--- the last comma, or none
+-- the comma after the last field, or none
 pub data LastComma : List ℕ → Type 0 where
   comma : LastComma (44 ∷ [])
   none : LastComma []
 
--- what stands after a field: others, or the end
+-- the last field parses before the optional comma and the closing brace
 after_last : (line_end : List ℕ) (style : Style) (text : List ℕ) (width : ℕ) {u m v : Place} {f : FieldReading}
     {last : List ℕ} → IsLineEnd line_end → LastComma last → FieldIn text f
     → Stands u (field_laid_out line_end style text width f) m → Stands m (last ++ (line_end ++ 125 ∷ [])) v
@@ -389,7 +390,7 @@ after_last line_end style text width ends LastComma.comma stands s rest =
 after_last line_end style text width ends LastComma.none stands s rest =
     before_close line_end style text width ends stands s (close_read line_end ends rest)
 
--- a field and those after it
+-- the fields of an entry parse
 pub fields_read : (line_end : List ℕ) (style : Style) (width : ℕ) (text : List ℕ) (last : List ℕ) (f : FieldReading)
     (fs : List FieldReading) {u v : Place} → IsLineEnd line_end → LastComma last → FieldIn text f
     → AllByRecursion (FieldIn text) fs
@@ -408,7 +409,7 @@ fields_read line_end style width text last f (g ∷ gs) {u} {v} ends way stands 
     before_comma line_end style text width ends stands (first_part (write f) rest s')
     (fields_read line_end style width text last g gs ends way others.0 others.1 (last_part (write f) rest s'))
 
--- ---- what fields that are laid out alike have in common
+-- ---- consequences of the same layout
 
 pub zip_alike : (line_end : List ℕ) (style : Style) (new old : List ℕ) (width : ℕ) (fs gs : List FieldReading)
     → AllZip (IsLaidOutAlike line_end style new old width) fs gs → map field_content fs ≡ map field_content gs
@@ -429,6 +430,6 @@ zip_again line_end style new old width (f ∷ fs) (g ∷ gs) all =
     ap (λ t. t ++ flat_map (field_laid_out line_end style new width) fs) all.0.again
     ∙ ap (λ t. field_laid_out line_end style old width g ++ t) (zip_again line_end style new old width fs gs all.1)
 
--- names that are the same in lowercase are alike in any order
+-- fields with the same name in lowercase have the same names
 pub same_named : (n : List ℕ) (f g : FieldReading) → field_content f ≡ field_content g → has_name n f ≡ has_name n g
 same_named n f g same = ap (λ h. bytes_eq h.name.text (str_to_ascii_lowercase n)) same

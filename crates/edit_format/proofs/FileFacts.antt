@@ -1,4 +1,4 @@
--- A text in one style, as it is read.
+-- A text in one style parses to the same reading.
 use Rattle.std.proofs.Common.{◌≡◌, ℕ, ◌+◌, ◌-◌, ◌≤◌, Bool, true, false, cond, List, [], ◌∷◌, ◌++◌, Option, None, length, drop, take, map, refl, sym, ap, ◌∙◌, subst, arith, length-drop}
 use Rattle.bib_text.specs.Places.{Place, place, between}
 use Rattle.bib_text.proofs.PlaceFacts.{ahead_then, ahead_char, ahead_run, char_left, same_place}
@@ -22,7 +22,7 @@ use Rattle.edit_format.proofs.GapFacts.{gap_read}
 use Rattle.edit_entries.proofs.ByEntriesFacts.{ByEntries, by_entries}
 use Rattle.edit_entries.proofs.StandsFacts.{Stands, ascii, between_stands, first_part, past}
 
--- how lines end
+-- the line end of a text is one
 pub line_end_is : (text : List ℕ) → IsLineEnd (line_end_of text)
 line_end_is text = by_choice _
   where
@@ -54,7 +54,7 @@ line_end_is text = by_choice _
           };
     }
 
--- what a file says from a place on, read from a place of another text on
+-- the output for the rest of a file parses from a place of another text on, and formatting it again doesn't change it
 pub record FileRead (line_end : List ℕ) (style : Style) (blank_lines : Option ℕ) (says : FileReading) (u : Place) : Type 0 where
   pub reading : FileReading
   pub file : File longest u reading
@@ -64,7 +64,7 @@ pub record FileRead (line_end : List ℕ) (style : Style) (blank_lines : Option 
 stands_here : (u : Place) (xs ys : List ℕ) → drop u.at u.text ≡ xs ++ ys → Stands u xs (past u xs)
 stands_here u xs ys here = record { same = refl; here = here ∙ ap (λ t. xs ++ t) (sym (text_stands u.text xs ys u.at here)); next = refl }
 
--- the rest of a text, without entries
+-- the zone of the rest of a text after its last entry
 abbrev rest_frame : Place → Place → Frame
 rest_frame a u = record { old = a.text; new = u.text; move = λ n. n - a.at + u.at; from = a.at; to = u.at; end = length a.text + 1 }
 
@@ -102,7 +102,7 @@ alike_then gap before rest reading e e' between_entries entry others =
     ∙ ap (then (entry_alone (entry_content e))) others ∙ sym (content_then (entry_alone e) rest))
     ∙ sym (content_then before (then (entry_alone e) rest))
 
--- what is said with fields in order, from its parts
+-- the content of a reading with ordered fields is that of its parts with ordered fields
 then_in_order : (style : Style) (text : List ℕ) (before rest : FileReading) (e : EntryReading) → before.entries ≡ []
     → content (then before (then (entry_alone (entry_in_order style text e)) (says_in_order style text rest)))
     ≡ content (says_in_order style text (then before (then (entry_alone e) rest)))

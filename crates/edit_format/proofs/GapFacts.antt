@@ -1,4 +1,4 @@
--- What stands between entries, as it is read where blank lines are asked for.
+-- The text between entries parses as before if it is replaced by blank lines.
 use Rattle.std.proofs.Common.{◌≡◌, ℕ, zero, suc, ◌+◌, ◌-◌, ◌<◌, ◌≤◌, Bool, true, false, cond, List, [], ◌∷◌, ◌++◌, Option, None, Some, length, drop, map, refl, sym, ap, ◌∙◌, subst, arith, append_assoc}
 use Rattle.std.specs.Prelude.{◌==◌, ◌&&◌, encode_utf8, not}
 use Rattle.std.specs.Char.{is_ascii_whitespace}
@@ -23,7 +23,7 @@ use Rattle.edit_format.proofs.ContentFacts.{file_placeless}
 use Rattle.edit_entries.proofs.ElementFacts.{char_parted}
 use Rattle.edit_entries.proofs.StandsFacts.{Stands, ascii, copied_before, copy_frame, first_part, last_part, nothing, past}
 
--- ---- white space of ASCII
+-- ---- ASCII white space
 
 abbrev pub are_blank : List ℕ → Bool
 are_blank bytes = list_all is_ascii_whitespace bytes
@@ -31,7 +31,7 @@ are_blank bytes = list_all is_ascii_whitespace bytes
 blank_both : (xs ys : List ℕ) → are_blank (xs ++ ys) ≡ true → (are_blank xs ≡ true) × (are_blank ys ≡ true)
 blank_both xs ys all = and_parts (are_blank xs) (are_blank ys) (sym (list_all-append is_ascii_whitespace xs ys) ∙ all)
 
--- one end of a line more, at the end or at the start
+-- a line end after some line ends is one more line end
 pub one_more : (line_end : List ℕ) (count : ℕ) → line_ends line_end count ++ line_end ≡ line_ends line_end (suc count)
 one_more line_end zero = sym (append-nil line_end)
 one_more line_end (suc count) =
@@ -43,7 +43,7 @@ blank_ends line_end (suc count) all =
     list_all-append is_ascii_whitespace line_end (line_ends line_end count)
     ∙ ap (λ c. c && are_blank (line_ends line_end count)) all ∙ blank_ends line_end count all
 
--- a text that is trimmed to nothing
+-- a text is empty after trimming exactly if it is only white space
 pub trimmed_blank : (bytes : List ℕ) → (length (drop (prefix_len is_ascii_whitespace bytes) bytes) == 0) ≡ are_blank bytes
 trimmed_blank [] = refl
 trimmed_blank (b ∷ bs) = by_test (is_ascii_whitespace b) (trimmed_blank bs)
@@ -61,7 +61,7 @@ blank_small b is = grind (arith, nat_tests)
 blank_skipped : (b : ℕ) → is_ascii_whitespace b ≡ true → (not (b == 64) && not (b == 37)) ≡ true
 blank_skipped b is = grind (arith, nat_tests)
 
--- it says nothing
+-- white space parses to the empty reading
 blank_read : {u v : Place} (bytes : List ℕ) → are_blank bytes ≡ true → Stands u bytes v → FileBefore u empty_reading v
 blank_read {u} {v} [] all s = subst (λ p. FileBefore u empty_reading p) (nothing s) FileBefore.none
 blank_read {u} {v} (b ∷ bs) all s =
@@ -99,9 +99,9 @@ blank_says {u} {v} (FileBefore.block {v = w} b others) within all =
         let over = ahead_then from_name (ahead_then (ahead_body b.body) ahead) in
         not_blank 64 (between head.name_start v) (omega arith) refl (sym (ap are_blank (char_parted head.sign over within)) ∙ all)
 
--- ---- what stands before an entry
+-- ---- the text before an entry
 
--- what stands before an entry, in one style
+-- the output for the text before an entry parses to the same content, which has no entries
 pub record GapRead (line_end : List ℕ) (blank_lines : Option ℕ) (before : FileReading) (gap : List ℕ) (u p : Place) : Type 0 where
   pub reading : FileReading
   pub file : FileBefore u reading p
@@ -109,7 +109,7 @@ pub record GapRead (line_end : List ℕ) (blank_lines : Option ℕ) (before : Fi
   pub alike : content reading ≡ content before
   pub again : gap_in_style line_end blank_lines gap ≡ gap
 
--- it is as it was
+-- a copied gap parses
 kept_gap : (line_end : List ℕ) (blank_lines : Option ℕ) {a s u p w x : Place} {before : FileReading}
     → FileBefore a before s → before.entries ≡ [] → s.at ≤ length a.text → CharAt s 64 x → Stands u (between a s) p
     → CharAt p 64 w
@@ -127,7 +127,7 @@ kept_gap line_end blank_lines {a} {s} {u} {p} {before = before} first none withi
       again = again;
     }
 
--- it is so many blank lines
+-- blank lines parse
 blank_gap : (line_end : List ℕ) (count : ℕ) {a s u p : Place} {before : FileReading} → are_blank line_end ≡ true
     → FileBefore a before s → s.at ≤ length a.text → are_blank (between a s) ≡ true
     → Stands u (line_ends line_end (suc count)) p → GapRead line_end (Some count) before (line_ends line_end (suc count)) u p

@@ -1,4 +1,4 @@
--- How the lines of a text in one style end: as those of the text.
+-- The line end of a text in one style is that of the text.
 use Rattle.std.proofs.Common.{◌≡◌, inl, inr, ℕ, suc, Option, None, Some, ◌+◌, ◌-◌, ◌≤◌, Bool, true, false, cond, List, [], ◌∷◌, ◌++◌, length, drop, take, refl, sym, ap, ◌∙◌, arith, append_assoc, length-append}
 use Rattle.std.specs.Prelude.{◌==◌, ◌&&◌, ◌||◌, encode_utf8, nat_lt, not}
 use Rattle.std.specs.Char.{to_ascii_lowercase}
@@ -31,11 +31,11 @@ use Rattle.edit_entries.proofs.StandsFacts.{between_stands, stands_between, stan
 
 -- ---- the first line of a text
 
--- how lines end, by whether the first ends with a carriage return
+-- the line end, given whether the first line ends with a carriage return
 abbrev by_return : Bool → List ℕ
 by_return c = cond c (13 ∷ 10 ∷ []) (10 ∷ [])
 
--- what a first line says
+-- the line end, given the first line
 abbrev by_line : List ℕ → List ℕ
 by_line line = by_return (ends_with eqb line (13 ∷ []))
 
@@ -62,7 +62,7 @@ line_is line rest none =
     ∙ ap (λ l. by_return (nat_lt (length line) (length text) && ends_with eqb l (13 ∷ []))) (take_at line (10 ∷ rest) (length line) refl)
     ∙ ap (λ c. by_return (c && ends_with eqb line (13 ∷ []))) within
 
--- a text with a line feed begins with a line
+-- a text begins with a line and a line feed
 record Line (text : List ℕ) : Type 0 where
   line : List ℕ
   rest : List ℕ
@@ -83,7 +83,7 @@ first_line (b ∷ bs) some = by_test (b == 10) refl (first_line bs)
         let l = rest (later (b == 10) (has 10 bs) is some) in
         record { line = b ∷ l.line; rest = l.rest; none = either_false (b == 10) (has 10 l.line) is l.none; is = ap (λ t. b ∷ t) l.is }
 
--- where a line feed stands, what follows it doesn't matter
+-- the line end doesn't depend on the text after the first line feed
 same_start : (start xs ys : List ℕ) → has 10 start ≡ true → line_end_of (start ++ xs) ≡ line_end_of (start ++ ys)
 same_start start xs ys some =
     let l = first_line start some in
@@ -91,7 +91,7 @@ same_start start xs ys some =
     ap line_end_of (split xs) ∙ line_is l.line (l.rest ++ xs) l.none ∙ sym (line_is l.line (l.rest ++ ys) l.none)
     ∙ ap line_end_of (sym (split ys))
 
--- the two ends of lines
+-- the two line ends
 pub data LineEnd : List ℕ → Type 0 where
   return_and_feed : LineEnd (13 ∷ 10 ∷ [])
   feed : LineEnd (10 ∷ [])
@@ -103,12 +103,12 @@ line_end_cases text = by_choice _
     by_choice true = LineEnd.return_and_feed
     by_choice false = LineEnd.feed
 
--- a byte that ends no line
+-- a byte is neither a line feed nor a carriage return
 record EndsNoLine (b : ℕ) : Type 0 where
   no_feed : (b == 10) ≡ false
   no_return : pointwise eqb (13 ∷ []) (b ∷ []) ≡ false
 
--- a first line that ends with such a byte and one of them
+-- if the first line feed of a text ends a line end after such a byte, this is the line end of the text
 after_byte : {line_end : List ℕ} (b : ℕ) (start rest : List ℕ) → EndsNoLine b → LineEnd line_end → has 10 start ≡ false
     → line_end_of (start ++ b ∷ (line_end ++ rest)) ≡ line_end
 after_byte b start rest other LineEnd.return_and_feed none =
@@ -123,7 +123,7 @@ after_byte b start rest other LineEnd.feed none =
     let split : start ++ b ∷ 10 ∷ rest ≡ line ++ 10 ∷ rest = sym (append_assoc start (b ∷ []) (10 ∷ rest)) in
     ap line_end_of split ∙ line_is line rest clear ∙ ap by_return (ends_last start b 13 ∙ other.no_return)
 
--- ---- the first line of an entry that is laid out
+-- ---- the first line of an entry in a new layout
 
 lower_same : (b : ℕ) → (to_ascii_lowercase b == 10) ≡ (b == 10)
 lower_same b =
@@ -150,7 +150,7 @@ name_without {u} {v} i within =
     (char_without 10 i.first (omega arith) (other_char is_id_start 10 i.first refl i.starts))
     (run_without is_id_continue 10 (omega arith) refl i.rest.run (omega (arith, within, ap length i.here.same)))
 
--- fields, and what follows them, begin with a comma and the end of a line
+-- bytes begin with a comma and a line end
 record Comma (line_end bytes : List ℕ) : Type 0 where
   rest : List ℕ
   is : bytes ≡ 44 ∷ (line_end ++ rest)
@@ -170,7 +170,7 @@ comma_first line_end style text width (f ∷ fs) tail =
           ++ (last_comma style (f ∷ fs) ++ (line_end ++ tail))));
     }
 
--- what stands before the end of an entry's first line
+-- the first line of an entry without its comma
 abbrev head_of : EntryReading → List ℕ
 head_of e = 64 ∷ (str_to_ascii_lowercase e.kind.text ++ (123 ∷ e.key.text))
 
@@ -190,7 +190,7 @@ head_without {a} {b} {e} x =
     ap (λ p. has 10 p.text) x.key_is ∙ run_without is_key 10 (omega arith) refl x.key.run key_within in
     none_append 10 (str_to_ascii_lowercase e.kind.text) (123 ∷ e.key.text) kind key
 
--- an entry that is laid out, after something and before something else
+-- a text with an entry in a new layout has a comma and a line end after the head of the entry
 record FirstLine (line_end start bytes following : List ℕ) (e : EntryReading) : Type 0 where
   rest : List ℕ
   is : start ++ (bytes ++ following) ≡ (start ++ head_of e) ++ 44 ∷ (line_end ++ rest)
@@ -217,7 +217,7 @@ entry_line line_end style text start following e =
 
 -- ---- a text in one style
 
--- a text's start, and the rest of another from a place on
+-- the rest of a text from one place on is the part up to another place, and the rest from there on
 parted_at : (start : List ℕ) {u v : Place} → u.at ≤ v.at → v.text ≡ u.text → v.at ≤ length u.text
     → start ++ drop u.at u.text ≡ (start ++ between u v) ++ drop v.at v.text
 parted_at start {u} {v} ordered same within =
@@ -234,12 +234,12 @@ first_clear first start is clear =
     or_left (has 10 first) (has 10 (125 ∷ []))
     (sym (list_any-append (λ x. x == 10) first (125 ∷ [])) ∙ ap (has 10) (sym is) ∙ clear)
 
--- what stands in front of a gap: the text's own bytes, or bytes that end with a closing brace
+-- the text before a gap: that of the file if there are no blank lines to write, otherwise bytes with a closing brace at their end
 pub data InFront (blank_lines : Option ℕ) (start : List ℕ) : Type 0 where
   stays : blank_lines ≡ None → InFront blank_lines start
   after_brace : (first : List ℕ) → start ≡ first ++ 125 ∷ [] → InFront blank_lines start
 
--- a gap is as it was, or begins with the end of a line, after a brace
+-- the output for a gap is a copy, or it begins with a line end after a closing brace
 data GapCases (line_end : List ℕ) (blank_lines : Option ℕ) (start gap : List ℕ) : Type 0 where
   as_it_was : gap_in_style line_end blank_lines gap ≡ gap → GapCases line_end blank_lines start gap
   lines : (first rest : List ℕ) → start ≡ first ++ 125 ∷ [] → gap_in_style line_end blank_lines gap ≡ line_end ++ rest

@@ -21,7 +21,7 @@ lower_lower (x ∷ xs) =
 pub lower_append : (xs ys : List ℕ) → str_to_ascii_lowercase (xs ++ ys) ≡ str_to_ascii_lowercase xs ++ str_to_ascii_lowercase ys
 lower_append xs ys = map-append to_ascii_lowercase xs ys
 
--- what a block is doesn't depend on the case of its name
+-- the kind of a block doesn't depend on the case of its name
 pub kind_lower : (name : List ℕ) → block_kind (str_to_ascii_lowercase name) ≡ block_kind name
 kind_lower name = ap kind_by (lower_lower name)
   where

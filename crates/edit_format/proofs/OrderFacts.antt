@@ -13,7 +13,7 @@ use Rattle.edit_format.specs.Ordered.{in_order}
 use Rattle.edit_format.specs.Unlisted.{has_name_first, has_one_of, unlisted}
 use Rattle.edit_format.specs.declared.style.Style.{Style}
 
--- ---- what passes a test
+-- ---- items that pass a test
 
 pub all_append : {X : Type 0} (P : X → Type 0) (xs ys : List X) → AllByRecursion P xs → AllByRecursion P ys → AllByRecursion P (xs ++ ys)
 all_append P [] ys all others = others
@@ -79,7 +79,7 @@ zip_append R (a ∷ as') (b ∷ bs) xs ys all others = (all.0, zip_append R as' 
 
 -- ---- fields in an order
 
--- the fields that haven't a name
+-- the fields that don't have this name
 abbrev others_than : List ℕ → List FieldReading → List FieldReading
 others_than name fs = filter (λ f. not (has_name name f)) fs
 
@@ -90,7 +90,7 @@ in_order_all P (n ∷ ns) fs all =
     all_append P (filter (has_name n) fs) (in_order ns (others_than n fs)) (all_filter P (has_name n) fs all)
     (in_order_all P ns (others_than n fs) (all_filter P (λ f. not (has_name n f)) fs all))
 
--- fields that are in an order stay as they are
+-- ordering fields again doesn't change their order
 pub in_order_twice : (names : List (List ℕ)) (fs : List FieldReading) → in_order names (in_order names fs) ≡ in_order names fs
 in_order_twice [] fs = refl
 in_order_twice (n ∷ ns) fs =
@@ -111,7 +111,7 @@ in_order_twice (n ∷ ns) fs =
     ap (λ t. t ++ in_order ns (others_than n (named ++ ordered))) first ∙ ap (λ t. named ++ in_order ns t) second
     ∙ ap (λ t. named ++ t) (in_order_twice ns rest)
 
--- fields of the same names are put in the same order
+-- related lists of fields are still related after ordering, if related fields have the same names
 pub in_order_zip : (R : FieldReading → FieldReading → Type 0)
     → ((n : List ℕ) (f g : FieldReading) → R f g → has_name n f ≡ has_name n g)
     → (names : List (List ℕ)) (fs gs : List FieldReading) → AllZip R fs gs
@@ -123,7 +123,7 @@ in_order_zip R same (n ∷ ns) fs gs all =
     (in_order_zip R same ns (others_than n fs) (others_than n gs)
     (zip_filter R (λ f. not (has_name n f)) (λ f g is. ap not (same n f g is)) fs gs all))
 
--- ---- how many there are
+-- ---- the number of fields
 
 parted_length : {X : Type 0} (p : X → Bool) (xs : List X) → length (filter p xs) + length (filter (λ x. not (p x)) xs) ≡ length xs
 parted_length p [] = refl
@@ -189,12 +189,12 @@ widest_ordered (n ∷ ns) fs =
     ∙ ap (max (widest 0 (filter (has_name n) fs))) (widest_ordered ns (others_than n fs))
     ∙ widest_parted (has_name n) fs
 
--- the order of fields is nothing to the column of their signs
+-- the padded width doesn't depend on the order of the fields
 pub padded_ordered : (style : Style) (names : List (List ℕ)) (fs : List FieldReading)
     → padded_width style (in_order names fs) ≡ padded_width style fs
 padded_ordered style names fs = ap (λ n. if style.aligned then n else 0) (widest_ordered names fs)
 
--- nor to the last comma
+-- the last comma doesn't depend on the order of the fields
 some_pass : (names : List (List ℕ)) (fs : List FieldReading) → length (in_order names fs) ≡ length fs
 some_pass [] fs = refl
 some_pass (n ∷ ns) fs =
@@ -215,7 +215,7 @@ last_ordered style names fs = by_length (in_order names fs) fs (some_pass names 
 
 -- ---- fields name by name
 
--- the fields that have a name and none of those before it
+-- the fields without the names `before` that have a name are those that have it first
 named_first : (before : List (List ℕ)) (n : List ℕ) (fs : List FieldReading)
     → filter (has_name n) (unlisted before fs) ≡ filter (has_name_first before n) fs
 named_first before n [] = refl
@@ -248,7 +248,7 @@ listed_more before n f =
     either_right true = refl
     either_right false = refl
 
--- the fields that have neither a name nor any of those before it
+-- the fields that have neither a name nor one of the names `before`
 neither_named : (before : List (List ℕ)) (n : List ℕ) (fs : List FieldReading)
     → others_than n (unlisted before fs) ≡ unlisted (before ++ n ∷ []) fs
 neither_named before n [] = refl

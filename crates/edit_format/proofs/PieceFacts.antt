@@ -1,4 +1,4 @@
--- An element between the delimiters of a style, as it is read.
+-- A piece with the delimiters of a style parses to the same piece.
 use Rattle.std.proofs.Common.{◌≡◌, ℕ, ◌+◌, ◌-◌, ◌≤◌, Bool, true, false, not, ◌&&◌, List, [], ◌∷◌, ◌++◌, length, codes, cond, refl, sym, ap, ◌∙◌, subst, arith}
 use Rattle.std.specs.List.{ends_with}
 use lib.Dec.{eqb}
@@ -23,7 +23,7 @@ use Rattle.edit_format.proofs.DelimiterFacts.{parts_of_quoted, quoted_of_parts}
 use Rattle.edit_entries.proofs.ElementFacts.{Ending, NotOpened, before, brace_before, identifier_until, number_until, quote_before}
 use Rattle.edit_entries.proofs.StandsFacts.{Stands, ascii, between_stands, copied_before, copy_frame, first_part, last_part, past}
 
--- ---- how an element is written
+-- ---- the output for a piece
 
 number_written : (way : Delimiters) {u : Place} (v : Place) → NotOpened u → piece_as_written way u.text (literal (part u v)) ≡ between u v
 number_written way {u} v opened =
@@ -59,7 +59,7 @@ quoted_written way {u} {v} {p} q =
     (cond (ends_with eqb (before q.inside) (codes "\"")) (quoted_in_style way content) content)) is.0
     ∙ ap (λ c. cond c (quoted_in_style way content) content) is.1
 
--- what comes to stand in quotes stays there, and the other way round
+-- a literal that the style rewrites in quotes stays in quotes, and one that it rewrites in braces stays in braces
 stays_quoted : (way : Delimiters) (content : List ℕ) → goes_in_quotes way content ≡ true → quoted_in_style way content ≡ in_quotes content
 stays_quoted Keep content is = absurd (cc)
 stays_quoted Braces content is = absurd (cc)
@@ -84,20 +84,20 @@ can_be_braced Keep content is = absurd (cc)
 can_be_braced Braces content is = is
 can_be_braced Quotes content is = absurd (cc)
 
--- ---- an element in another text
+-- ---- a piece in another text
 
--- an element of a text, written with the delimiters of a style, and read in another text
+-- a piece of a text parses from its output in another text, and its output there is the same
 pub record PieceRead (way : Delimiters) (text : List ℕ) (e : Piece) (u v : Place) : Type 0 where
   pub reading : Piece
   pub element : Element longest u reading v
   pub alike : moved_piece (λ n. 0) reading ≡ moved_piece (λ n. 0) e
   pub again : piece_as_written way u.text reading ≡ piece_as_written way text e
 
--- a literal of this content
+-- a literal with this content
 literal_of : List ℕ → Piece
 literal_of content = literal (record { text = content; start = 0; end = 0 })
 
--- parts in braces, where their bytes stand between two braces
+-- the content of a braced literal parses in braces
 made_braced : (way : Delimiters) (text : List ℕ) (p : Part) {a b u v : Place} → Parts a b → b.at ≤ length a.text
     → p.text ≡ between a b → piece_as_written way text (literal p) ≡ in_braces (between a b)
     → braced_in_style way (between a b) ≡ in_braces (between a b)
@@ -125,7 +125,7 @@ made_braced way text p {a} {b} {u} {v} inner within says written stays s =
       again = braced_written way braced ∙ ap (braced_in_style way) bytes ∙ stays ∙ sym written;
     }
 
--- parts in quotes, where their bytes stand between two quotes
+-- the content of a quoted literal parses in quotes
 made_quoted : (way : Delimiters) (text : List ℕ) (p : Part) {a b u v : Place} → QuotedParts a b → b.at ≤ length a.text
     → p.text ≡ between a b → piece_as_written way text (literal p) ≡ in_quotes (between a b)
     → quoted_in_style way (between a b) ≡ in_quotes (between a b)

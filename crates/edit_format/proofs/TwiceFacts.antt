@@ -1,4 +1,4 @@
--- A text in one style is as it is in that style.
+-- Formatting a text twice in the same style is the same as formatting it once.
 use Rattle.std.proofs.Common.{◌≡◌, ℕ, List, [], None, refl, ap, ◌∙◌, arith}
 use Rattle.bib_text.specs.Places.{place}
 use Rattle.bib_syntax.specs.Reading.{FileReading}

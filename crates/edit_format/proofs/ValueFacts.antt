@@ -1,4 +1,4 @@
--- A value, laid out, as it is read.
+-- A value in a new layout parses to the same pieces.
 use Rattle.std.proofs.Common.{◌≡◌, inl, inr, ℕ, ◌+◌, ◌<◌, ◌≤◌, Bool, true, false, List, [], ◌∷◌, ◌++◌, length, drop, map, codes, refl, sym, ap, ◌∙◌, subst, arith, append_assoc, length-append}
 use Rattle.std.specs.Prelude.{◌==◌}
 use Rattle.std.specs.Char.{is_whitespace, is_ascii_digit, len_utf8}
@@ -30,9 +30,9 @@ use Rattle.edit_entries.proofs.ElementFacts.{Ending, NotOpened, before, start_st
 use Rattle.edit_format.proofs.PieceFacts.{piece_read}
 use Rattle.edit_entries.proofs.StandsFacts.{AreWhite, Stands, ascii, first_part, last_part, past, run_white}
 
--- ---- what stands before an element
+-- ---- the text before a piece
 
--- a text that ends with a byte of ASCII ends with its character
+-- a text whose last character is another one doesn't end with this ASCII byte
 no_other : {y u : Place} {d : ℕ} (c : ℕ) → c < 128 → CharAt y d u → (d ≡ c → ⊥) → (front : List ℕ) → before u ≡ front ++ c ∷ [] → ⊥
 no_other {y} {u} {d} c small char other front is =
     let within : u.at ≤ length u.text = char_within char in
@@ -64,7 +64,7 @@ not_ended {y} {u} {d} c small char other = by_value (ends_with eqb (before u) (c
         ((ends_is Decides-eqb (before u) (c ∷ []) (ends_with eqb (before u) (c ∷ [])) refl).0 is))
     by_value false is = is
 
--- after a character of white space, or a space, neither a brace nor a quote stands
+-- a piece after white space is after neither a brace nor a quote
 pub not_opened_white : {y u : Place} {d : ℕ} → CharAt y d u → is_whitespace d ≡ true → NotOpened u
 not_opened_white char white = record {
   no_brace = not_ended 123 (omega arith) char (λ same. test_clash false (subst (λ c. is_whitespace c ≡ true) same white) refl);
@@ -91,9 +91,9 @@ element_dark (element.named none i) = stops_at is_whitespace i.here (start_not_w
 element_dark (element.braced b) = stops_at is_whitespace b.opens refl
 element_dark (element.quoted q) = stops_at is_whitespace q.opens refl
 
--- ---- what stands between two elements
+-- ---- the text between two pieces
 
--- white space, the sign and a space
+-- a separator is white space, `#` and a space, and a piece ends before it
 pub record IsSeparator (next : List ℕ) : Type 0 where
   pub white : List ℕ
   pub is : next ≡ white ++ 35 ∷ 32 ∷ []
@@ -116,7 +116,7 @@ in_line = record {
       };
 }
 
--- what stands between two elements, in a text
+-- a separator between two places of a text
 record Separated (u v : Place) : Type 0 where
   to_hash : Place
   past_hash : Place
@@ -136,12 +136,12 @@ separated {next} {u} {v} sep s =
       space = ascii 32 (omega arith) (last_part (35 ∷ []) (32 ∷ []) rest);
     }
 
--- a value without the sign before its first element
+-- a value without the separator before its first piece
 abbrev pub unsigned : List ℕ → List (List ℕ) → List ℕ
 unsigned next [] = []
 unsigned next (t ∷ ts) = t ++ value_laid_out next next ts
 
--- elements, as they are written
+-- the outputs for some pieces
 abbrev pub written : Delimiters → List ℕ → List Piece → List (List ℕ)
 written way text es = map (piece_as_written way text) es
 
@@ -151,7 +151,7 @@ pub signed : {u v : Place} {es : List Piece} (first next : List ℕ) (way : Deli
 signed first next way text (elements.last e white ends) = refl
 signed first next way text (elements.more e white hash white' rest) = refl
 
--- the elements of a value in a text, read in another
+-- the pieces of a value parse from their output in another text, and their output there is the same
 pub record ValueRead (way : Delimiters) (text : List ℕ) (es : List Piece) (u v : Place) : Type 0 where
   pub reading : List Piece
   pub elements : Elements longest u reading v

@@ -1,4 +1,4 @@
--- How many characters a name has in lowercase.
+-- The number of characters of a name in lowercase.
 use Rattle.std.proofs.Common.{◌≡◌, inl, inr, ℕ, zero, suc, ◌+◌, ◌-◌, ◌*◌, ◌<◌, Bool, true, false, cond, List, [], ◌∷◌, length, refl, ap, ◌∙◌, arith}
 use Rattle.std.specs.Prelude.{nat_lt}
 use Rattle.std.specs.Char.{to_ascii_lowercase}
@@ -6,7 +6,7 @@ use Rattle.std.specs.Str.{chars, chars_after, continuation_len, lead_bits, str_t
 use Rattle.std.proofs.lemmas.Bool.{cases_lt, lt-ltb}
 use Rattle.std.proofs.lemmas.Str.Ascii.{lowercase_is}
 
--- a byte has as many after it in lowercase
+-- the lowercase of a byte has as many continuation bytes after it
 same_continuation : (b : ℕ) → continuation_len (to_ascii_lowercase b) ≡ continuation_len b
 same_continuation b =
     elim (cases_lt b 65) [

@@ -1,5 +1,5 @@
 -- Meaning: words of public contracts.
--- Literals of values, between the delimiters that the style asks for.
+-- Literals of values, with the delimiters of the style.
 use Rattle.std.specs.Prelude.{◌==◌, ◌&&◌, ℕ, suc, ◌-◌, Bool, true, false, not, List, [], ◌∷◌, ◌++◌, codes, cond, nat_lt}
 use Rattle.std.specs.List.{ends_with, list_any}
 use lib.Dec.{eqb}
@@ -11,7 +11,8 @@ use Rattle.bib_syntax.specs.Reading.Piece.{literal, abbreviation}
 use Rattle.edit_format.specs.declared.style.Delimiters.{Delimiters}
 use Rattle.edit_format.specs.declared.style.Delimiters.TheVariants.{Keep, Braces, Quotes}
 
--- whether bytes close so many open braces, and each that they open; a backslash hides what follows it, and one may stand before the first
+-- whether bytes close this number of open braces and all braces that they open. A backslash escapes the next byte, and may not be
+-- the last byte. `is_hidden` says whether the first byte is escaped
 abbrev pub close_braces : Bool → ℕ → List ℕ → Bool
 close_braces is_hidden depth [] = not is_hidden && depth == 0
 close_braces true depth (b ∷ bs) = close_braces false depth bs
@@ -20,31 +21,34 @@ close_braces false depth (b ∷ bs) =
     (cond (b == char.open_brace) (close_braces false (suc depth) bs)
     (cond (b == char.close_brace) (nat_lt 0 depth && close_braces false (depth - 1) bs) (close_braces false depth bs)))
 
--- whether a text can stand in braces: each brace in it is closed
+-- whether a text can be written in braces: its unescaped braces are balanced, and no backslash at its end would escape the
+-- delimiter
 abbrev pub can_stand_in_braces : List ℕ → Bool
 can_stand_in_braces content = close_braces false 0 content
 
--- whether no quote stands among bytes but where a backslash hides it, nor a backslash alone at their end; one may stand before the first
+-- whether bytes have no unescaped quote. A backslash escapes the next byte, and may not be the last byte. `is_hidden` says whether
+-- the first byte is escaped
 abbrev pub hide_quotes : Bool → List ℕ → Bool
 hide_quotes is_hidden [] = not is_hidden
 hide_quotes true (b ∷ bs) = hide_quotes false bs
 hide_quotes false (b ∷ bs) = cond (b == char.backslash) (hide_quotes true bs) (not (b == char.quote) && hide_quotes false bs)
 
--- whether a text can stand in quotes: no quote stands in it but where a backslash hides it
+-- whether a text can be written in quotes: it has no unescaped quote, and no backslash at its end would escape the delimiter
 abbrev pub can_stand_in_quotes : List ℕ → Bool
 can_stand_in_quotes content = hide_quotes false content
 
--- whether a text in quotes comes to stand in braces
+-- whether the style rewrites a quoted literal in braces
 abbrev pub goes_in_braces : Delimiters → List ℕ → Bool
 goes_in_braces Keep content = false
 goes_in_braces Braces content = can_stand_in_braces content
 goes_in_braces Quotes content = false
 
--- whether a quote stands in a text
+-- whether a text contains a quote
 abbrev pub has_quote : List ℕ → Bool
 has_quote content = list_any (λ b. b == char.quote) content
 
--- whether a text in braces comes to stand in quotes: none stands in it, not even after a backslash, which hides none from BibTeX
+-- whether the style rewrites a braced literal in quotes: it must have no quote, not even an escaped one, since BibTeX knows no
+-- escapes
 abbrev pub goes_in_quotes : Delimiters → List ℕ → Bool
 goes_in_quotes Keep content = false
 goes_in_quotes Braces content = false
@@ -54,21 +58,21 @@ goes_in_quotes Quotes content = not (has_quote content) && can_stand_in_quotes c
 abbrev pub in_quotes : List ℕ → List ℕ
 in_quotes content = codes "\"" ++ (content ++ codes "\"")
 
--- the output for a text that is in braces in the file: in quotes if the style puts it in quotes, otherwise in braces
+-- the output for a literal that is in braces in the file: in quotes if the style rewrites it, otherwise in braces
 abbrev pub braced_in_style : Delimiters → List ℕ → List ℕ
 braced_in_style delimiters content = cond (goes_in_quotes delimiters content) (in_quotes content) (in_braces content)
 
--- a text that stands in quotes, where the style has it
+-- the output for a literal that is in quotes in the file: in braces if the style rewrites it, otherwise in quotes
 abbrev pub quoted_in_style : Delimiters → List ℕ → List ℕ
 quoted_in_style delimiters content = cond (goes_in_braces delimiters content) (in_braces content) (in_quotes content)
 
--- a literal between the delimiters of the style, by what stands before it in its text: a brace, a quote or, at a number, neither
+-- a literal with the delimiters of the style: the end of the text before it tells its delimiters in the file, and a number has none
 abbrev pub delimited : Delimiters → List ℕ → List ℕ → List ℕ
 delimited delimiters before content =
     cond (ends_with eqb before (codes "{")) (braced_in_style delimiters content)
     (cond (ends_with eqb before (codes "\"")) (quoted_in_style delimiters content) content)
 
--- an element of a value, as it is written
+-- the output for a piece of a value
 abbrev pub piece_as_written : Delimiters → List ℕ → Piece → List ℕ
 piece_as_written delimiters text (literal p) = delimited delimiters (between (place text 0) (place text p.start)) p.text
 piece_as_written delimiters text (abbreviation p) = p.text

@@ -1,6 +1,6 @@
 -- Meaning: words of public contracts.
--- A text in one style: its entries laid out anew. The text between them is unchanged, except for white space if the style asks for
--- blank lines.
+-- A text in one style: its entries have a new layout. The text between them is unchanged, except for white space if the style asks
+-- for blank lines.
 use Rattle.std.specs.Prelude.{◌≡◌, ◌==◌, ◌&&◌, ◌||◌, ℕ, zero, suc, ◌+◌, ◌-◌, max, Bool, false, if◌then◌else◌, List, [], ◌∷◌, ◌++◌, codes, cond, drop, fold, length, map, nat_lt, replicate, Option, None, Some}
 use Rattle.std.specs.Char.{is_ascii_whitespace}
 use Rattle.std.specs.List.{before_first, ends_with, flat_map, list_all, list_any, position_or_len}
@@ -15,28 +15,28 @@ use Rattle.edit_format.specs.Delimited.{piece_as_written}
 use Rattle.edit_format.specs.Ordered.{in_order, order_of}
 use Rattle.edit_format.specs.declared.style.Style.{Style}
 
--- the elements of a value, as they are written, with a sign before the first, and one before each other
+-- a value of some pieces, with the separator `first` before the first piece, and `next` before each other
 abbrev pub value_laid_out : List ℕ → List ℕ → List (List ℕ) → List ℕ
 value_laid_out first next [] = []
 value_laid_out first next (t ∷ ts) = first ++ (t ++ value_laid_out next next ts)
 
--- the elements of a field's value, as they are written
+-- the output for the pieces of a field's value
 abbrev pub elements_as_written : Style → List ℕ → FieldReading → List (List ℕ)
 elements_as_written style text f = map (piece_as_written style.delimiters text) f.value.pieces
 
--- so many spaces
+-- this number of spaces
 abbrev pub spaces : ℕ → List ℕ
 spaces count = replicate count char.space
 
--- how many characters the longest name of fields has
+-- the length in characters of the longest name of some fields
 abbrev pub longest_name : List FieldReading → ℕ
 longest_name fields = fold (λ width f. max (length (chars f.name.text)) width) 0 fields
 
--- how many characters the names of an entry's fields are padded to
+-- the number of characters to which the names of an entry's fields are padded
 abbrev pub padded_width : Style → List FieldReading → ℕ
 padded_width style fields = if style.aligned then longest_name fields else 0
 
--- a field's line: its name, padded, and the elements of its value, with this before each but the first
+-- the line of a field: its padded name and the pieces of its value, with `next` before each except the first
 abbrev pub line_laid_out : Style → ℕ → List ℕ → List ℕ → List (List ℕ) → List ℕ
 line_laid_out style width next name elements =
     spaces style.indent
@@ -44,27 +44,26 @@ line_laid_out style width next name elements =
     (str_to_ascii_lowercase name
     ++ (spaces (width - length (chars name)) ++ value_laid_out (codes " = ") next elements))
 
--- whether a line, and a comma after it, have more characters than this
+-- whether a line, with a comma after it, has more characters than a limit, if there is one
 abbrev pub is_too_long : Option ℕ → List ℕ → Bool
 is_too_long None line = false
 is_too_long (Some most) line = nat_lt most (length (chars line) + 1)
 
--- whether each element but the first begins a new line: where all of them in one line are too long
+-- whether each piece except the first begins a new line: there are several, and on one line they are too long
 abbrev pub is_broken : Style → ℕ → List ℕ → List (List ℕ) → Bool
 is_broken style width name elements =
     nat_lt 1 (length elements) && is_too_long style.width (line_laid_out style width (codes " # ") name elements)
 
--- the end of a line, a space for each character before the value of a field (the equals sign and its spaces are three of them),
--- and #
+-- a line end, a space for each character before the value of a field (the equals sign and its spaces are three of them), and `#`
 abbrev pub next_line : List ℕ → Style → ℕ → List ℕ → List ℕ
 next_line line_end style width name = line_end ++ (spaces style.indent ++ (spaces (max width (length (chars name))) ++ codes "   # "))
 
--- what stands before each element but the first
+-- the separator before each piece of a value except the first
 abbrev pub next_sign : List ℕ → Style → ℕ → List ℕ → List (List ℕ) → List ℕ
 next_sign line_end style width name elements =
     cond (is_broken style width name elements) (next_line line_end style width name) (codes " # ")
 
--- a field after a comma, in a line of its own, or in one for each element
+-- a comma and a field, on one line or with one line for each piece
 abbrev pub field_laid_out : List ℕ → Style → List ℕ → ℕ → FieldReading → List ℕ
 field_laid_out line_end style text width f =
     codes ","
@@ -74,12 +73,12 @@ field_laid_out line_end style text width f =
     (next_sign line_end style width f.name.text (elements_as_written style text f)) f.name.text
     (elements_as_written style text f))
 
--- the comma after the last field, or after the key where there is no field
+-- the comma after the last field, if the style has one, or the comma after the key if there is no field
 abbrev pub last_comma : Style → List FieldReading → List ℕ
 last_comma style [] = codes ","
 last_comma style (f ∷ fs) = if style.trailing_comma then codes "," else []
 
--- an entry laid out: its type and its key, its fields in the order of the style, and its brace in a line of its own
+-- an entry in a new layout: its type and its key, its fields in the order of the style, and its closing brace on a line of its own
 abbrev pub entry_laid_out : List ℕ → Style → List ℕ → EntryReading → List ℕ
 entry_laid_out line_end style text e =
     codes "@"
@@ -94,62 +93,64 @@ entry_laid_out line_end style text e =
     (in_order (order_of style) e.fields)
     ++ (last_comma style e.fields ++ (line_end ++ codes "}"))))))
 
--- whether a percent sign stands between two places of a text
+-- whether a text contains a percent sign between two offsets
 abbrev pub has_percent : List ℕ → ℕ → ℕ → Bool
 has_percent text start end = list_any (λ b. b == char.percent) (between (place text start) (place text end))
 
--- whether a percent sign stands between a place, the fields after it and the closing brace
+-- whether a text contains a percent sign between an offset, the fields after it and the closing brace
 abbrev pub has_percent_between : List ℕ → ℕ → List FieldReading → ℕ → Bool
 has_percent_between text start [] end = has_percent text start end
 has_percent_between text start (f ∷ fs) end = has_percent text start f.name.start || has_percent_between text f.value.end fs end
 
--- whether a comment stands between an entry's key, its fields and its closing brace
+-- whether an entry contains a comment: a percent sign between its key, its fields and its closing brace
 abbrev pub has_comment : List ℕ → EntryReading → Bool
 has_comment text e = has_percent_between text e.key.end e.fields e.end
 
--- an entry in one style: laid out, or as it stands if a comment stands in it
+-- the output for an entry: its new layout, or a copy if it contains a comment
 abbrev pub entry_in_style : List ℕ → Style → List ℕ → EntryReading → List ℕ
 entry_in_style line_end style text e =
     cond (has_comment text e) (between (place text e.start) (place text (e.end + 1)))
     (entry_laid_out line_end style text e)
 
--- so many ends of lines
+-- this number of line ends
 abbrev pub line_ends : List ℕ → ℕ → List ℕ
 line_ends line_end zero = []
 line_ends line_end (suc count) = line_end ++ line_ends line_end count
 
--- what stands before an entry: so many blank lines, if they are asked for and only white space of ASCII stands there, else as it is
+-- the output for the text before an entry: blank lines if a number of them is given and the text is only ASCII white space, else a
+-- copy
 abbrev pub gap_in_style : List ℕ → Option ℕ → List ℕ → List ℕ
 gap_in_style line_end None gap = gap
 gap_in_style line_end (Some count) gap = cond (list_all is_ascii_whitespace gap) (line_ends line_end (suc count)) gap
 
--- a text from a place on, with these entries of it in one style, and before the first so many blank lines, if they are asked for
+-- the output for a text from an offset on, which contains these entries; `blank_lines` is the option for the text before the first
+-- one
 abbrev pub rest_in_style : List ℕ → Style → Option ℕ → List ℕ → ℕ → List EntryReading → List ℕ
 rest_in_style line_end style blank_lines text at [] = drop at text
 rest_in_style line_end style blank_lines text at (e ∷ es) =
     gap_in_style line_end blank_lines (between (place text at) (place text e.start))
     ++ (entry_in_style line_end style text e ++ rest_in_style line_end style style.blank_lines text (e.end + 1) es)
 
--- how the lines of a text end: by a carriage return and a line feed if its first line does, else by a line feed
+-- the line end of a text: a carriage return and a line feed if its first line ends so, otherwise a line feed
 abbrev pub line_end_of : List ℕ → List ℕ
 line_end_of text =
     cond
     (nat_lt (position_or_len (λ b. eqb b char.line_feed) text) (length text)
     && ends_with eqb (before_first (λ b. eqb b char.line_feed) text) (codes "\r")) (codes "\r\n") (codes "\n")
 
--- a text in one style, of which this is the reading; what stands before the first entry stays
+-- a text in one style, given its reading; the text before the first entry is unchanged
 abbrev pub text_in_style : Style → List ℕ → FileReading → List ℕ
 text_in_style style text says = rest_in_style (line_end_of text) style None text 0 says.entries
 
--- an entry, its fields in the order of the style if it is laid out
+-- an entry with its fields in the order of the style, unless it contains a comment
 abbrev pub entry_in_order : Style → List ℕ → EntryReading → EntryReading
 entry_in_order style text e = cond (has_comment text e) e (record e { fields = in_order (order_of style) e.fields })
 
--- what a text says, the fields of each entry that is laid out in the order of the style
+-- a reading with the fields of each entry in the order of the style, except in entries that contain a comment
 abbrev pub says_in_order : Style → List ℕ → FileReading → FileReading
 says_in_order style text says = record says { entries = map (entry_in_order style text) says.entries }
 
--- a part of a text with its ASCII letters in lowercase
+-- a part of a text in ASCII lowercase
 abbrev pub part_in_lowercase : Part → Part
 part_in_lowercase p = record p { text = str_to_ascii_lowercase p.text }
 
@@ -157,15 +158,15 @@ part_in_lowercase p = record p { text = str_to_ascii_lowercase p.text }
 abbrev pub field_in_lowercase : FieldReading → FieldReading
 field_in_lowercase f = record f { name = part_in_lowercase f.name }
 
--- an entry with its type and its fields' names in lowercase
+-- an entry with its type and the names of its fields in lowercase
 abbrev pub entry_in_lowercase : EntryReading → EntryReading
 entry_in_lowercase e = record e { kind = part_in_lowercase e.kind; fields = map field_in_lowercase e.fields }
 
--- an entry without its places, its type and its fields' names in lowercase
+-- an entry with its type and the names of its fields in lowercase, and without spans (all offsets are 0)
 abbrev pub entry_content : EntryReading → EntryReading
 entry_content e = moved_entry (λ at. 0) (entry_in_lowercase e)
 
--- what a file says without places, with types of entries and names of fields in lowercase
+-- a reading without spans, with entry types and field names in lowercase
 abbrev pub content : FileReading → FileReading
 content says = record {
   preamble = says.preamble;
@@ -173,7 +174,7 @@ content says = record {
   abbreviations = map (moved_field (λ at. 0)) says.abbreviations;
 }
 
--- a text is read as one that says this, but for places and the case of types and names
+-- a text parses to this reading, except for spans and the case of entry types and field names
 pub record IsReadAlike (says : FileReading) (text : List ℕ) : Type 0 where
   pub tells : FileReading
   pub read : IsRawReading text tells

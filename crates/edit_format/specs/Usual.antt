@@ -1,12 +1,12 @@
 -- Meaning: words of public contracts.
--- The usual style.
+-- The default style.
 use Rattle.std.specs.Prelude.{◌≡◌, [], None, true, false}
 use Rattle.edit_format.specs.Ordered.{order_of}
 use Rattle.edit_format.specs.declared.style.Delimiters.TheVariants.{Keep}
 use Rattle.edit_format.specs.declared.style.Style.{Style}
 
--- fields are indented by two spaces, equals signs aren't put in one column, the last field has a comma, and each field is on one
--- line. The text between entries, the delimiters of literals and the order of fields stay
+-- a style indents fields by two spaces, doesn't align equals signs, has a comma after the last field, and writes each field on one
+-- line. The text between entries, the delimiters of literals and the order of fields are unchanged
 pub record IsUsual (style : Style) : Type 0 where
   pub indent : style.indent ≡ 2
   pub aligned : style.aligned ≡ false

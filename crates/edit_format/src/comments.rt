@@ -1,4 +1,4 @@
-//! Comments between the parts of entries.
+//! Comments inside entries.
 
 ghost use Rattle.std.specs.Prelude.{◌≡◌};
 ghost use Rattle.bib_syntax.specs.Views.{entry_reading_of};
@@ -8,7 +8,7 @@ ghost use Rattle.edit_format.specs.Formatted as styled;
 use bib_syntax::raw::RawEntry;
 use bib_text::spanned::Spanned;
 
-// Whether a percent sign stands between two places of a text.
+// Returns whether `text` contains a percent sign between two offsets.
 fn has_percent(text: &str, start: usize, end: usize) -> bool
     requires { CanBeCut text.now start end }
     ensures { result ≡ styled.has_percent text.now start end }
@@ -16,7 +16,7 @@ fn has_percent(text: &str, start: usize, end: usize) -> bool
     text[start..end].contains('%')
 }
 
-// Whether a comment stands between an entry's key, its fields and its closing brace.
+// Returns whether an entry contains a percent sign outside of its fields: between its key, its fields and its closing brace.
 pub(crate) fn has_comment(text: &str, entry: &Spanned<RawEntry<'_>>) -> bool
     requires { AreGapsCut text.now (entry_reading_of entry.now).key.end (entry_reading_of entry.now).fields (entry_reading_of entry.now).end }
     ensures { result ≡ styled.has_comment text.now (entry_reading_of entry.now) }

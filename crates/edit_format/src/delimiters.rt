@@ -8,7 +8,8 @@ ghost use Rattle.edit_format.specs.Delimited as styled;
 use crate::style::Delimiters;
 use std::alloc::AllocError;
 
-// Whether a text can stand in braces: each brace in it is closed.
+// Returns whether `content` can be written in braces: its unescaped braces are balanced, and no backslash at its end would
+// escape the delimiter.
 fn can_stand_in_braces(content: &str) -> bool
     ensures { result ≡ styled.can_stand_in_braces content.now }
 {
@@ -31,7 +32,8 @@ fn can_stand_in_braces(content: &str) -> bool
     !is_hidden && depth == 0
 }
 
-// Whether a text can stand in quotes: no quote stands in it but where a backslash hides it.
+// Returns whether `content` can be written in quotes: it has no unescaped quote, and no backslash at its end would escape the
+// delimiter.
 fn can_stand_in_quotes(content: &str) -> bool
     ensures { result ≡ styled.can_stand_in_quotes content.now }
 {
@@ -48,14 +50,14 @@ fn can_stand_in_quotes(content: &str) -> bool
     !is_hidden
 }
 
-// Whether a quote stands in a text.
+// Returns whether `content` contains a quote, escaped or not.
 fn has_quote(content: &str) -> bool
     ensures { result ≡ styled.has_quote content.now }
 {
     content.contains('"')
 }
 
-// Whether a text in quotes comes to stand in braces.
+// Returns whether the style rewrites the quoted literal `content` in braces.
 fn goes_in_braces(delimiters: Delimiters, content: &str) -> bool
     ensures { result ≡ styled.goes_in_braces delimiters content.now }
 {
@@ -66,7 +68,7 @@ fn goes_in_braces(delimiters: Delimiters, content: &str) -> bool
     }
 }
 
-// Whether a text in braces comes to stand in quotes.
+// Returns whether the style rewrites the braced literal `content` in quotes.
 fn goes_in_quotes(delimiters: Delimiters, content: &str) -> bool
     ensures { result ≡ styled.goes_in_quotes delimiters content.now }
 {
@@ -77,7 +79,7 @@ fn goes_in_quotes(delimiters: Delimiters, content: &str) -> bool
     }
 }
 
-// Adds a text in braces.
+// Appends `content` in braces.
 fn push_in_braces(new: &mut String, content: &str) -> Result<(), AllocError>
     ensures { OnOk result (string_bytes new.new ≡ string_bytes new.old ++ in_braces content.now) }
 {
@@ -87,7 +89,7 @@ fn push_in_braces(new: &mut String, content: &str) -> Result<(), AllocError>
     Ok(())
 }
 
-// Adds a text in quotes.
+// Appends `content` in quotes.
 fn push_in_quotes(new: &mut String, content: &str) -> Result<(), AllocError>
     ensures { OnOk result (string_bytes new.new ≡ string_bytes new.old ++ styled.in_quotes content.now) }
 {
@@ -97,7 +99,7 @@ fn push_in_quotes(new: &mut String, content: &str) -> Result<(), AllocError>
     Ok(())
 }
 
-// Adds a text that stands in braces, where the style has it.
+// Appends a literal that is in braces in the file: in quotes if the style rewrites it, otherwise in braces.
 fn push_braced(new: &mut String, delimiters: Delimiters, content: &str) -> Result<(), AllocError>
     ensures { OnOk result (string_bytes new.new ≡ string_bytes new.old ++ styled.braced_in_style delimiters content.now) }
 {
@@ -107,7 +109,7 @@ fn push_braced(new: &mut String, delimiters: Delimiters, content: &str) -> Resul
     push_in_braces(new, content)
 }
 
-// Adds a text that stands in quotes, where the style has it.
+// Appends a literal that is in quotes in the file: in braces if the style rewrites it, otherwise in quotes.
 fn push_quoted(new: &mut String, delimiters: Delimiters, content: &str) -> Result<(), AllocError>
     ensures { OnOk result (string_bytes new.new ≡ string_bytes new.old ++ styled.quoted_in_style delimiters content.now) }
 {
@@ -117,7 +119,8 @@ fn push_quoted(new: &mut String, delimiters: Delimiters, content: &str) -> Resul
     push_in_quotes(new, content)
 }
 
-// Adds the text of a literal between the delimiters of the style, by what stands before it in the file.
+// Appends the literal `content` with the delimiters of the style. The end of `before`, the text before the literal, tells its
+// delimiters in the file.
 pub(crate) fn push_literal(
     new: &mut String,
     delimiters: Delimiters,

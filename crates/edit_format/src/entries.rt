@@ -1,4 +1,4 @@
-//! Entries.
+//! Writing of entries.
 
 ghost use Rattle.std.specs.Prelude.{◌≡◌, ◌++◌, codes, map, OnOk};
 ghost use Rattle.std.specs.List.{AllByRecursion};
@@ -17,7 +17,7 @@ use bib_syntax::raw::{Pair, RawEntry};
 use bib_text::spanned::Spanned;
 use std::alloc::{AllocError, Global};
 
-// Adds the head of an entry: its type and its key.
+// Appends the head of an entry: `@`, its type in lowercase, `{` and its key.
 fn push_head(alloc: Global, new: &mut String, kind: &str, key: &str) -> Result<(), AllocError>
     ensures { OnOk result (string_bytes new.new ≡ string_bytes new.old ++
         (codes "@" ++ (str_to_ascii_lowercase kind.now ++ (codes "{" ++ key.now)))) }
@@ -30,7 +30,7 @@ fn push_head(alloc: Global, new: &mut String, kind: &str, key: &str) -> Result<(
     Ok(())
 }
 
-// The comma after the last field, or after the key where no field follows.
+// Returns a comma if the entry has no fields or the style has a comma after the last one, otherwise an empty text.
 fn last_comma(style: &Style<'_>, fields: &[Pair<'_>]) -> &'static str
     ensures { result.now ≡ styled.last_comma style.now (map field_of fields.now) }
 {
@@ -40,7 +40,7 @@ fn last_comma(style: &Style<'_>, fields: &[Pair<'_>]) -> &'static str
     }
 }
 
-// Adds an entry, laid out.
+// Appends `entry` in the layout of the style.
 fn push_laid_out(
     alloc: Global,
     new: &mut String,
@@ -59,7 +59,7 @@ fn push_laid_out(
     Ok(())
 }
 
-// Adds an entry: laid out, or as it stands in the file if a comment stands in it.
+// Appends `entry` in the layout of the style. An entry that contains a comment is copied from the file.
 pub(crate) fn push_entry(
     alloc: Global,
     new: &mut String,

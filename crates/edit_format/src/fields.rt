@@ -1,4 +1,4 @@
-//! The fields of entries.
+//! Writing of the fields of entries.
 
 ghost use Rattle.std.specs.Prelude.{◌≡◌, ◌++◌, codes, length, map, IfOk, OnOk};
 ghost use Rattle.std.specs.Str.{chars};
@@ -14,14 +14,14 @@ use crate::style::Style;
 use bib_syntax::raw::Pair;
 use std::alloc::{AllocError, Global};
 
-// How many characters a text has.
+// Returns the number of characters of `text`.
 fn character_count(text: &str) -> usize
     ensures { result ≡ length (chars text.now) }
 {
     text.chars().count()
 }
 
-// The characters of the longest name of fields.
+// Returns the length in characters of the longest name of `fields`.
 fn longest_name(fields: &[Pair<'_>]) -> usize
     ensures { result ≡ styled.longest_name (map field_of fields.now) }
 {
@@ -32,7 +32,7 @@ fn longest_name(fields: &[Pair<'_>]) -> usize
     longest
 }
 
-// How many characters names are padded to.
+// Returns the number of characters to which the names of `fields` are padded: 0 if the style doesn't align them.
 pub(crate) fn padded_width(style: &Style<'_>, fields: &[Pair<'_>]) -> usize
     ensures { result ≡ styled.padded_width style.now (map field_of fields.now) }
 {
@@ -43,7 +43,7 @@ pub(crate) fn padded_width(style: &Style<'_>, fields: &[Pair<'_>]) -> usize
     }
 }
 
-// Adds spaces.
+// Appends `count` spaces.
 fn push_spaces(new: &mut String, count: usize) -> Result<(), AllocError>
     ensures { OnOk result (string_bytes new.new ≡ string_bytes new.old ++ spaces count) }
 {
@@ -53,7 +53,7 @@ fn push_spaces(new: &mut String, count: usize) -> Result<(), AllocError>
     Ok(())
 }
 
-// Adds a field's line: its name, padded, and its value, with this before each element but the first.
+// Appends the line of a field: its padded name and its value, with `next` before each piece except the first.
 fn push_line(
     alloc: Global,
     new: &mut String,
@@ -75,7 +75,7 @@ fn push_line(
     Ok(())
 }
 
-// Whether a field in one line, and a comma after it, have more characters than the style has it.
+// Returns whether the field on one line, with the comma after it, is longer than the width of the style.
 fn is_too_long(
     alloc: Global,
     layout: &Layout<'_, '_>,
@@ -97,7 +97,7 @@ fn is_too_long(
     }
 }
 
-// Whether each element of a field's value but the first begins a new line.
+// Returns whether each piece of the value except the first begins a new line.
 fn is_broken(
     alloc: Global,
     layout: &Layout<'_, '_>,
@@ -114,7 +114,7 @@ fn is_broken(
     is_too_long(alloc, layout, width, field)
 }
 
-// The end of a line, as many spaces as stand before the value of a field, and `#`.
+// Returns a line end, spaces up to the column of the first piece, and `#` with a space after it.
 fn next_line(
     alloc: Global,
     layout: &Layout<'_, '_>,
@@ -131,7 +131,7 @@ fn next_line(
     Ok(next)
 }
 
-// Adds a field after a comma, in a line of its own, or in one for each element.
+// Appends a comma and the field, on one line or with one line for each piece.
 pub(crate) fn push_field(
     alloc: Global,
     new: &mut String,

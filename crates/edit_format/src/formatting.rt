@@ -1,4 +1,4 @@
-//! Files in one style.
+//! The layout of a whole file.
 
 ghost use Rattle.std.specs.Prelude.{◌≡◌, IfOk, None, map};
 ghost use Rattle.std.specs.String.{string_bytes};
@@ -16,7 +16,7 @@ use bib_text::spanned::Spanned;
 use edit_entries::document::RawDocument;
 use std::alloc::{AllocError, Global};
 
-// How the lines of a text end: by the carriage return and the line feed where the first line does, else by the line feed.
+// Returns the line end of `text`: `\r\n` if its first line ends so, otherwise `\n`.
 fn line_end(text: &str) -> &'static str
     ensures { result.now ≡ line_end_of text.now }
 {
@@ -26,7 +26,7 @@ fn line_end(text: &str) -> &'static str
     }
 }
 
-// A text with its entries laid out, and what stands between them as it is, or as blank lines.
+// Returns the text with its entries in the layout of the style, and the text between them copied or replaced by blank lines.
 fn with_entries(
     alloc: Global,
     layout: &Layout<'_, '_>,
@@ -54,7 +54,7 @@ fn with_entries(
     Ok(new)
 }
 
-/// The text in one style. Each entry is laid out anew:
+/// Returns the text of `document` in one style. Each entry gets a new layout:
 ///
 /// ```text
 /// @book{key,
@@ -63,11 +63,11 @@ fn with_entries(
 /// }
 /// ```
 ///
-/// Its type and the names of its fields are written in lowercase, as far as they are ASCII, and the elements of its values as they
-/// stand. The style may ask for other delimiters round these, for a line for each element of a long value, and for an order of fields.
-/// Everything else stays byte for byte, and so does an entry in which a comment stands between its key, its fields and its closing
-/// brace; but where only white space of ASCII stands between two entries the style may ask for blank lines. Lines that are written end
-/// as the file's first line does. Fails only where there is no memory.
+/// The entry type and the names of fields are converted to ASCII lowercase, and the pieces of values are copied. The style may
+/// also change the delimiters of literals, break long values into one line for each piece, and order the fields. An entry with
+/// a `%` between its key, its fields and its closing brace is copied unchanged. If there is only ASCII white space between two
+/// entries, the style may replace it by blank lines. Everything else is unchanged, byte for byte. New line ends are those of
+/// the file's first line. Returns an error only if memory runs out.
 pub fn format(
     alloc: Global,
     document: &RawDocument<'_>,

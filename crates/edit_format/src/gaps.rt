@@ -1,4 +1,4 @@
-//! What stands between entries.
+//! The text between entries.
 
 ghost use Rattle.std.specs.Prelude.{◌≡◌, ◌++◌, OnOk};
 ghost use Rattle.std.specs.Char.{is_ascii_whitespace};
@@ -8,14 +8,14 @@ ghost use Rattle.edit_format.specs.Formatted.{gap_in_style, line_ends};
 
 use std::alloc::AllocError;
 
-// Whether a text is white space of ASCII alone.
+// Returns whether `text` is only ASCII white space.
 fn is_blank(text: &str) -> bool
     ensures { result ≡ list_all is_ascii_whitespace text.now }
 {
     text.trim_ascii_start().is_empty()
 }
 
-// Adds ends of lines.
+// Appends `count` line ends.
 fn push_line_ends(new: &mut String, line_end: &str, count: usize) -> Result<(), AllocError>
     ensures { OnOk result (string_bytes new.new ≡ string_bytes new.old ++ line_ends line_end.now count) }
 {
@@ -25,7 +25,8 @@ fn push_line_ends(new: &mut String, line_end: &str, count: usize) -> Result<(), 
     Ok(())
 }
 
-// Adds what stands before an entry: so many blank lines, if they are asked for and it is white space, else as it is.
+// Appends the text before an entry. If it is only ASCII white space and `blank_lines` is a number, appends this number of blank
+// lines instead.
 pub(crate) fn push_gap(
     new: &mut String,
     line_end: &str,

@@ -1,4 +1,4 @@
-//! Laws of files in one style. These functions do nothing: what they ensure is proved of the definitions alone.
+//! Laws of formatted files. These functions have no code: their clauses are theorems about definitions.
 
 ghost use Rattle.std.specs.Prelude.{◌≡◌, ℕ, List, MatchBool, length};
 ghost use Rattle.bib_text.specs.Braces.{IsParts};
@@ -9,15 +9,16 @@ ghost use Rattle.edit_format.specs.declared.style.Style.{Style};
 ghost use Rattle.bib_syntax.specs.Grammar.{IsRawReading, QuotedParts};
 ghost use Rattle.bib_syntax.specs.Reading.{FileReading};
 
-/// A text that is in a style stays as it is where it is put in that style again.
+/// A text in a style is unchanged if it is formatted in the same style again.
 pub fn twice_is_once()
     ensures { (style : Style) (text : List ℕ) (says again : FileReading) → IsRawReading text says →
         IsRawReading (text_in_style style text says) again →
         text_in_style style (text_in_style style text says) again ≡ text_in_style style text says }
 {}
 
-/// A text in quotes comes to stand in braces where it is one braced text of the file grammar, and stays in quotes elsewhere; a text in
-/// braces comes to stand in quotes where it is one quoted text, and stays in braces elsewhere.
+/// The tests of contents agree with the file grammar. The content of a quoted literal passes the test for braces exactly if it
+/// parses as the content of a braced literal. The content of a braced literal passes the test for quotes exactly if it parses
+/// as the content of a quoted literal.
 pub fn delimiters_fit()
     ensures braces { (text : List ℕ) → QuotedParts (place text 0) (place text (length text)) →
         MatchBool (can_stand_in_braces text) (IsParts text) (IsParts text → ⊥) }

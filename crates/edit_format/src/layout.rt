@@ -1,8 +1,8 @@
-//! What the parts of an entry are written by.
+//! The parameters of the functions that write an entry.
 
 use crate::style::Style;
 
-// A text, how its lines end, and how its entries are laid out.
+// The text of the file, its line end, and the style.
 #[derive(Clone, Copy)]
 pub(crate) struct Layout<'a, 'style> {
     pub(crate) text: &'a str,

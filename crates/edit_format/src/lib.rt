@@ -1,11 +1,12 @@
 //! The layout of a bibliography file: each entry is written in one style, and the text between entries is kept. Only the blank
 //! lines between entries change, if the style asks for it.
 //!
-//! The text is copied up to each entry, the entry is written from its raw reading, and the copying goes on after its closing brace; the
-//! new text isn't read. What it says is proved of the file grammar: what stands between entries is a zone of both texts (`ZoneFacts` of
-//! `edit_entries`), and an entry that is laid out is read part by part, the content of each element in the zone that it shares with the
-//! old text. Whether that content can stand between other delimiters is looked for in its bytes, and proved of the grammar
-//! (`DelimiterFacts`). Fields are written name by name of the style's order, and are in that order when they are read (`OrderFacts`).
+//! The text is copied up to each entry, the entry is written from its raw reading, and copying resumes after its closing brace.
+//! The new text isn't parsed. The proofs show that it parses to the same entries by the file grammar. The text between entries
+//! is a zone of both texts (`ZoneFacts` of `edit_entries`). An entry with a new layout is parsed part by part, and the content
+//! of each piece is in a zone that the old text has too. Tests of the bytes decide whether a content can have other delimiters,
+//! and these tests agree with the grammar (`DelimiterFacts`). Fields are written name by name in the order of the style, and
+//! they parse in that order (`OrderFacts`).
 #![tactic(auto)]
 
 mod comments;

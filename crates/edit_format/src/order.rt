@@ -17,14 +17,14 @@ use crate::layout::Layout;
 use bib_syntax::raw::Pair;
 use std::alloc::{AllocError, Global};
 
-// Whether a field has this name, in any ASCII case.
+// Returns whether `field` has this name, in any ASCII case.
 fn has_name(name: &str, field: &Pair<'_>) -> bool
     ensures { result ≡ has_name name.now (field_of field.now) }
 {
     field.key.v.eq_ignore_ascii_case(name)
 }
 
-// Whether a field has one of some names.
+// Returns whether `field` has one of `names`, in any ASCII case.
 fn has_one_of(names: &[&str], field: &Pair<'_>) -> bool
     ensures { result ≡ listed.has_one_of (name_texts names.now) (field_of field.now) }
 {
@@ -36,14 +36,14 @@ fn has_one_of(names: &[&str], field: &Pair<'_>) -> bool
     false
 }
 
-// Whether a field has this name, and none of the names before it.
+// Returns whether `field` has the name `name` and none of the names `before`.
 fn has_name_first(before: &[&str], name: &str, field: &Pair<'_>) -> bool
     ensures { result ≡ listed.has_name_first (name_texts before.now) name.now (field_of field.now) }
 {
     has_name(name, field) && !has_one_of(before, field)
 }
 
-// Adds the fields of a name that have none of the names before it.
+// Appends the fields that have the name `name` and none of the names `before`.
 fn push_named(
     alloc: Global,
     new: &mut String,
@@ -66,7 +66,7 @@ fn push_named(
     Ok(())
 }
 
-// Adds the fields that have none of some names.
+// Appends the fields that have none of `names`.
 fn push_unlisted(
     alloc: Global,
     new: &mut String,
@@ -88,7 +88,7 @@ fn push_unlisted(
     Ok(())
 }
 
-// Adds fields in the order of the style, each in a line of its own.
+// Appends the fields in the order of the style. Each begins a new line.
 pub(crate) fn push_fields(
     alloc: Global,
     new: &mut String,

@@ -1,4 +1,4 @@
-//! The elements of values.
+//! Writing of the pieces of values.
 
 ghost use Rattle.std.specs.Prelude.{◌≡◌, ◌++◌, codes, cond, map, OnOk};
 ghost use Rattle.std.specs.List.{AllByRecursion};
@@ -14,7 +14,7 @@ use bib_syntax::raw::RawChunk;
 use bib_text::spanned::Spanned;
 use std::alloc::AllocError;
 
-// Adds an element, a literal between the delimiters of the style.
+// Appends a piece. A literal has the delimiters of the style.
 fn push_piece(
     new: &mut String,
     layout: &Layout<'_, '_>,
@@ -36,14 +36,14 @@ fn push_piece(
     Ok(())
 }
 
-// The sign before an element of a value, and white space round it.
+// Returns the separator before a piece: ` = ` before the first, and `next` before each other.
 fn sign_before<'a>(is_first: bool, next: &'a str) -> &'a str
     ensures { result.now ≡ cond is_first (codes " = ") next.now }
 {
     if is_first { " = " } else { next }
 }
 
-// Adds a value: its elements, an equals sign before the first, and this before each other.
+// Appends a value: ` = ` before its first piece, and `next` before each other piece.
 pub(crate) fn push_value(
     new: &mut String,
     layout: &Layout<'_, '_>,

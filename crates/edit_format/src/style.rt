@@ -1,39 +1,41 @@
-//! What is chosen of how entries are laid out.
+//! The options of a layout.
 
 ghost use Rattle.edit_format.specs.Usual.{IsUsual};
 
-/// Between which delimiters the literals of values stand. The text between them stays byte for byte, and numbers and names of
-/// abbreviations have none.
+/// The delimiters of the literals of values. The text between them is unchanged. Numbers and abbreviations have no delimiters.
 #[derive(Debug, Clone, Copy, PartialEq, Eq)]
 pub enum Delimiters {
-    /// Each literal stands between those that it has.
+    /// Each literal keeps its delimiters.
     Keep,
-    /// In braces; a text in quotes in which a brace isn't closed, or closes none, stays there, since in braces it would end elsewhere.
+    /// Literals are in braces. A literal in quotes with unbalanced braces keeps its quotes, since in braces it would end
+    /// elsewhere.
     Braces,
-    /// In quotes; a text in braces in which a quote stands stays there, since in quotes BibTeX would end it at that.
+    /// Literals are in quotes. A literal in braces that contains a quote keeps its braces, since BibTeX would end a quoted
+    /// literal there.
     Quotes,
 }
 
-/// How entries are laid out.
+/// The layout of entries.
 #[derive(Debug, Clone, Copy, PartialEq, Eq)]
 pub struct Style<'a> {
-    /// How many spaces stand before a field.
+    /// Number of spaces before a field.
     pub indent: usize,
-    /// Whether the equals signs of an entry stand in one column: names are padded to the longest name of the entry, in characters.
+    /// Whether the equals signs of an entry are in one column: names are padded to its longest name, in characters.
     pub aligned: bool,
-    /// Whether a comma stands after an entry's last field.
+    /// Whether a comma follows the last field of an entry.
     pub trailing_comma: bool,
-    /// How many blank lines stand between two entries where only white space of ASCII stands there now; `None` keeps that as it is.
+    /// Number of blank lines between two entries that have only ASCII white space between them. With `None`, this white space
+    /// is unchanged.
     pub blank_lines: Option<usize>,
-    /// Between which delimiters the literals of values stand.
+    /// The delimiters of the literals of values.
     pub delimiters: Delimiters,
-    /// Names of fields, in any ASCII case. The fields of an entry that have one come first, in the order of the names, and the others
-    /// after them; fields of one name, and those that have none of these, stay in the order that they have, so that the last of two
-    /// fields with one name is the last again. An entry in which a comment stands keeps its order, as it keeps the rest.
+    /// Names of fields, in any ASCII case. The fields of an entry with one of these names come first, in the order of the
+    /// names. Fields with the same name, and the other fields, keep their relative order, so the last field of a name is still
+    /// the last. An entry that contains a comment keeps its order.
     pub order: &'a [&'a str],
-    /// How many characters a field's line has at most, with the comma after it, where its value has several elements: in a longer line
-    /// each but the first begins a new line, with as many spaces before its `#` as stand before the first. A value of one element is
-    /// never broken, since its text stays; `None` breaks none.
+    /// Maximum number of characters of a line, with the comma after it, for a field whose value has several pieces. In a longer
+    /// line, each piece except the first begins a new line, with its `#` in the column of the first piece. A value of one piece
+    /// is never broken, since its text is unchanged. With `None`, no line is broken.
     pub width: Option<usize>,
 }
 

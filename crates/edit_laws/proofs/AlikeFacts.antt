@@ -1,4 +1,5 @@
--- Two readings of files that are alike but for places and case: what is evaluated, readable and in error in the one is in the other.
+-- Alike readings, which differ only in spans and case: pieces have the same values in both, and fields are readable in both or in
+-- neither.
 use Rattle.std.proofs.Common.{◌≡◌, ℕ, List, [], ◌∷◌, Bool, true, false, cond, reverse, refl, sym, ap, ◌∙◌, subst, inl, inr, Some, None, Option, option_map}
 use Rattle.std.specs.Prelude.{bytes_eq, find}
 use Rattle.std.specs.List.{AllZip}
@@ -12,7 +13,7 @@ use Rattle.bib_file_entries.specs.Loaded.{definition_in, field_in, name_of}
 use Rattle.bib_syntax.specs.Reading.{FieldReading, Part, Piece}
 use Rattle.bib_syntax.specs.Reading.Piece.{abbreviation, literal}
 
--- elements with the same texts and names
+-- two lists of pieces have the same texts and names
 pub data Alike : List Piece → List Piece → Type 0 where
   ends : Alike [] []
   same_text : {p q : Part} {ps qs : List Piece} → p.text ≡ q.text → Alike ps qs → Alike (literal p ∷ ps) (literal q ∷ qs)
@@ -23,13 +24,13 @@ alike_back Alike.ends = Alike.ends
 alike_back (Alike.same_text same rest) = Alike.same_text (sym same) (alike_back rest)
 alike_back (Alike.same_name same rest) = Alike.same_name (sym same) (alike_back rest)
 
--- definitions of the same names, with elements alike
+-- each name has alike definitions in both, or none in the other if it has none in the first
 pub record AreAlikeDefinitions (one other : Definitions) : Type 0 where
   pub some : (name : List ℕ) (definition : List Piece) → one name ≡ Some definition
       → (also : List Piece) × (other name ≡ Some also) × Alike definition also
   pub none : (name : List ℕ) → one name ≡ None → other name ≡ None
 
--- definitions that are alike in both directions
+-- definitions are alike in both directions
 pub record DefineAlike (one other : Definitions) : Type 0 where
   pub onward : AreAlikeDefinitions one other
   pub back : AreAlikeDefinitions other one
@@ -38,7 +39,7 @@ pub define_back : {one other : Definitions} → DefineAlike one other → Define
 define_back both = record { onward = both.back; back = both.onward }
 
 module _ {one other : Definitions} (are : AreAlikeDefinitions one other) where
-  -- what elements say, those alike say
+  -- alike pieces have the same value
   pub evaluates_alike : {is_verbatim : Bool} {ps qs : List Piece} {atoms : List Atom} → Alike ps qs
       → Evaluates one is_verbatim ps atoms → Evaluates other is_verbatim qs atoms
   evaluates_alike Alike.ends evaluates.none = evaluates.none
@@ -50,7 +51,7 @@ module _ {one other : Definitions} (are : AreAlikeDefinitions one other) where
   evaluates_alike (Alike.same_name {p = p} same rest) (evaluates.month_name absent m more) =
       evaluates.month_name (ap other (sym same) ∙ are.none p.text absent) (ap month (sym same) ∙ m) (evaluates_alike rest more)
 
--- a name that elements hold, those alike hold
+-- alike pieces contain the same names
 holds_name : {ps qs : List Piece} (name : List ℕ) → Alike ps qs → HoldsName ps name → HoldsName qs name
 holds_name name Alike.ends held = elim held [ ]
 holds_name name (Alike.same_text same rest) held = holds_name name rest held
@@ -70,7 +71,7 @@ reaches_alike are alike (reaches.through {name = name} {next = next} {definition
     let also = are.some name definition d in
     reaches.through (reaches_alike are alike before) also.1 (holds_name next also.2 held)
 
--- where elements can be read, those alike can
+-- pieces that are alike to readable ones are readable
 pub readable_alike : {one other : Definitions} {is_verbatim : Bool} {ps qs : List Piece} → DefineAlike one other
     → Alike ps qs → IsReadable one is_verbatim ps → IsReadable other is_verbatim qs
 readable_alike {one} {other} {is_verbatim} {ps} {qs} both alike read = record {
@@ -88,17 +89,17 @@ readable_alike {one} {other} {is_verbatim} {ps} {qs} both alike read = record {
     by_known name (inl defined) = let also = both.onward.some name defined.0 defined.1 in inl (also.0, also.1)
     by_known name (inr english) = inr english
 
--- a field with the same name, in any case, and elements alike
+-- two fields have the same name, in any case, and alike pieces
 pub record AreAlikeFields (one other : FieldReading) : Type 0 where
   pub name : name_of one ≡ name_of other
   pub pieces : Alike one.value.pieces other.value.pieces
 
--- an abbreviation with the same name, and elements alike
+-- two abbreviations have the same name and alike pieces
 pub record AreAlikeAbbreviations (one other : FieldReading) : Type 0 where
   pub name : one.name.text ≡ other.name.text
   pub pieces : Alike one.value.pieces other.value.pieces
 
--- what is found in two lists, alike or in neither
+-- two results of a search are related, or both are missing
 pub data FoundAlike {A : Type 0} (R : A → A → Type 0) : Option A → Option A → Type 0 where
   in_neither : FoundAlike R None None
   in_each : {x y : A} → R x y → FoundAlike R (Some x) (Some y)
@@ -117,14 +118,14 @@ find_alike R test [] (y ∷ ys) same all = absurd all
 find_alike R test (x ∷ xs) [] same all = absurd all
 find_alike R test (x ∷ xs) (y ∷ ys) same all = found_first x y (test x) (test y) (same x y all.0) all.0 (find_alike R test xs ys same all.1)
 
--- the fields of a name among fields that are alike
+-- the fields with a name among alike fields are alike
 pub field_alike : (one other : List FieldReading) (name : List ℕ) → AllZip AreAlikeFields one other
     → FoundAlike AreAlikeFields (field_in one name) (field_in other name)
 field_alike one other name all =
     find_alike AreAlikeFields (λ f. bytes_eq name (name_of f)) (reverse one) (reverse other)
     (λ f g are. ap (bytes_eq name) are.name) (AllZip-reverse AreAlikeFields one other all)
 
--- the definitions of abbreviations that are alike
+-- alike abbreviations make alike definitions
 defined_alike : (one other : List FieldReading) → AllZip AreAlikeAbbreviations one other
     → AreAlikeDefinitions (definition_in one) (definition_in other)
 defined_alike one other all = record {

@@ -1,4 +1,4 @@
--- The last that is found among some, where others stand between them.
+-- The last item that passes a test, in a filtered list.
 use Rattle.std.proofs.Common.{◌≡◌, List, [], ◌∷◌, ◌++◌, Bool, true, false, cond, reverse, refl, sym, ap, ◌∙◌, Some, None, Option}
 use Rattle.std.specs.Prelude.{find}
 use Rattle.std.specs.Option.{option_or}
@@ -7,7 +7,7 @@ use Rattle.std.proofs.lemmas.Bool.{false≢true}
 use Rattle.std.proofs.lemmas.List.{append-nil, reverse-append}
 use Rattle.std.proofs.lemmas.List.Elements.{filter-append}
 
--- whatever is found passes: the others may be left out
+-- filtering doesn't change the result of a search if it keeps each item that passes the test
 pub find_passing : {A : Type 0} (test p : A → Bool) → ((x : A) → test x ≡ true → p x ≡ true) → (xs : List A)
     → find test (filter p xs) ≡ find test xs
 find_passing test p all [] = refl
@@ -19,7 +19,7 @@ find_passing {A} test p all (x ∷ xs) = by_tests (p x) (test x) refl refl (find
     by_tests false true fails is rest = absurd (false≢true (sym fails ∙ all x is))
     by_tests false false fails is rest = rest ∙ sym (ap (λ d. cond d (Some x) (find test xs)) is)
 
--- whatever is found fails: nothing is left
+-- a search in a filtered list finds nothing if the filter keeps no item that passes the test
 pub find_failing : {A : Type 0} (test p : A → Bool) → ((x : A) → test x ≡ true → p x ≡ false) → (xs : List A)
     → find test (filter p xs) ≡ None
 find_failing test p all [] = refl

@@ -1,4 +1,4 @@
--- Bibliographies of two files that say the same but for places and the case of types and names.
+-- Bibliographies of two files whose readings differ only in spans, in the case of types and names, and in the order of fields.
 use Rattle.std.proofs.Common.{◌≡◌, ℕ, ◌+◌, ◌<◌, List, [], ◌∷◌, ◌++◌, Bool, true, false, cond, drop, length, length-append, map, get_or, refl, sym, ap, ◌∙◌, subst, Some, None, Option, option_map, MatchOption}
 use Rattle.std.specs.Prelude.{◌&&◌, ◌||◌, codes, find, unwrap_or}
 use Rattle.std.specs.FinMap as by_name
@@ -36,7 +36,7 @@ use Rattle.edit_laws.proofs.ReorderedFacts.{IsReordered, entry_reordered}
 use Rattle.edit_laws.specs.Alike.{AreAlike}
 use Rattle.bib_text.proofs.ListFacts.{found_any}
 
--- an entry with the same key, a type of the same name in any case, and fields alike, in some order
+-- two entries have the same key, types with the same name in any case, and alike fields, in some order
 pub record AreAlikeEntries (one other : EntryReading) : Type 0 where
   pub key : one.key.text ≡ other.key.text
   pub kind : entry_type_of one.kind.text ≡ entry_type_of other.kind.text
@@ -44,12 +44,12 @@ pub record AreAlikeEntries (one other : EntryReading) : Type 0 where
   pub reordered : IsReordered one.fields ordered
   pub fields : AllZip AreAlikeFields ordered other.fields
 
--- files with entries and abbreviations alike
+-- two files have alike entries and abbreviations
 pub record AreAlikeFiles (one other : FileReading) : Type 0 where
   pub entries : AllZip AreAlikeEntries one.entries other.entries
   pub abbreviations : AllZip AreAlikeAbbreviations one.abbreviations other.abbreviations
 
--- ---- from what two files say without places
+-- ---- alike files, from readings without spans
 
 abbrev text_of : Piece → List ℕ
 text_of (literal p) = p.text
@@ -72,7 +72,7 @@ pieces_alike (abbreviation p ∷ ps) (literal q ∷ qs) is = cc
 pieces_alike (abbreviation p ∷ ps) (abbreviation q ∷ qs) is =
     Alike.same_name {p = p} {q = q} (ap text_of (cons_head _ _ is)) (pieces_alike ps qs (cons_tail is))
 
--- a field without places, its name in lowercase
+-- a field without spans and with its name in lowercase
 abbrev field_content : FieldReading → FieldReading
 field_content f = moved_field (λ at. 0) (field_in_lowercase f)
 
@@ -105,7 +105,7 @@ abbreviations_alike (f ∷ fs) (g ∷ gs) is =
       abbreviations_alike fs gs (cons_tail is),
     )
 
--- the type of a name is that of the name in lowercase
+-- names that are equal in lowercase have the same entry type
 type_of_lowercase : (name other : List ℕ) → str_to_ascii_lowercase name ≡ str_to_ascii_lowercase other
     → entry_type_of name ≡ entry_type_of other
 unfolding entry_type_of entry_type_by_name_or_alias
@@ -132,7 +132,7 @@ entries_alike style text (e ∷ es) (g ∷ gs) is =
       entries_alike style text es gs (cons_tail is),
     )
 
--- files with the same content, but for the order of fields, are alike
+-- files with the same content, except for the order of fields, are alike
 pub files_alike : (style : Style) (text : List ℕ) (one other : FileReading)
     → content (says_in_order style text one) ≡ content other → AreAlikeFiles one other
 files_alike style text one other is = record {
@@ -140,16 +140,16 @@ files_alike style text one other is = record {
   abbreviations = abbreviations_alike one.abbreviations other.abbreviations (ap (λ (h : FileReading). h.abbreviations) is);
 }
 
--- ---- entries that two files say
+-- ---- the entries of two alike files
 
--- entries with the same key, type and styled texts, which claim the same names
+-- two entries have the same key, type and styled texts, and claim the same names
 pub record AreAlikeOwn (one other : Entry) : Type 0 where
   pub texts : texts_of_entry one ≡ texts_of_entry other
   pub key : one.key ≡ other.key
   pub claims : claims one ≡ claims other
 
 module _ {one other : Definitions} (both : DefineAlike one other) where
-  -- what chunks are found for fields that are alike
+  -- alike fields, or a field that both lack, have the same styled text
   found_alike : {f g : Option FieldReading} (c d : Option (List (Spanned Chunk))) → FoundAlike AreAlikeFields f g
       → MatchOption f (c ≡ None) (λ f. (chunks : List (Spanned Chunk)) × (c ≡ Some chunks) × FieldSays one f chunks)
       → MatchOption g (d ≡ None) (λ g. (chunks : List (Spanned Chunk)) × (d ≡ Some chunks) × FieldSays other g chunks)
@@ -191,7 +191,7 @@ module _ {one other : Definitions} (both : DefineAlike one other) where
         by_texts None = refl
         by_texts (Some chunks) = refl
 
-  -- the entries of two lists that are alike
+  -- the loaded entries of two alike lists are alike
   pub all_alike : (earlier : List (List ℕ)) (said tells : List EntryReading) {as' bs : List Entry}
       → AllZip AreAlikeEntries said tells → AreEntries one earlier said as' → AreEntries other earlier tells bs
       → AllZip AreAlikeOwn as' bs
@@ -206,7 +206,7 @@ module _ {one other : Definitions} (both : DefineAlike one other) where
             (subst (λ names. AreEntries other (earlier ++ names) tells bs) (sym same) following'),
       )
 
-  -- fields of which each can be read have no error in the other file
+  -- fields that are alike to readable ones have no error
   fields_faultless : (fs gs : List FieldReading) {e : ParseError} → AllZip AreAlikeFields fs gs → AllCanBeRead one fs
       → IsFirstErrorOfFields other gs e → ⊥
   fields_faultless [] [] are read error = elim error [ ]
@@ -216,7 +216,7 @@ module _ {one other : Definitions} (both : DefineAlike one other) where
       unread (subst (λ name. IsReadable other (is_verbatim_field name) g.value.pieces) are.0.name (readable_alike both are.0.pieces read.0))
   fields_faultless (f ∷ fs) (g ∷ gs) are read (IsFirstErrorOfFields.following also error) = fields_faultless fs gs are.1 read.1 error
 
-  -- entries of the one file, where the other has an error
+  -- entries that are alike to accepted ones have no error
   pub entries_faultless : (earlier : List (List ℕ)) (said tells : List EntryReading) {own : List Entry} {e : ParseError}
       → AllZip AreAlikeEntries said tells → AreEntries one earlier said own
       → IsFirstErrorOfEntries other earlier tells e → ⊥
@@ -275,7 +275,7 @@ module _ {says tells : FileReading} (are : AreAlikeFiles says tells) where
     graph_alike : graph_of own ≡ graph_of others
     graph_alike = graphs_by (names_of own) (names_of others) own others names_alike (all_texts_zip own others own_alike)
 
-  -- where the one file can be a bibliography, the other has no error
+  -- a file that is alike to an accepted one has no error
   pub faultless : {e : ParseError} → IsAccepted says → IsFirstErrorOf tells e → ⊥
   faultless accepted (IsFirstErrorOf.entry error) =
       entries_faultless both_define [] says.entries tells.entries are.entries accepted.entries error
@@ -294,7 +294,7 @@ module _ {says tells : FileReading} (are : AreAlikeFiles says tells) where
       (found_any (is_bad_date values) (refs_of (graph_of own) index) is.reference is.first))
       (accepted.dates values moved)
 
-  -- bibliographies of both
+  -- the bibliographies of two alike files are alike
   pub bibliographies_alike : (one other : Bibliography) → IsLoaded says one → IsLoaded tells other → AreAlike one other
   bibliographies_alike one other first second =
       let own = first.accepted.own in

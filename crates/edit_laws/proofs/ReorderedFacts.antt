@@ -1,4 +1,4 @@
--- Fields in another order, of which the last of each name is the same.
+-- Fields in another order in which the last field of each name is the same.
 use Rattle.std.proofs.Common.{◌≡◌, ℕ, List, [], ◌∷◌, ◌++◌, Bool, true, false, cond, reverse, refl, sym, ap, ◌∙◌}
 use Rattle.std.specs.Prelude.{bytes_eq, find, not}
 use Rattle.std.specs.List.{AllByRecursion, filter}
@@ -17,12 +17,12 @@ use Rattle.edit_format.specs.declared.style.Style.{Style}
 use Rattle.edit_format.proofs.OrderFacts.{in_order_all}
 use Rattle.edit_laws.proofs.FoundFacts.{find_failing, find_passing, or_nothing, reverse_filter}
 
--- fields among which each name has the same last field, and which can be read where the others can
+-- each name has the same last field in both lists, and the fields of the second are readable if those of the first are
 pub record IsReordered (fs gs : List FieldReading) : Type 0 where
   pub found : (name : List ℕ) → field_in gs name ≡ field_in fs name
   pub readable : (definitions : Definitions) → AllCanBeRead definitions fs → AllCanBeRead definitions gs
 
--- a field of a name has another name where this name has it
+-- a field with a name has a second name exactly if this is the first in lowercase
 named_alike : (n name : List ℕ) (f : FieldReading) → bytes_eq name (name_of f) ≡ true
     → has_name n f ≡ bytes_eq name (str_to_ascii_lowercase n)
 named_alike n name f is = ap (λ t. bytes_eq t (str_to_ascii_lowercase n)) (sym ((bytes_eq-Decides name (name_of f)).0 is))
@@ -32,7 +32,8 @@ field_append fs gs name =
     ap (find (λ f. bytes_eq name (name_of f))) (reverse-append fs gs)
     ∙ find-append (λ f. bytes_eq name (name_of f)) (reverse gs) (reverse fs)
 
--- the fields of a name, and the others
+-- the last field of a name, searched first among the fields without another name and then among those with it, is that of the whole
+-- list
 field_parted : (n name : List ℕ) (fs : List FieldReading)
     → option_or (field_in (filter (λ f. not (has_name n f)) fs) name) (field_in (filter (has_name n) fs) name)
     ≡ field_in fs name
@@ -63,7 +64,7 @@ field_parted n name fs = by_name (bytes_eq name (str_to_ascii_lowercase n)) refl
         ∙ ap (find test) (reverse_filter other fs)
         ∙ find_passing test other (λ f tests. ap not (named_alike n name f tests ∙ is)) (reverse fs)
 
--- of two fields with one name the last stands, in any order of names
+-- the last field of a name is the same in any order of names
 pub order_found : (names : List (List ℕ)) (fs : List FieldReading) (name : List ℕ) → field_in (in_order names fs) name ≡ field_in fs name
 order_found [] fs name = refl
 order_found (n ∷ ns) fs name =
@@ -88,7 +89,7 @@ is_reordered names fs = record {
       (in_order_all (CanBeRead definitions) names fs (each_read definitions fs all));
 }
 
--- an entry with its fields in order has the same key and type
+-- an entry has the key and the type of another, and its fields in another order
 pub record IsEntryReordered (one other : EntryReading) : Type 0 where
   pub key : other.key ≡ one.key
   pub kind : other.kind ≡ one.kind

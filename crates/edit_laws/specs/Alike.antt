@@ -1,11 +1,11 @@
 -- Meaning: words of public contracts.
--- Bibliographies that are the same but for the borders of chunks and their places.
+-- Bibliographies that differ only in spans and in the borders of chunks.
 use Rattle.std.specs.Prelude.{◌≡◌, map}
 use Rattle.bib_file_entries.specs.Bibliography.{Bibliography}
 use Rattle.bib_inheritance.specs.Resolving.{texts_of_entries}
 
--- two bibliographies have the same keys in order, each entry the same type and the same styled text of each field, and the same names
--- at the same indices
+-- two bibliographies have the same keys in order, the same type and styled texts of fields for each entry, and the same names at
+-- the same indices
 pub record AreAlike (one other : Bibliography) : Type 0 where
   pub keys : map (λ e. e.key) one.entries ≡ map (λ e. e.key) other.entries
   pub entries : texts_of_entries one.entries ≡ texts_of_entries other.entries

@@ -1,4 +1,4 @@
-//! Laws of files in one style. This function does nothing: what it ensures is proved of the definitions alone.
+//! A law of formatted files. The function has no code: its clauses are theorems about definitions.
 
 ghost use Rattle.std.specs.Prelude.{List, ℕ};
 ghost use Rattle.bib_file_entries.specs.Bibliography.{Bibliography};
@@ -10,8 +10,9 @@ ghost use Rattle.bib_syntax.specs.declared.raw.ParseError.{ParseError};
 ghost use Rattle.biblatex.specs.Headline.{IsAcceptedText, IsBibliographyOf, IsErrorOf};
 ghost use Rattle.edit_laws.specs.Alike.{AreAlike};
 
-/// Where a text is accepted, what is read like it but for places, the case of types and names, and the order of fields, as the text in
-/// one style is, has no error, and is the same bibliography but for the borders of chunks and their places.
+/// If a text is accepted, a formatted text is too, and gives the same bibliography, except for spans and the borders of chunks.
+/// The formatted text is any text that parses to the entries of the old one with the fields in the order of a style, except for
+/// spans and the case of entry types and field names.
 pub fn formatted_is_alike()
     ensures accepted { (style : Style) (text new : List ℕ) (says : FileReading) (e : ParseError) → IsRawReading text says →
         IsReadAlike (says_in_order style text says) new → IsAcceptedText text → IsErrorOf new e → ⊥ }

@@ -1,4 +1,4 @@
--- Entries that refer to none.
+-- Entries without references.
 use Rattle.std.proofs.Common.{◌≡◌, List, [], sym, ap, subst}
 use Rattle.std.specs.List.{AllByRecursion}
 use Rattle.bib_entry.specs.declared.entry.Entry.{Entry}
@@ -11,7 +11,7 @@ use Rattle.edit_resolve.specs.Resolutions.{StandsAlone}
 use Rattle.bib_syntax.specs.Grammar.{IsRawReading}
 use Rattle.bib_syntax.specs.Reading.{FileReading}
 
--- a text whose entries, as they are loaded, refer to none stands alone
+-- no entry of a text refers to another if none of its loaded entries has references
 pub alone : (text : List ℕ) (says : FileReading) (own : List Entry) (names : ByText ℕ) → IsRawReading text says
     → IsLoadedSoFar (definition_in says.abbreviations) says.entries own names
     → AllByRecursion (λ refs. refs ≡ []) (graph_by names own) → StandsAlone text

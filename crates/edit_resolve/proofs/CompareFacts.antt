@@ -1,4 +1,4 @@
--- Entries that say the same.
+-- Comparison of entries.
 use Rattle.std.proofs.Common.{◌≡◌, ◌+◌, ◌<◌, ◌≤◌, ℕ, zero, suc, Bool, true, false, cond, List, [], ◌∷◌, ◌++◌, length, drop, get_or, Option, Some, None, refl, sym, ap, ◌∙◌, subst, inl, inr, arith}
 use Rattle.std.proofs.lemmas.List.{drop_more}
 use Rattle.std.proofs.lemmas.Map.Text.{is_eq-slice_cmp}
@@ -26,7 +26,7 @@ module _ (a b : List (Spanned Chunk)) (i : ℕ) (x y : Spanned Chunk) (within : 
       → styled (drop i l) ≡ atoms_of c.v ++ styled (drop (i + 1) l)
   chunk_left l c inside same = ap styled (drop_more l i c inside) ∙ ap (λ d. atoms_of d.v ++ styled (drop (i + 1) l)) (sym same)
 
-  -- what follows from the same styled text of all chunks that are left follows from that of those after the next, if these are the same
+  -- the styled texts of the chunks still to visit are equal if the next chunks are and the styled texts of those after them are
   pub chunks_same : {W : Type 0} → (styled (drop i a) ≡ styled (drop i b) → W) → x.v ≡ y.v
       → styled (drop (i + 1) a) ≡ styled (drop (i + 1) b) → W
   chunks_same so_far same rest =
@@ -36,7 +36,7 @@ module _ (a b : List (Spanned Chunk)) (i : ℕ) (x y : Spanned Chunk) (within : 
 
 -- ---- fields
 
--- what holds of each pair holds of the one that is found
+-- if all pairs have a property, so does the pair with a given name
 found_holds : {V : Type 0} (P : List ℕ × V → Type 0) (es : List (List ℕ × V)) (name : List ℕ) (v : V)
     → AllByRecursion P es → find by_bytes name es ≡ Some v → P (name, v)
 found_holds P [] name v all is = absurd (cc)
@@ -54,7 +54,7 @@ held : {V : Type 0} (P : List ℕ × V → Type 0) (m : ByText V) (name : List �
     → AllByRecursion P (by_name.entries m) → by_name.get m name ≡ Some v → P (name, v)
 held P m name v all is = found_holds P (by_name.entries m) name v all (sym (by_name.get-entries m name) ∙ is)
 
--- fields are the same where each of the old ones is kept, and none is new
+-- fields are the same if each old field is kept and no field is new
 pub fields_same : (old new : ByText (List (Spanned Chunk))) → AllByRecursion (IsPairKept new) (by_name.entries old)
     → AllByRecursion (λ p. is_some (by_name.get old p.0) ≡ true) (by_name.entries new)
     → (name : List ℕ) → HasSameField (fields_of old) (fields_of new) name
@@ -76,7 +76,7 @@ fields_same old new kept none name = by (by_name.get old name) (by_name.get new 
 
 module _ (xs ys : List Entry) (i : ℕ) (x y : Entry) (within : i < length xs) (within' : i < length ys)
     (is : x ≡ get_or xs i x) (is' : y ≡ get_or ys i y) where
-  -- what follows from all entries that are left being the same follows from those after the next, if these are
+  -- the entries still to visit are the same if the next ones are and those after them are
   pub entries_same : {W : Type 0} → (AllZip SaysSame (drop i xs) (drop i ys) → W) → SaysSame x y
       → AllZip SaysSame (drop (i + 1) xs) (drop (i + 1) ys) → W
   entries_same so_far same rest =
@@ -84,7 +84,7 @@ module _ (xs ys : List Entry) (i : ℕ) (x y : Entry) (within : i < length xs) (
       let cut' : drop i ys ≡ y ∷ drop (i + 1) ys = drop_more ys i y within' ∙ ap (λ e. e ∷ drop (i + 1) ys) (sym is') in
       so_far (subst (λ l. AllZip SaysSame l (drop i ys)) (sym cut) (subst (AllZip SaysSame (x ∷ drop (i + 1) xs)) (sym cut') (same, rest)))
 
--- no chunk and no entry is left
+-- no chunk and no entry is left to visit
 pub past_end : {A : Type 0} (xs : List A) (i : ℕ) → length xs ≤ i → drop i xs ≡ []
 past_end [] zero past = refl
 past_end [] (suc i) past = refl

@@ -1,4 +1,4 @@
--- What is answered, and why nothing is.
+-- The result of `resolve`: the text or the error.
 use Rattle.std.proofs.Common.{◌≡◌, ◌⊎◌, List, refl, sym, ap, ◌∙◌, inl, inr}
 use Rattle.std.specs.Prelude.{ℕ}
 use Rattle.std.specs.List.{AllZip}
@@ -30,14 +30,14 @@ resolved d text old new was kept alone now same = record {
   alone = alone;
 }
 
--- an error of a text that was made is none of the text that is given, which is accepted
+-- an error of the new text is one for an accepted text
 pub unlike_refused : (text : List ℕ) (e : ResolveError) → IsAcceptedText text → NotOfFile e → IsResolveRefused text e
 unlike_refused text (File e) accepted other = absurd other
 unlike_refused text (Differs entry name) accepted other = accepted
 unlike_refused text Unlike accepted other = accepted
 unlike_refused text OutOfMemory accepted other = tt
 
--- an error of the text that is given
+-- an error of the given text is the error of parsing it
 its_error : {text : List ℕ} {e : ParseError} → (e.kind ≡ kind.OutOfMemory → ⊥)
     → (e ≡ out_of_memory) ⊎ (IsErrorOf text e × (IsAcceptedText text → ⊥))
     → IsErrorOf text e × (IsAcceptedText text → ⊥)

@@ -1,4 +1,4 @@
--- Lists, as they are gone through.
+-- The part of a list that a loop still has to visit.
 use Rattle.std.proofs.Common.{◌≡◌, ℕ, zero, suc, ◌+◌, ◌<◌, ◌≤◌, List, [], ◌∷◌, length, map, drop, get_or, sym, ap, ◌∙◌, subst, arith}
 use Rattle.std.specs.List.{AllByRecursion}
 use Rattle.std.proofs.lemmas.List.{drop_more}
@@ -8,16 +8,16 @@ module _ {A B : Type 0} (view : A → B) (P : B → Type 0) (xs : List A) (i : �
   left : map view (drop i xs) ≡ view x ∷ map view (drop (i + 1) xs)
   left = ap (map view) (drop_more xs i x within ∙ ap (λ y. y ∷ drop (i + 1) xs) (sym is))
 
-  -- what follows from all that are left follows from those after the next, of which it holds
+  -- if the next item has a property, it is enough that those after it have the property
   pub rest_holds : {W : Type 0} → (AllByRecursion P (map view (drop i xs)) → W) → P (view x)
       → AllByRecursion P (map view (drop (i + 1) xs)) → W
   rest_holds so_far here rest = so_far (subst (AllByRecursion P) (sym left) (here, rest))
 
-  -- what holds of all that are left holds of the next, and of those after it
+  -- if all items still to visit have a property, so do the next one and those after it
   pub next_holds : AllByRecursion P (map view (drop i xs)) → P (view x) × AllByRecursion P (map view (drop (i + 1) xs))
   next_holds all = let cut = subst (AllByRecursion P) left all in (cut.0, cut.1)
 
--- none is left
+-- no item is left to visit
 pub none_left : {A B : Type 0} (view : A → B) (P : B → Type 0) (xs : List A) (i : ℕ) → length xs ≤ i
     → AllByRecursion P (map view (drop i xs))
 none_left view P [] zero past = tt

@@ -1,4 +1,4 @@
--- Values, and what stands round entries.
+-- Values, and the text around entries.
 use Rattle.std.proofs.Common.{◌≡◌, ◌+◌, ◌<◌, ◌≤◌, ℕ, zero, suc, Bool, true, false, cond, List, [], ◌∷◌, ◌++◌, length, map, take, get_or, refl, sym, ap, ap₂, ◌∙◌, subst, arith, append_assoc, append-nil}
 use Rattle.std.specs.Borrow.{Bor}
 use Rattle.std.specs.BTreeSet.{BTreeSet}
@@ -20,21 +20,21 @@ use Rattle.edit_resolve.specs.ValueSets.{HasOnly}
 pub true_is : (b : Bool) → IsTrue b → b ≡ true
 true_is b is = is
 
--- a list that was gone through
+-- all items of a list were visited
 pub all_taken : {A : Type 0} (xs : List A) (i : ℕ) → length xs ≤ i → take i xs ≡ xs
 all_taken [] zero past = refl
 all_taken [] (suc i) past = refl
 all_taken (x ∷ xs) zero past = absurd (omega arith)
 all_taken (x ∷ xs) (suc i) past = ap (λ l. x ∷ l) (all_taken xs i (omega arith))
 
--- where the values of a document's fields may be cut out of its text
+-- the values of a document's fields lie in its text, at character boundaries
 pub placed_in : (d : Document) → IsDocument d → {text : List ℕ} {entries : List EntryReading} → text ≡ d.text
     → entries ≡ d.says.entries → AllByRecursion (λ e. AllByRecursion (IsPlaced text) e.fields) entries
 placed_in d read {text} {entries} same are =
     subst (λ t. AllByRecursion (λ (e : EntryReading). AllByRecursion (IsPlaced t) e.fields) entries) (sym same)
     (subst (AllByRecursion (λ (e : EntryReading). AllByRecursion (IsPlaced d.text) e.fields)) (sym are) (all_placed d read))
 
--- texts that are found the same are
+-- texts that compare as equal are equal
 pub same_texts : (xs ys : List (Bor (List ℕ))) → pointwise (λ x y. pointwise nat_eq x.now y.now) xs ys ≡ true
     → map (λ t. t.now) xs ≡ map (λ t. t.now) ys
 same_texts [] [] is = refl
@@ -53,7 +53,7 @@ module _ {X A : Type 0} (view : X → A) (xs : List X) (i : ℕ) (x : X) (within
   taken : map view (take (i + 1) xs) ≡ map view (take i xs) ++ view x ∷ []
   taken = ap (map view) (take_more xs i x within ∙ ap (λ y. take i xs ++ y ∷ []) (sym is)) ∙ map-append view (take i xs) (x ∷ [])
 
-  -- with one value more a set has no more than the values so far
+  -- after one more value, each member of the set is one of the values so far
   pub only_more : (value : A → List ℕ) (values : List (List ℕ)) (old new : Set') (own : List ℕ) → own ≡ value (view x)
       → ((key : List ℕ) → is_key_in new key ≡ cond (bytes_eq own key) true (is_key_in old key))
       → HasOnly (values ++ map value (map view (take i xs))) old → HasOnly (values ++ map value (map view (take (i + 1) xs))) new
@@ -77,7 +77,7 @@ module _ {X A : Type 0} (view : X → A) (xs : List X) (i : ℕ) (x : X) (within
       ] in
       subst (λ l. Contains l text) all (by (bytes_eq own text) refl (sym (added text) ∙ there))
 
-  -- the values of one entry more
+  -- the values of the entries so far, after one more entry
   pub flat_more : (each : A → List (List ℕ))
       → flat_map each (map view (take (i + 1) xs)) ≡ flat_map each (map view (take i xs)) ++ each (view x)
   flat_more each =

@@ -1,5 +1,5 @@
 -- Machinery: words of private contracts.
--- What an error of a text becomes: of the text that is given, and of one that was made.
+-- The errors of parsing the given text and the new text.
 use Rattle.std.specs.Prelude.{⊤}
 use Rattle.bib_syntax.specs.declared.raw.ParseError.{ParseError}
 use Rattle.bib_syntax.specs.declared.raw.ParseErrorKind.{ParseErrorKind}
@@ -7,20 +7,20 @@ use Rattle.bib_syntax.specs.declared.raw.ParseErrorKind.TheVariants as kind
 use Rattle.edit_resolve.specs.declared.errors.ResolveError.{ResolveError}
 use Rattle.edit_resolve.specs.declared.errors.ResolveError.TheVariants.{File, Differs, Unlike, OutOfMemory}
 
--- an error, or that there was no memory where that is the kind of what it comes from
+-- an error, or `OutOfMemory` if the error behind it is of this kind
 abbrev pub if_there_was_memory : ParseErrorKind → ResolveError → ResolveError
 if_there_was_memory kind.OutOfMemory other = OutOfMemory
 if_there_was_memory _ other = other
 
--- the error of a text that is given
+-- the error for an error in parsing the given text
 abbrev pub resolve_error : ParseError → ResolveError
 resolve_error e = if_there_was_memory e.kind (File e)
 
--- the error of a text that was made
+-- the error for an error in parsing the new text
 abbrev pub unlike_error : ParseError → ResolveError
 unlike_error e = if_there_was_memory e.kind Unlike
 
--- no error of a text that is given
+-- an error is none of the given text
 abbrev pub NotOfFile : ResolveError → Type 0
 NotOfFile (File e) = ⊥
 NotOfFile (Differs entry name) = ⊤

@@ -8,6 +8,6 @@ use Rattle.bib_collections.specs.Sorted.{ByText}
 use Rattle.edit_resolve.specs.Resolutions.{is_link}
 use Rattle.bib_text.specs.declared.spanned.Spanned.{Spanned}
 
--- fields have this field with the same styled text, or don't have it, which leads to entries
+-- other fields have this one with the same styled text, or lack it and it is a `crossref`, `xdata` or `ids`
 abbrev pub IsPairKept : ByText (List (Spanned Chunk)) → List ℕ × List (Spanned Chunk) → Type 0
 IsPairKept others p = (fields_of others p.0 ≡ Some (styled p.1)) ⊎ ((fields_of others p.0 ≡ None) × (is_link p.0 ≡ true))

@@ -1,5 +1,5 @@
 -- Meaning: words of public contracts.
--- A file in which each entry has what it inherits in fields of its own, and refers to no other.
+-- A file in which the inherited fields of each entry are written out, and no entry refers to another.
 use Rattle.std.specs.Prelude.{◌≡◌, ◌⊎◌, ℕ, ◌+◌, true, Bool, List, [], ◌∷◌, codes, drop, map, None, ⊤}
 use Rattle.std.specs.List.{AllByRecursion, AllZip, Contains, flat_map}
 use Rattle.std.specs.Str.{trim_end}
@@ -18,25 +18,26 @@ use Rattle.edit_resolve.specs.declared.errors.ResolveError.TheVariants.{File, Di
 use Rattle.biblatex.specs.Headline.{IsAcceptedText, IsBibliographyOf, IsErrorOf}
 use Rattle.biblatex.specs.Resolved.{AreOwn, graph_of}
 
--- whether a field leads to entries: it refers to others, or gives its entry other names
+-- whether a field is a reference to other entries (`crossref`, `xdata`), or the other keys of its entry (`ids`)
 abbrev pub is_link : List ℕ → Bool
 is_link name = is_one_of (codes "crossref" ∷ codes "xdata" ∷ codes "ids" ∷ []) name
 
--- an entry has a field as another has it, or has it no more, which leads to entries
+-- a field has the same styled text in `new` as in `old`, or `new` lacks it and it is a `crossref`, `xdata` or `ids`
 abbrev pub HasSameField : FieldTexts → FieldTexts → List ℕ → Type 0
 HasSameField old new name = (new name ≡ old name) ⊎ ((new name ≡ None) × (is_link name ≡ true))
 
--- whether two types are one
+-- whether two entry types are equal
 abbrev pub is_same_type : EntryType → EntryType → Bool
 is_same_type = types.ghosts.eq
 
--- an entry says what another does, with the same styled texts, but that fields which lead to entries may be gone
+-- two entries have the same key, type and fields with the same styled texts, except that `new` may lack a `crossref`, `xdata` or
+-- `ids`
 pub record SaysSame (old new : Entry) : Type 0 where
   pub key : new.key ≡ old.key
   pub entry_type : is_same_type old.entry_type new.entry_type ≡ true
   pub fields : (name : List ℕ) → HasSameField (fields_of old.fields) (fields_of new.fields) name
 
--- no entry of a text refers to one
+-- no entry of a text refers to an entry of it
 pub record StandsAlone (text : List ℕ) : Type 0 where
   pub says : FileReading
   pub reading : IsRawReading text says
@@ -44,33 +45,32 @@ pub record StandsAlone (text : List ℕ) : Type 0 where
   pub are : AreOwn says own
   pub none : AllByRecursion (λ refs. refs ≡ []) (graph_of own)
 
--- what stands before each of some entries of a text, from a place on, and after the last
+-- the text before each of some entries, from an offset on, and the text after the last
 abbrev pub round_entries : List ℕ → ℕ → List EntryReading → List (List ℕ)
 round_entries text at [] = drop at text ∷ []
 round_entries text at (e ∷ es) = between (place text at) (place text e.start) ∷ round_entries text (e.end + 1) es
 
--- the value of a field as it stands in a text, without the white space after it
+-- the value of a field as it is written in a text, without the white space after it
 abbrev pub value_as_it_stands : List ℕ → FieldReading → List ℕ
 value_as_it_stands text f = trim_end (value_stretch text f)
 
--- the values of the fields of some entries as they stand in a text
+-- the values of the fields of some entries as they are written in a text
 abbrev pub values_as_they_stand : List ℕ → List EntryReading → List (List ℕ)
 values_as_they_stand text entries = flat_map (λ e. map (value_as_it_stands text) e.fields) entries
 
--- the value of a field stands so among these too, unless it is a date
+-- a field is a date, or its value, as it is written in a text, is one of these values
 abbrev pub IsValueKept : List (List ℕ) → List ℕ → FieldReading → Type 0
 IsValueKept values text f = (has_name (codes "date") f ≡ true) ⊎ Contains values (value_as_it_stands text f)
 
--- a document was made of another alike: the text around entries is the same, byte for byte, and each value except that of a date
--- occurs in the other
+-- `made` has the same text around its entries as `d`, byte for byte, and each value of `made`, except those of dates, occurs in `d`
 pub record IsMadeAlike (d made : Document) : Type 0 where
   pub round : round_entries made.text 0 made.says.entries ≡ round_entries d.text 0 d.says.entries
   pub values : AllByRecursion
       (λ e. AllByRecursion (IsValueKept (values_as_they_stand d.text d.says.entries) made.text) e.fields)
       made.says.entries
 
--- a text is a document's with what entries inherit in fields of their own: it was made of the document alike, the bibliographies of both
--- have the same entries in order, and no entry refers to one
+-- a text is that of a document with the inherited fields written out: it keeps the text around entries and uses only values of the
+-- document, the bibliographies of both have the same entries in order, and no entry refers to another
 pub record IsResolvedText (d : Document) (text : List ℕ) : Type 0 where
   pub made : Document
   pub is : made.text ≡ text
@@ -83,7 +83,8 @@ pub record IsResolvedText (d : Document) (text : List ℕ) : Type 0 where
   pub same : AllZip SaysSame old.entries new.entries
   pub alone : StandsAlone text
 
--- why a text isn't resolved: it is read as no bibliography, with this error; or it is, and what was made of it would say something else
+-- why a text isn't resolved: it doesn't parse to a bibliography, and this is its error; or it does, and the new text would differ;
+-- or memory ran out
 abbrev pub IsResolveRefused : List ℕ → ResolveError → Type 0
 IsResolveRefused text (File e) = IsErrorOf text e × (IsAcceptedText text → ⊥)
 IsResolveRefused text (Differs entry name) = IsAcceptedText text

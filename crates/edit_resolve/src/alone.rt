@@ -1,4 +1,4 @@
-//! Whether entries refer to others.
+//! Whether entries refer to other entries.
 
 ghost use Rattle.std.specs.Prelude.{◌≡◌, [], IfOk, IsTrue};
 ghost use Rattle.std.specs.List.{AllByRecursion};
@@ -12,7 +12,7 @@ use bib_inheritance::reference_names::references;
 use bib_syntax::raw::{ParseError, RawBibliography};
 use std::alloc::{AllocError, Global};
 
-// Whether none of some entries refers to one, by these names.
+// Returns whether no entry of `own` refers to an entry whose key is in `names`.
 fn is_each_alone(alloc: Global, own: &[Entry], names: &Names) -> Result<bool, AllocError>
     ensures { IfOk result (λ alone. IsTrue alone → AllByRecursion (λ refs. refs ≡ []) (graph_by names.now own.now)) }
 {
@@ -24,7 +24,7 @@ fn is_each_alone(alloc: Global, own: &[Entry], names: &Names) -> Result<bool, Al
     Ok(true)
 }
 
-// Whether no entry of a text refers to one.
+// Returns whether no entry of `text` refers to another.
 pub(crate) fn stands_alone(alloc: Global, text: &str) -> Result<bool, ParseError>
     ensures { IfOk result (λ alone. IsTrue alone → StandsAlone text.now) }
 {

@@ -1,4 +1,4 @@
-//! Whether entries say the same, but for what leads to entries.
+//! Comparison of entries, apart from `crossref`, `xdata` and `ids`.
 
 ghost use Rattle.std.specs.Prelude.{◌≡◌, IsNone, IsTrue, is_some, true};
 ghost use Rattle.std.specs.FinMap as by_name;
@@ -12,15 +12,15 @@ use bib_chunks::chunk::{Chunk, Chunks, ChunksRef};
 use bib_collections::text_map::TextMap;
 use bib_entry::entry::Entry;
 
-// Where two lists of entries differ: at this index, in the field of this name, or where that is empty in the key, in the type, or in
-// that there is no such entry.
+// The first difference of two lists of entries: the index of an entry, and the name of a field. The name is empty if the key,
+// the type or the number of entries differs.
 #[derive(Clone, Copy)]
 pub(crate) struct Difference<'e> {
     pub(crate) entry: usize,
     pub(crate) name: &'e str,
 }
 
-// Whether two chunks are the same.
+// Returns whether two chunks are equal.
 fn is_same_chunk(a: &Chunk, b: &Chunk) -> bool
     ensures { IsTrue result → a.now ≡ b.now }
 {
@@ -32,7 +32,7 @@ fn is_same_chunk(a: &Chunk, b: &Chunk) -> bool
     }
 }
 
-// Whether chunks are the same one for one, wherever they stand.
+// Returns whether the chunks are equal one by one, apart from their spans.
 fn are_same_chunks(a: ChunksRef<'_>, b: ChunksRef<'_>) -> bool
     ensures { IsTrue result → styled a.now ≡ styled b.now }
 {
@@ -47,7 +47,7 @@ fn are_same_chunks(a: ChunksRef<'_>, b: ChunksRef<'_>) -> bool
     true
 }
 
-// Whether other fields have a field the same, or don't have it, which leads to entries.
+// Returns whether `others` has the field `name` with the same chunks, or lacks it and it is a `crossref`, `xdata` or `ids`.
 fn is_field_kept(name: &str, chunks: &Chunks, others: &TextMap<Chunks>) -> bool
     ensures { IsTrue result → IsPairKept others.now (name.now, chunks.now) }
 {
@@ -57,7 +57,7 @@ fn is_field_kept(name: &str, chunks: &Chunks, others: &TextMap<Chunks>) -> bool
     }
 }
 
-// The name of the first of these fields that other fields don't have the same, but for those that lead to entries and aren't there.
+// Returns the name of the first of `fields` that `others` doesn't keep.
 fn lost<'f>(fields: &'f TextMap<Chunks>, others: &TextMap<Chunks>) -> Option<&'f str>
     ensures { IsNone result → AllByRecursion (IsPairKept others.now) (by_name.entries fields.now) }
 {
@@ -69,7 +69,7 @@ fn lost<'f>(fields: &'f TextMap<Chunks>, others: &TextMap<Chunks>) -> Option<&'f
     None
 }
 
-// The name of the first of these fields that isn't among other fields.
+// Returns the name of the first of `fields` that `others` lacks.
 fn added<'f>(fields: &'f TextMap<Chunks>, others: &TextMap<Chunks>) -> Option<&'f str>
     ensures { IsNone result → AllByRecursion (λ p. is_some (by_name.get others.now p.0) ≡ true) (by_name.entries fields.now) }
 {
@@ -81,7 +81,7 @@ fn added<'f>(fields: &'f TextMap<Chunks>, others: &TextMap<Chunks>) -> Option<&'
     None
 }
 
-// Whether an entry has the key and the type of another.
+// Returns whether two entries have the same key and type.
 fn is_same_head(old: &Entry, new: &Entry) -> bool
     ensures key { IsTrue result → new.now.key ≡ old.now.key }
     ensures entry_type { IsTrue result → is_same_type old.now.entry_type new.now.entry_type ≡ true }
@@ -89,7 +89,7 @@ fn is_same_head(old: &Entry, new: &Entry) -> bool
     old.key.as_str() == new.key.as_str() && old.entry_type == new.entry_type
 }
 
-// The name of a field in which an entry differs from another; empty, where that is its key or its type.
+// Returns the name of a field in which two entries differ. The name is empty if the key or the type differs.
 fn differing_name<'e>(old: &'e Entry, new: &'e Entry) -> Option<&'e str>
     ensures { IsNone result → SaysSame old.now new.now }
 {
@@ -102,7 +102,7 @@ fn differing_name<'e>(old: &'e Entry, new: &'e Entry) -> Option<&'e str>
     }
 }
 
-// Where entries first differ from others.
+// Returns the first difference of two lists of entries.
 pub(crate) fn first_difference<'e>(old: &'e [Entry], new: &'e [Entry]) -> Option<Difference<'e>>
     ensures { IsNone result → AllZip SaysSame old.now new.now }
 {

@@ -1,4 +1,4 @@
-//! Why inherited fields aren't written out.
+//! Errors of resolving.
 
 ghost use Rattle.std.specs.Prelude.{◌≡◌, ◌≢◌, IfOk, OnErr};
 ghost use Rattle.edit_resolve.specs.Errors.{resolve_error, unlike_error};
@@ -8,26 +8,26 @@ use bib_syntax::raw::ParseError;
 use bib_text::text::Text;
 use std::alloc::{AllocError, AllocFailed};
 
-/// Why inherited fields aren't written out.
+/// The error that stopped the writing of inherited fields.
 #[derive(Debug, Drop)]
 pub enum ResolveError {
-    /// The text is read as no bibliography, by the error of `Bibliography::parse`.
+    /// The text doesn't parse to a bibliography. Holds the error of `Bibliography::parse`.
     File(ParseError),
-    /// With the texts that its fields have where they stand, an entry would say something else.
+    /// The new text would change an entry or the number of entries.
     Differs {
-        /// The index of the entry, from 0.
+        /// The index of the entry, from 0. If the number of entries would change, the smaller of the two numbers.
         entry: usize,
-        /// The name of the field that it would differ in; empty where that is its key or its type.
+        /// The name of the field that would change; empty if it is the key, the type or the number of entries.
         name: Text,
     },
-    /// The text with them would be read as something else.
+    /// The new text doesn't parse, has another text between its entries or other values, or still has references.
     Unlike,
-    /// There was no memory.
+    /// Memory ran out.
     OutOfMemory,
 }
 
 impl ResolveError {
-    /// The error, unless there was no memory.
+    /// Returns the error, or an `AllocError` for `OutOfMemory`.
     pub fn unless_out_of_memory(self) -> Result<ResolveError, AllocError>
         ensures other { IfOk result (λ other. (other ≡ self) × (self ≢ OutOfMemory)) }
         ensures no_memory { OnErr result (self ≡ OutOfMemory) }
@@ -66,7 +66,7 @@ impl From<ParseError> for ResolveError {
     }
 }
 
-// The error of a text that was made and isn't read.
+// Returns `Unlike` for an error in parsing the new text, or `OutOfMemory` if memory ran out.
 pub(crate) fn unlike(error: ParseError) -> ResolveError
     ensures { result ≡ unlike_error error }
 {

@@ -1,4 +1,4 @@
-//! What becomes of an entry's own fields.
+//! Decisions about the fields of an entry: which are kept, removed or replaced.
 
 ghost use Rattle.std.specs.Prelude.{◌≡◌};
 ghost use Rattle.edit_resolve.specs.Resolutions as spec;
@@ -10,32 +10,32 @@ use bib_syntax::raw::Pair;
 use std::alloc::{AllocError, Global};
 use std::collections::BTreeSet;
 
-// What becomes of a field.
+// The decision about a field.
 #[derive(Debug, Clone, Copy, PartialEq, Eq)]
 pub(crate) enum Fate {
-    // It stays as it is.
+    // The field is kept.
     Stays,
-    // It goes out.
+    // The field is removed.
     GoesOut,
-    // It gives way to the fields that its entry inherits.
+    // The field is replaced by the fields that its entry inherits.
     GivesWay,
 }
 
-// What becomes of the fields of an entry, and the fields that it inherits, each with its name.
+// The decisions about the fields of an entry, and the inherited fields with their names.
 #[derive(Drop)]
 pub(crate) struct Fates<'e> {
     pub(crate) own: Vec<Fate>,
     pub(crate) inherited: Vec<(&'e str, &'e Chunks)>,
 }
 
-// Whether a field leads to entries: it refers to others, or gives its entry other names.
+// Returns whether `name` is `crossref`, `xdata` or `ids`: a reference to other entries, or the other keys of an entry.
 pub(crate) fn is_link(name: &str) -> bool
     ensures { result ≡ spec.is_link name.now }
 {
     matches!(name, "crossref" | "xdata" | "ids")
 }
 
-// Whether an entry's `crossref` names an entry.
+// Returns whether the `crossref` of an entry names an entry of the file.
 fn is_crossref_known(alloc: Global, entry: &Entry, names: &Names) -> Result<bool, AllocError> {
     match entry.fields.get("crossref") {
         Some(chunks) => {
@@ -46,8 +46,8 @@ fn is_crossref_known(alloc: Global, entry: &Entry, names: &Names) -> Result<bool
     }
 }
 
-// What becomes of each field of an entry with what it inherits: it goes out if the entry has lost its name, or if it is a reference to
-// an entry.
+// Decides about each field of an entry. A field is removed if the resolved entry lacks it, or if it is a `crossref` to an entry
+// of the file.
 fn own_fates(
     alloc: Global,
     fields: &[Pair<'_>],
@@ -65,7 +65,7 @@ fn own_fates(
     Ok(fates)
 }
 
-// The names of an entry's own fields, in lowercase.
+// Returns the names of `fields`, in lowercase.
 fn own_names(alloc: Global, fields: &[Pair<'_>]) -> Result<BTreeSet<String>, AllocError> {
     let mut names = BTreeSet::new(alloc);
     'fields: for field in fields {
@@ -74,7 +74,7 @@ fn own_names(alloc: Global, fields: &[Pair<'_>]) -> Result<BTreeSet<String>, All
     Ok(names)
 }
 
-// The fields that an entry has beside its own, but for those that lead to entries.
+// Returns the fields that an entry inherits, except `crossref`, `xdata` and `ids`.
 fn inherited<'e>(
     alloc: Global,
     fields: &[Pair<'_>],
@@ -90,7 +90,7 @@ fn inherited<'e>(
     Ok(inherited)
 }
 
-// Lets the last field that goes out give way.
+// Changes the decision about the last removed field: it is replaced.
 fn give_way(fates: &mut [Fate]) {
     let count = fates.len();
     'fates: for done in 0..count {
@@ -102,7 +102,7 @@ fn give_way(fates: &mut [Fate]) {
     }
 }
 
-// What becomes of the fields of an entry with what it inherits: the last one that goes out gives way to what is inherited, if anything is.
+// Decides about the fields of an entry. The last removed field is replaced by the inherited fields, if there are any.
 pub(crate) fn fates_of<'e>(
     alloc: Global,
     fields: &[Pair<'_>],

@@ -1,4 +1,4 @@
-//! What stands round entries.
+//! The text around entries.
 
 ghost use Rattle.std.specs.Prelude.{◌≡◌, IfOk, IsTrue, map};
 ghost use Rattle.bib_syntax.specs.Views.{entry_reading_of};
@@ -11,7 +11,7 @@ use bib_text::spanned::Spanned;
 use edit_entries::document::RawDocument;
 use std::alloc::{AllocError, Global};
 
-// What stands before each of some entries of a text, and after the last.
+// Returns the text before each entry, and the text after the last one.
 fn gaps<'s>(
     alloc: Global,
     text: &'s str,
@@ -30,14 +30,14 @@ fn gaps<'s>(
     Ok(gaps)
 }
 
-// What stands round the entries of a document.
+// Returns the texts around the entries of a document.
 fn gaps_of<'s>(alloc: Global, document: &RawDocument<'s>) -> Result<Vec<&'s str>, AllocError>
     ensures { IfOk result (λ gaps. lent_texts gaps.items ≡ spec.round_entries document.now.text 0 document.now.says.entries) }
 {
     gaps(alloc, document.text(), &document.raw().entries)
 }
 
-// Whether the same texts stand round the entries of two documents.
+// Returns whether two documents have the same texts around their entries.
 pub(crate) fn are_gaps_same(
     alloc: Global,
     old: &RawDocument<'_>,

@@ -1,4 +1,4 @@
-//! How inherited fields are laid out.
+//! The layout of inherited fields.
 
 use crate::stretches::{cut, white_at_end};
 use bib_chunks::chunk::{Chunks, value_text};
@@ -6,14 +6,14 @@ use bib_syntax::raw::Pair;
 use bib_tables::fields::is_verbatim_field;
 use std::alloc::{AllocError, Global};
 
-// The layout of the field that gives way: the white space before it, and the equals sign between its name and its value.
+// The layout of the replaced field: the white space before it, and its equals sign with or without spaces.
 #[derive(Clone, Copy)]
 pub(crate) struct Layout<'s> {
     pub(crate) white: &'s str,
     pub(crate) sign: &'static str,
 }
 
-// The layout of a field, before which this stands after the field before it.
+// Returns the layout of `field`; `gap` is the text before it, after the previous field or the key.
 pub(crate) fn layout_of<'s>(text: &'s str, gap: &'s str, field: &Pair<'_>) -> Layout<'s> {
     let between = cut(text, field.key.span.end, field.value.span.start);
     Layout {
@@ -22,7 +22,7 @@ pub(crate) fn layout_of<'s>(text: &'s str, gap: &'s str, field: &Pair<'_>) -> La
     }
 }
 
-// The text that the value of an inherited field has where it stands; empty where it stands nowhere.
+// Returns the text that an inherited value has in the file, or an empty text if it isn't in the file.
 fn text_of<'s>(text: &'s str, chunks: &Chunks) -> &'s str {
     match chunks.as_slice() {
         [first, ..] => cut(text, first.span.start, first.span.end).trim_end(),
@@ -30,7 +30,7 @@ fn text_of<'s>(text: &'s str, chunks: &Chunks) -> &'s str {
     }
 }
 
-// Adds the value of an inherited field: as it stands in the file, or as a date is written.
+// Appends the value of an inherited field: a copy from the file, or a new value for a date that isn't in the file.
 fn push_value(
     new: &mut String,
     alloc: Global,
@@ -48,7 +48,7 @@ fn push_value(
     Ok(())
 }
 
-// Adds inherited fields, separated as the layout says.
+// Appends inherited fields with the separators of `layout`.
 pub(crate) fn push_inherited(
     new: &mut String,
     alloc: Global,

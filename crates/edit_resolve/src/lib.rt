@@ -1,12 +1,12 @@
 //! Writes the fields that entries inherit into the entries of a file.
 //!
-//! What an entry inherits is found by the library's own resolving, over entries whose chunks stand where the value of their field
-//! stands in the file (`places`): so each inherited field leads to the text that it has there. `fates` says what becomes of an entry's
-//! own fields, and `making` writes the entries (over `layout` and `stretches`).
+//! The inherited fields come from the resolving of `biblatex` itself. Before it, each chunk gets the span of the value of its
+//! field in the file (`places`), so an inherited field has the span of its text. `fates` decides which fields of an entry are
+//! removed, and `making` writes the entries (with `layout` and `stretches`).
 //!
-//! Nothing is promised of a text that is made so. It is read again, and compared with the file: what stands round entries (`gaps`),
-//! the values (`values`), what entries say (`comparing`), and that none refers to another (`alone`). What `resolve` promises is what
-//! was compared, and a text that differs is not given out.
+//! No contract covers the new text itself. It is parsed and compared with the file: the text around entries (`gaps`), the
+//! values (`values`) and the contents of entries (`comparing`). It must also have no references (`alone`). The contract of
+//! `resolve` states these comparisons, and a text that fails one isn't returned.
 #![tactic(auto)]
 
 mod alone;

@@ -1,4 +1,4 @@
-//! The text with inherited fields.
+//! Writing of the new text.
 
 use crate::fates::{Fate, Fates, fates_of};
 use crate::layout::{layout_of, push_inherited};
@@ -11,7 +11,7 @@ use bib_text::spanned::Spanned;
 use edit_entries::document::RawDocument;
 use std::alloc::{AllocError, Global};
 
-// A text that is made of another, which is written up to a place.
+// A new text and the old one, which is copied or replaced up to the offset `at`.
 #[derive(Drop)]
 struct Maker<'s> {
     text: &'s str,
@@ -20,14 +20,14 @@ struct Maker<'s> {
 }
 
 impl<'s> Maker<'s> {
-    // Writes the text up to a place.
+    // Copies the text up to an offset.
     fn write_to(&mut self, place: usize) -> Result<(), AllocError> {
         self.new.push_str(cut(self.text, self.at, place))?;
         self.at = place;
         Ok(())
     }
 
-    // Writes the text up to a place, but for the white space before it.
+    // Copies the text up to an offset, without the white space before the offset.
     fn write_to_white(&mut self, place: usize) -> Result<(), AllocError> {
         self.new
             .push_str(cut(self.text, self.at, place).trim_end())?;
@@ -35,12 +35,12 @@ impl<'s> Maker<'s> {
         Ok(())
     }
 
-    // Goes on at a place.
+    // Skips the text up to an offset.
     fn go_to(&mut self, place: usize) {
         self.at = place;
     }
 
-    // Writes what an entry inherits in the place of a field, before which this stands after the field before it.
+    // Replaces `field` by the inherited fields; `gap` is the text before it, after the previous field or the key.
     fn write_inherited(
         &mut self,
         alloc: Global,
@@ -57,8 +57,8 @@ impl<'s> Maker<'s> {
         Ok(())
     }
 
-    // Leaves out the fields of an entry from one on, before which this stands after the field before it: with the white space before
-    // them, unless a comment stands there, and up to the white space before the closing brace.
+    // Removes the fields of an entry from `field` on, and the text after them except the white space before the closing brace.
+    // Removes the white space before `field` too, unless `gap`, the text before it, contains a comment.
     fn leave_out_rest(
         &mut self,
         gap: &str,
@@ -77,7 +77,7 @@ impl<'s> Maker<'s> {
     }
 }
 
-// How many of some fields stand before those at the end that all go out.
+// Returns the number of fields before the removed fields at the end.
 fn count_before_last(own: &[Fate]) -> usize {
     let mut count = 0usize;
     'fates: for (index, fate) in own.iter().enumerate() {
@@ -88,7 +88,7 @@ fn count_before_last(own: &[Fate]) -> usize {
     count
 }
 
-// Where a field begins, or where another place is where there is no field.
+// Returns the start of a field, or `other` if there is no field.
 fn start_of(field: Option<&Pair<'_>>, other: usize) -> usize {
     match field {
         Some(field) => field.key.span.start,
@@ -96,7 +96,7 @@ fn start_of(field: Option<&Pair<'_>>, other: usize) -> usize {
     }
 }
 
-// Writes an entry's fields as their fates say.
+// Writes the fields of an entry: keeps, removes or replaces each of them.
 fn write_fields(
     maker: &mut Maker<'_>,
     alloc: Global,
@@ -124,7 +124,7 @@ fn write_fields(
     Ok(())
 }
 
-// Writes an entry with what it inherits, if it is there.
+// Writes an entry with its inherited fields, if `entry` is given.
 fn write_entry(
     maker: &mut Maker<'_>,
     alloc: Global,
@@ -139,7 +139,7 @@ fn write_entry(
     write_fields(maker, alloc, said, &fates)
 }
 
-// A document's text with what its entries inherit in fields of their own, in the places of their references.
+// Returns the text of a document with the inherited fields of each entry written out.
 pub(crate) fn made(
     alloc: Global,
     document: &RawDocument<'_>,

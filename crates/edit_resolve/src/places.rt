@@ -1,4 +1,4 @@
-//! What entries inherit, with the places where it stands in the file.
+//! Resolved entries with the spans of their values in the file.
 
 ghost use Rattle.std.specs.Prelude.{◌≡◌, IfOk, length};
 
@@ -15,15 +15,15 @@ use edit_entries::document::RawDocument;
 use std::alloc::{AllocError, Global};
 use std::collections::BTreeMap;
 
-// A document's entries with what they inherit, each chunk at the place of the value that it is of, and the names of all entries.
-// A date that was written anew stands nowhere.
+// The resolved entries of a document and the keys of all entries. Each chunk has the span of the value from which it comes. The
+// chunks of a date that resolving rewrites have no span in the file.
 #[derive(Drop)]
 pub(crate) struct Placed {
     pub(crate) entries: Vec<Entry>,
     pub(crate) names: Names,
 }
 
-// Where the value of each field stands, by the field's name in lowercase: of two with one name that of the last.
+// Returns the span of the value of each field, by the field's name in lowercase. Of two fields with one name, the last counts.
 fn value_spans(alloc: Global, fields: &[Pair<'_>]) -> Result<BTreeMap<String, Span>, AllocError> {
     let mut spans = BTreeMap::new(alloc);
     'fields: for field in fields {
@@ -33,7 +33,7 @@ fn value_spans(alloc: Global, fields: &[Pair<'_>]) -> Result<BTreeMap<String, Sp
     Ok(spans)
 }
 
-// Chunks at one place, with one that is empty where there is none.
+// Returns the chunks with this span, or one empty chunk with it if there are none.
 fn chunks_at(alloc: Global, chunks: Chunks, span: &Span) -> Result<Chunks, AllocError> {
     let mut placed = Items::new(alloc);
     'chunks: for chunk in chunks.into_vec() {
@@ -51,7 +51,7 @@ fn chunks_at(alloc: Global, chunks: Chunks, span: &Span) -> Result<Chunks, Alloc
     Ok(placed)
 }
 
-// The fields of an entry, with each chunk at the place of its field's value.
+// Returns the fields of an entry, with the span of the field's value for each chunk.
 fn placed_fields(
     alloc: Global,
     said: &RawEntry<'_>,
@@ -68,7 +68,7 @@ fn placed_fields(
     TextMap::from_pairs(pairs)
 }
 
-// An entry with each chunk at the place of its field's value.
+// Returns an entry, with the span of the field's value for each chunk.
 fn placed_entry(
     alloc: Global,
     said: Option<&Spanned<RawEntry<'_>>>,
@@ -89,7 +89,7 @@ fn placed_entry(
     })
 }
 
-// Entries with each chunk at the place of its field's value.
+// Returns entries, with the span of the field's value for each chunk.
 fn placed_entries(
     alloc: Global,
     said: &[Spanned<RawEntry<'_>>],
@@ -105,14 +105,14 @@ fn placed_entries(
     Ok(placed)
 }
 
-// A span for each entry: that of no error is reported, since the file has none.
+// Returns an empty span for each entry. No error is reported at these spans, since the file has no errors.
 fn no_spans(alloc: Global, entries: &[Entry]) -> Result<Vec<Span>, AllocError>
     ensures { IfOk result (λ spans. length spans.items ≡ length entries.now) }
 {
     entries.iter().map(|_entry| 0..0).collect(alloc)
 }
 
-// A document's entries with what they inherit, and its names.
+// Returns the resolved entries of a document, and the keys of all entries.
 pub(crate) fn placed_of(alloc: Global, document: &RawDocument<'_>) -> Result<Placed, ParseError> {
     let (own, names) = load(alloc, document.raw().clone()?)?;
     let mut entries = placed_entries(alloc, &document.raw().entries, own)?;

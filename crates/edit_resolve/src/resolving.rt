@@ -1,4 +1,4 @@
-//! Files whose entries have what they inherit in fields of their own.
+//! Resolving: files in which inherited fields are written out.
 
 ghost use Rattle.std.specs.Prelude.{◌≡◌, IfOk, IfErr, IsTrue, OnOk};
 ghost use Rattle.std.specs.List.{AllZip};
@@ -20,7 +20,7 @@ use biblatex::Bibliography;
 use edit_entries::document::RawDocument;
 use std::alloc::{AllocError, Global};
 
-// The text with what entries inherit, of which nothing is promised.
+// Returns the text with the inherited fields. No contract covers it.
 fn text_of(alloc: Global, document: &RawDocument<'_>) -> Result<String, ResolveError>
     ensures { IfErr result NotOfFile }
 {
@@ -30,7 +30,7 @@ fn text_of(alloc: Global, document: &RawDocument<'_>) -> Result<String, ResolveE
     }
 }
 
-// Fails unless entries say the same as others.
+// Returns an error if two bibliographies have different entries.
 fn compare(alloc: Global, old: &Bibliography, new: &Bibliography) -> Result<(), ResolveError>
     ensures same { OnOk result (AllZip SaysSame old.now.entries new.now.entries) }
     ensures refused { IfErr result NotOfFile }
@@ -44,7 +44,7 @@ fn compare(alloc: Global, old: &Bibliography, new: &Bibliography) -> Result<(), 
     }
 }
 
-// Fails unless no entry of a text refers to one.
+// Returns an error if an entry of `text` refers to another.
 fn check_alone(alloc: Global, text: &str) -> Result<(), ResolveError>
     ensures alone { OnOk result (StandsAlone text.now) }
     ensures refused { IfErr result NotOfFile }
@@ -56,7 +56,7 @@ fn check_alone(alloc: Global, text: &str) -> Result<(), ResolveError>
     }
 }
 
-// The bibliography of a text that was made.
+// Parses the new text.
 fn read_again(alloc: Global, text: &str) -> Result<Bibliography, ResolveError>
     ensures read { IfOk result (IsBibliographyOf text.now) }
     ensures refused { IfErr result NotOfFile }
@@ -67,7 +67,7 @@ fn read_again(alloc: Global, text: &str) -> Result<Bibliography, ResolveError>
     }
 }
 
-// Whether what stands round entries, and values, stand so in another document.
+// Returns whether `made` has the texts around entries of `document`, and only values that occur in `document`, except dates.
 fn is_kept(
     alloc: Global,
     document: &RawDocument<'_>,
@@ -81,7 +81,8 @@ fn is_kept(
     are_values_kept(alloc, document, made)
 }
 
-// Fails unless what stands round entries, and values, stand so in a text that was made.
+// Returns an error if `text` changes the texts around the entries of `document`, or has a value that doesn't occur there,
+// except dates.
 fn check_kept(alloc: Global, document: &RawDocument<'_>, text: &str) -> Result<(), ResolveError>
     ensures kept { OnOk result ((made : Document) × IsDocument made × (made.text ≡ text.now) × IsMadeAlike document.now made) }
     ensures refused { IfErr result NotOfFile }
@@ -96,16 +97,17 @@ fn check_kept(alloc: Global, document: &RawDocument<'_>, text: &str) -> Result<(
     }
 }
 
-/// The text with what each entry inherits in fields of its own, which stand in the place of its last reference: that is what
-/// `Bibliography::parse` gives it by `crossref` and `xdata`, but other names of an entry (`ids`).
+/// Returns the text of `document` with the inherited fields of each entry written out: the fields that `Bibliography::parse`
+/// gives the entry through `crossref` and `xdata`, except `ids`.
 ///
-/// The value of such a field is the text that it has where it stands in the file, byte for byte; a date is written as it is inherited,
-/// without its time. Each `xdata` goes out, and so do a `crossref` that names an entry and a `year`, a `month` and a `day` that give way
-/// to an inherited date, with a comment after them. A `crossref` that names none stays, and so does all else.
+/// The value of an inherited field is copied from the file, byte for byte, but an inherited date is written without its time. Each
+/// `xdata` and each `crossref` to an entry of the file is removed. If the entry inherits a date, its own `year`, `month` and `day`
+/// are removed. The inherited fields replace the last removed field of their entry. A comment after any other removed field is
+/// removed too. A `crossref` to an unknown key and everything else is unchanged.
 ///
-/// What is made is read again and compared with the text, and is answered only where the two say the same, as the first clause says.
-/// Refused with the error of `Bibliography::parse` where that doesn't read the text. Where what was made would say something else, the
-/// entry and the field are reported.
+/// The new text is parsed and compared with the old one, and is returned only if the comparison succeeds (clause `resolved`).
+/// Returns `File` if `Bibliography::parse` fails for the text, `Differs` if the new text would change an entry, and `Unlike` if it
+/// would differ in another way.
 pub fn resolve(alloc: Global, document: &RawDocument<'_>) -> Result<String, ResolveError>
     ensures resolved { IfOk result (λ new. IsResolvedText document.now (string_bytes new)) }
     ensures refused { IfErr result (IsResolveRefused document.now.text) }

@@ -1,8 +1,8 @@
-//! Stretches of a text.
+//! Parts of a text.
 
 use std::str::from_utf8;
 
-// What stands from one place of a text to another; nothing, where the text can't be cut there.
+// Returns the text between two offsets, or an empty text if they aren't character boundaries in order.
 pub(crate) fn cut(text: &str, start: usize, end: usize) -> &str {
     match text.as_bytes().get(start..end) {
         Some(bytes) => from_utf8(bytes).unwrap_or(""),
@@ -10,7 +10,7 @@ pub(crate) fn cut(text: &str, start: usize, end: usize) -> &str {
     }
 }
 
-// The white space at the end of a text.
+// Returns the white space at the end of `text`.
 pub(crate) fn white_at_end(text: &str) -> &str {
     text.strip_prefix(text.trim_end()).unwrap_or("")
 }

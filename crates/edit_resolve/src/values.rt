@@ -1,4 +1,4 @@
-//! The values of fields, as they stand in a text.
+//! The values of fields, as they are written in a text.
 
 ghost use Rattle.std.specs.Prelude.{◌≡◌, ◌++◌, IfOk, IsTrue, List, ℕ, OnOk, map};
 ghost use Rattle.std.specs.List.{AllByRecursion, Contains};
@@ -14,7 +14,7 @@ use edit_entries::document::RawDocument;
 use std::alloc::{AllocError, Global};
 use std::collections::BTreeSet;
 
-// The value of a field as it stands in a text, without the white space after it.
+// Returns the value of a field as it is written in `text`, without the white space after it.
 fn value_of<'s>(text: &'s str, field: &Pair<'_>) -> &'s str
     requires { IsPlaced text.now (field_of field.now) }
     ensures { result.now ≡ spec.value_as_it_stands text.now (field_of field.now) }
@@ -22,7 +22,7 @@ fn value_of<'s>(text: &'s str, field: &Pair<'_>) -> &'s str
     text[field.value.span.start..field.value.span.end].trim_end()
 }
 
-// Adds the values of fields of a text to a set.
+// Adds the values of `fields` to a set.
 fn add_values<'s>(
     set: &mut BTreeSet<&'s str>,
     text: &'s str,
@@ -38,7 +38,7 @@ fn add_values<'s>(
     Ok(())
 }
 
-// The values of the fields of entries of a text.
+// Returns the set of the values of all fields of `entries`.
 fn value_set<'s>(
     alloc: Global,
     text: &'s str,
@@ -54,7 +54,7 @@ fn value_set<'s>(
     Ok(set)
 }
 
-// Whether the value of a field of a text is one of these, or that of a date.
+// Returns whether `field` is a `date`, or `set` contains its value.
 fn is_kept(set: &BTreeSet<&str>, text: &str, field: &Pair<'_>) -> bool
     requires { IsPlaced text.now (field_of field.now) }
     ensures { (values : List (List ℕ)) → HasOnly values set.now → IsTrue result → IsValueKept values text.now (field_of field.now) }
@@ -62,7 +62,7 @@ fn is_kept(set: &BTreeSet<&str>, text: &str, field: &Pair<'_>) -> bool
     is_word(field.key.v, "date") || set.contains(value_of(text, field))
 }
 
-// Whether the value of each of some fields of a text is.
+// Returns whether each of `fields` is a `date` or has a value that `set` contains.
 fn are_kept(set: &BTreeSet<&str>, text: &str, fields: &[Pair<'_>]) -> bool
     requires { AllByRecursion (IsPlaced text.now) (map field_of fields.now) }
     ensures { (values : List (List ℕ)) → HasOnly values set.now → IsTrue result → AllByRecursion (IsValueKept values text.now) (map field_of fields.now) }
@@ -75,7 +75,7 @@ fn are_kept(set: &BTreeSet<&str>, text: &str, fields: &[Pair<'_>]) -> bool
     true
 }
 
-// Whether the value of each field of some entries of a text is.
+// Returns whether each field of `entries` is a `date` or has a value that `set` contains.
 fn is_each_kept(set: &BTreeSet<&str>, text: &str, entries: &[Spanned<RawEntry<'_>>]) -> bool
     requires { AllByRecursion (λ e. AllByRecursion (IsPlaced text.now) e.fields) (map entry_reading_of entries.now) }
     ensures { (values : List (List ℕ)) → HasOnly values set.now → IsTrue result →
@@ -89,7 +89,7 @@ fn is_each_kept(set: &BTreeSet<&str>, text: &str, entries: &[Spanned<RawEntry<'_
     true
 }
 
-// Whether each value of a document but a date's stands in another.
+// Returns whether each value of `new`, except those of dates, occurs in `old`.
 pub(crate) fn are_values_kept(
     alloc: Global,
     old: &RawDocument<'_>,

@@ -1,4 +1,4 @@
--- Ranks of entries in files that are alike: positions, the case of names, and the order of fields don't count.
+-- Ranks of entries don't depend on spans, on the case of names or on the order of fields.
 use Rattle.std.proofs.Common.{◌≡◌, ℕ, zero, suc, Bool, true, false, cond, List, [], ◌∷◌, None, length, map, refl, ap, ap₂, ◌∙◌}
 use Rattle.std.specs.Prelude.{◌&&◌, ◌||◌, bytes_eq, codes, not}
 use Rattle.std.specs.List.{filter, list_any}
@@ -41,7 +41,7 @@ pub rank_kept : (all : List EntryReading) (change : EntryReading → EntryReadin
 rank_kept all change keeps e =
     greatest_same (λ n. has_chain all n (change e)) (λ n. has_chain all n e) (length all) (λ n. chain_kept all change keeps n e)
 
--- a test that such changes keep
+-- a test has the same result after each change that keeps keys and references
 abbrev pub IsKept : (EntryReading → Bool) → Type 0
 IsKept p = (change : EntryReading → EntryReading) → KeepsReferences change → (e : EntryReading) → p (change e) ≡ p e
 
@@ -65,7 +65,7 @@ rank_alike all all' alike size e =
     greatest_same (λ n. has_chain all' n e) (λ n. has_chain all n e) (length all') (λ n. chain_alike all all' alike n e)
     ∙ ap (greatest (λ n. has_chain all n e)) size
 
--- ---- positions
+-- ---- spans
 
 one_text_moved : (move : ℕ → ℕ) (ps : List Piece) → one_text (map (moved_piece move) ps) ≡ one_text ps
 one_text_moved move [] = refl

@@ -14,13 +14,13 @@ use Rattle.bib_syntax.specs.Reading.{EntryReading}
 use Rattle.edit_sort.specs.Sorted.{IsAfterCycle, IsChain, has_chain, refers_to}
 use Rattle.edit_sort.proofs.SetFacts.{any_contained}
 
--- a chain with one more reference at its start
+-- a chain with one more reference at its start is a chain
 pub chain_before : {entries : List EntryReading} {n : ℕ} {child parent last : EntryReading} → Contains entries child
     → refers_to parent.key.text child ≡ true → IsChain entries n parent last → IsChain entries (suc n) child last
 chain_before there refers IsChain.none = IsChain.more IsChain.none there refers
 chain_before there refers (IsChain.more chain there' refers') = IsChain.more (chain_before there refers chain) there' refers'
 
--- a chain with one more reference at its end
+-- if a chain leads to a child, one with one more reference leads to its parent
 pub chain_after : (entries : List EntryReading) (n : ℕ) (child parent : EntryReading) → Contains entries child
     → refers_to parent.key.text child ≡ true → has_chain entries n child ≡ true → has_chain entries (suc n) parent ≡ true
 chain_after entries n child parent there refers chain =
@@ -28,7 +28,7 @@ chain_after entries n child parent there refers chain =
     (and_from (refers_to parent.key.text child) (has_chain entries n child) refers chain)
 
 module _ (entries : List EntryReading) where
-  -- the last reference of a chain to an entry
+  -- the child at the end of a chain to an entry
   record Child (n : ℕ) (e : EntryReading) : Type 0 where
     index : ℕ
     child : EntryReading
@@ -59,7 +59,7 @@ module _ (entries : List EntryReading) where
     here : slice_get entries index ≡ Some last
     chain : IsChain entries steps e last
 
-  -- distinct indices of entries are at most as many as the entries
+  -- there are at most as many distinct indices of entries as entries
   few : (visited : List ℕ) → AllByRecursion (λ v. v < length entries) visited → IsDistinct eqb visited → length visited ≤ length entries
   few visited below distinct =
       length-le_from_distinct_below visited (length entries) distinct
@@ -68,7 +68,7 @@ module _ (entries : List EntryReading) where
       (Contains-from_any eqb-true q visited h))
 
   module _ (last : EntryReading) (fine : IsAfterCycle entries last → ⊥) where
-    -- an entry that names another isn't among the entries that the other leads to
+    -- an entry that names another is none of the entries to which that entry leads
     no_cycle_at : (q v : ℕ) (child e : EntryReading) → slice_get entries q ≡ Some child → Contains entries child
         → refers_to e.key.text child ≡ true → (m : ℕ) → IsChain entries m e last → LeadsTo e v → q ≡ v → ⊥
     no_cycle_at q v child e here there refers m reached leads same =

@@ -1,4 +1,4 @@
--- What stands before an entry, cut after a line feed: where neither an at sign nor the end of a block follows, reading can go on there.
+-- The text before an entry, cut after a line feed: parsing can resume there if no at sign, closing brace or quote follows.
 use Rattle.std.proofs.Common.{◌≡◌, ◌⊎◌, inl, inr, ℕ, ◌<◌, ◌≤◌, Bool, true, false, List, ◌++◌, length, refl, sym, ap, ◌∙◌, subst, arith}
 use Rattle.std.specs.Prelude.{◌==◌, ◌||◌}
 use Rattle.std.specs.Char.{len_utf8}
@@ -39,9 +39,9 @@ clear_of text clear = by_signs (has_byte 64 text) (has_byte 125 text) (has_byte 
     by_signs false false true at brace quote none = absurd (cc)
     by_signs false false false at brace quote none = record { at = at; brace = brace; quote = quote }
 
--- ---- a block's end
+-- ---- the end of a block
 
--- a block ends in a closing brace or a quote
+-- a block ends with a closing brace or a quote
 record LastSign (u v : Place) : Type 0 where
   sign : ℕ
   start : Place
@@ -78,7 +78,7 @@ body_end (body.entry {z = z} key_end key white comma gap fs closes) = record {
   is = inl refl;
 }
 
--- a character of ASCII that stands between two places
+-- the text between two places contains an ASCII character that occurs there
 byte_there : {m z v s : Place} (c : ℕ) → c < 128 → Ahead m z → CharAt z c v → Ahead v s → s.at ≤ length m.text
     → has_byte c (between m s) ≡ true
 byte_there {m} {z} {v} {s} c small first char rest within =
@@ -89,7 +89,7 @@ byte_there {m} {z} {v} {s} c small first char rest within =
     ap (has_byte c) (parted first (ahead_then (ahead_char char) rest) within) ∙ list_any-append (λ b. b == c) (between m z) (between z s)
     ∙ ap (λ b. has_byte c (between m z) || b) later ∙ or-true (has_byte c (between m z))
 
--- a character that stands at a block's end stands before a line feed in it no more than at it
+-- an ASCII character that doesn't occur after a line feed can't end a block after it
 sign_over : {l m z v s : Place} (c : ℕ) → c < 128 → (c == 10) ≡ false → l.text ≡ z.text → CharAt l 10 m → CharAt z c v
     → l.at < v.at → Ahead v s → s.at ≤ length m.text → has_byte c (between m s) ≡ false → ⊥
 sign_over {l} {m} {z} {v} {s} c small other same feed char before rest within clear =
@@ -115,7 +115,7 @@ block_over {a} {l} {m} {v} {s} b same feed before rest within clear =
           (subst (λ c. CharAt last.start c v) is last.here) before rest within clear.quote
     ]
 
--- ---- a file up to an at sign, cut after a line feed
+-- a file before an at sign is one up to a line feed, and plain text after it, if that text has no sign of a block
 
 pub feed_cut : {a l m s x : Place} {says : FileReading} → FileBefore a says s → CharAt s 64 x → s.at ≤ length m.text
     → l.text ≡ a.text → CharAt l 10 m → a.at ≤ l.at → m.at ≤ s.at → IsClearOf (between m s)
@@ -155,9 +155,9 @@ feed_cut {a} {l} {m} {s} (FileBefore.block {v = w} b rest) sign within same feed
       | inl before ↦ absurd (block_over b same feed before (ahead_file_before rest) within clear)
     ]
 
--- ---- read wherever it stands
+-- ---- a file in a zone
 
--- a file up to a place before the end of a zone
+-- a part of a file in a zone parses in both texts
 pub file_before_inside : {f : Frame} {u v : Place} {says : FileReading} → Zone f → Inside f u → Inside f v
     → v.at < f.end → FileBefore u says v → FileBefore (there f u) (moved_file f.move says) (there f v)
 file_before_inside z iu iv below FileBefore.none = FileBefore.none
@@ -173,7 +173,7 @@ file_before_inside {f} {u} {v} z iu iv below (FileBefore.block {first = first} {
     subst (λ says. FileBefore (there f u) says (there f v)) (sym (moved-then f.move first rest))
     (FileBefore.block (block_there z iu a b) (file_before_inside z a iv below others))
 
--- what says nothing after a file up to a place
+-- text without a reading can follow a part of a file
 pub before_then : {u v w : Place} {says : FileReading} → FileBefore u says v → FileBefore v empty_reading w → FileBefore u says w
 before_then FileBefore.none others = others
 before_then (FileBefore.skipped char passes rest) others = FileBefore.skipped char passes (before_then rest others)

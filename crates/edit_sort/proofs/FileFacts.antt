@@ -1,4 +1,4 @@
--- A file with its entries in another order, as it is read.
+-- A file with its entries in another order parses to the reading with the entries in this order.
 use Rattle.std.proofs.Common.{◌≡◌, ℕ, suc, ◌+◌, ◌-◌, ◌≤◌, List, [], ◌∷◌, ◌++◌, length, drop, take, map, refl, sym, ap, ◌∙◌, subst, arith, append_assoc, length-append, length-drop}
 use Rattle.std.specs.Prelude.{◌==◌}
 use Rattle.std.specs.List.{AllByRecursion}
@@ -34,7 +34,7 @@ use Rattle.edit_sort.proofs.StepFacts.{listed, listed_order, text_is}
 
 -- ---- the rest of a text, without entries
 
--- what a file says, read from a place on
+-- a file parses to the same reading from a place of another text on
 pub record FileThere (says : FileReading) (u : Place) : Type 0 where
   pub reading : FileReading
   pub file : File longest u reading
@@ -168,7 +168,7 @@ file_parts text index {u} {says} same within cut
       cut = (item, r.cut);
     })
 
--- ---- read in another order
+-- ---- parsing in another order
 
 alike_then : (gap before rest reading : FileReading) (e e' : EntryReading) → without_places gap ≡ without_places before
     → moved_entry (λ n. 0) e' ≡ moved_entry (λ n. 0) e → without_places reading ≡ without_places rest
@@ -184,7 +184,7 @@ alike_then gap before rest reading e e' between_entries entry others =
 stands_here : (u : Place) (xs ys : List ℕ) → drop u.at u.text ≡ xs ++ ys → Stands u xs (past u xs)
 stands_here u xs ys here = record { same = refl; here = here ∙ ap (λ t. xs ++ t) (sym (text_stands u.text xs ys u.at here)); next = refl }
 
--- between entries of a text stand these spaces, each with the comment of the entry after it
+-- the text has these spaces between its entries, each with the comment of the entry after it
 abbrev pub AreLaid : List ℕ → ℕ → List EntryReading → List (List ℕ) → List Item → Type 0
 AreLaid text at [] [] [] = Unit {0}
 AreLaid text at [] [] (i ∷ order) = ⊥
@@ -193,7 +193,7 @@ AreLaid text at (e ∷ es) [] order = ⊥
 AreLaid text at (e ∷ es) (s ∷ ss) [] = ⊥
 AreLaid text at (e ∷ es) (s ∷ ss) (i ∷ order) = (gap_before text at e ≡ s ++ i.comment) × AreLaid text (e.end + 1) es ss order
 
--- entries in another order, read from a place on
+-- entries in another order parse from a place on
 pub record OrderThere (says : FileReading) (spaces : List (List ℕ)) (order : List Item) (u : Place) : Type 0 where
   pub reading : FileReading
   pub file : File longest u reading
@@ -254,7 +254,7 @@ order_read text (s ∷ ss) (b ∷ bs) (i ∷ order) last rest spaces items as_ma
           (gap, subst (λ n. AreLaid u.text n others.reading.entries ss order) (sym item.entry.ends) others.laid);
     }
 
--- ---- what is said in another order
+-- ---- the reading in another order
 
 said_with : (befores : List FileReading) (spaces : List (List ℕ)) (es es' : List EntryReading) (rest : FileReading)
     → AllSpaces spaces befores → rest.entries ≡ [] → length spaces ≡ length es → length spaces ≡ length es'
@@ -292,7 +292,7 @@ as_many d places order in_order =
     length-spaces d.text 0 0 d.says.entries ∙ sym (length-items d.says.entries d.text places 0 0 0 d.says.entries)
     ∙ sym (length_permutation (listed d places) order (listed_order d places order in_order).permutation)
 
--- the text in another order is read
+-- the text in another order parses
 pub record OrderRead (d : Document) (order : List Item) : Type 0 where
   pub reading : FileReading
   pub read : IsRawReading (text_in_order d order) reading
@@ -330,7 +330,7 @@ text_read d places order read in_order =
     let said = read_in_order d places order read in_order in
     record { order = order; in_order = in_order; tells = said.reading; read = said.read; alike = said.alike }
 
--- ---- where it may be cut
+-- ---- character boundaries
 
 entries_cut : (all : List EntryReading) (text places : List ℕ) (index at run : ℕ)
     (es : List EntryReading) → AreItemsCut text index at es

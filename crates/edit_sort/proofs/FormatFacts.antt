@@ -1,4 +1,4 @@
--- A sorted text that is laid out in a style is in order.
+-- A sorted text is in order after formatting.
 use Rattle.std.proofs.Common.{◌≡◌, ℕ, suc, ◌+◌, ◌-◌, ◌≤◌, Bool, true, false, cond, List, [], ◌∷◌, ◌++◌, Option, None, Some, length, drop, take, map, refl, sym, ap, ◌∙◌, subst, arith}
 use Rattle.std.specs.Prelude.{◌==◌, ◌||◌}
 use Rattle.std.specs.Char.{is_ascii_whitespace}
@@ -57,14 +57,14 @@ sign_in_style line_end (Some count) gap ends = by_blank (are_blank gap) refl
         blank_no_sign (line_ends line_end (suc count)) (blank_ends line_end (suc count) ends) ∙ sym (blank_no_sign gap is)
     by_blank false is = refl
 
--- the gaps before entries contain an at sign if other gaps do
+-- each gap before an entry contains an at sign exactly if the other gap at its index does
 abbrev SameSigns : List ℕ → ℕ → List EntryReading → List (List ℕ) → Type 0
 SameSigns text at [] [] = Unit {0}
 SameSigns text at [] (gap ∷ gaps) = ⊥
 SameSigns text at (e ∷ es) [] = ⊥
 SameSigns text at (e ∷ es) (gap ∷ gaps) = (has_byte 64 (gap_before text at e) ≡ has_byte 64 gap) × SameSigns text (e.end + 1) es gaps
 
--- a file in a style, from a place on
+-- the rest of a formatted file parses, and each of its gaps contains an at sign exactly if the given gap at its index does
 record SignsThere (gaps : List (List ℕ)) (u : Place) : Type 0 where
   reading : FileReading
   file : File longest u reading
@@ -152,7 +152,7 @@ signs_there line_end style blank_lines {a} {u} ends
           (sign, others_there));
     }
 
--- ---- runs, ranks and places of two lists of items
+-- ---- runs, ranks and places in two lists of items
 
 runs_listed : (all all' : List EntryReading) (text text' places places' : List ℕ) (index index' at at' run : ℕ)
     (es es' : List EntryReading) → SameSigns text' at' es' (gaps_from text at es)
@@ -210,7 +210,7 @@ module _ (all all' : List EntryReading) (style : Style) (old : List ℕ) (ranked
 
 -- ---- documents
 
--- a document that is laid out in a style stays in order
+-- the entries of a document are still in order after formatting
 pub in_style_in_order : (style : Style) (d after : Document) (places : List ℕ) → IsDocument d → IsDocument after
     → after.text ≡ text_in_style style d.text d.says → IsSorted item_cmp (items d places) → IsSorted item_cmp (items after places)
 in_style_in_order style d after places read read' is sorted =
@@ -250,7 +250,7 @@ in_style_in_order style d after places read read' is sorted =
     ∙ ap (map (λ (i : Item). i.place)) (sym (items_are d places)) in
     sorted_as (items after places) (items d places) runs ranks numbers (starts_in_order after places read') sorted
 
--- if a text is sorted and then laid out, sorting it again doesn't change it
+-- sorting a text that was sorted and then formatted doesn't change it
 pub sorted_in_style_stays : (style : Style) (d : Document) (places : List ℕ) (order : List Item) (again : FileReading) (after : Document)
     (new : List ℕ) → IsDocument d → AreEntriesInOrder (items d places) order → IsRawReading (text_in_order d order) again
     → IsDocument after → after.text ≡ text_in_style style (text_in_order d order) again

@@ -12,9 +12,9 @@ use Rattle.edit_sort.specs.Sorted.{greatest}
 use Rattle.edit_sort.proofs.GreatestFacts.{greatest_after, greatest_either, greatest_full, greatest_none, greatest_same, one_after}
 use Rattle.edit_sort.proofs.SetFacts.{any_both, any_contained}
 
--- ---- one reference more
+-- ---- one more reference
 
--- a chain without its last reference
+-- if a chain begins at an index, so does one with one reference less
 walk_less : (graph : Graph) (n index : ℕ) → has_walk graph (suc n) index ≡ true → has_walk graph n index ≡ true
 walk_less graph zero index walk = refl
 walk_less graph (suc n) index walk =
@@ -42,7 +42,7 @@ longest_over graph most (r ∷ refs) =
     ∙ ap (λ n. max n (greatest (over graph refs) most)) (greatest_after (λ k. has_walk graph k r) most refl (λ n. walk_less graph n r))
     ∙ ap (max (min (longest graph most r + 1) most)) (longest_over graph most refs)
 
--- the length at an index is one more than the greatest of those that it refers to
+-- the length at an index is one more than the greatest length at its references, but at most the bound
 longest_by : (graph : Graph) (most index : ℕ) → longest graph most index ≡ one_above most (map (longest graph most) (refs_of graph index))
 longest_by graph most index =
     greatest_same (λ n. has_walk graph n index) (over graph (refs_of graph index)) most (walk_over graph index)
@@ -85,7 +85,7 @@ module _ (graph left : Graph) (marks : List Bool) (is_cut : AreCyclesCut graph m
   row_at_mark : (index : ℕ) (marked : Bool) → is_marked marks index ≡ marked → refs_of left index ≡ cond marked [] (refs_of graph index)
   row_at_mark index marked is = is_cut.each index ∙ ap (λ m. cond m [] (refs_of graph index)) is
 
-  -- it has no cycle
+  -- the rest of the graph has no cycle
   pub no_cycle_left : HasNoCycle left
   no_cycle_left index within leads =
       let edge = first_edge leads in
@@ -93,7 +93,7 @@ module _ (graph left : Graph) (marks : List Bool) (is_cut : AreCyclesCut graph m
       (on.each index (omega (arith, within, is_cut.same_length))).1 (lead_kept leads) in
       no_edge edge.0 (subst (λ l. Contains l edge.0) (row_at_mark index true marked) edge.1)
 
-  -- its references are indices
+  -- the references of the rest are indices
   pub in_range_left : IsInRange graph → IsInRange left
   in_range_left in_range =
       All-from_get_or (λ row. All (λ r. r < length left) row) left []
@@ -112,7 +112,7 @@ module _ (graph left : Graph) (marks : List Bool) (is_cut : AreCyclesCut graph m
     at_chains index within =
         get_or-map-range_with_len (longest graph (length graph)) 0 (length graph) index index 0 within (omega arith)
 
-    -- the longest chains of the references of an index
+    -- the lengths at the references of an index are those in the list of longest chains
     at_references : (index : ℕ) → index < length left
         → map (longest graph (length graph)) (refs_of left index) ≡ map (λ r. get_or (longest_chains graph) r 0) (refs_of left index)
     at_references index within =

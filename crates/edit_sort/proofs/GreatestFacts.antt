@@ -4,7 +4,7 @@ use Rattle.std.specs.Prelude.{◌||◌}
 use Rattle.std.proofs.lemmas.Bool.{cases_lt, false≢true}
 use Rattle.edit_sort.specs.Sorted.{greatest}
 
--- it is at most the bound
+-- the greatest number is at most the bound
 pub greatest_small : (test : ℕ → Bool) (n : ℕ) → greatest test n ≤ n
 greatest_small test zero = omega arith
 greatest_small test (suc n) = by_test (test (suc n)) (greatest_small test n)
@@ -13,7 +13,7 @@ greatest_small test (suc n) = by_test (test (suc n)) (greatest_small test n)
     by_test true small = omega arith
     by_test false small = omega arith
 
--- it passes the test, or is 0
+-- the greatest number passes the test or is 0
 pub greatest_passes : (test : ℕ → Bool) (n : ℕ) → (greatest test n ≡ 0) ⊎ (test (greatest test n) ≡ true)
 greatest_passes test zero = inl refl
 greatest_passes test (suc n) = by_test (test (suc n)) refl (greatest_passes test n)
@@ -32,7 +32,7 @@ below_bound test n k within passes fails =
           absurd (false≢true (sym fails ∙ ap test same ∙ passes))
     ]
 
--- no number up to the bound that passes is greater
+-- each number up to the bound that passes is at most the greatest
 pub greatest_least : (test : ℕ → Bool) (n k : ℕ) → k ≤ n → test k ≡ true → k ≤ greatest test n
 greatest_least test zero k within passes = within
 greatest_least test (suc n) k within passes = by_test (test (suc n)) refl (λ fits. greatest_least test n k fits passes)
@@ -55,12 +55,12 @@ greatest_skip test m (suc k) fails =
     ap (greatest test) next ∙ ap (λ b. cond b (suc (m + k)) (greatest test (m + k))) (fails (suc (m + k)) (omega arith) (omega arith))
     ∙ greatest_skip test m k (λ j above within. fails j above (omega arith))
 
--- if the bound passes, it is the greatest
+-- if the bound passes, it is the greatest number
 pub greatest_full : (test : ℕ → Bool) (n : ℕ) → test n ≡ true → greatest test n ≡ n
 greatest_full test zero passes = refl
 greatest_full test (suc n) passes = ap (λ b. cond b (suc n) (greatest test n)) passes
 
--- if no number but 0 passes, it is 0
+-- if no number except 0 passes, the greatest number is 0
 pub greatest_none : (test : ℕ → Bool) (n : ℕ) → ((k : ℕ) → test (suc k) ≡ false) → greatest test n ≡ 0
 greatest_none test zero fails = refl
 greatest_none test (suc n) fails = ap (λ b. cond b (suc n) (greatest test n)) (fails n) ∙ greatest_none test n fails
@@ -72,14 +72,14 @@ either_step n g a d true false is small small' = omega arith
 either_step n g a d false true is small small' = omega arith
 either_step n g a d false false is small small' = is
 
--- the greatest number that passes one of two tests
+-- the greatest number that passes one of two tests is the greater of the greatest numbers for each
 pub greatest_either : (p q : ℕ → Bool) (n : ℕ) → greatest (λ k. p k || q k) n ≡ max (greatest p n) (greatest q n)
 greatest_either p q zero = omega arith
 greatest_either p q (suc n) =
     either_step n (greatest (λ k. p k || q k) n) (greatest p n) (greatest q n) (p (suc n)) (q (suc n)) (greatest_either p q n)
     (greatest_small p n) (greatest_small q n)
 
--- 0, and each number after one that passes
+-- whether a number is 0, or one more than a number that passes
 abbrev pub one_after : (ℕ → Bool) → ℕ → Bool
 one_after test zero = true
 one_after test (suc n) = test n
@@ -93,7 +93,7 @@ after_bound test zero first = ap (λ b. cond b 1 0) first
 after_bound test (suc m) first =
     after_step m (greatest (one_after test) (suc m)) (greatest test m) (test (suc m)) (after_bound test m first)
 
--- it is one more than the greatest number that passes, but at most the bound
+-- the greatest such number is one more than the greatest that passes the test, but at most the bound
 pub greatest_after : (test : ℕ → Bool) (m : ℕ) → test 0 ≡ true → ((n : ℕ) → test (suc n) ≡ true → test n ≡ true)
     → greatest (one_after test) m ≡ min (greatest test m + 1) m
 greatest_after test zero first closed = omega arith

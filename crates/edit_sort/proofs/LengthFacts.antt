@@ -1,4 +1,4 @@
--- Lengths of chains, one index after another.
+-- Lengths of chains, computed index by index.
 use Rattle.std.proofs.Common.{◌≡◌, inl, inr, ℕ, ◌+◌, ◌<◌, max, min, List, drop, get_or, length, map, sym, ap, ◌∙◌, arith}
 use Rattle.std.proofs.lemmas.Bool.{cases_lt, le-ltb}
 use Rattle.std.proofs.lemmas.List.{drop_more}
@@ -7,11 +7,11 @@ use Rattle.bib_collections.specs.Graph.{Graph, IsTopologicalOrder}
 use Rattle.bib_collections.proofs.Work.{as_one, times_from_contains}
 use Rattle.edit_sort.specs.Ranks.{one_above}
 
--- before the first index
+-- the greatest length before the first index is 0
 pub above_none : (n : ℕ) → max 0 n ≡ n
 above_none n = omega arith
 
--- one more index
+-- the greatest length after one more index
 pub above_more : (most : ℕ) (f : ℕ → ℕ) (indices : List ℕ) (i found next : ℕ) → i < length indices
     → next ≡ max found (min (f (get_or indices i 0) + 1) most)
     → max next (one_above most (map f (drop (i + 1) indices))) ≡ max found (one_above most (map f (drop i indices)))
@@ -21,7 +21,7 @@ above_more most f indices i found next within is =
     let same : max next rest ≡ max found (max first rest) = omega (arith, is) in
     same ∙ ap (λ l. max found (one_above most (map f l))) (sym (drop_more indices i 0 within))
 
--- after the last index
+-- the greatest length after the last index is the result
 pub above_all : (found : ℕ) → max found 0 ≡ found
 above_all found = omega arith
 

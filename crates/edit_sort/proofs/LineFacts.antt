@@ -11,7 +11,7 @@ use Rattle.edit_sort.specs.Sorted.{after_blank_line, is_blank_backwards, ends_bl
 use Rattle.edit_sort.specs.Steps.{kept_after}
 use Rattle.edit_sort.proofs.GreatestFacts.{greatest_passes, greatest_skip}
 
--- no line feed is in a text
+-- a text contains no line feed
 abbrev pub HasNoFeed : List ℕ → Type 0
 HasNoFeed line = (k : ℕ) → k < length line → is_feed (get_or line k 0) ≡ false
 
@@ -65,7 +65,7 @@ reversed_clear : (line : List ℕ) → HasNoFeed line → HasNoFeed (reverse lin
 reversed_clear line clear =
     clear_from (reverse line) (all_reversed (λ b. not (is_feed b)) line ∙ clear_reversed line clear)
 
--- a line and its line feed, after whole lines
+-- the text after whole lines and one more line ends in a blank line exactly if that line is blank
 ends_line : (seen line : List ℕ) → HasNoFeed line → before_first is_feed (reverse seen) ≡ []
     → is_blank_backwards (reverse (seen ++ (line ++ 10 ∷ []))) ≡ list_all is_ascii_whitespace line
 ends_line seen line clear whole =
@@ -76,7 +76,7 @@ ends_line seen line clear whole =
     reversed_line : (xs ys : List ℕ) → reverse (xs ++ (ys ++ 10 ∷ [])) ≡ 10 ∷ (reverse ys ++ reverse xs)
     reversed_line xs ys = reverse-append xs (ys ++ 10 ∷ []) ∙ ap (λ l. l ++ reverse xs) (reverse-append ys (10 ∷ []))
 
--- inside a line
+-- a text that ends inside a line ends in no blank line
 ends_inside : (seen line rest : List ℕ) (i : ℕ) → i < length line → HasNoFeed line
     → ends_blank_line (seen ++ (line ++ rest)) (length seen + i + 1) ≡ false
 ends_inside seen line rest i within clear =
@@ -99,9 +99,9 @@ skipped seen line rest k within clear =
     let at : length seen + (j - length seen - 1) + 1 ≡ j = omega arith in
     ap (ends_blank_line (seen ++ (line ++ rest))) (sym at) ∙ ends_inside seen line rest (j - length seen - 1) (omega arith) clear)
 
--- ---- what a loop has seen
+-- ---- the lines that a loop has seen
 
--- a loop has seen whole lines of a text, and keeps what comes after the last blank one
+-- a loop has seen whole lines of a text, and `kept` is the text after the last blank one of them
 pub record IsSeen (text kept rest : List ℕ) : Type 0 where
   pub seen : List ℕ
   pub is_cut : text ≡ seen ++ rest
@@ -111,13 +111,13 @@ pub record IsSeen (text kept rest : List ℕ) : Type 0 where
 pub seen_none : (text : List ℕ) → IsSeen text text text
 seen_none text = record { seen = []; is_cut = refl; whole = refl; is_kept = refl }
 
--- the line up to the first line feed
+-- the text before the first line feed contains no line feed
 line_clear : (text : List ℕ) → HasNoFeed (before_first is_feed text)
 line_clear text k within =
     let short : k < position_or_len is_feed text = omega (arith, length-prefix_len (λ b. not (is_feed b)) text) in
     ap is_feed (get_or-take (position_or_len is_feed text) text k 0 short) ∙ fails_before_first is_feed text k 0 short
 
--- one more line
+-- one more line is seen
 pub seen_more : (text kept rest line after new : List ℕ) → position_or_len is_feed rest < length rest
     → line ≡ before_first is_feed rest → after ≡ after_first is_feed rest
     → new ≡ kept_after (list_all is_ascii_whitespace line) after kept → IsSeen text kept rest → IsSeen text new after
@@ -164,7 +164,7 @@ seen_more text kept rest line after new within line_is after_is new_is s =
         ap (before_first is_feed)
         (reverse-append xs (ys ++ 10 ∷ []) ∙ ap (λ l. l ++ reverse xs) (reverse-append ys (10 ∷ [])))
 
--- the last line
+-- all lines are seen
 pub seen_all : (text kept rest : List ℕ) → position_or_len is_feed rest ≡ length rest → IsSeen text kept rest
     → kept ≡ after_blank_line text
 seen_all text kept rest all s =
@@ -177,9 +177,9 @@ seen_all text kept rest all s =
     (skipped s.seen rest [] (length rest) (omega arith) clear) in
     s.is_kept ∙ ap (λ n. drop n text) (sym skip) ∙ ap (λ n. drop (greatest (ends_blank_line text) n) text) (sym long)
 
--- ---- where it begins
+-- ---- the start of the text after the last blank line
 
--- a text is all of another, or comes after a line feed of it
+-- a text is all of another, or the part of it after a line feed
 abbrev pub AfterFeed : List ℕ → List ℕ → Type 0
 AfterFeed text rest = (rest ≡ text) ⊎ ((front : List ℕ) × (text ≡ front ++ 10 ∷ rest))
 

@@ -1,4 +1,4 @@
--- Entries have one order.
+-- The items of a document have only one sorted order.
 use Rattle.std.proofs.Common.{◌≡◌, inl, inr, ℕ, zero, suc, ◌+◌, ◌<◌, ◌≤◌, true, false, List, [], ◌∷◌, get_or, length, sym, ap, ◌∙◌, subst, arith}
 use Rattle.std.specs.List.{AllByRecursion, Contains}
 use Rattle.std.specs.List.Sorted.{IsPermutation, IsSortedBy}
@@ -20,7 +20,7 @@ use Rattle.edit_sort.proofs.OrderFacts.{item_total}
 use Rattle.edit_sort.proofs.SameOrderFacts.{AreUp, same_order}
 use Rattle.edit_sort.proofs.StepFacts.{items_are}
 
--- ---- each entry begins after those before it
+-- ---- each entry begins after the entries before it
 
 starts_above : (all : List EntryReading) (text places : List ℕ) (index at run : ℕ)
     (es : List EntryReading) → AreItemsCut text index at es → (k : ℕ) (i : Item)
@@ -54,7 +54,7 @@ starts_rise all text places index at run (e ∷ es) cut zero (suc j) i less with
 starts_rise all text places index at run (e ∷ es) cut (suc k) (suc j) i less within =
     starts_rise all text places (index + 1) (e.end + 1) (run_after run (gap_before text at e)) es cut.1 k j i (omega arith) (omega arith)
 
--- entries of a list are the same where they begin at one place
+-- items that begin at the same offset are equal
 abbrev AreOneByStart : List Item → Type 0
 AreOneByStart all = (x y : Item) → Contains all x → Contains all y → x.entry.start ≡ y.entry.start → x ≡ y
 
@@ -85,7 +85,7 @@ one_by_start all rise x y there there' same =
       ]
     ]
 
--- ---- entries that tie
+-- ---- items that tie
 
 then_last : (a b : Ordering) → ordering_then a b ≡ Equal → b ≡ Equal
 then_last Less b is = absurd (cc)
@@ -111,7 +111,7 @@ neither r Less back is is' = absurd (let clash : true ≡ false = is' in cc)
 neither r Equal back is is' = back
 neither r Greater back is is' = absurd (let clash : true ≡ false = sym (ap is_lt back) ∙ is in cc)
 
--- ---- entries in order, one by one
+-- ---- sorted items, one by one
 
 abbrev pub IsNotAfter : Item → Item → Type 0
 IsNotAfter x y = is_lt (item_cmp y x) ≡ false
@@ -133,7 +133,7 @@ up_from (x ∷ xs) sorted = (
       subst (λ n. is_lt (item_cmp (get_or (x ∷ xs) n d) (get_or xs k d)) ≡ false) next (sorted (suc k) d (omega arith) (omega arith))),
 )
 
--- ---- the entries of a document
+-- ---- the items of a document
 
 pub starts_in_order : (d : Document) (places : List ℕ) → IsDocument d → (k j : ℕ) (i : Item) → k < j
     → j < length (items d places) → (get_or (items d places) k i).entry.start < (get_or (items d places) j i).entry.start

@@ -12,7 +12,7 @@ item_total =
     (then_total (on_total (λ i. i.rank) nat_cmp_total)
     (then_total (on_total (λ i. i.place) nat_cmp_total) (on_total (λ i. i.entry.start) nat_cmp_total)))
 
--- what is in order by what it is mapped to
+-- a mapped list is sorted if the list is sorted by the mapped items
 pub sorted_map : {X Y : Type 0} (f : X → Y) (lt : Y → Y → Bool) (xs : List X) → IsSortedBy (λ a b. lt (f a) (f b)) xs
     → IsSortedBy lt (map f xs)
 sorted_map f lt [] up k d from within = absurd (omega arith)

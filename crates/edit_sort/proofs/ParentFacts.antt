@@ -20,7 +20,7 @@ use Rattle.edit_sort.proofs.StepFacts.{listed, listed_order}
 
 -- ---- ranks
 
--- a chain as long as the rank leads to an entry
+-- a chain of as many references as its rank leads to each entry
 chain_of_rank : (entries : List EntryReading) (e : EntryReading) → has_chain entries (rank entries e) e ≡ true
 chain_of_rank entries e =
     elim (greatest_passes (λ n. has_chain entries n e) (length entries)) [
@@ -46,7 +46,7 @@ rank_rises entries child parent there refers fine =
 
 -- ---- items
 
--- what is known of each item
+-- an item has the rank of its entry, which is one of `all`
 pub record IsKnown (all : List EntryReading) (i : Item) : Type 0 where
   pub ranked : i.rank ≡ rank all i.entry
   pub there : Contains all i.entry

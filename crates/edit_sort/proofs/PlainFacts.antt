@@ -1,4 +1,4 @@
--- Plain text: it has no at sign, and ends each of its line comments, so that it says nothing wherever it stands.
+-- Plain text: it has no at sign and ends each of its line comments, so it parses to the empty reading wherever it occurs.
 use Rattle.std.proofs.Common.{◌≡◌, inl, inr, ℕ, ◌<◌, ◌≤◌, Bool, true, false, List, [], ◌∷◌, ◌++◌, length, refl, sym, ap, ◌∙◌, subst, arith}
 use Rattle.std.specs.Prelude.{◌==◌, ◌&&◌, ◌||◌, not}
 use Rattle.std.specs.Char.{is_ascii_whitespace}
@@ -21,7 +21,7 @@ use Rattle.edit_entries.proofs.CutFacts.{Stood, stood}
 use Rattle.edit_entries.proofs.ElementFacts.{one_byte, parted}
 use Rattle.edit_entries.proofs.StandsFacts.{Stands, ascii, first_part, last_part, nothing, past}
 
--- a character that ends no line
+-- whether a character is no line feed
 abbrev pub in_line : ℕ → Bool
 in_line c = not (c == 10)
 
@@ -36,13 +36,13 @@ ahead_plain (Plain.skipped char passes rest) = ahead_then (ahead_char char) (ahe
 ahead_plain (Plain.line_comment sign line feed rest) =
     ahead_then (ahead_char sign) (ahead_then (ahead_run line) (ahead_then (ahead_char feed) (ahead_plain rest)))
 
--- a character stands where it begins, if one does where it ends
+-- if a character follows plain text, there is one at its start too
 pub stood_plain : {u v : Place} → Plain u v → Stood v → Stood u
 stood_plain Plain.none s = s
 stood_plain (Plain.skipped char passes rest) s = stood char
 stood_plain (Plain.line_comment sign line feed rest) s = stood sign
 
--- it says nothing
+-- plain text parses to the empty reading
 pub plain_read : {u v : Place} → Plain u v → FileBefore u empty_reading v
 plain_read Plain.none = FileBefore.none
 plain_read (Plain.skipped char passes rest) = FileBefore.skipped char passes (plain_read rest)
@@ -51,7 +51,7 @@ plain_read (Plain.line_comment sign line feed rest) =
     (record { inside = _; sign = sign; line = record { run = line; stops = stops_at in_line feed refl } })
     (FileBefore.skipped feed refl (plain_read rest))
 
--- in a zone
+-- plain text of a zone is plain in the other text
 pub plain_there : {f : Frame} {u v : Place} → Zone f → Inside f u → Inside f v → Plain u v → Plain (there f u) (there f v)
 plain_there z iu iv Plain.none = Plain.none
 plain_there z iu iv (Plain.skipped char passes rest) =
@@ -64,7 +64,7 @@ plain_there z iu iv (Plain.line_comment sign line feed rest) =
     let d = inside_between z b iv (ahead_char feed) (ahead_plain rest) in
     Plain.line_comment (char_there z iu a sign) (run_there z a b line) (char_there z b d feed) (plain_there z d iv rest)
 
--- ---- what stands before an at sign, and has none
+-- ---- text before an at sign that contains none
 
 pub or_right : (x y : Bool) → (x || y) ≡ false → y ≡ false
 or_right true y is = absurd (cc)
@@ -141,7 +141,7 @@ white_split {u} {m} {s} (b ∷ bs) all stands (Plain.line_comment sign line feed
     let same : 37 ≡ b = (same_char sign here).0 in
     absurd (test_clash (is_ascii_whitespace b) is.0 (ap is_ascii_whitespace (sym same)))
 
--- a line feed doesn't stand in a line
+-- a line contains no line feed
 pub none_in_line : {i v l m : Place} → l.text ≡ i.text → CharAt l 10 m → Run in_line i v → i.at ≤ l.at → l.at < v.at → ⊥
 none_in_line same feed stop from below = omega arith
 none_in_line {i} {v} {l} {m} same feed (step {v = w} {c = c} char passes rest) from below =

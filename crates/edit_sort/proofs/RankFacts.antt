@@ -116,7 +116,7 @@ module _ (entries : List EntryReading) (names : ByText ℕ) (keys : AreKeyIndice
         ap (λ n. n ∷ map (λ r. get_or lengths r 0) (map (owner names) es)) here
         ∙ ap (λ l. rank entries e ∷ l) (ranks_are lengths es size is known.1)
 
-    -- ---- each reference is an index
+    -- ---- references are indices
 
     none_above : (n : ℕ) (es : List EntryReading) (index : ℕ) → ((e : EntryReading) → HasIndex names e → owner names e < n)
         → AllByRecursion (HasIndex names) es
@@ -148,14 +148,14 @@ owners_below entries names keys n [] size known = tt
 owners_below entries names keys n (e ∷ es) size known =
     (omega (arith, owner_below entries names keys e known.0, size), owners_below entries names keys n es size known.1)
 
--- ---- names one after another
+-- ---- one more entry
 
 indices_tied : (all : List EntryReading) (e : EntryReading) (index k : ℕ) (key : List ℕ) → slice_get all index ≡ Some e
     → key ≡ lower_key e → index ≡ k → option_map lower_key (slice_get all k) ≡ Some key
 indices_tied all e index k key here same at =
     ap (λ n. option_map lower_key (slice_get all n)) (sym at) ∙ ap (option_map lower_key) here ∙ ap Some (sym same)
 
--- no key points to an index
+-- in an empty map, no key points to an index
 pub indices_none : (all : List EntryReading) (names : ByText ℕ) → names ≡ empty → AreIndicesOf all names
 indices_none all names is key k at =
     absurd (none-some k (sym (get-empty {X = ℕ} by_bytes key) ∙ ap (λ m. get m key) (sym is) ∙ at))
@@ -166,7 +166,7 @@ get_more names new key index q is =
     ap (λ m. get m q) is ∙ get-insert nat_list_cmp_total names key index q
     ∙ ap (λ b. cond b (Some index) (get names q)) (is_eq-slice_cmp q key)
 
--- the key of an entry points to its index
+-- each key points to the index of an entry with this key, after one more entry
 pub indices_more : (all : List EntryReading) (names new : ByText ℕ) (e : EntryReading) (index : ℕ) → slice_get all index ≡ Some e
     → new ≡ insert names (lower_key e) index → AreIndicesOf all names → AreIndicesOf all new
 indices_more all names new e index here is of_key key k at =
@@ -182,7 +182,7 @@ some_tied : (b : Bool) (index : ℕ) (o : Option ℕ) → is_some o ≡ true →
 some_tied true index o some = refl
 some_tied false index o some = some
 
--- one more entry
+-- the keys of the entries so far point to an index, after one more entry
 pub have_more : (names new : ByText ℕ) (es : List EntryReading) (e : EntryReading) (index : ℕ)
     → new ≡ insert names (lower_key e) index → HaveIndices names es → HaveIndices new (es ++ e ∷ [])
 have_more names new es e index is known =

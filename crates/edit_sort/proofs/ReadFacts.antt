@@ -1,4 +1,4 @@
--- Texts that are read so wherever they stand.
+-- Texts that parse to the same reading wherever they occur.
 use Rattle.std.proofs.Common.{◌≡◌, inl, inr, ℕ, suc, ◌+◌, ◌-◌, ◌<◌, ◌≤◌, Bool, true, false, cond, List, [], ◌∷◌, ◌++◌, length, drop, take, refl, sym, ap, ◌∙◌, subst, arith, length-drop}
 use Rattle.std.specs.Prelude.{◌&&◌}
 use Rattle.std.specs.Char.{is_ascii_whitespace}
@@ -29,7 +29,7 @@ use Rattle.edit_sort.proofs.PlainFacts.{Plain, ahead_plain, before_plain, or_rig
 
 -- ---- an entry
 
--- an entry of a text, read in another
+-- an entry of a text parses in another text
 pub record EntryThere (e : EntryReading) (u v : Place) : Type 0 where
   pub reading : EntryReading
   pub block : Block longest u (entry_alone reading) v
@@ -85,7 +85,7 @@ entry_there {a} {b} {u} {v} {e} x s =
               omega (arith, ap (λ x. x.at) at)
         ]
 
--- a comment and the entry after it, read wherever they stand
+-- a comment and the entry after it parse in another text
 pub record ItemThere (bytes : List ℕ) (e : EntryReading) (u v : Place) : Type 0 where
   pub start : Place
   pub at_start : start.at ≡ u.at + length bytes
@@ -108,14 +108,14 @@ item_reads {m} {s} {b} {e} plain within x u v both =
     (subst (λ q. Plain (there (copy_frame m s u) m) q) c.goes_end (plain_there c.zone c.start c.end plain)) in
     record { start = p; at_start = refl; comment = plain_read here; entry = entry; stood = stood_plain here (stood entry.block.head.sign) }
 
--- ---- what stays before an entry
+-- ---- the space before an entry
 
 pub record BeforeThere (before : FileReading) (u v : Place) : Type 0 where
   pub reading : FileReading
   pub file : FileBefore u reading v
   pub alike : without_places reading ≡ without_places before
 
--- it is read so wherever it stands before a character
+-- a space parses to the same reading wherever it occurs before a character
 abbrev pub SpaceReads : List ℕ → FileReading → Type 0
 SpaceReads bytes before = (u v : Place) → Stands u bytes v → Stood v → BeforeThere before u v
 
@@ -140,7 +140,7 @@ zone_reads {a} {s} {x} {before} first sign within u v stands following =
       alike = file_placeless move before;
     }
 
--- ---- what stands before an entry, cut
+-- ---- the gap before an entry, cut
 
 white_prefix : (p : ℕ → Bool) (xs : List ℕ) → list_all p (take (prefix_len p xs) xs) ≡ true
 white_prefix p [] = refl
@@ -153,7 +153,7 @@ white_prefix p (x ∷ xs) = by_test (p x) refl (white_prefix p xs)
         ap (λ n. list_all p (take n (x ∷ xs))) next ∙ ap (λ b. b && list_all p (take (prefix_len p xs) xs)) is ∙ rest
     by_test false is rest = refl
 
--- plain text, cut before these bytes at its end
+-- plain text is cut into plain text and these bytes at its end, which are plain too
 record PlainCut (bytes : List ℕ) (u s : Place) : Type 0 where
   mid : Place
   first : Plain u mid
@@ -172,7 +172,7 @@ white_cut {u} {s} bytes plain stands =
     (ahead_stands rest later).at in
     record { mid = past u white; first = split.0; rest = split.1; is = sym (between_stands rest later) }
 
--- what stands before an entry is what stays, and a comment
+-- a gap is cut into a space, which parses wherever it occurs, and a comment, which is plain
 pub record GapCut (is_first : Bool) (a s : Place) (before : FileReading) : Type 0 where
   pub mid : Place
   pub first : Ahead a mid
@@ -193,7 +193,7 @@ space_cut comment {a} {m} {s} first rest within is =
     let left : length (between a s) - length comment ≡ m.at - a.at = omega (arith, first.at, rest.at) in
     ap (λ n. take n (between a s)) left ∙ take-take (m.at - a.at) (s.at - a.at) (drop a.at a.text) (omega (arith, rest.at))
 
--- what stands before an entry, cut before these bytes at its end
+-- a gap is cut into a text that parses wherever it occurs, and these bytes at its end, which are plain
 record BeforeCut (bytes : List ℕ) (a s : Place) (before : FileReading) : Type 0 where
   mid : Place
   first : Ahead a mid
@@ -225,7 +225,7 @@ plain_cut {a} {s} first sign within clear =
       reads = subst (SpaceReads (between a cut.mid)) (sym plain.1) (plain_reads cut.first (omega (arith, (ahead_plain cut.rest).at)));
     }
 
--- what stands there up to a line feed, the line feed and plain text
+-- a part of a file, a line feed and plain text parse wherever they occur
 feed_reads : {a l m n : Place} {before : FileReading} → FileBefore a before l → CharAt l 10 m → Plain m n
     → n.at ≤ length a.text → SpaceReads (between a n) before
 feed_reads {a} {l} {m} {n} {before} first feed plain within u v s following =

@@ -1,4 +1,4 @@
--- Rows of children, one reference after another, and the rows without the references on cycles.
+-- Rows of children with one more reference, and rows without the references on cycles.
 use Rattle.std.proofs.Common.{◌≡◌, ◌≢◌, inl, inr, ℕ, ◌+◌, ◌<◌, ◌≤◌, Bool, true, false, cond, List, [], ◌∷◌, ◌++◌, length, set, take, refl, sym, ap, ◌∙◌, subst, arith}
 use Rattle.std.specs.Prelude.{◌==◌, ◌&&◌, ◌||◌}
 use Rattle.std.specs.List.{list_any}
@@ -11,9 +11,9 @@ use Rattle.bib_collections.specs.Search.{is_marked}
 use Rattle.edit_sort.specs.Ranks.{AreCyclesCut}
 use Rattle.edit_sort.proofs.SetFacts.{or_none}
 
--- ---- a child more
+-- ---- one more child
 
--- a child in the row of an index
+-- the rows after a child was added to the row of an index
 pub child_added : (graph : Graph) (at child : ℕ) → at < length graph → (test : ℕ → Bool) (index : ℕ)
     → list_any test (refs_of (set graph at (refs_of graph at ++ child ∷ [])) index)
     ≡ (list_any test (refs_of graph index) || ((at == index) && test child))
@@ -33,9 +33,9 @@ child_added graph at child within test index =
           ∙ ap (λ b. list_any test (refs_of graph index) || (b && test child)) (sym other.0)
     ]
 
--- ---- without the references on cycles
+-- ---- rows without the references on cycles
 
--- the first rows are cut
+-- the references of the marked indices below `i` are removed
 pub record AreFirstCut (graph : Graph) (marks : List Bool) (i : ℕ) (left : Graph) : Type 0 where
   pub same_length : length left ≡ length graph
   pub each : (index : ℕ) → refs_of left index ≡ cond (is_marked (take i marks) index) [] (refs_of graph index)
@@ -43,7 +43,7 @@ pub record AreFirstCut (graph : Graph) (marks : List Bool) (i : ℕ) (left : Gra
 pub cut_none : (graph : Graph) (marks : List Bool) → AreFirstCut graph marks 0 graph
 cut_none graph marks = record { same_length = refl; each = λ index. refl }
 
--- a mark more
+-- one more mark
 marked_here : (marks : List Bool) (i : ℕ) → is_marked (take (i + 1) marks) i ≡ is_marked marks i
 marked_here marks i = get_or-take (i + 1) marks i false (omega arith)
 

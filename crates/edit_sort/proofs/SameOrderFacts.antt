@@ -1,4 +1,4 @@
--- A list has one order, where elements that tie are one.
+-- A list has only one sorted order if items that tie are equal.
 use Rattle.std.proofs.Common.{◌≡◌, ◌⊎◌, inl, inr, ℕ, ◌+◌, ◌<◌, Bool, true, false, List, [], ◌∷◌, refl, sym, ap, ◌∙◌, subst, arith}
 use Rattle.std.specs.Prelude.{◌==◌}
 use Rattle.std.specs.List.{AllByRecursion, sum_by}
@@ -20,7 +20,7 @@ in_all P x [] all there = absurd there
 in_all P x (y ∷ ys) all (inl same) = subst P (sym same) all.0
 in_all P x (y ∷ ys) all (inr later) = in_all P x ys all.1 later
 
--- each element stands before none that ought to stand before it
+-- each item is related to all items after it
 abbrev pub AreUp : {A : Type 0} → (A → A → Type 0) → List A → Type 0
 AreUp NotAfter [] = Unit {0}
 AreUp NotAfter (x ∷ xs) = AllByRecursion (NotAfter x) xs × AreUp NotAfter xs
@@ -29,7 +29,7 @@ module _ {A : Type 0} (key : A → ℕ) where
   has_key : ℕ → A → ℕ
   has_key n x = one_if (key x == n)
 
-  -- how many elements have a key
+  -- the number of items with a key
   abbrev count_of : ℕ → List A → ℕ
   count_of n [] = 0
   count_of n (x ∷ xs) = has_key n x + count_of n xs

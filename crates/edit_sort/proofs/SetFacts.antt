@@ -1,4 +1,4 @@
--- Whether an element of a list passes a test.
+-- Whether an item of a list passes a test.
 use Rattle.std.proofs.Common.{◌≡◌, ℕ, ◌+◌, ◌<◌, Bool, true, false, List, [], ◌∷◌, ◌++◌, get_or, length, map, take, refl, sym, ap, ◌∙◌}
 use Rattle.std.specs.Prelude.{◌&&◌, ◌||◌}
 use Rattle.std.specs.List.{AllByRecursion, Contains, list_any}
@@ -17,13 +17,13 @@ pub or_later : (x y : Bool) → y ≡ true → (x || y) ≡ true
 or_later true y is = refl
 or_later false y is = is
 
--- two tests are the same if each passes what the other one passes
+-- two tests have the same result if each passes when the other does
 pub same_tests : (a b : Bool) → (a ≡ true → b ≡ true) → (b ≡ true → a ≡ true) → a ≡ b
 same_tests true b first second = sym (first refl)
 same_tests false true first second = second refl
 same_tests false false first second = refl
 
--- the first elements, and one more
+-- an item of the first `i + 1` passes exactly if one of the first `i` does or the next one does
 pub any_more : {A B : Type 0} (p : B → Bool) (f : A → B) (xs : List A) (i : ℕ) (x : A) → i < length xs
     → x ≡ get_or xs i x → list_any p (map f (take (i + 1) xs)) ≡ (list_any p (map f (take i xs)) || p (f x))
 any_more p f xs i x within is =
@@ -31,11 +31,11 @@ any_more p f xs i x within is =
     ∙ ap (list_any p) (map-append f (take i xs) (x ∷ []))
     ∙ list_any-append p (map f (take i xs)) (f x ∷ []) ∙ ap (λ b. list_any p (map f (take i xs)) || b) (or_none (p (f x)))
 
--- an element that passes
+-- if an item of a list passes, some item does
 pub any_contained : {A : Type 0} (p : A → Bool) (xs : List A) (x : A) → Contains xs x → p x ≡ true → list_any p xs ≡ true
 any_contained p xs x there passes = list_any_at p xs there.0 x there.1 (ap p there.2 ∙ passes)
 
--- a test that is weaker
+-- if some item passes a test, some item passes a weaker test
 pub any_both : {A : Type 0} (p q : A → Bool) (xs : List A) → ((x : A) → p x ≡ true → q x ≡ true) → list_any p xs ≡ true
     → list_any q xs ≡ true
 any_both p q [] both some = some
@@ -46,30 +46,30 @@ any_both p q (x ∷ xs) both some = by_test (p x) refl some (any_both p q xs bot
     by_test true is some' later = ap (λ b. b || list_any q xs) (both x is)
     by_test false is some' later = or_later (q x) (list_any q xs) (later some')
 
--- tests that agree
+-- tests that agree on all items pass in the same lists
 pub any_same : {A : Type 0} (p q : A → Bool) (xs : List A) → ((x : A) → p x ≡ q x) → list_any p xs ≡ list_any q xs
 any_same p q [] same = refl
 any_same p q (x ∷ xs) same = ap (λ b. b || list_any p xs) (same x) ∙ ap (λ b. q x || b) (any_same p q xs same)
 
--- tests that agree on what is known of the elements
+-- tests that agree on all items with a property pass in the same lists of such items
 pub any_where : {A : Type 0} (P : A → Type 0) (p q : A → Bool) (xs : List A) → ((x : A) → P x → p x ≡ q x)
     → AllByRecursion P xs → list_any p xs ≡ list_any q xs
 any_where P p q [] same all = refl
 any_where P p q (x ∷ xs) same all =
     ap (λ b. b || list_any p xs) (same x all.0) ∙ ap (λ b. q x || b) (any_where P p q xs same all.1)
 
--- elements that change without a change of the test
+-- mapping the items by a function that the test doesn't notice keeps the result
 pub any_through : {A : Type 0} (p : A → Bool) (g : A → A) (xs : List A) → ((x : A) → p (g x) ≡ p x) → list_any p (map g xs) ≡ list_any p xs
 any_through p g [] same = refl
 any_through p g (x ∷ xs) same = ap (λ b. b || list_any p (map g xs)) (same x) ∙ ap (λ b. p x || b) (any_through p g xs same)
 
--- the first elements and one more, each as a function gives it
+-- the first `i + 1` items, mapped, are the first `i` and the next one
 pub taken_more : {A B : Type 0} (f : A → B) (xs : List A) (i : ℕ) (x : A) → i < length xs → x ≡ get_or xs i x
     → map f (take (i + 1) xs) ≡ map f (take i xs) ++ f x ∷ []
 taken_more f xs i x within is =
     ap (map f) (take_more xs i x within ∙ ap (λ e. take i xs ++ e ∷ []) (sym is)) ∙ map-append f (take i xs) (x ∷ [])
 
--- one more test of two
+-- disjunctions of tests with one more of them
 pub one_more_or : (a s o t : Bool) → ((a || (s && t)) || (o && t)) ≡ (a || ((s || o) && t))
 one_more_or true s o t = refl
 one_more_or false true true true = refl

@@ -1,4 +1,4 @@
--- Entries that are in order stay where they are.
+-- A text whose entries are in order is unchanged by sorting.
 use Rattle.std.proofs.Common.{◌≡◌, inl, inr, ℕ, ◌+◌, ◌-◌, ◌≤◌, Bool, true, false, cond, List, [], ◌∷◌, ◌++◌, drop, length, take, refl, sym, ap, ◌∙◌, arith, append_assoc, length-append}
 use Rattle.std.specs.Prelude.{◌==◌}
 use Rattle.std.specs.Char.{is_ascii_whitespace}
@@ -17,7 +17,7 @@ use Rattle.edit_sort.proofs.LineFacts.{AfterFeed, feed_before}
 use Rattle.edit_sort.proofs.OneOrderFacts.{one_order}
 use Rattle.edit_sort.proofs.StepFacts.{items_are, text_is, written}
 
--- a text ends in another
+-- `rest` is the end of a text
 abbrev pub EndsIn : List ℕ → List ℕ → Type 0
 EndsIn text rest = (front : List ℕ) × (text ≡ front ++ rest)
 
@@ -53,11 +53,11 @@ cut_end text rest end =
     ap (λ t. take (length text - length rest) t ++ rest) end.1
     ∙ ap (λ t. t ++ rest) (take_at end.0 rest (length text - length rest) left) ∙ sym end.1
 
--- what stands before an entry is what stays and what moves
+-- the gap before an entry is its space followed by its comment
 pub gap_whole : (is_first : Bool) (gap : List ℕ) → space_in is_first gap ++ comment_in is_first gap ≡ gap
 gap_whole is_first gap = cut_end gap (comment_in is_first gap) (comment_end is_first gap)
 
--- what stands from one place to another, and after it
+-- the text from an offset on is the part up to another offset, followed by the text from there on
 pub stretch_whole : (text : List ℕ) (start end : ℕ) → start ≤ end
     → between (place text start) (place text end) ++ drop end text ≡ drop start text
 stretch_whole text start end ordered =

@@ -1,4 +1,4 @@
--- The gaps, spaces and items of a document, as a loop collects them, and its text, as a loop writes it.
+-- The gaps, spaces and items of a document, as a loop collects them, and the text that a loop writes.
 use Rattle.std.proofs.Common.{◌≡◌, ℕ, ◌+◌, Bool, true, false, cond, count_by, List, [], ◌∷◌, ◌++◌, drop, flat_map, length, map, take, zip, refl, sym, ap, ◌∙◌, subst, arith, append_assoc, length-append}
 use Rattle.std.specs.Prelude.{◌==◌, slice_index}
 use Rattle.std.specs.List.{enumerate_from}
@@ -45,7 +45,7 @@ one_more : (b : Bool) (n : ℕ) → n + cond b 1 0 ≡ cond b (n + 1) n
 one_more true n = refl
 one_more false n = omega arith
 
--- how many of the first gaps contain an at sign
+-- the run of an entry is that of the entry before it, or the next one if its gap contains an at sign
 run_here : (before : List (List ℕ)) (gap : List ℕ) (rest : List (List ℕ)) (index run : ℕ) → length before ≡ index
     → count_by (has_byte char.at) before ≡ run
     → run_at (before ++ gap ∷ rest) index ≡ run_after run gap
@@ -116,7 +116,7 @@ listed_order d places order in_order = subst (λ l. AreEntriesInOrder l order) (
 
 -- ---- the text
 
--- a text with entries in an order, as a loop writes it
+-- the text with its entries in an order, as a loop writes it
 abbrev pub written : Document → List Item → List ℕ
 written d order =
     items_laid_out d.text (spaces_from d.text 0 0 d.says.entries) order (drop (place_after 0 d.says.entries) d.text)

@@ -1,4 +1,4 @@
--- Entries that were sorted are in order.
+-- The entries of a sorted text are in order.
 use Rattle.std.proofs.Common.{◌≡◌, inl, inr, ℕ, zero, suc, ◌+◌, ◌-◌, ◌^◌, ◌<◌, ◌≤◌, Bool, true, false, cond, List, [], ◌∷◌, ◌++◌, drop, get_or, length, map, refl, sym, ap, ◌∙◌, subst, arith}
 use Rattle.std.specs.Prelude.{◌==◌, ◌||◌}
 use Rattle.std.specs.Cmp.{nat_cmp_is}
@@ -37,7 +37,7 @@ use Rattle.edit_sort.proofs.StepFacts.{items_are, listed, listed_order}
 has-append : (xs ys : List ℕ) → has_byte 64 (xs ++ ys) ≡ (has_byte 64 xs || has_byte 64 ys)
 has-append xs ys = list_any-append (λ b. b == 64) xs ys
 
--- no at sign stands in a comment that moves
+-- a comment that moves contains no at sign
 white_clear : (bytes : List ℕ) → has_byte 64 bytes ≡ false → has_byte 64 (without_white bytes) ≡ false
 white_clear bytes clear =
     let end = white_end bytes in
@@ -58,7 +58,7 @@ comment_clear is_first gap = by_run (begins_run is_first gap) refl
     by_run true is = by_sign (has_block_sign near) refl
     by_run false is = white_clear gap (or_right is_first (has_byte 64 gap) is)
 
--- a space, and a comment after it
+-- a comment after a space doesn't change the run
 run_of_space : (run : ℕ) (space comment : List ℕ) → has_byte 64 comment ≡ false → run_after run (space ++ comment) ≡ run_after run space
 run_of_space run space comment clear =
     ap (λ b. cond b (run + 1) run) (has-append space comment ∙ ap (λ b. has_byte 64 space || b) clear ∙ or_none (has_byte 64 space))
@@ -125,7 +125,7 @@ clear_from all text places index at run (e ∷ es) = (
   clear_from all text places (index + 1) (e.end + 1) (run_after run (gap_before text at e)) es,
 )
 
--- ---- runs never fall
+-- ---- the numbers of runs never fall
 
 run_more : (b : Bool) (run : ℕ) → run ≤ cond b (run + 1) run
 run_more true run = omega arith
@@ -219,7 +219,7 @@ entries_are all text places index at run (e ∷ es) =
 abbrev without_places : List EntryReading → List EntryReading
 without_places es = map (moved_entry (λ n. 0)) es
 
--- a test of the entries in another order
+-- the entries in another order pass the same tests
 any_alike : (d : Document) (places : List ℕ) (order : List Item) (es : List EntryReading)
     → AreEntriesInOrder (items d places) order
     → without_places es ≡ without_places (map (λ i. i.entry) order) → PassAlike d.says.entries es
@@ -295,7 +295,7 @@ sorted_as xs ys runs ranks places rise sorted k d from within =
     (nat_cmp y'.entry.start y.entry.start) (nat_cmp x'.entry.start x.entry.start)
     (sorted k d from (omega (arith, size))) last
 
--- a sorted text is in order by the places of its items
+-- the entries of a sorted text are in order by the places of its items
 pub sorted_in_order : (d : Document) (places : List ℕ) (order : List Item) (again : FileReading)
     → IsDocument d → AreEntriesInOrder (items d places) order → IsRawReading (text_in_order d order) again
     → IsSorted item_cmp (items (record { text = text_in_order d order; says = again }) (map (λ i. i.place) order))

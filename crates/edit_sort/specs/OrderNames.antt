@@ -1,5 +1,5 @@
 -- Meaning: words of public contracts.
--- The names of what entries can be sorted by.
+-- The names of the orders.
 use Rattle.std.specs.Prelude.{ℕ, List, bytes_eq, codes, Option, None, Some, if◌then◌else◌}
 use Rattle.edit_sort.specs.declared.order.Order.{Order}
 use Rattle.edit_sort.specs.declared.order.Order.TheVariants as order

@@ -31,7 +31,7 @@ pub record AreKeyIndices (entries : List EntryReading) (names : ByText ℕ) : Ty
   pub of_key : AreIndicesOf entries names
   pub each : HaveIndices names entries
 
--- the index that the key of an entry points to; it stands for all entries with that key
+-- the index that the key of an entry points to; it represents all entries with that key
 abbrev pub owner : ByText ℕ → EntryReading → ℕ
 owner names e = unwrap_or (get names (lower_key e)) 0
 
@@ -75,6 +75,6 @@ pub record AreCyclesCut (graph : Graph) (marks : List Bool) (left : Graph) : Typ
   pub same_length : length left ≡ length graph
   pub each : (index : ℕ) → refs_of left index ≡ cond (is_marked marks index) [] (refs_of graph index)
 
--- an entry with what it is sorted by, as the program holds it
+-- an item of the code as an item of the definitions
 abbrev pub item_reading_of : Item → sorted.Item
 item_reading_of i = record { run = i.run; rank = i.rank; place = i.place; comment = i.comment.now; entry = entry_reading_of i.entry.now }

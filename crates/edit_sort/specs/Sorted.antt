@@ -70,11 +70,11 @@ rank entries e = greatest (λ n. has_chain entries n e) (length entries)
 
 -- ---- gaps: the texts between entries
 
--- where each gap begins: at the start of the text, and after each entry
+-- the start of each gap and of the text after the last entry: 0, and the end of each entry
 abbrev pub gap_starts : List EntryReading → List ℕ
 gap_starts entries = 0 ∷ map (λ e. e.end + 1) entries
 
--- the text from a place up to an entry
+-- the text from an offset up to an entry
 abbrev pub gap_before : List ℕ → ℕ → EntryReading → List ℕ
 gap_before text at e = between (place text at) (place text e.start)
 
@@ -86,7 +86,7 @@ gaps d = map (λ x. gap_before d.text x.0 x.1) (zip (gap_starts d.says.entries) 
 abbrev pub rest_of : Document → List ℕ
 rest_of d = drop (slice_index (gap_starts d.says.entries) (length d.says.entries)) d.text
 
--- ---- what moves with an entry, and what stays before it
+-- ---- the comment that moves with an entry, and the space that stays before it
 
 -- a text without the ASCII white space at its start
 abbrev pub without_white : List ℕ → List ℕ
@@ -122,8 +122,8 @@ has_block_sign text = has_byte char.at text || has_byte char.close_brace text ||
 abbrev pub near_comment : List ℕ → List ℕ
 near_comment near = cond (has_block_sign near) [] (without_white near)
 
--- the end of a gap that moves with the entry: all of the gap except white space at its start. At the start of a run, only what comes
--- after the last blank line can move.
+-- the comment of an entry, which moves with it: all of the gap except white space at its start. At the start of a run, only the
+-- text after the last blank line can move.
 abbrev pub comment_in : Bool → List ℕ → List ℕ
 comment_in is_first gap = cond (begins_run is_first gap) (near_comment (after_blank_line gap)) (without_white gap)
 
@@ -131,13 +131,13 @@ comment_in is_first gap = cond (begins_run is_first gap) (near_comment (after_bl
 abbrev pub space_in : Bool → List ℕ → List ℕ
 space_in is_first gap = take (length gap - length (comment_in is_first gap)) gap
 
--- what stays before each entry of a document
+-- the space before each entry of a document
 abbrev pub spaces_of : Document → List (List ℕ)
 spaces_of d = map (λ x. space_in (x.0 == 0) x.1) (enumerate_from 0 (gaps d))
 
--- ---- entries and what they are sorted by
+-- ---- entries and their sort keys
 
--- an entry that moves with the comment before it; entries are sorted by run, then by rank, then by place
+-- an entry with the comment before it; entries are sorted by run, then by rank, by place and by position in the file
 pub record Item : Type 0 where
   pub run : ℕ
   pub rank : ℕ
@@ -157,7 +157,7 @@ run_at gaps index = count_by (has_byte char.at) (take (index + 1) gaps)
 abbrev pub place_at : List ℕ → ℕ → ℕ
 place_at places index = slice_index_or places index (2 ^ 64 - 1)
 
--- the entry at an index, with its comment and all that it is sorted by
+-- the entry at an index, with its comment and its sort keys
 abbrev pub item_at : List EntryReading → List (List ℕ) → List ℕ → ℕ → List ℕ → EntryReading → Item
 item_at entries gaps places index gap e = record {
   run = run_at gaps index;
@@ -167,44 +167,45 @@ item_at entries gaps places index gap e = record {
   entry = e;
 }
 
--- the entries of a document, where `places` has a number for each index
+-- the entries of a document, given the place of each index
 abbrev pub items : Document → List ℕ → List Item
 items d places =
     map (λ x. item_at d.says.entries (gaps d) places x.0 x.1.0 x.1.1) (enumerate_from 0 (zip (gaps d) d.says.entries))
 
 -- ---- the order
 
--- by run, rank, place and position in the file
+-- the order of two items: by run, rank, place and position in the file
 abbrev pub item_cmp : Item → Item → Ordering
 item_cmp =
     then_cmp (on (λ i. i.run) nat_cmp)
     (then_cmp (on (λ i. i.rank) nat_cmp) (then_cmp (on (λ i. i.place) nat_cmp) (on (λ i. i.entry.start) nat_cmp)))
 
--- the same entries, sorted
+-- `order` has the items of `all`, sorted
 pub record AreEntriesInOrder (all order : List Item) : Type 0 where
   pub permutation : IsPermutation all order
   pub sorted : IsSorted item_cmp order
 
--- a document's text with its entries in this order: before each entry, the space that is there in the file, and the entry's comment
+-- the text of a document with its entries in this order: before each entry, the space at this index of the file, and the comment of
+-- the entry
 abbrev pub text_in_order : Document → List Item → List ℕ
 text_in_order d order =
     flat_map (λ x. x.0 ++ (x.1.comment ++ entry_bytes d.text x.1.entry)) (zip (spaces_of d) order) ++ rest_of d
 
--- the content of a file, without positions
+-- a reading without spans
 abbrev pub without_places : FileReading → FileReading
 without_places says = moved_file (λ at. 0) says
 
--- the content of a document with its entries in this order
+-- the reading of a document with its entries in this order
 abbrev pub says_sorted : Document → List Item → FileReading
 says_sorted d order = record d.says { entries = map (λ i. i.entry) order }
 
--- `new` is a document's text with its entries sorted
+-- `new` is the text of a document with its entries sorted by `places`
 pub record IsSortedText (d : Document) (places new : List ℕ) : Type 0 where
   pub order : List Item
   pub in_order : AreEntriesInOrder (items d places) order
   pub is : new ≡ text_in_order d order
 
--- `new` parses to the content of a document with its entries sorted, except positions
+-- `new` parses to the reading of a document with its entries sorted by `places`, except for spans
 pub record IsReadSorted (d : Document) (places new : List ℕ) : Type 0 where
   pub order : List Item
   pub in_order : AreEntriesInOrder (items d places) order

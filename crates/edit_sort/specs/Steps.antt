@@ -1,12 +1,12 @@
 -- Machinery: words of private contracts.
--- Gaps, spaces and items of the entries from an index on, as a loop collects them, and the text as a loop writes it.
+-- Gaps, spaces and items of the entries from an index on, as a loop collects them, and the text that a loop writes.
 use Rattle.std.specs.Prelude.{◌==◌, ℕ, ◌+◌, Bool, List, [], ◌∷◌, ◌++◌, cond}
 use Rattle.bib_text.specs.Characters as char
 use Rattle.bib_syntax.specs.Reading.{EntryReading}
 use Rattle.bib_syntax.specs.Recovery.{has_byte}
 use Rattle.edit_sort.specs.Sorted.{Item, comment_in, entry_bytes, gap_before, place_at, rank, space_in}
 
--- the gaps before entries, the first of which begins at a place
+-- the gaps before entries, the first of which begins at an offset
 abbrev pub gaps_from : List ℕ → ℕ → List EntryReading → List (List ℕ)
 gaps_from text at [] = []
 gaps_from text at (e ∷ es) = gap_before text at e ∷ gaps_from text (e.end + 1) es
@@ -20,11 +20,11 @@ spaces_from text index at (e ∷ es) = space_in (index == 0) (gap_before text at
 abbrev pub kept_after : Bool → List ℕ → List ℕ → List ℕ
 kept_after blank after kept = cond blank after kept
 
--- the run after a gap: an at sign begins another
+-- the run after a gap: the next run if the gap contains an at sign, otherwise the same
 abbrev pub run_after : ℕ → List ℕ → ℕ
 run_after run gap = cond (has_byte char.at gap) (run + 1) run
 
--- the items of entries from an index on; the first gap begins at a place, and the entry before it has this run
+-- the items of entries from an index on; the first gap begins at an offset, and the entry before it has this run
 abbrev pub items_from : List EntryReading → List ℕ → List ℕ → ℕ → ℕ → ℕ → List EntryReading → List Item
 items_from all text places index at run [] = []
 items_from all text places index at run (e ∷ es) =
@@ -38,12 +38,12 @@ items_from all text places index at run (e ∷ es) =
     }
     ∷ items_from all text places (index + 1) (e.end + 1) (run_after run gap) es
 
--- the place after the last of entries, or this one
+-- the offset after the last of some entries, or `at` if there are none
 abbrev pub place_after : ℕ → List EntryReading → ℕ
 place_after at [] = at
 place_after at (e ∷ es) = place_after (e.end + 1) es
 
--- entries one after another, each after a space, and the rest of a text
+-- the text of some entries in order, each after a space and its comment, followed by the rest of a text
 abbrev pub items_laid_out : List ℕ → List (List ℕ) → List Item → List ℕ → List ℕ
 items_laid_out text [] order rest = rest
 items_laid_out text (space ∷ spaces) [] rest = rest

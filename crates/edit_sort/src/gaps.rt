@@ -92,7 +92,7 @@ pub(crate) fn comment_in(is_first: bool, gap: &str) -> &str
     }
 }
 
-// Returns the run after a gap: an at sign begins another.
+// Returns the run after a gap: the next run if the gap contains an at sign, otherwise the same.
 pub(crate) fn run_after(run: usize, gap: &str) -> usize
     requires { run < 2 ^ 64 - 1 }
     ensures { result ≡ steps.run_after run gap.now }

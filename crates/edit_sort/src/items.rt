@@ -1,4 +1,4 @@
-//! Entries, each with the comment before it and what it is sorted by.
+//! Entries with the comments before them and their sort keys.
 
 ghost use Rattle.std.specs.Prelude.{◌≡◌, IfOk, map};
 ghost use Rattle.bib_syntax.specs.Views.{entry_reading_of};
@@ -12,7 +12,7 @@ use bib_syntax::raw::RawEntry;
 use bib_text::spanned::Spanned;
 use std::alloc::{AllocError, Global};
 
-// An entry with the comment before it. Entries are sorted by run, then by rank, then by place.
+// An entry with the comment before it. Entries are sorted by run, then by rank, by place and by position in the file.
 #[derive(Clone, Copy)]
 pub(crate) struct Item<'a, 's> {
     pub(crate) run: usize,
@@ -41,7 +41,7 @@ fn place_at(places: &[usize], index: usize) -> usize
     }
 }
 
-// Returns the entries of a text, each with the comment before it and what it is sorted by.
+// Returns the entries of a text, each with the comment before it and its sort keys.
 pub(crate) fn gather<'a, 's>(
     alloc: Global,
     text: &'s str,

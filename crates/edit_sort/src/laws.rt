@@ -9,26 +9,26 @@ ghost use Rattle.edit_format.specs.Formatted.{text_in_style};
 ghost use Rattle.edit_format.specs.declared.style.Style.{Style};
 ghost use Rattle.edit_sort.specs.Sorted.{AreEntriesInOrder, IsAfterCycle, IsSortedText, Item, item_cmp, items, refers_to, text_in_order};
 
-/// The entries of a document have one order.
+/// The items of a document have only one sorted order.
 pub fn one_order()
     ensures { (d : Document) (places : List ℕ) (first second : List Item) → IsDocument d →
         AreEntriesInOrder (items d places) first → AreEntriesInOrder (items d places) second → first ≡ second }
 {}
 
-/// A text with its entries in order doesn't change.
+/// A text whose entries are in order is unchanged by sorting.
 pub fn in_order_stays()
     ensures { (d : Document) (places new : List ℕ) → IsDocument d →
         IsSorted item_cmp (items d places) → IsSortedText d places new → new ≡ d.text }
 {}
 
-/// A sorted text doesn't change when it is sorted again by the same places.
+/// A sorted text is unchanged if it is sorted again by the same places.
 pub fn twice_is_once()
     ensures { (d : Document) (places : List ℕ) (order : List Item) (again : FileReading) (new : List ℕ) → IsDocument d →
         AreEntriesInOrder (items d places) order → IsRawReading (text_in_order d order) again →
         IsSortedText (record { text = text_in_order d order; says = again }) (map (λ i. i.place) order) new → new ≡ text_in_order d order }
 {}
 
-/// A text that is sorted and then laid out in a style doesn't change when it is sorted again by the same places.
+/// A text that is sorted and then formatted in a style is unchanged if it is sorted again by the same places.
 pub fn formatted_stays()
     ensures { (style : Style) (d : Document) (places : List ℕ) (order : List Item) (again : FileReading) (after : Document) (new : List ℕ) →
         IsDocument d → AreEntriesInOrder (items d places) order → IsRawReading (text_in_order d order) again → IsDocument after →

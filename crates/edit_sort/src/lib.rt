@@ -8,10 +8,11 @@
 //! order; in this order, the length at an index is one more than the greatest length at the indices of its children. This takes time linear
 //! in the number of references, apart from looking up keys.
 //!
-//! The new text isn't parsed. Its raw reading is proved from the file grammar. A comment, and a space without an at sign, are plain: they
-//! contain no at sign and end each of their line comments (`PlainFacts`), so they mean nothing anywhere. Every other space is a zone of
-//! both texts, and so is each entry. Such a space extends to the at sign of an entry, or to plain text after a line feed. No block is open
-//! at that line feed, since it would have to end by a closing brace or a quote in the plain text (`FeedFacts`).
+//! The new text isn't parsed. Its raw reading is proved from the file grammar. A comment, and a space without an at sign, are
+//! plain: they contain no at sign and end each of their line comments (`PlainFacts`), so they parse to the empty reading
+//! anywhere. Every other space is a zone of both texts, and so is each entry. Such a space extends to the at sign of an entry,
+//! or to plain text after a line feed. No block is open at that line feed, since it would have to end by a closing brace or a
+//! quote in the plain text (`FeedFacts`).
 #![tactic(auto)]
 
 mod crossrefs;

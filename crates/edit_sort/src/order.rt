@@ -3,7 +3,7 @@
 ghost use Rattle.std.specs.Prelude.{◌≡◌};
 ghost use Rattle.edit_sort.specs.OrderNames.{order_named};
 
-/// What entries are sorted by. Entries without it come last.
+/// The property by which entries are sorted. Entries without it come last.
 #[derive(Debug, Clone, Copy, PartialEq, Eq)]
 pub enum Order {
     /// The key, with ASCII letters in lowercase.

@@ -47,7 +47,8 @@ fn length_at(lengths: &[usize], indices: &[usize], is_on_cycle: bool, most: usiz
     }
 }
 
-// Returns the length of the longest chain that begins at each index, where `order` has each index after those that it refers to.
+// Returns the length of the longest chain that begins at each index. In `order`, each index comes after those that it refers
+// to.
 fn lengths_in(
     alloc: Global,
     graph: &[Vec<usize>],

@@ -72,7 +72,7 @@ fn laid_out(
 ///   references, or after one, comes last. A `crossref` names an entry if its value is one text that is the key of the entry, in any ASCII
 ///   case, with or without white space at its ends.
 ///
-/// Returns an error only if out of memory.
+/// Returns an error only if memory runs out.
 pub fn sort_entries(
     alloc: Global,
     document: &RawDocument<'_>,

@@ -1,4 +1,4 @@
--- Names for texts, in the place of values.
+-- Names as new values, and documents with collected texts.
 use Rattle.std.proofs.Common.{◌≡◌, ℕ, zero, suc, ◌+◌, ◌-◌, ◌<◌, Bool, true, false, List, [], ◌∷◌, ◌++◌, length, take, get_or, refl, sym, ap, ◌∙◌, subst, arith, append-nil, Option, Some, None, Result, Ok, Err}
 use Rattle.std.specs.Prelude.{IfOk, IfSome, bytes_eq, max}
 use Rattle.std.specs.List.{AllByRecursion}
@@ -30,7 +30,7 @@ use Rattle.edit_entries.proofs.NewValueFacts.{CanBeRead}
 use Rattle.bib_text.proofs.ListFacts.{all_push}
 use Rattle.edit_strings.proofs.WrittenFacts.{last_below}
 
--- ---- what holds of each
+-- ---- a property of each text
 
 pub names_new : (says : FileReading) {names : List (List ℕ)} → AreNewNames says names → AllByRecursion (IsNewName says) names
 names_new says new_names.none = tt
@@ -50,7 +50,7 @@ all_at P (x ∷ xs) (suc i) d all within = all_at P xs i d all.1 (omega arith)
 pub text_below : (texts : List (List ℕ)) (text : List ℕ) → IfSome (text_index texts text) (λ i. i < length texts)
 text_below texts text = last_below (λ t. bytes_eq t text) texts
 
--- ---- a name in the place of a value
+-- ---- a name as a new value
 
 name_part : (name : List ℕ) (can : CanBeName name) → can.0 ≡ text_at 0 name
 name_part name can =
@@ -78,9 +78,9 @@ name_read says name new =
     let read = can_be_read name (e ∷ []) tt (is, tt) in
     subst (λ bytes. CanBeRead (record { bytes = bytes; pieces = e ∷ [] })) (append-nil name) read
 
--- ---- what the code has
+-- ---- the variables of the code
 
--- the values of a document's fields may be cut out of its text
+-- the values of a document's fields and their literals begin at character boundaries of its text
 pub all_cut : (d : Document) → IsDocument d → AreAllFieldsCut d.text d.says.entries
 all_cut d read = fields_weaker (IsPlaced d.text) (IsValue d.text) (IsFieldCut d.text)
     (λ f placed value.
@@ -89,18 +89,18 @@ all_cut d read = fields_weaker (IsPlaced d.text) (IsValue d.text) (IsFieldCut d.
       pieces = all_weaker (IsElement d.text) (IsPieceCut d.text) (is_cut d.text) (elements f) value.all;
     }) d.says.entries (all_placed d read) (file_stands d.text refl read).entries
 
--- the edits of values stand one after another
+-- the edits of replaced values are in order and don't overlap
 pub edits_ordered : (d : Document) (exchange : Exchange) → IsDocument d → IsUtf8 d.text
     → AreEditsInOrder d.text 0 (entry_edits exchange d.text d.says.entries)
 edits_ordered d exchange read utf8 = exchange_in_order d exchange read utf8
 
--- the indices of texts are below the count of their names
+-- each index of a text is less than the count of the names
 pub index_known : (index : Index) (texts : List (List ℕ)) (count : ℕ) → index ≡ text_index texts → count ≡ length texts
     → IsBelow count index
 index_known index texts count is size =
     subst (IsBelow count) (sym is) (subst (λ n. IsBelow n (text_index texts)) (sym size) (text_below texts))
 
--- the edits, by what the document says
+-- the edits of the code are those of `collection`
 pub edits_known : (d : Document) (edits : List Edit) (fields texts names : List (List ℕ)) (index : Index)
     (text : List ℕ) (es : List EntryReading) → text ≡ d.text → es ≡ d.says.entries → index ≡ text_index texts
     → edits ≡ entry_edits (collection_by fields index names) text es
@@ -151,7 +151,7 @@ module _ (d : Document) (read : IsDocument d) (utf8 : IsUtf8 d.text) (fields tex
             exchanged.alike;
       }
 
--- what the call that collects texts answers
+-- the result of `collect` meets its contract
 pub collected_answer : {S E : Type 0} (bytes : S → List ℕ) (r : Result S E) (d : Document)
     (fields texts names : List (List ℕ)) (least : ℕ) → IsDocument d → IsUtf8 d.text → length names ≡ length texts
     → AreNewNames d.says names

@@ -1,4 +1,4 @@
--- Elements of a file, wherever they stand in it, and how they are read where they are laid out.
+-- Pieces of a file: each of them parses in the same way at any other place where its bytes are written.
 use Rattle.std.proofs.Common.{◌≡◌, ℕ, ◌+◌, ◌-◌, ◌≤◌, List, [], ◌∷◌, ◌++◌, length, map, codes, refl, sym, ap, ◌∙◌, subst, arith, append-nil}
 use Rattle.std.specs.Prelude.{◌==◌}
 use Rattle.std.specs.Char.{is_whitespace}
@@ -34,7 +34,7 @@ use Rattle.edit_strings.proofs.StandingFacts.{element_written}
 use Rattle.edit_entries.proofs.NewValueFacts.{AreRead, CanBeRead}
 use Rattle.bib_text.proofs.ListFacts.{all_append}
 
--- an element that stands somewhere in a text, after neither a brace nor a quote
+-- a piece occurs somewhere in a text, after neither a brace nor a quote
 pub record IsElement (text : List ℕ) (e : Piece) : Type 0 where
   pub start : Place
   pub end : Place
@@ -43,7 +43,7 @@ pub record IsElement (text : List ℕ) (e : Piece) : Type 0 where
   pub stands : Element longest start e end
   pub opened : NotOpened start
 
--- ---- where an element may be cut out
+-- ---- literals begin at character boundaries
 
 element_cut : (text : List ℕ) {u v : Place} {e : Piece} → u.text ≡ text → Element longest u e v → IsPieceCut text e
 element_cut text same (element.number (number.whole char digit digits ends)) = cut_stood text same (stood char)
@@ -57,9 +57,9 @@ element_cut text same (element.quoted q) =
 pub is_cut : (text : List ℕ) (e : Piece) → IsElement text e → IsPieceCut text e
 is_cut text e x = element_cut text x.same x.stands
 
--- ---- elements that are laid out are read
+-- ---- pieces that are laid out parse
 
--- elements that are laid out after another one
+-- the text of some pieces with the separator before each of them
 abbrev laid_out_more : List ℕ → List Piece → List ℕ
 laid_out_more text es = value_laid_out (codes " # ") (codes " # ") (map (piece_as_written Keep text) es)
 
@@ -67,7 +67,7 @@ placeless : (move : ℕ → ℕ) (e : Piece) → moved_piece (λ n. 0) (moved_pi
 placeless move (literal p) = refl
 placeless move (abbreviation p) = refl
 
--- an element where its bytes stand
+-- a piece of a text parses wherever its bytes occur before an ending
 element_read : (text : List ℕ) (e : Piece) {u v : Place} → IsElement text e → Stands u (piece_as_written Keep text e) v
     → Ending v → (e' : Piece) × Element longest u e' v × (moved_piece (λ n. 0) e' ≡ moved_piece (λ n. 0) e)
 element_read text e {u} {v} x s ending =
@@ -107,7 +107,7 @@ elements_read text e (f ∷ es) u v w x all s ending over no_hash =
       alike = ap (λ p. p ∷ map (moved_piece (λ n. 0)) others.reading) here.2 ∙ ap (λ ps. moved_piece (λ n. 0) e ∷ ps) others.alike;
     }
 
--- some elements
+-- a list of pieces isn't empty
 abbrev pub IsSome : List Piece → Type 0
 IsSome [] = ⊥
 IsSome (e ∷ es) = Unit {0}
@@ -117,9 +117,9 @@ pub can_be_read : (text : List ℕ) (es : List Piece) → IsSome es → AllByRec
 can_be_read text [] some all = absurd some
 can_be_read text (e ∷ es) some all = λ u v w s ending over no_hash. elements_read text e es u v w all.0 all.1 s ending over no_hash
 
--- ---- the elements of a file
+-- ---- the pieces of a file
 
--- a value of some elements of a text
+-- the value of a field has at least one piece, and all its pieces occur in a text
 pub record IsValue (text : List ℕ) (f : FieldReading) : Type 0 where
   pub some : IsSome (elements_of f)
   pub all : AllByRecursion (IsElement text) (elements_of f)
@@ -176,7 +176,7 @@ fields_stand text same within (fields.more field g comma g' rest) =
       fields_stand text (past.text ∙ (ahead_field field).text ∙ same) within rest,
     )
 
--- the values of a file, those of its definitions and those of its entries
+-- the values of the definitions and of the entries of a file are values of a text
 pub record AreValues (text : List ℕ) (says : FileReading) : Type 0 where
   pub definitions : AllByRecursion (IsValue text) says.abbreviations
   pub entries : AllByRecursion (λ e. AllByRecursion (IsValue text) e.fields) says.entries

@@ -1,4 +1,4 @@
--- Exchanged values as changes of entries: their edits, and what the text with them is read as.
+-- Replaced values as changes of entries: their edits, and the parsing of the text with the new values.
 use Rattle.std.proofs.Common.{◌≡◌, ℕ, List, [], ◌∷◌, ◌++◌, map, refl, sym, ap, ◌∙◌, subst, append-nil, Option, Some, None}
 use Rattle.std.specs.List.{AllByRecursion}
 use Rattle.std.specs.Str.{IsUtf8}
@@ -27,7 +27,7 @@ fields_are exchange text (f ∷ fs) =
     ap (λ es. es ++ edits_of_fields text fs (map (λ g. exchange_change (exchange g)) fs)) (edit_is text f fs (exchange f))
     ∙ ap (λ es. value_edits text f (exchange f) ++ es) (fields_are exchange text fs)
 
--- the edits of exchanged values are those of the changes
+-- the edits of replaced values are those of the changes
 pub edits_are_changes : (exchange : Exchange) (text : List ℕ) (es : List EntryReading)
     → entry_edits exchange text es ≡ edits_of_entries (exchanges exchange) text es
 edits_are_changes exchange text [] = refl
@@ -35,16 +35,16 @@ edits_are_changes exchange text (e ∷ es) =
     ap (λ xs. xs ++ entry_edits exchange text es) (sym (fields_are exchange text e.fields))
     ∙ ap (λ xs. edits_of_fields text e.fields (map (λ f. exchange_change (exchange f)) e.fields) ++ xs) (edits_are_changes exchange text es)
 
--- they stand one after another
+-- the edits of replaced values are in order and don't overlap
 pub exchange_in_order : (d : Document) (exchange : Exchange) → IsDocument d → IsUtf8 d.text
     → AreEditsInOrder d.text 0 (entry_edits exchange d.text d.says.entries)
 exchange_in_order d exchange read utf8 =
     subst (AreEditsInOrder d.text 0) (sym (edits_are_changes exchange d.text d.says.entries))
     (changes_in_order d (exchanges exchange) read utf8)
 
--- ---- what is read
+-- ---- the text with new values parses
 
--- what takes the place of a field's value is read wherever it stands
+-- the new value of a field, if it has one, can be parsed
 abbrev pub CanBeExchanged : Exchange → FieldReading → Type 0
 CanBeExchanged exchange f = (new : NewValue) → exchange f ≡ Some new → CanBeRead new
 
@@ -58,7 +58,7 @@ fields_can : (exchange : Exchange) (fs : List FieldReading) → AllByRecursion (
 fields_can exchange [] can = tt
 fields_can exchange (f ∷ fs) can = (value_can fs (exchange f) can.0, fields_can exchange fs can.1)
 
--- a document with values exchanged is read as what it said with them exchanged
+-- the text of a document with replaced values parses to the reading of the document with these values replaced
 pub exchanged_read : (d : Document) (exchange : Exchange) → IsDocument d → IsUtf8 d.text
     → OfFields (CanBeExchanged exchange) d.says.entries
     → IsReadPlaceless (file_changed (exchanges exchange) d.says) (text_changed (exchanges exchange) d)

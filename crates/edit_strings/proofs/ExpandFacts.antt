@@ -1,4 +1,4 @@
--- A document with its abbreviations written out.
+-- A document with its abbreviations expanded.
 use Rattle.std.proofs.Common.{◌≡◌, ℕ, zero, suc, Bool, true, false, cond, List, [], ◌∷◌, length, refl, sym, ap, ◌∙◌, subst, arith, Some, None, get_or, ◌<◌, map}
 use Rattle.std.specs.Prelude.{slice_get}
 use Rattle.std.specs.List.{All, AllByRecursion}
@@ -27,9 +27,9 @@ use Rattle.edit_entries.proofs.AllFacts.{all_placed, all_weaker, fields_weaker}
 use Rattle.edit_entries.proofs.NewValueFacts.{CanBeRead}
 use Rattle.edit_strings.proofs.WrittenFacts.{all_by_index, elements_all, index_below, known_written, length-graph, written_all, written_some}
 
--- ---- what the code has
+-- ---- the variables of the code
 
--- the graph of the definitions
+-- the rows of the code are the graph of the definitions
 pub graph_known : (defined : List FieldReading) (index : Index) (values lent : List (Bor (Vec (Spanned RawChunk))))
     (refs found : List (Vec ℕ)) → index ≡ definition_index defined → values_of values ≡ map elements defined
     → lent ≡ values
@@ -41,7 +41,7 @@ graph_known defined index values lent refs found indices elements_are lent_is re
 pub refs_count : (defined : List FieldReading) (refs : List (Vec ℕ)) → rows refs ≡ definition_graph defined → length refs ≡ length defined
 refs_count defined refs graph = sym (length-rows refs) ∙ ap length graph ∙ length-graph defined
 
--- indices are below the count of what is written out
+-- each index of a definition is less than the count of the expansions
 pub index_is : (d : Document) (index : Index) (rows : List (Vec (Bor (Spanned RawChunk))))
     → index ≡ definition_index d.says.abbreviations → AreUsedWritten d.says.abbreviations d.says.entries (lists_of rows)
     → IsBelow (length rows) index
@@ -50,7 +50,7 @@ index_is d index rows is known =
     subst (IsBelow (length rows)) (sym is)
     (subst (λ n. IsBelow n (definition_index d.says.abbreviations)) (sym count) (index_below d.says.abbreviations))
 
--- the edits, by what the document says
+-- the edits of the code are those of `expansion_by` with the definitions of the document
 pub edits_are : (d : Document) (written : List (List Piece)) (edits : List Edit) (text : List ℕ) (index : Index)
     (es : List EntryReading) → text ≡ d.text → index ≡ definition_index d.says.abbreviations → es ≡ d.says.entries
     → edits ≡ entry_edits (expansion_by text index written) text es
@@ -81,7 +81,7 @@ module _ (d : Document) (read : IsDocument d) (written : List (List Piece))
       all_weaker (IsValue d.text) (λ f. AllByRecursion (IsElement d.text) (elements f)) (λ f value. value.all) defined
       values.definitions
 
-  -- what is written out of a definition may be cut out of the text, used or not
+  -- the literals of each expansion begin at character boundaries, whether the definition is used or not
   list_cut : (i : ℕ) (b : Bool) → i < length defined → get_or known.used i false ≡ b
       → AllByRecursion (IsPieceCut d.text) (get_or written i [])
   list_cut i true within is =
@@ -103,7 +103,7 @@ module _ (d : Document) (read : IsDocument d) (written : List (List Piece))
         pieces = all_weaker (IsElement d.text) (IsPieceCut d.text) (is_cut d.text) (elements f) value.all;
       }) d.says.entries (all_placed d read) values.entries
 
-  -- what a field refers to is used
+  -- the definitions that a field refers to are used
   abbrev IsUsed : FieldReading → Type 0
   IsUsed f = All (HasMark known.used) (definition_references (definition_index defined) (elements f))
 

@@ -1,4 +1,4 @@
--- A line that defines a name, and such lines before a text, as the file grammar reads them.
+-- The line that defines a name, and such lines before a text, parsed by the file grammar.
 use Rattle.std.proofs.Common.{◌≡◌, inr, ℕ, ◌+◌, ◌-◌, ◌<◌, false, List, [], ◌∷◌, ◌++◌, length, take, drop, map, codes, refl, sym, ap, ◌∙◌, subst, arith, append_assoc, length-append}
 use Rattle.std.specs.Prelude.{◌==◌}
 use Rattle.std.specs.Char.{is_whitespace}
@@ -26,7 +26,7 @@ use Rattle.edit_entries.proofs.PlacelessFacts.{file_placeless}
 
 -- ---- the parts of a line
 
--- a name, where it stands before a space
+-- a name before a space parses as an identifier
 name_stands : (whole rest name : List ℕ) (at : ℕ) → CanBeName name → drop at whole ≡ name ++ (32 ∷ rest)
     → Identifier longest (place whole at) (text_at at name) (place whole (at + length name))
 name_stands whole rest name at can here =
@@ -58,11 +58,11 @@ name_stands whole rest name at can here =
 
 -- ---- a line
 
--- a line without its end
+-- a line without its line feed
 abbrev line_text : List ℕ → List ℕ → List ℕ
 line_text name text = codes "@string{" ++ (name ++ (codes " = " ++ (in_braces text ++ codes "}")))
 
--- the definition in it
+-- the definition of a line
 abbrev line_field : List ℕ → List ℕ → FieldReading
 line_field name text =
     let start : ℕ = 8 + length name + 3 in
@@ -168,7 +168,7 @@ line_read name text can_name can_text =
 
 -- ---- lines before a text
 
--- what some file says with definitions before, without places
+-- readings that are equal without spans are so with the same definitions before them too
 pub with_placeless : (definitions : List FieldReading) (tells says : FileReading) → placeless tells ≡ placeless says
     → placeless (with_definitions definitions tells) ≡ placeless (with_definitions definitions says)
 with_placeless definitions tells says same =

@@ -1,4 +1,4 @@
--- Names that are made for texts.
+-- New names for texts.
 use Rattle.std.proofs.Common.{◌≡◌, ℕ, zero, suc, ◌+◌, ◌<◌, ◌≤◌, ◌||◌, ◌&&◌, Bool, true, false, not, List, [], ◌∷◌, ◌++◌, length, drop, codes, refl, sym, ap, ◌∙◌, subst, arith, length-append}
 use Rattle.std.specs.Prelude.{replicate, cond, Option, Some, None, is_some}
 use Rattle.std.specs.Char.{is_ascii_digit, is_ascii_lowercase, to_ascii_lowercase}
@@ -63,7 +63,7 @@ plain_can (b ∷ bs) is =
       λ c v char digit. absurd (false≢true (sym fits.2 ∙ ap is_ascii_digit (same_char first char).0 ∙ digit)),
     )
 
--- ---- a name that is longer than others
+-- ---- a name that is longer than all taken ones
 
 all_zeros : (n : ℕ) → list_all is_plain_byte (replicate n 48) ≡ true
 all_zeros zero = refl
@@ -97,7 +97,7 @@ no_word name word long three = by_case (is_word name word) refl
     by_case true is = absurd (omega (arith, word_length name word is))
     by_case false is = is
 
--- an abbreviation of a month has three letters
+-- the abbreviation of a month has three letters
 three_letters : (month : Month) → length (month_abbreviation month) ≡ 3
 three_letters January = refl
 three_letters February = refl
@@ -112,7 +112,7 @@ three_letters October = refl
 three_letters November = refl
 three_letters December = refl
 
--- a longer name abbreviates none of some months
+-- a name of more than three bytes abbreviates none of some months
 none_abbreviated : (name : List ℕ) (months : List Month) → 3 < length name → find (is_abbreviated name) months ≡ None
 none_abbreviated name [] long = refl
 none_abbreviated name (month ∷ months) long =
@@ -157,7 +157,7 @@ name_lower (b ∷ bs) is =
     let both = and_parts (is_ascii_lowercase b) (list_all is_plain_byte bs) is in
     plain_lower (b ∷ bs) (ap (λ x. x && list_all is_plain_byte bs) (letter_is_plain b both.0) ∙ both.1)
 
--- a name that was looked at
+-- a name that passes the test of `is_new` is fresh
 pub new_fresh : (taken : Taken) (name : List ℕ)
     → (is_plain_name name && (not (is_month name) && not (has_lowercase taken name))) ≡ true → IsFresh taken name
 new_fresh taken name is =
@@ -169,7 +169,7 @@ new_fresh taken name is =
       free = ap (has_lowercase taken) (name_lower name a.0) ∙ not_true (has_lowercase taken name) b.1;
     }
 
--- ---- names one after another
+-- ---- one more new name
 
 pub names_more : (says : FileReading) (names : List (List ℕ)) (name : List ℕ) (taken : Taken) (initial : List ℕ → Bool)
     → IsFresh taken name → ((other : List ℕ) → is_taken taken other ≡ (is_one_in_any_case names other || initial other))
@@ -189,7 +189,7 @@ taken_more names name other new old initial more known =
     ∙ or_assoc (is_word name other) (is_one_in_any_case names other) initial
     ∙ ap (λ b. b || initial) (sym (any_push (λ n. is_word n other) names name))
 
--- a name that is taken is no longer than the longest
+-- `longest` still bounds the lengths after one more name
 pub bounded_more : (name other : List ℕ) (before after : ℕ) (new old : Bool) → new ≡ (is_word name other || old)
     → (old ≡ true → length other ≤ before) → length name ≤ after → before ≤ after → new ≡ true → length other ≤ after
 bounded_more name other before after new old more bounded own grows is = by_case (is_word name other) refl (sym more ∙ is)

@@ -1,4 +1,4 @@
--- How an element is written with the delimiters that it has.
+-- A piece that keeps its delimiters is written as in the file.
 use Rattle.std.proofs.Common.{◌≡◌, ℕ, ◌+◌, ◌-◌, ◌<◌, ◌≤◌, Bool, true, false, List, [], ◌∷◌, ◌++◌, length, codes, cond, sym, ap, ◌∙◌, subst, arith}
 use Rattle.std.specs.List.{ends_with}
 use lib.Dec.{eqb}
@@ -19,7 +19,7 @@ use Rattle.edit_format.specs.declared.style.Delimiters.TheVariants.{Keep}
 use Rattle.edit_entries.proofs.ElementFacts.{Ending, NotOpened, before, brace_before, identifier_until, number_until, one_byte, parted, quote_before}
 use Rattle.edit_entries.proofs.StandsFacts.{Stands, copy_frame, copied_before}
 
--- a text between two characters of ASCII
+-- a text that begins and ends with an ASCII character is these two and the text between them
 enclosed : {u a b v : Place} (c d : ℕ) → c < 128 → d < 128 → CharAt u c a → Ahead a b → CharAt b d v
     → between u v ≡ c ∷ (between a b ++ d ∷ [])
 enclosed {u} {a} {b} {v} c d small small' opens inside closes =
@@ -37,7 +37,7 @@ choice b q x y z t no_brace quote is = ap (λ c. cond c x (cond q y z)) no_brace
 neither : (b q : Bool) (x y z : List ℕ) → b ≡ false → q ≡ false → cond b x (cond q y z) ≡ z
 neither b q x y z no_brace no_quote = ap (λ c. cond c x (cond q y z)) no_brace ∙ ap (λ c. cond c y z) no_quote
 
--- an element is written as it stands
+-- a piece is written as in the file
 pub element_written : {u v : Place} {e : Piece} → Element longest u e v → NotOpened u → piece_as_written Keep u.text e ≡ between u v
 element_written (element.number n) opened = neither _ _ _ _ _ opened.no_brace opened.no_quote
 element_written (element.named none i) opened = ap (λ p. p.text) i.reading

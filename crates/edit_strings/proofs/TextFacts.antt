@@ -1,4 +1,4 @@
--- Texts, as they are gone through.
+-- Lists of texts in loops: one more text, one more line, one more name.
 use Rattle.std.proofs.Common.{◌≡◌, ℕ, ◌+◌, ◌<◌, ◌||◌, Bool, true, false, cond, not, List, [], ◌∷◌, ◌++◌, length, take, map, get_or, refl, sym, ap, ◌∙◌, arith, append_assoc, append-nil, Option, Some}
 use Rattle.std.specs.Prelude.{MatchBool, bytes_eq}
 use Rattle.std.proofs.lemmas.Bool.{false≢true}
@@ -22,7 +22,7 @@ times_push : (text : List ℕ) (ts : List (List ℕ)) (t : List ℕ)
     → times_of text (ts ++ t ∷ []) ≡ times_of text ts + cond (bytes_eq t text) 1 0
 times_push text ts t = fold_push (λ a u. a + cond (bytes_eq u text) 1 0) 0 ts t
 
--- one more text is counted
+-- the counts after one more text
 pub counted_more : (text t : List ℕ) (ts : List (List ℕ)) (old : Option ℕ) (count : ℕ) → count ≡ times_of t ts
     → option_map_or (λ n. n) old 0 ≡ times_of text ts
     → option_map_or (λ n. n) (cond (bytes_eq t text) (Some (count + 1)) old) 0 ≡ times_of text (ts ++ t ∷ [])
@@ -32,7 +32,7 @@ counted_more text t ts old count counted before = by_case (bytes_eq t text) refl
     by_case true same = let is : t ≡ text = (bytes_eq-Decides t text).0 same in ap (λ n. n + 1) (counted ∙ ap (λ u. times_of u ts) is)
     by_case false other = let none : times_of text ts ≡ times_of text ts + 0 = omega arith in before ∙ none
 
--- one more line
+-- the lines after one more name
 pub lines_push : (names texts : List (List ℕ)) (name text : List ℕ) → length names ≡ length texts
     → definition_lines (names ++ name ∷ []) (texts ++ text ∷ []) ≡ definition_lines names texts ++ string_line name text
 lines_push [] [] name text same = append-nil (string_line name text)

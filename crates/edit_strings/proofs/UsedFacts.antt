@@ -1,4 +1,4 @@
--- Marks on definitions that are used, and on those that they refer to.
+-- Marks of used definitions, and of the definitions that they refer to.
 use Rattle.std.proofs.Common.{◌≡◌, ◌≢◌, ◌⊎◌, inl, inr, ℕ, zero, suc, ◌<◌, Bool, true, false, cond, eqb, List, [], ◌∷◌, ◌++◌, length, get_or, set, take, map, refl, sym, ap, ◌∙◌, subst, arith, length-set, length-append, append_assoc, get_or-set_same, get_or-set_other}
 use Rattle.std.specs.Prelude.{replicate}
 use Rattle.std.specs.List.{All, AllByRecursion, Contains, sum_by}
@@ -18,7 +18,7 @@ use Rattle.bib_text.proofs.ListFacts.{cons_cases, contains_more}
 contains_here : (x : ℕ) (xs : List ℕ) → Contains (x ∷ xs) x
 contains_here x xs = (zero, omega arith, refl)
 
--- ---- marks on a list of indices
+-- ---- marks of a list of indices
 
 length-marked : (marks : List Bool) (xs : List ℕ) → length (marked_all marks xs) ≡ length marks
 length-marked marks [] = refl
@@ -53,7 +53,7 @@ marked_only marks (x ∷ xs) i none mark =
     sym (get_or-set_other marks x i true false other)
     ∙ marked_only (set marks x true) xs i (λ there. none (contains_more x i xs there)) mark
 
--- ---- from the last of an order to the first
+-- ---- marks from the last index of an order to the first
 
 length-next : (graph : Graph) (x : ℕ) (marks : List Bool) → length (mark_next graph x marks) ≡ length marks
 length-next graph x marks = by_case (get_or marks x false)
@@ -93,7 +93,7 @@ next_in graph x marks i mark there below =
 
 module _ (graph : Graph) (order : List ℕ) (sorted : IsTopologicalOrder graph order) (marks : List Bool)
     (as_many : length marks ≡ length graph) where
-  -- no index has two turns
+  -- no index occurs in an order twice
   apart : (done rest : List ℕ) (i : ℕ) → order ≡ done ++ rest → Contains done i → Contains rest i → ⊥
   apart done rest i whole first last =
       let both = sum_by-append (λ t. cond (eqb t i) 1 0) done rest in
@@ -119,7 +119,7 @@ module _ (graph : Graph) (order : List ℕ) (sorted : IsTopologicalOrder graph o
         )
       ]
 
-  -- what an index refers to has its turn before
+  -- the references of an index occur before it
   refers_back : (done rest : List ℕ) (x : ℕ) → order ≡ done ++ x ∷ rest → All (Contains done) (refs_of graph x)
   refers_back done rest x whole =
       let within : length done < length order = omega (arith, ap length whole, length-append done (x ∷ rest)) in
@@ -141,7 +141,7 @@ module _ (graph : Graph) (order : List ℕ) (sorted : IsTopologicalOrder graph o
         | inr t ↦ absurd (omega (arith, times_from_contains x order in_order, sorted.once x, as_one _ _ (le-ltb x (length graph) t)))
       ]
 
-  -- what marked indices refer to is marked
+  -- the references of a marked index are marked
   back_closed : (done rest : List ℕ) → order ≡ done ++ rest → (i : ℕ) → Contains rest i
       → HasMark (marked_back graph marks rest) i → All (HasMark (marked_back graph marks rest)) (refs_of graph i)
   back_closed done [] whole i there mark = absurd (omega (arith, there.1))
@@ -175,9 +175,9 @@ module _ (graph : Graph) (order : List ℕ) (sorted : IsTopologicalOrder graph o
       → All (HasMark (marked_back graph marks order)) (refs_of graph i)
   closed = back_closed [] order refl
 
--- ---- what fields refer to
+-- ---- the references of fields
 
--- each of some fields refers to definitions that are marked
+-- if all definitions that some fields refer to are marked, so are those of each of these fields
 fields_marked : (index : Index) (marks : List Bool) (fs : List FieldReading)
     → ((i : ℕ) → Contains (fields_refer_to index fs) i → HasMark marks i)
     → AllByRecursion (λ f. All (HasMark marks) (definition_references index (elements f))) fs
@@ -226,7 +226,7 @@ references_in definitions (e ∷ es) i there =
           | inr later ↦ in_fields fs later
         ]
 
--- the definitions that are marked as used, written out
+-- in a topological order, the used definitions are expanded
 pub used_known : (definitions : List FieldReading) (entries : List EntryReading) (order : List ℕ)
     → IsTopologicalOrder (definition_graph definitions) order
     → AreUsedWritten definitions entries

@@ -1,4 +1,4 @@
--- What definitions are written out as, in an order in which each comes after those that it refers to.
+-- Expansions of definitions, in an order in which each definition comes after those that it refers to.
 use Rattle.std.proofs.Common.{◌≡◌, ◌≢◌, inl, inr, ℕ, zero, suc, ◌+◌, ◌<◌, ◌≤◌, Bool, true, false, List, [], ◌∷◌, ◌++◌, length, get_or, set, take, map, refl, sym, ap, ◌∙◌, subst, arith, length-set, get_or-set_same, get_or-set_other, Option, Some, None, cond, ◌⊎◌}
 use Rattle.std.specs.Prelude.{IfSome, fold}
 use Rattle.std.specs.List.{All, AllByRecursion, Contains}
@@ -26,7 +26,7 @@ use Rattle.bib_text.proofs.ListFacts.{all_append}
 
 -- ---- indices
 
--- the last index that passes a test is one of the list
+-- the last index of an item that passes a test is less than the length of the list
 pub last_below : {A : Type 0} (test : A → Bool) (xs : List A) → IfSome (last_position test xs) (λ i. i < length xs)
 last_below test [] = tt
 last_below test (x ∷ xs) = by_case (test x) (last_position test xs) (last_below test xs)
@@ -72,9 +72,9 @@ graph_in_range definitions =
     (All-map (λ refs. All (λ r. r < length definitions) refs) (definition_references (definition_index definitions))
     (map elements definitions) (λ k d within. references_below definitions (get_or (map elements definitions) k d)))
 
--- ---- elements by what each definition is
+-- ---- pieces, given the expansion of each definition
 
--- what each of some definitions is written out as
+-- a list has the expansion of each of some definitions
 abbrev AreWritten : List FieldReading → List (List Piece) → (ℕ → Type 0) → Type 0
 AreWritten definitions written Among = (i : ℕ) → Among i → WritesOut definitions (elements_at definitions i) (get_or written i [])
 
@@ -109,7 +109,7 @@ in_order_more index rows used order k within =
     ap (written_in_order index rows used) (take_more order k 0 within)
     ∙ fold-append (write_next index rows used) (map (λ row. []) rows) (take k order) (get_or order k 0 ∷ [])
 
--- one more definition is written out
+-- one more definition is expanded if it is used
 pub next_written : (index : Index) (rows : List (List Piece)) (used : List Bool) (order : List ℕ) (k : ℕ)
     (now : List (List Piece)) (new : List Piece) → k < length order
     → now ≡ written_in_order index rows used (take k order)
@@ -126,7 +126,7 @@ next_written index rows used order k now new within so_far is_used is =
     (written_in_order index rows used (take k order))) is_used)
     ∙ sym (in_order_more index rows used order k within)
 
--- or passed over
+-- a definition that isn't used is skipped
 pub next_passed : (index : Index) (rows : List (List Piece)) (used : List Bool) (order : List ℕ) (k : ℕ)
     (now : List (List Piece)) → k < length order → now ≡ written_in_order index rows used (take k order)
     → get_or used (get_or order k 0) false ≡ false → now ≡ written_in_order index rows used (take (k + 1) order)
@@ -178,7 +178,7 @@ module _ (definitions : List FieldReading) (order : List ℕ) (sorted : IsTopolo
   module _ (used : List Bool)
       (closed : (i : ℕ) → Contains order i → HasMark used i
       → All (HasMark used) (refs_of (definition_graph definitions) i)) where
-    -- those of some first turns
+    -- the expansions after the first `k` definitions of an order
     abbrev table : ℕ → List (List Piece)
     table k = written_in_order index rows used (take k order)
 
@@ -195,13 +195,13 @@ module _ (definitions : List FieldReading) (order : List ℕ) (sorted : IsTopolo
     length-table : (turns : List ℕ) → length (written_in_order index rows used turns) ≡ length definitions
     length-table turns = length-fold (map (λ row. []) rows) turns ∙ length-map rows (λ row. []) ∙ length-map definitions elements
 
-    -- the used definitions of some first turns are written out
+    -- the used definitions among the first `k` of an order are expanded
     abbrev Good : ℕ → Type 0
     Good k =
         (i : ℕ) → Contains (take k order) i → HasMark used i
         → WritesOut definitions (elements_at definitions i) (get_or (table k) i [])
 
-    -- the turn of a definition
+    -- the next definition of an order
     turn : (k : ℕ) (i : ℕ) (b : Bool) → k < length order → get_or used (get_or order k 0) false ≡ b → Good k
         → Contains (take (k + 1) order) i → HasMark used i
         → WritesOut definitions (elements_at definitions i)
@@ -269,7 +269,7 @@ module _ (definitions : List FieldReading) (order : List ℕ) (sorted : IsTopolo
         let next : k + 1 ≡ suc k = omega arith in
         subst Good next (good_more k (omega arith) (good_all k (omega arith)))
 
-    -- those that aren't used stay without elements
+    -- the expansion of an unused definition stays empty
     none_start : (i : ℕ) (ls : List (List Piece)) → get_or (map (λ row. let l : List Piece = [] in l) ls) i [] ≡ []
     none_start i [] = refl
     none_start zero (l ∷ ls) = refl
@@ -289,7 +289,7 @@ module _ (definitions : List FieldReading) (order : List ℕ) (sorted : IsTopolo
         none_fold (write_next index rows used done j) turns i unused
         (none_next done i j (get_or used j false) (written_by index done (get_or rows j [])) refl unused none)
 
-    -- all definitions that are used are written out
+    -- all used definitions are expanded
     pub used_written : (entries : List EntryReading)
         → AllByRecursion
         (λ e. AllByRecursion (λ f. All (HasMark used) (definition_references index (elements f))) e.fields) entries
@@ -305,7 +305,7 @@ module _ (definitions : List FieldReading) (order : List ℕ) (sorted : IsTopolo
       fields = fields;
     }
 
--- ---- what holds of all elements holds of those that are written out
+-- ---- if all pieces have a property, so do the pieces of their expansions
 
 pub elements_all : (P : Piece → Type 0) (definitions : List FieldReading) (i : ℕ)
     → AllByRecursion (λ f. AllByRecursion P (elements f)) definitions → AllByRecursion P (elements_at definitions i)
@@ -322,12 +322,12 @@ written_all P definitions each all (writes.defined {index = i} {first = first} {
     all_append P first more (written_all P definitions each (elements_all P definitions i each) inner)
     (written_all P definitions each all.1 rest)
 
--- lists of elements of which each is known by its index
+-- if the item at each index has a property, all items have it
 pub all_by_index : {A : Type 0} (P : A → Type 0) (xs : List A) (d : A) → ((i : ℕ) → i < length xs → P (get_or xs i d)) → AllByRecursion P xs
 all_by_index P [] d each = tt
 all_by_index P (x ∷ xs) d each = (each 0 (omega arith), all_by_index P xs d (λ i within. each (suc i) (omega arith)))
 
--- what elements of fields are written out as
+-- the pieces of a field are expanded if the definitions that they refer to are used
 pub known_written : (definitions : List FieldReading) (entries : List EntryReading) (written : List (List Piece))
     (ps : List Piece) → (known : AreUsedWritten definitions entries written)
     → All (HasMark known.used) (definition_references (definition_index definitions) ps)
@@ -340,7 +340,7 @@ known_written definitions entries written ps known marked =
     (references_below definitions ps) held)
     (All-contains (HasMark known.used) (definition_references (definition_index definitions) ps) i marked held))
 
--- some elements are written out as some
+-- the expansion of at least one piece has at least one piece
 pub written_some : (definitions : List FieldReading) {ps out : List Piece}
     → AllByRecursion (λ f. IsSome (elements f)) definitions → IsSome ps → WritesOut definitions ps out → IsSome out
 written_some definitions each some writes.none = some
@@ -360,7 +360,7 @@ written_some definitions each some (writes.defined {piece = p} {index = i} {firs
     some_append [] ys some = absurd some
     some_append (x ∷ xs) ys some = tt
 
--- what holds of all elements of what is written out, and of elements, holds of what these are written out as
+-- if some pieces and all expansions of definitions have a property, so does the expansion of these pieces
 pub written_by_all : (P : Piece → Type 0) (names : Index) (written : List (List Piece)) (ps : List Piece)
     → AllByRecursion (AllByRecursion P) written → AllByRecursion P ps → AllByRecursion P (written_by names written ps)
 written_by_all P names written [] each all = tt
@@ -377,7 +377,7 @@ written_by_all P names written (p ∷ ps) each all =
     by_case None = (all.0, tt)
     by_case (Some i) = at_index written i each
 
--- as many values as definitions
+-- there are as many values as definitions
 pub same_count : (definitions : List FieldReading) (values : List (Bor (Vec (Spanned RawChunk))))
     → values_of values ≡ map elements definitions → length values ≡ length definitions
 same_count definitions values is =

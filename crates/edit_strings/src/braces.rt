@@ -13,14 +13,14 @@ ghost use Rattle.edit_entries.specs.Documents.{CanStandInBraces};
 use bib_text::scanner::Scanner;
 use std::alloc::{AllocError, Global};
 
-// Whether a character is neither a brace nor a backslash.
+// Returns whether `c` is neither a brace nor a backslash.
 fn is_plain(c: char) -> bool
     ensures { result ≡ is_plain c }
 {
     c != '{' && c != '}' && c != '\\'
 }
 
-// The parts of a braced text, up to the brace that closes it, if there is one.
+// Scans up to the `}` that closes a braced text, and returns the text before it. Returns `None` if no brace closes it.
 fn parts<'s>(s: &mut Scanner<'s>) -> Option<&'s str>
     ensures { MatchOption result
         ((v w : Place) → Parts s.old v → CharAt v char.close_brace w → ⊥)
@@ -46,7 +46,7 @@ fn parts<'s>(s: &mut Scanner<'s>) -> Option<&'s str>
     }
 }
 
-// Takes the brace that stands here, and says whether the text ends after it.
+// Skips the `}` at the cursor, and returns whether the text ends after it.
 fn closes(s: &mut Scanner<'_>) -> bool
     requires { (v : Place) × CharAt s.old char.close_brace v }
     ensures brace { CharAt s.old char.close_brace s.new }
@@ -56,7 +56,7 @@ fn closes(s: &mut Scanner<'_>) -> bool
     s.done()
 }
 
-// Whether a text is one text in braces.
+// Returns whether `text` is exactly one braced text.
 fn is_braced(text: &str) -> bool
     ensures { MatchBool result
         ((p : Part) × Braced (place text.now 0) p (place text.now (length text.now)))
@@ -72,7 +72,7 @@ fn is_braced(text: &str) -> bool
     }
 }
 
-// A text between two braces.
+// Returns `text` between two braces.
 fn between_braces(alloc: Global, text: &str) -> Result<String, AllocError>
     ensures { IfOk result (λ braced. string_bytes braced ≡ documents.in_braces text.now) }
 {
@@ -83,7 +83,7 @@ fn between_braces(alloc: Global, text: &str) -> Result<String, AllocError>
     Ok(braced)
 }
 
-// Whether a text can stand between two braces.
+// Returns whether `text` can be written between two braces.
 pub(crate) fn can_stand_in_braces(alloc: Global, text: &str) -> Result<bool, AllocError>
     ensures { IfOk result (λ can. MatchBool can (CanStandInBraces text.now) (CanStandInBraces text.now → ⊥)) }
 {

@@ -1,4 +1,4 @@
-//! Which texts are collected.
+//! Selection of the texts to collect.
 
 ghost use Rattle.std.specs.Prelude.{◌≡◌, ℕ, List, IfOk, MatchBool};
 ghost use Rattle.edit_strings.specs.Collected.{FirstOnes, RepeatsInBraces, times_of};
@@ -9,7 +9,7 @@ use crate::texts::count_of;
 use std::alloc::{AllocError, Global};
 use std::collections::{BTreeMap, BTreeSet};
 
-// Whether a text stands often enough among those that were counted, and can stand in braces.
+// Returns whether `text` was counted at least `least` times and can be written between braces.
 fn is_collected(
     alloc: Global,
     counts: &BTreeMap<&str, usize>,
@@ -25,7 +25,7 @@ fn is_collected(
     can_stand_in_braces(alloc, text)
 }
 
-// The texts that are collected, each once, in the order of their first appearance.
+// Returns the texts to collect, each once, in the order of their first occurrence.
 pub(crate) fn collected_texts<'s>(
     alloc: Global,
     counts: &BTreeMap<&str, usize>,

@@ -1,4 +1,4 @@
-//! Texts of fields collected as abbreviations.
+//! Collecting repeated texts of fields as abbreviations.
 
 ghost use Rattle.std.specs.Prelude.{◌≡◌, ◌++◌, ◌<◌, IfOk, OnOk, length, map};
 ghost use Rattle.std.specs.List.{AllByRecursion};
@@ -25,14 +25,14 @@ use edit_entries::values::value_end;
 use std::alloc::{AllocError, Global};
 use std::collections::BTreeMap;
 
-// Texts with the index of each, and their names.
+// Collected texts: the index of each, and the new name at each index.
 #[derive(Drop)]
 struct Collection<'s> {
     indices: BTreeMap<&'s str, usize>,
     names: Vec<String>,
 }
 
-// The index of each text.
+// Returns a map from each text to its index.
 fn indices<'s>(alloc: Global, texts: &[&'s str]) -> Result<BTreeMap<&'s str, usize>, AllocError>
     ensures { IfOk result (λ indices. index_in indices ≡ text_index (lent_texts texts.now)) }
 {
@@ -43,7 +43,7 @@ fn indices<'s>(alloc: Global, texts: &[&'s str]) -> Result<BTreeMap<&'s str, usi
     Ok(indices)
 }
 
-// Adds the edit of a field whose text is collected, if it is.
+// If the text of `field` is collected, appends the edit that replaces its value by the new name.
 fn push_edit(
     edits: &mut Vec<Edit>,
     alloc: Global,
@@ -71,7 +71,7 @@ fn push_edit(
     Ok(())
 }
 
-// Adds the edit of each field whose text is collected.
+// Appends an edit for each field of `among` whose text is collected.
 fn push_edits(
     edits: &mut Vec<Edit>,
     alloc: Global,
@@ -91,7 +91,7 @@ fn push_edits(
     Ok(())
 }
 
-// The edits of the fields of entries whose text is collected.
+// Returns the edits for all fields of `entries` whose text is collected.
 fn edits(
     alloc: Global,
     text: &str,
@@ -110,7 +110,7 @@ fn edits(
     Ok(edits)
 }
 
-// Adds a line that defines a name.
+// Appends the `@string` line that defines `name` as `text`.
 fn push_definition(new: &mut String, name: &str, text: &str) -> Result<(), AllocError>
     ensures { OnOk result (string_bytes new.new ≡ string_bytes new.old ++ string_line name.now text.now) }
 {
@@ -122,7 +122,7 @@ fn push_definition(new: &mut String, name: &str, text: &str) -> Result<(), Alloc
     Ok(())
 }
 
-// A line for each name that defines it.
+// Returns the `@string` lines that define each name as the text at the same index.
 fn definitions(alloc: Global, names: &[String], texts: &[&str]) -> Result<String, AllocError>
     requires { length names.now ≡ length texts.now }
     ensures { IfOk result (λ new. string_bytes new ≡ definition_lines (string_texts names.now) (lent_texts texts.now)) }
@@ -134,7 +134,7 @@ fn definitions(alloc: Global, names: &[String], texts: &[&str]) -> Result<String
     Ok(new)
 }
 
-// New names for texts, and the index of each text.
+// Returns the collection of `texts`: a new name for each, and its index.
 fn collection_of<'s>(
     alloc: Global,
     raw: &RawBibliography<'_>,
@@ -150,7 +150,7 @@ fn collection_of<'s>(
     Ok(Collection { indices, names })
 }
 
-// The text with texts exchanged for their names, after a line for each.
+// Returns the definitions of the new names, followed by `text` with each collected value replaced by its name.
 fn with_collection(
     alloc: Global,
     text: &str,
@@ -172,10 +172,11 @@ fn with_collection(
     Ok(new)
 }
 
-/// The text with abbreviations made of the values that repeat: each text that stands as one literal in at least so many fields of
-/// entries with one of these names, in any ASCII case, becomes an abbreviation (0 and 1 count as 2). Its name takes the place of
-/// each of these values, and a line for each, `@string{name = {text}}`, stands before the old text, in the order in which the
-/// texts first appear. A text that can't stand in braces stays, and so does everything else. Fails only where there is no memory.
+/// Returns the text of `document` with repeated values replaced by abbreviations. A text is collected if it is the value of at
+/// least `at_least` fields of entries, as one literal, and can be written between braces. An `at_least` of 0 or 1 counts as 2.
+/// Only fields with one of the names `fields` count, in any ASCII case. Each collected text gets one new abbreviation, which
+/// replaces all these values. The definitions, one line `@string{name = {text}}` for each, precede the old text in the order of
+/// the first occurrences of the texts. Everything else is unchanged. Returns an error only if memory runs out.
 pub fn collect(
     alloc: Global,
     document: &RawDocument<'_>,

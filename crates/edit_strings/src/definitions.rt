@@ -1,4 +1,4 @@
-//! The definitions of a file: which one a name has, and which ones each refers to.
+//! The `@string` definitions of a file: an index for each name, and the references of each definition.
 
 ghost use Rattle.std.specs.Prelude.{◌≡◌, IfOk, map};
 ghost use Rattle.bib_collections.specs.Rows.{rows};
@@ -12,7 +12,7 @@ use bib_text::spanned::Spanned;
 use std::alloc::{AllocError, Global};
 use std::collections::BTreeMap;
 
-// The index of each name's last definition.
+// Returns a map from each name to the index of its last definition.
 pub(crate) fn definition_indices<'s>(
     alloc: Global,
     definitions: &[Pair<'s>],
@@ -26,7 +26,7 @@ pub(crate) fn definition_indices<'s>(
     Ok(indices)
 }
 
-// The values of definitions.
+// Returns the value of each definition.
 pub(crate) fn definition_values<'a, 's>(
     alloc: Global,
     definitions: &'a [Pair<'s>],
@@ -40,7 +40,7 @@ pub(crate) fn definition_values<'a, 's>(
     Ok(values)
 }
 
-// The index of an element's definition, if it is a name that has one.
+// Returns the index of the definition of `piece`, if it is a defined name.
 pub(crate) fn defined_index(
     indices: &BTreeMap<&str, usize>,
     piece: &Spanned<RawChunk<'_>>,
@@ -53,7 +53,7 @@ pub(crate) fn defined_index(
     }
 }
 
-// Whether a name that is defined stands among elements.
+// Returns whether `pieces` contains a defined name.
 pub(crate) fn has_defined(indices: &BTreeMap<&str, usize>, pieces: &[Spanned<RawChunk<'_>>]) -> bool
     ensures { result ≡ spec.has_defined (index_in indices.now) (map piece_of pieces.now) }
 {
@@ -65,7 +65,7 @@ pub(crate) fn has_defined(indices: &BTreeMap<&str, usize>, pieces: &[Spanned<Raw
     false
 }
 
-// The indices of the definitions that elements refer to.
+// Returns the indices of the definitions that `pieces` refer to.
 fn references(
     alloc: Global,
     indices: &BTreeMap<&str, usize>,
@@ -82,7 +82,7 @@ fn references(
     Ok(found)
 }
 
-// For each value the indices of the definitions that it refers to.
+// Returns for each value the indices of the definitions that it refers to.
 pub(crate) fn graph(
     alloc: Global,
     indices: &BTreeMap<&str, usize>,

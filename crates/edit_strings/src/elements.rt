@@ -1,4 +1,4 @@
-//! Elements of values as they stand in the file.
+//! Pieces of values, as they are written in the file.
 
 ghost use Rattle.std.specs.Prelude.{◌≡◌, ◌++◌, [], codes, cond, OnOk, IfOk};
 ghost use Rattle.std.specs.List.{AllByRecursion};
@@ -14,7 +14,7 @@ use bib_syntax::raw::RawChunk;
 use bib_text::spanned::Spanned;
 use std::alloc::{AllocError, Global};
 
-// Adds the text of a literal with the delimiters that it has in the file, by what stands before it there.
+// Appends the literal `content` with its delimiters in the file, which the end of `before` (the text before it) tells.
 fn push_literal(new: &mut String, before: &str, content: &str) -> Result<(), AllocError>
     ensures { OnOk result (string_bytes new.new ≡ string_bytes new.old ++ delimited Keep before.now content.now) }
 {
@@ -34,7 +34,7 @@ fn push_literal(new: &mut String, before: &str, content: &str) -> Result<(), All
     Ok(())
 }
 
-// Appends a piece of a value as it is in the file, with its delimiters if it has any.
+// Appends a piece as it is written in the file, with its delimiters if it has any.
 fn push_piece(new: &mut String, text: &str, piece: &Spanned<RawChunk<'_>>) -> Result<(), AllocError>
     requires { IsPieceCut text.now (piece_of piece.now) }
     ensures { OnOk result (string_bytes new.new ≡ string_bytes new.old ++ piece_as_written Keep text.now (piece_of piece.now)) }
@@ -46,14 +46,14 @@ fn push_piece(new: &mut String, text: &str, piece: &Spanned<RawChunk<'_>>) -> Re
     Ok(())
 }
 
-// The sign before an element of a value, and white space round it; none before the first.
+// Returns the separator before a piece: empty before the first, and ` # ` before each other.
 fn sign_before(is_first: bool) -> &'static str
     ensures { result.now ≡ cond is_first [] (codes " # ") }
 {
     if is_first { "" } else { " # " }
 }
 
-// Elements as they stand in the file, with `#` between them.
+// Returns `pieces` as they are written in the file, with ` # ` between them.
 pub(crate) fn laid_out(
     alloc: Global,
     text: &str,

@@ -1,4 +1,4 @@
-//! Why abbreviations aren't written out.
+//! Errors of expanding abbreviations.
 
 ghost use Rattle.std.specs.Prelude.{◌≡◌, IfOk, OnErr};
 ghost use Rattle.edit_strings.specs.Errors.{expand_error};
@@ -8,19 +8,19 @@ use bib_collections::worklist::OrderError;
 use std::alloc::{AllocError, AllocFailed};
 use thiserror::Error;
 
-/// Why abbreviations aren't written out.
+/// The error that stopped the expansion of abbreviations.
 #[derive(Debug, Clone, Copy, PartialEq, Eq, Error)]
 pub enum ExpandError {
-    /// A definition refers to itself, maybe by others: the first that does, by its index among those of the file.
+    /// A definition refers to itself, directly or through others. Holds the index of the first such definition of the file.
     #[error("a definition refers to itself")]
     Cycle(usize),
-    /// There was no memory.
+    /// Memory ran out.
     #[error("out of memory")]
     OutOfMemory,
 }
 
 impl ExpandError {
-    /// The index of the definition that refers to itself, unless there was no memory.
+    /// Returns the index of the definition that refers to itself, or an `AllocError` for `OutOfMemory`.
     pub fn unless_out_of_memory(self) -> Result<usize, AllocError>
         ensures cycle { IfOk result (λ index. self ≡ Cycle index) }
         ensures no_memory { OnErr result (self ≡ OutOfMemory) }

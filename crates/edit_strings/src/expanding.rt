@@ -1,4 +1,4 @@
-//! Abbreviations written out.
+//! Expanding abbreviations.
 
 ghost use Rattle.std.specs.Prelude.{◌≡◌, ◌++◌, IfErr, IfOk, OnOk, length, map};
 ghost use Rattle.std.specs.List.{AllByRecursion};
@@ -24,7 +24,7 @@ use edit_entries::values::value_end;
 use std::alloc::{AllocError, Global};
 use std::collections::BTreeMap;
 
-// A text, the index of each name's definition in it, and what each definition is written out as.
+// The text of a file, the index of each name's definition, and the expansion of each definition.
 #[derive(Drop)]
 struct Names<'a, 's> {
     text: &'a str,
@@ -32,7 +32,7 @@ struct Names<'a, 's> {
     written: Vec<Elements<'a, 's>>,
 }
 
-// Adds the edit that writes out a field's value, if a name that is defined stands in it.
+// If the value of `field` contains a defined name, appends the edit that expands it.
 fn push_expansion<'a, 's>(
     edits: &mut Vec<Edit>,
     alloc: Global,
@@ -58,7 +58,7 @@ fn push_expansion<'a, 's>(
     Ok(())
 }
 
-// Adds the edit of each field whose value is written out.
+// Appends an edit for each field whose value contains a defined name.
 fn push_expansions<'a, 's>(
     edits: &mut Vec<Edit>,
     alloc: Global,
@@ -77,7 +77,7 @@ fn push_expansions<'a, 's>(
     Ok(())
 }
 
-// The edits that write out the values of entries.
+// Returns the edits that expand the values of `entries`.
 fn expansions<'a, 's>(
     alloc: Global,
     names: &Names<'a, 's>,
@@ -96,7 +96,7 @@ fn expansions<'a, 's>(
     Ok(edits)
 }
 
-// What the names of a file that its entries use are written out as.
+// Expands the definitions that `entries` use.
 fn names_of<'a, 's>(
     alloc: Global,
     text: &'a str,
@@ -122,10 +122,11 @@ fn names_of<'a, 's>(
     })
 }
 
-/// The text with its abbreviations written out: each value of an entry's field in which a name stands that the file defines is its
-/// elements with ` # ` between them, where each such name is exchanged for the elements of its last definition as they stand in
-/// the file, and the names in these likewise. Names that the file doesn't define stay, and so does everything else: other values,
-/// white space after a value, the definitions. Refused where a definition refers to itself, used or not, and where there is no memory.
+/// Returns the text of `document` with its abbreviations expanded. Each value of an entry's field that contains a defined name
+/// is replaced by its pieces, with ` # ` between them. A defined name is replaced by the pieces of its last definition as they
+/// are written in the file, and names in that definition are expanded too. Names are compared byte for byte. Undefined names,
+/// other values, white space after a value and the definitions are unchanged. Returns `Cycle` if a definition refers to itself,
+/// even if no entry uses it, and `OutOfMemory` if memory runs out.
 pub fn expand(alloc: Global, document: &RawDocument<'_>) -> Result<String, ExpandError>
     ensures expanded { IfOk result (λ new. IsExpanded document.now (string_bytes new)) }
     ensures no_cycle { OnOk result (HasNoCycle (definition_graph document.now.says.abbreviations)) }

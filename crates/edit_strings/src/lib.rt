@@ -1,14 +1,14 @@
 //! Expands the abbreviations of a bibliography file, and collects repeated texts as new abbreviations.
 //!
-//! The file's definitions are a graph over their indices, and those that entries use are written out in a topological order of it,
-//! each once. Which are used is found from the end of that order, since what one refers to comes before it. Texts that repeat are
-//! counted in a map, and their names are tried against those that are taken; the lines that define them are files by themselves,
-//! joined with the rest.
+//! The definitions of a file form a graph over their indices. The definitions that entries use are expanded once each, in a
+//! topological order of this graph. The search for used definitions begins at the end of that order, since each definition
+//! comes after those that it refers to. To collect texts, a map counts repeated texts, and each candidate name is checked
+//! against the set of taken names. The new `@string` lines are written before the old text.
 //!
-//! A value that is exchanged is an edit of the text, and all edits are made in one go over it; the new text isn't read. What it says
-//! is proved of the file grammar, edit by edit from the last to the first (`ExchangedFacts`), by the lemmas of `edit_entries` about
-//! one edit of a field. An element that is written out was read at some place of the file, and is read again wherever its bytes stand
-//! before a character that no name and no number goes on with (`ElementFacts` of `edit_format`).
+//! Each replaced value is one edit of the text. All edits are applied in one pass, and the new text isn't parsed again. The
+//! proof that the new text parses to the expected entries takes the edits from the last to the first (`ExchangedFacts`), with
+//! the lemmas of `edit_entries` about one edit of a field. A copied piece was parsed at some place of the file. It parses in
+//! the same way wherever its bytes occur before a character that can't continue a name or a number (`ElementFacts`).
 #![tactic(auto)]
 
 mod braces;

@@ -1,4 +1,4 @@
-//! Names for texts.
+//! New names for collected texts.
 
 ghost use Rattle.std.specs.Prelude.{◌≡◌, ◌≤◌, ◌&&◌, ◌++◌, ℕ, List, length, true, not, replicate, IfOk, OnOk};
 ghost use Rattle.std.specs.Char.{is_ascii_lowercase};
@@ -16,14 +16,14 @@ use bib_tables::months::Month;
 use std::alloc::{AllocError, Global};
 use std::collections::BTreeMap;
 
-// Whether a name is the abbreviation of a month, in any ASCII case.
+// Returns whether `name` is the abbreviation of a month, in any ASCII case.
 fn is_month(name: &str) -> bool
     ensures { result ≡ spec.is_month name.now }
 {
     Month::from_abbreviation(name).is_some()
 }
 
-// Whether bytes are lowercase letters of ASCII or digits.
+// Returns whether `bytes` are only lowercase ASCII letters and digits.
 fn are_plain(bytes: &[u8]) -> bool
     ensures { result ≡ list_all plain.is_plain_byte bytes.now }
 {
@@ -35,7 +35,7 @@ fn are_plain(bytes: &[u8]) -> bool
     true
 }
 
-// Whether a text is a lowercase letter of ASCII, and others or digits.
+// Returns whether `name` is a lowercase ASCII letter followed by lowercase ASCII letters and digits only.
 fn is_plain(name: &str) -> bool
     ensures { result ≡ is_plain_name name.now }
 {
@@ -45,7 +45,7 @@ fn is_plain(name: &str) -> bool
     }
 }
 
-// The first letters of a word, so many at most, in lowercase.
+// Returns the first ASCII letters of `word` in lowercase, at most `count` of them.
 fn first_letters(alloc: Global, word: &str, count: usize) -> Result<String, AllocError>
     ensures { IfOk result (λ letters. string_bytes letters ≡ plain.first_letters count word.now) }
 {
@@ -56,7 +56,7 @@ fn first_letters(alloc: Global, word: &str, count: usize) -> Result<String, Allo
         .collect(alloc)
 }
 
-// The first letters of a text's words, in lowercase.
+// Returns the first ASCII letter of each word of `text`, in lowercase.
 fn initials(alloc: Global, text: &str) -> Result<String, AllocError>
     ensures { IfOk result (λ initials. list_all is_ascii_lowercase (string_bytes initials) ≡ true) }
 {
@@ -67,7 +67,8 @@ fn initials(alloc: Global, text: &str) -> Result<String, AllocError>
     Ok(initials)
 }
 
-// What the name of a text begins with: the first letters of its words, or those of its one word; `s` where it has no letter.
+// Returns the start of the name of `text`: the first letters of its words, or up to 8 letters if it is one word. Returns `s` if
+// there are no letters.
 fn base(alloc: Global, text: &str) -> Result<String, AllocError>
     ensures { IfOk result (λ base. is_plain_name (string_bytes base) ≡ true) }
 {
@@ -83,7 +84,7 @@ fn base(alloc: Global, text: &str) -> Result<String, AllocError>
     }
 }
 
-// A name that is longer than others.
+// Returns `base` followed by `longest` zeros, which is longer than any name of at most `longest` bytes.
 fn longer(alloc: Global, base: &str, longest: usize) -> Result<String, AllocError>
     ensures { IfOk result (λ name. string_bytes name ≡ base.now ++ replicate longest char.zero) }
 {
@@ -94,7 +95,7 @@ fn longer(alloc: Global, base: &str, longest: usize) -> Result<String, AllocErro
     Ok(name)
 }
 
-// A name and the number after it, and none where the number is 1.
+// Returns `base` followed by `number`, or only `base` if the number is 1.
 fn numbered(alloc: Global, base: &str, number: u64) -> Result<String, AllocError>
     ensures { IfOk result (λ name. string_bytes name ≡ base.now ++ number_after number) }
 {
@@ -105,14 +106,15 @@ fn numbered(alloc: Global, base: &str, number: u64) -> Result<String, AllocError
     }
 }
 
-// Whether a text can be a new name.
+// Returns whether `name` can be a new name: it is plain, isn't the abbreviation of a month, and isn't taken.
 fn is_new(taken: &Taken, name: &str) -> bool
     ensures { result ≡ (is_plain_name name.now && (not (spec.is_month name.now) && not (has_lowercase taken.now name.now))) }
 {
     is_plain(name) && !is_month(name) && !taken.has(name)
 }
 
-// A new name with a number after it from one on, and the number.
+// Returns a new name and a number for the next search: `base` with the first number from `from` on that makes it new. If no
+// number does, the name is `base` followed by zeros.
 fn fresh(alloc: Global, taken: &Taken, base: &str, from: u64) -> Result<(String, u64), AllocError>
     requires bounded { IsBounded taken.now }
     requires three { 3 ≤ taken.now.longest }
@@ -128,7 +130,7 @@ fn fresh(alloc: Global, taken: &Taken, base: &str, from: u64) -> Result<(String,
     Ok((longer(alloc, base, taken.longest)?, from))
 }
 
-// New names for texts, one for each.
+// Returns a new name for each of `texts`, and adds these names to `taken`.
 pub(crate) fn new_names(
     alloc: Global,
     taken: &mut Taken,

@@ -1,4 +1,4 @@
-//! Names that are taken.
+//! The names that a new name may not have.
 
 ghost use Rattle.std.specs.Prelude.{◌≡◌, ◌≤◌, ◌||◌, ℕ, List, IfOk, OnOk, map};
 ghost use Rattle.std.specs.List.{flat_map};
@@ -12,7 +12,7 @@ use bib_text::spanned::Spanned;
 use std::alloc::{AllocError, Global};
 use std::collections::BTreeSet;
 
-// Names in lowercase, and how long the longest is.
+// Taken names in lowercase, and an upper bound for their lengths in bytes (at least 3).
 #[derive(Drop)]
 pub(crate) struct Taken {
     names: BTreeSet<String>,
@@ -20,14 +20,14 @@ pub(crate) struct Taken {
 }
 
 impl Taken {
-    // Whether a name in lowercase is taken.
+    // Returns whether `lowercase`, a name in lowercase, is taken.
     pub(crate) fn has(&self, lowercase: &str) -> bool
         ensures { result ≡ has_lowercase self.now lowercase.now }
     {
         self.names.contains(lowercase)
     }
 
-    // Takes a name, in any case.
+    // Adds `name` in lowercase to the taken names.
     pub(crate) fn take(&mut self, alloc: Global, name: &str) -> Result<(), AllocError>
         requires { IsBounded self.old }
         ensures taken { OnOk result ((other : List ℕ) → is_taken self.new other ≡ (is_word name.now other || is_taken self.old other)) }
@@ -39,7 +39,7 @@ impl Taken {
         Ok(())
     }
 
-    // Takes the names among elements.
+    // Adds the names among `pieces`.
     fn take_elements(
         &mut self,
         alloc: Global,
@@ -58,7 +58,7 @@ impl Taken {
         Ok(())
     }
 
-    // Takes the names that definitions define and use.
+    // Adds the names that definitions define or use.
     fn take_definitions(
         &mut self,
         alloc: Global,
@@ -76,7 +76,7 @@ impl Taken {
         Ok(())
     }
 
-    // Takes the names that fields use.
+    // Adds the names that fields use.
     fn take_fields(&mut self, alloc: Global, fields: &[Pair<'_>]) -> Result<(), AllocError>
         requires { IsBounded self.old }
         ensures taken { OnOk result ((other : List ℕ) → is_taken self.new other ≡ (is_one_in_any_case (used_names (map field_of fields.now)) other || is_taken self.old other)) }
@@ -89,7 +89,7 @@ impl Taken {
         Ok(())
     }
 
-    // Takes the names that entries use.
+    // Adds the names that entries use.
     fn take_entries(
         &mut self,
         alloc: Global,
@@ -106,7 +106,7 @@ impl Taken {
         Ok(())
     }
 
-    // The names that a file defines or uses, in any case.
+    // Returns the names that a file defines or uses.
     pub(crate) fn of_file(alloc: Global, raw: &RawBibliography<'_>) -> Result<Taken, AllocError>
         ensures taken { IfOk result (λ taken. (other : List ℕ) → is_taken taken other ≡ is_one_in_any_case (names_of_file (file_of raw.now)) other) }
         ensures bounded { IfOk result IsBounded }

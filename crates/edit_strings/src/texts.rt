@@ -1,4 +1,4 @@
-//! The texts of fields that are collected, and how often each stands among them.
+//! The texts of the fields to collect from, and how often each text occurs.
 
 ghost use Rattle.std.specs.Prelude.{◌≡◌, ◌++◌, ℕ, List, IfOk, OnOk, map};
 ghost use Rattle.std.specs.Option.{option_map};
@@ -12,7 +12,7 @@ use bib_text::spanned::Spanned;
 use std::alloc::{AllocError, Global};
 use std::collections::BTreeMap;
 
-// The text that elements are, if they are one literal.
+// Returns the text of `pieces` if they are one literal.
 fn single_text<'s>(pieces: &[Spanned<RawChunk<'s>>]) -> Option<&'s str>
     ensures { option_map (λ t. t.now) result ≡ spec.single_text (map piece_of pieces.now) }
 {
@@ -25,7 +25,7 @@ fn single_text<'s>(pieces: &[Spanned<RawChunk<'s>>]) -> Option<&'s str>
     }
 }
 
-// Whether a field has one of these names, in any ASCII case.
+// Returns whether `field` has one of `names`, in any ASCII case.
 fn is_named_by(names: &[&str], field: &Pair<'_>) -> bool
     ensures { result ≡ spec.is_named_by (lent_texts names.now) (field_of field.now) }
 {
@@ -37,7 +37,7 @@ fn is_named_by(names: &[&str], field: &Pair<'_>) -> bool
     false
 }
 
-// The text of a field that has one of these names and is one literal.
+// Returns the text of `field` if it has one of `names` and its value is one literal.
 pub(crate) fn named_text<'s>(names: &[&str], field: &Pair<'s>) -> Option<&'s str>
     ensures { option_map (λ t. t.now) result ≡ spec.named_text (lent_texts names.now) (field_of field.now) }
 {
@@ -47,7 +47,7 @@ pub(crate) fn named_text<'s>(names: &[&str], field: &Pair<'s>) -> Option<&'s str
     single_text(&field.value.v)
 }
 
-// Adds the texts of fields that have one of these names and are one literal.
+// Appends the text of each field that has one of `names` and whose value is one literal.
 fn push_texts<'s>(
     texts: &mut Vec<&'s str>,
     names: &[&str],
@@ -63,7 +63,7 @@ fn push_texts<'s>(
     Ok(())
 }
 
-// The texts of the fields of entries that have one of these names and are one literal, in order.
+// Returns the texts of all fields of `entries` that have one of `names` and whose value is one literal, in order.
 pub(crate) fn named_texts<'s>(
     alloc: Global,
     names: &[&str],
@@ -78,7 +78,7 @@ pub(crate) fn named_texts<'s>(
     Ok(texts)
 }
 
-// How often a text was counted.
+// Returns how often `text` was counted.
 pub(crate) fn count_of(counts: &BTreeMap<&str, usize>, text: &str) -> usize
     ensures { result ≡ count_in counts.now text.now }
 {
@@ -88,7 +88,7 @@ pub(crate) fn count_of(counts: &BTreeMap<&str, usize>, text: &str) -> usize
     }
 }
 
-// How often each text stands among texts.
+// Returns how often each text occurs in `texts`.
 pub(crate) fn counts<'s>(
     alloc: Global,
     texts: &[&'s str],

@@ -1,4 +1,4 @@
-//! Which definitions are used: those that fields of entries refer to, and those that used ones refer to.
+//! Used definitions: those that fields of entries refer to, directly or through other definitions.
 
 ghost use Rattle.std.specs.Prelude.{◌≡◌, ◌<◌, false, replicate, IfOk, length, map};
 ghost use Rattle.std.specs.List.{All};
@@ -14,7 +14,7 @@ use bib_text::spanned::Spanned;
 use std::alloc::{AllocError, Global};
 use std::collections::BTreeMap;
 
-// Marks indices.
+// Sets the mark at each of `indices`.
 fn mark_all(marks: &mut [bool], indices: &[usize])
     requires { All (λ index. index < length marks.old) indices.now }
     ensures { marks.new ≡ marked_all marks.old indices.now }
@@ -24,7 +24,7 @@ fn mark_all(marks: &mut [bool], indices: &[usize])
     }
 }
 
-// Marks the definitions that elements refer to.
+// Marks the definitions that `pieces` refer to.
 fn mark_elements(
     marks: &mut [bool],
     indices: &BTreeMap<&str, usize>,
@@ -64,7 +64,7 @@ fn mark_entries(
     }
 }
 
-// Marks what marked definitions refer to, from the last of an order to the first.
+// Goes through `order` from its last index to the first, and marks the definitions that each marked one refers to.
 fn mark_back(marks: &mut [bool], refs: &[Vec<usize>], order: &[usize])
     requires count { length marks.old ≡ length refs.now }
     requires in_range { IsInRange (rows refs.now) }
@@ -79,7 +79,7 @@ fn mark_back(marks: &mut [bool], refs: &[Vec<usize>], order: &[usize])
     }
 }
 
-// Marks on the definitions that are used.
+// Returns for each definition whether it is used.
 pub(crate) fn used(
     alloc: Global,
     indices: &BTreeMap<&str, usize>,

@@ -1,4 +1,4 @@
-//! Elements with the names that are defined written out.
+//! Expansions of definitions and values.
 
 ghost use Rattle.std.specs.Prelude.{◌≡◌, ◌++◌, ◌<◌, [], IfOk, OnOk, length, map};
 ghost use Rattle.std.specs.List.{All};
@@ -13,10 +13,10 @@ use bib_text::spanned::Spanned;
 use std::alloc::{AllocError, Global};
 use std::collections::BTreeMap;
 
-// Elements that stand somewhere in the file.
+// Pieces that are borrowed from the file.
 pub(crate) type Elements<'a, 's> = Vec<&'a Spanned<RawChunk<'s>>>;
 
-// Adds what an element is written out as, by what each definition is.
+// Appends the expansion of `piece`: the expansion of its definition, or `piece` itself if it isn't a defined name.
 fn push_written<'a, 's>(
     found: &mut Elements<'a, 's>,
     indices: &BTreeMap<&str, usize>,
@@ -34,7 +34,7 @@ fn push_written<'a, 's>(
     Ok(())
 }
 
-// What elements are written out as, by what each definition is.
+// Returns the expansion of `pieces`, given the expansion of each definition.
 pub(crate) fn written_by<'a, 's>(
     alloc: Global,
     indices: &BTreeMap<&str, usize>,
@@ -52,7 +52,7 @@ pub(crate) fn written_by<'a, 's>(
     Ok(found)
 }
 
-// A list without elements for each of some values.
+// Returns an empty list for each of `values`.
 fn empty_lists<'a, 's>(
     alloc: Global,
     values: &[&'a Field<'s>],
@@ -68,7 +68,8 @@ fn empty_lists<'a, 's>(
     Ok(lists)
 }
 
-// What each definition that is used is written out as, in an order in which each comes after those that it refers to.
+// Returns the expansion of each used definition, and an empty list for each other one. In `order`, each definition comes after
+// those that it refers to.
 pub(crate) fn written_in_order<'a, 's>(
     alloc: Global,
     indices: &BTreeMap<&str, usize>,

@@ -2,7 +2,7 @@ use Rattle.std.proofs.Common.{◌≡◌, ◌≤◌, false, drop}
 use Rattle.edit_format.specs.Delimited.{close_braces}
 use Rattle.edit_format.proofs.delimiters.can_stand_in_braces.Given as goal
 
--- what is left to look at
+-- the bytes still to visit decide
 abbrev pub invariant-bytes : goal.invariant-bytes
 invariant-bytes l = record {
   left : close_braces l.is_hidden l.depth (drop l.byte-index l.byte-items) ≡ close_braces false 0 l.content;

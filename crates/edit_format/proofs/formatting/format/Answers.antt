@@ -11,7 +11,7 @@ use Rattle.edit_entries.proofs.CutFacts.{document_cut}
 use Rattle.edit_format.proofs.FileFacts.{text_read}
 use Rattle.edit_format.proofs.formatting.format.Goals as goal
 
--- a text with its lines' end and its entries, by what it says
+-- the output of the code is the text in the style, given the line end and the entries of the document
 formatted_is : {S E : Type 0} (bytes : S → List ℕ) (r : Result S E) (style : Style) (text text' line_end : List ℕ)
     (says : FileReading) (entries : List EntryReading) → text' ≡ text → line_end ≡ line_end_of text'
     → entries ≡ says.entries
@@ -41,7 +41,7 @@ returns-clause-text c =
     c.line_end.result.now says (map entry_reading_of c.deref.result.now) c.text-text.ensures c.line_end.ensures
     entries c.with_entries.ensures
 
--- a text that is read alike, if there was memory
+-- the output, if memory didn't run out, parses to the expected reading
 read_is : {S E : Type 0} (bytes : S → List ℕ) (r : Result S E) (style : Style) (text : List ℕ) (says : FileReading) → IsRawReading text says
     → IfOk r (λ new. bytes new ≡ text_in_style style text says) → IfOk r (λ new. IsReadAlike (says_in_order style text says) (bytes new))
 read_is bytes (Err error) style text says read all = _

@@ -11,7 +11,7 @@ and_false : (b c : Bool) → c ≡ false → (b && c) ≡ false
 and_false true c is = is
 and_false false c is = refl
 
--- a first line that a line feed alone ends
+-- the line end is a line feed if the first line doesn't end with a carriage return
 ends_alone : (text line : List ℕ) (r : Bool) → line ≡ before_first (λ b. eqb b 10) text
     → r ≡ ends_with eqb line (codes "\r") → r ≡ false → line_end_of text ≡ codes "\n"
 ends_alone text line r is tests none =

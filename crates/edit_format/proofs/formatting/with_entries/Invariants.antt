@@ -5,7 +5,7 @@ use Rattle.edit_entries.specs.Cuts.{AreEntriesCut}
 use Rattle.edit_format.specs.Formatted as styled
 use Rattle.edit_format.proofs.formatting.with_entries.Given as goal
 
--- what is left to write
+-- the text so far and the output for the rest make the output for the whole text
 abbrev pub invariant-entries : goal.invariant-entries
 invariant-entries l = record {
   written : string_bytes l.new

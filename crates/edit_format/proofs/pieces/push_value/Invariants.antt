@@ -7,7 +7,7 @@ use Rattle.edit_format.specs.Delimited.{piece_as_written}
 use Rattle.edit_format.specs.Formatted.{value_laid_out}
 use Rattle.edit_format.proofs.pieces.push_value.Given as goal
 
--- what is left to write
+-- the text so far and that of the pieces still to append make the text of all pieces
 abbrev pub invariant-pieces : goal.invariant-pieces
 invariant-pieces l = record {
   written : string_bytes l.new

@@ -4,7 +4,7 @@ use Rattle.std.specs.List.{AllByRecursion}
 use Rattle.std.specs.Prelude.{is_some}
 use Rattle.edit_resolve.proofs.comparing.added.Given as goal
 
--- none is new if none of those that are left is
+-- no field is new if none of those still to visit is
 abbrev pub invariant-fields : goal.invariant-fields
 invariant-fields l =
     AllByRecursion (λ p. is_some (by_name.get l.others p.0) ≡ true) (drop l.field-index l.field-items)

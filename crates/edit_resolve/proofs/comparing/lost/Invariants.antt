@@ -4,7 +4,7 @@ use Rattle.std.specs.List.{AllByRecursion}
 use Rattle.edit_resolve.specs.Pairs.{IsPairKept}
 use Rattle.edit_resolve.proofs.comparing.lost.Given as goal
 
--- all are kept if those that are left are
+-- all fields are kept if those still to visit are
 abbrev pub invariant-fields : goal.invariant-fields
 invariant-fields l =
     AllByRecursion (IsPairKept l.others) (drop l.field-index l.field-items)

@@ -6,7 +6,7 @@ use Rattle.edit_resolve.specs.ValueSets.{HasOnly}
 use Rattle.bib_syntax.specs.Views.{field_of}
 use Rattle.edit_resolve.proofs.values.add_values.Given as goal
 
--- the set has no more than the values of the fields so far
+-- each new member of the set is a value of the fields so far
 abbrev pub invariant-fields : goal.invariant-fields
 invariant-fields l = record {
   only : (values : List (List ℕ)) → HasOnly values l.initial.set

@@ -6,7 +6,7 @@ use Rattle.edit_resolve.specs.ValueSets.{HasOnly}
 use Rattle.bib_syntax.specs.Views.{field_of}
 use Rattle.edit_resolve.proofs.values.are_kept.Given as goal
 
--- all are kept if those that are left are
+-- all values are kept if those of the fields still to visit are
 abbrev pub invariant-fields : goal.invariant-fields
 invariant-fields l = record {
   kept : (values : List (List ℕ)) → HasOnly values l.set

@@ -6,7 +6,7 @@ use Rattle.edit_resolve.specs.ValueSets.{HasOnly}
 use Rattle.bib_syntax.specs.Views.{entry_reading_of}
 use Rattle.edit_resolve.proofs.values.is_each_kept.Given as goal
 
--- all are kept if those of the entries that are left are
+-- all values are kept if those of the entries still to visit are
 abbrev pub invariant-entries : goal.invariant-entries
 invariant-entries l = record {
   kept : (values : List (List ℕ)) → HasOnly values l.set

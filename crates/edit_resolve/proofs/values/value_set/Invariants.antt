@@ -6,7 +6,7 @@ use Rattle.edit_resolve.specs.ValueSets.{HasOnly}
 use Rattle.bib_syntax.specs.Views.{entry_reading_of}
 use Rattle.edit_resolve.proofs.values.value_set.Given as goal
 
--- the set has no more than the values of the entries so far
+-- each member of the set is a value of the entries so far
 abbrev pub invariant-entries : goal.invariant-entries
 invariant-entries l = record {
   only : HasOnly (values_as_they_stand l.text (map entry_reading_of (take l.entry-index l.entries))) l.set;

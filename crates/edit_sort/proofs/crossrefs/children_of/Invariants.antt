@@ -4,7 +4,7 @@ use Rattle.bib_syntax.specs.Views.{entry_reading_of}
 use Rattle.edit_sort.specs.Ranks.{AreChildren}
 use Rattle.edit_sort.proofs.crossrefs.children_of.Given as goal
 
--- the children so far
+-- the rows have the children of the entries so far
 abbrev pub invariant-entries : goal.invariant-entries
 invariant-entries l = record {
   same_length : length l.children.items ≡ length l.entries;

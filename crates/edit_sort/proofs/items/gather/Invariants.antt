@@ -5,7 +5,7 @@ use Rattle.edit_sort.specs.Ranks.{item_reading_of}
 use Rattle.edit_sort.specs.Steps.{items_from, place_after, spaces_from}
 use Rattle.edit_sort.proofs.items.gather.Given as goal
 
--- the entries that remain
+-- the spaces and items so far and those of the entries still to visit are those of all entries
 abbrev pub invariant-entries : goal.invariant-entries
 invariant-entries l = record {
   spaces : map (λ s. s.now) l.spaces.items

@@ -6,7 +6,7 @@ use Rattle.edit_sort.specs.Ranks.{item_reading_of}
 use Rattle.edit_sort.specs.Steps.{items_laid_out}
 use Rattle.edit_sort.proofs.sorting.laid_out.Given as goal
 
--- what is left to write
+-- the text so far and that of the items still to write make the whole text
 abbrev pub invariant-order : goal.invariant-order
 invariant-order l = record {
   written : string_bytes l.new

@@ -15,7 +15,7 @@ use Rattle.edit_sort.proofs.FileFacts.{as_many, document_parts, end_cut, order_c
 use Rattle.edit_sort.proofs.StepFacts.{items_are, text_is}
 use Rattle.edit_sort.proofs.sorting.sort_entries.Goals as goal
 
--- ---- by what the document says
+-- ---- the variables of the code, given the document
 
 order_is : (d : Document) (places text : List ℕ) (entries : List EntryReading)
     (all order order' : List Item) → text ≡ d.text → entries ≡ d.says.entries

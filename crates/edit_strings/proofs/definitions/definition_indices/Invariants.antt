@@ -4,6 +4,6 @@ use Rattle.edit_strings.specs.Expanded.{definition_index}
 use Rattle.edit_strings.specs.Tables.{index_in}
 use Rattle.edit_strings.proofs.definitions.definition_indices.Given as goal
 
--- the names so far have the indices of their last definitions so far
+-- each name has the index of its last definition among those so far
 abbrev pub invariant-definitions : goal.invariant-definitions
 invariant-definitions l = (name : List ℕ) → index_in l.indices name ≡ definition_index (map field_of (take l.index l.definitions)) name

@@ -4,7 +4,7 @@ use Rattle.edit_strings.specs.Expanded.{has_defined}
 use Rattle.edit_strings.specs.Tables.{index_in}
 use Rattle.edit_strings.proofs.definitions.has_defined.Given as goal
 
--- the elements that are left decide
+-- the result for all pieces is that for the pieces still to visit
 abbrev pub invariant-pieces : goal.invariant-pieces
 invariant-pieces l =
     has_defined (index_in l.indices) (map piece_of l.pieces)

@@ -8,7 +8,7 @@ use Rattle.edit_format.specs.declared.style.Delimiters.TheVariants.{Keep}
 use Rattle.edit_strings.specs.Tables.{lent_pieces}
 use Rattle.edit_strings.proofs.elements.laid_out.Given as goal
 
--- what is left to write
+-- the text so far and that of the pieces still to append make the text of all pieces
 abbrev pub invariant-pieces : goal.invariant-pieces
 invariant-pieces l = record {
   written : string_bytes l.new

@@ -4,7 +4,7 @@ use Rattle.edit_strings.specs.Tables.{entry_edits, AreAllFieldsCut, expansion_by
 use Rattle.edit_entries.specs.EditList.{edit_of}
 use Rattle.edit_strings.proofs.expanding.expansions.Given as goal
 
--- what is left to add
+-- the edits so far and those of the entries still to visit are those of all entries
 abbrev pub invariant-entries : goal.invariant-entries
 invariant-entries l = record {
   added : map edit_of l.edits.items

@@ -5,7 +5,7 @@ use Rattle.edit_strings.specs.Tables.{field_edits, IsFieldCut, expansion_by, ind
 use Rattle.edit_entries.specs.EditList.{edit_of}
 use Rattle.edit_strings.proofs.expanding.push_expansions.Given as goal
 
--- what is left to add
+-- the edits so far and those of the fields still to visit are those of all fields
 abbrev pub invariant-fields : goal.invariant-fields
 invariant-fields l = record {
   added : map edit_of l.edits.items
