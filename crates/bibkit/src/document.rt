@@ -18,8 +18,8 @@ use std::{fs, io, rt};
 // The maximum number of .aux files of a document.
 const MOST_FILES: usize = 1000;
 
-// The text of the file of a document, in which a line that inputs an .aux file is replaced by the lines of that file, and the status
-// so far: 2 if an input can't be read.
+// The text of the file of a document, and the status so far. Each line that inputs an .aux file is replaced by the lines of that file,
+// or removed if the file occurred before, can't be read, or is beyond `MOST_FILES`. The status is 2 in the last two cases.
 #[derive(Drop)]
 struct Whole {
     text: String,
@@ -97,8 +97,8 @@ fn push_lines(alloc: Global, pending: &mut Vec<String>, text: &str) -> Result<()
     Ok(())
 }
 
-// Adds the lines of an input file to a stack of lines, unless the file was input before. Reports a file that can't be read, and
-// returns its status.
+// Adds the lines of an input file to a stack of lines, unless the file was input before. Returns the status: 0, or 2 after reporting
+// that the file can't be read or that there are too many files.
 fn enter(
     rt: &HostRuntime,
     seen: &mut BTreeMap<String, ()>,
@@ -152,7 +152,7 @@ fn whole_aux(rt: &HostRuntime, document: &str, text: &str) -> Result<Whole, Stop
     Ok(whole)
 }
 
-// Returns the names of files that a document names, each once: as they are, or in the folder of the document.
+// Returns the result of `located` for each name in `named`. A name that occurs several times has one result.
 fn located_once(
     rt: &HostRuntime,
     document: &str,

@@ -55,7 +55,7 @@ fn are_colors_shown(rt: &HostRuntime) -> bool {
     rt.stdout().is_terminal() && rt.stderr().is_terminal() && !refuses_color(rt)
 }
 
-// Returns the name of the file whose project has the settings: the first file, or standard input without files.
+// Returns the name of the file whose project has the settings: the first of `names`, or `-` (standard input) if there is none.
 fn first<'a>(names: &[&'a str]) -> &'a str {
     names.first().copied().unwrap_or("-")
 }
@@ -117,7 +117,7 @@ fn run_settings(rt: &HostRuntime, settings: StyleSettings<'_>, mode: Mode, names
     run_format(rt, settings.style(), settings.sort(), mode, names)
 }
 
-// Returns the order of fields of a project, if it sets one.
+// Returns the order of fields of a project, or `None` if the project sets no order.
 fn project_order<'p>(
     alloc: Global,
     project: &'p Project,

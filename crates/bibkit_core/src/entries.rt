@@ -29,7 +29,7 @@ impl<'r, 'a> Entries<'r, 'a> {
     }
 }
 
-// Returns whether the request is a search, which fails if it finds nothing. Each request is one, except the list of all keys.
+// Returns whether the request is a search: any request except that for all keys. A search that finds nothing has the status 1.
 fn is_search(request: &Excerpts<'_>) -> bool
     ensures { result ≡ spec.is_search request.now }
 {
@@ -39,7 +39,7 @@ fn is_search(request: &Excerpts<'_>) -> bool
     }
 }
 
-// Returns whether something is found so far, if the output for the next file has an entry.
+// Returns whether an entry is found so far: one was found before this file, or the output for this file has one.
 fn is_found_with(is_found: bool, has_entry: bool) -> bool
     ensures { result ≡ (is_found || has_entry) }
 {

@@ -34,7 +34,7 @@ pub record IsDocumentOf (text : List ℕ) (d : Document) : Type 0 where
   pub same : d.text ≡ text
   pub read : IsDocument d
 
--- `after` is the document `d` with the document of `text` added
+-- `after` is the document `d` with a line feed and the document of `text` after it
 pub record TextAdded (d : Document) (text : List ℕ) (after : Document) : Type 0 where
   pub more : Document
   pub read : IsDocumentOf text more

@@ -10,7 +10,7 @@ use Rattle.bibkit_edits.specs.declared.edit.Refusal.TheVariants as refusal
 use Rattle.bibkit_edits.specs.declared.printing.Unprinted.{Unprinted}
 use Rattle.bibkit_edits.specs.declared.printing.Unprinted.TheVariants as unprinted
 
--- the output takes the result of edits of a file's bytes
+-- the output takes the result of edits of a file's bytes, after its earlier contents
 pub record HasPrintedEdited {K : Type 0} (taken : K → Option (List ℕ)) (edits : List Edit) (bytes : List ℕ) (old new : K) : Type 0 where
   pub text : List ℕ
   pub made : IsFileMade edits bytes text

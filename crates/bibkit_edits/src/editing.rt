@@ -38,7 +38,7 @@ enum Step {
     Refused(EditError),
     // The definition of an abbreviation at this index refers to itself.
     Cycle(usize),
-    // Resolving references failed.
+    // References can't be resolved.
     Unresolved(ResolveError),
 }
 
@@ -90,7 +90,8 @@ fn sort_document(
     Ok(sort_entries(alloc, document, &places)?)
 }
 
-// Returns the text of a document with its abbreviations replaced by their texts.
+// Returns the text of a document with its abbreviations replaced by their texts. Fails if a definition refers to itself, or if out of
+// memory.
 fn expand_document(alloc: Global, document: &RawDocument<'_>) -> Result<String, ExpandError>
     ensures made { IfOk result (λ new. IsEdited (IsWrittenOut document.now) (string_bytes new)) }
     ensures refused { IfErr result (ExpandIsRefused document.now) }
@@ -98,7 +99,8 @@ fn expand_document(alloc: Global, document: &RawDocument<'_>) -> Result<String, 
     expand(alloc, document)
 }
 
-// Returns the text of a document with abbreviations for repeated texts of these fields. Fails only if out of memory.
+// Returns the text of a document with abbreviations for the texts that occur in at least `at_least` of these fields. Fails only if out
+// of memory.
 fn collect_texts(
     alloc: Global,
     document: &RawDocument<'_>,
