@@ -201,7 +201,7 @@ impl<'t> Document<'t> {
         self.has_unused && !self.citations.all
     }
 
-    // Returns the findings of the entries of a file that has no name among the keys of the citations.
+    // Returns the findings of the entries of a file that have no name among the keys of the citations.
     fn uncited_entries(&self, alloc: Global, text: &str) -> Result<Vec<Finding>, AllocError>
         ensures { IfOk result (λ found. AreUncited text.now (cited_keys self.now.citations) found.items) }
     {

@@ -33,7 +33,7 @@ pub extern "C" fn biblatex_fmt(alloc: Global, text: &[u8], out: &mut [u8], size:
     end(format_text(alloc, text), out, size).number()
 }
 
-// Returns the text with the field `name` of the entry `key` set to `value` in braces.
+// Returns the text with each field `name` of the first entry `key` set to `value` in braces.
 fn set_in(
     alloc: Global,
     text: &[u8],
@@ -51,9 +51,9 @@ fn set_in(
     Ok(document.set_field(alloc, key, name, value)?)
 }
 
-/// Writes the text with the field `name` of the first entry `key` set to `value`, in braces. If the field occurs several times,
-/// its last occurrence is set. If the entry has no such field, the field is inserted before the others. If the field has this
-/// value already, the text is unchanged.
+/// Writes the text with the field `name` of the first entry `key` set to `value`, in braces. If the field occurs several times, each
+/// occurrence is set. If the entry has no such field, the field is inserted before the others. A field that has this value already is
+/// unchanged.
 #[unsafe(no_mangle)]
 pub extern "C" fn biblatex_set(
     alloc: Global,
@@ -71,7 +71,7 @@ pub extern "C" fn biblatex_set(
     end(set_in(alloc, text, key, name, value), out, size).number()
 }
 
-// Returns the text without the field `name` of the entry `key`.
+// Returns the text without each field `name` of the first entry `key`.
 fn unset_in(alloc: Global, text: &[u8], key: &[u8], name: &[u8]) -> Result<String, Status>
     ensures made { IfOk result (λ edited. IsEditedText (λ d. FieldUnset d key.now name.now) text.now (string_bytes edited)) }
     ensures fails { IfErr result (EditFails (λ d why. EntryIsRefused d key.now why) text.now (key.now ∷ name.now ∷ [])) }
@@ -100,7 +100,7 @@ pub extern "C" fn biblatex_unset(
     end(unset_in(alloc, text, key, name), out, size).number()
 }
 
-// Returns the text with `new` as the key of the entry `old`, also in the references to it.
+// Returns the text with `new` as the key of the first entry `old`, also in the references to it.
 fn rename_in(alloc: Global, text: &[u8], old: &[u8], new: &[u8]) -> Result<String, Status>
     ensures made { IfOk result (λ edited. IsEditedText (λ d. KeyRenamed d old.now new.now) text.now (string_bytes edited)) }
     ensures fails { IfErr result (EditFails (λ d why. RenameIsRefused d old.now new.now why) text.now (old.now ∷ new.now ∷ [])) }
@@ -111,8 +111,9 @@ fn rename_in(alloc: Global, text: &[u8], old: &[u8], new: &[u8]) -> Result<Strin
     Ok(document.rename_key(alloc, old, new)?)
 }
 
-/// Writes the text with `new` as the key of the first entry `old`, also in the references to it. Returns `KeyIsThere` if
-/// another entry has the name `new`, in any ASCII case, and `NotAKey` if BibTeX, Biber or bibtool wouldn't read the key `new`.
+/// Writes the text with `new` as the key of the first entry `old`, also in the references to it. Returns `KeyIsThere` if another entry
+/// has the name `new`, in any ASCII case, or this one has it in its field `ids`. Returns `NotAKey` if `old` is empty, or if BibTeX,
+/// Biber or bibtool wouldn't read the key `new`. Returns `NotInBraces` if a changed reference can't be written in braces.
 #[unsafe(no_mangle)]
 pub extern "C" fn biblatex_rename(
     alloc: Global,
@@ -129,7 +130,7 @@ pub extern "C" fn biblatex_rename(
     end(rename_in(alloc, text, old, new), out, size).number()
 }
 
-// Returns the text without the entry `key`.
+// Returns the text without the first entry `key`.
 fn remove_in(alloc: Global, text: &[u8], key: &[u8]) -> Result<String, Status>
     ensures made { IfOk result (λ edited. IsEditedText (λ d. EntryRemoved d key.now) text.now (string_bytes edited)) }
     ensures fails { IfErr result (EditFails (λ d why. EntryIsRefused d key.now why) text.now (key.now ∷ [])) }
