@@ -210,7 +210,8 @@ fn edits_of<'a>(
     }
 }
 
-// Returns the use of the new text. `--diff` takes precedence over a check, and a check over `--write`.
+// Returns the use of the new text. With `--diff`, that is a diff, with a check if `is_check`. Otherwise a check takes precedence over
+// `--write`.
 fn mode_of(matches: &ArgMatches<'_>, is_check: bool) -> Mode {
     if matches.get_flag("diff") {
         Mode::Diff { is_check }
@@ -370,7 +371,7 @@ fn matches<'a>(alloc: Global, words: &'a [String]) -> Result<ArgMatches<'a>, Err
 }
 
 /// Parses a command line. Its first word is the name of the program. Instead of running a command, the caller reports the error: the
-/// requested help, the reason for which the words are wrong, or out of memory.
+/// requested help, the reason why the command line is wrong, or out of memory.
 pub fn read<'a>(alloc: Global, words: &'a [String]) -> Result<Words<'a>, Error> {
     let matches = matches(alloc, words)?;
     let words = parse_matches(alloc, &matches)?;

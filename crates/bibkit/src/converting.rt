@@ -1,4 +1,4 @@
-//! Runs `convert` for files with entries.
+//! Runs `convert` for bibliography files.
 
 use crate::edits::{after_mark, print};
 use crate::stops::{Stop, bytes_of, error_line, say};

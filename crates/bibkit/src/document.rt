@@ -1,4 +1,4 @@
-//! Runs `cited`: reads the file of a document, with the .aux files that it inputs, and finds the .bib files that it names.
+//! Runs `cited`: reads the file of a document, with the .aux files that it inputs, and prints the cited entries of .bib files.
 
 use crate::files::SystemFiles;
 use crate::stops::{Stop, bytes_of, say};
@@ -66,7 +66,8 @@ fn exists(rt: &HostRuntime, name: &str) -> bool {
     matches!(fs::exists(rt, name), Ok(true))
 }
 
-// Returns the name of a file that a document names: as it is, or in the folder of the document if only that file exists.
+// Returns the name of a file that a document names. If no file has this name, but a file in the folder of the document has it, returns
+// the name of the latter.
 fn located(rt: &HostRuntime, document: &str, name: &str) -> Result<String, AllocError> {
     if exists(rt, name) {
         return String::from_str(rt.alloc(), name);
@@ -169,7 +170,7 @@ fn located_once(
     Ok(files)
 }
 
-// Returns the names of the .bib files that a document with this whole text names, or `-` if it names none.
+// Returns the names of the .bib files that a document with this whole text names, or `-` (standard input) if it names none.
 fn named_files(rt: &HostRuntime, document: &str, whole: &str) -> Result<Vec<String>, AllocError> {
     let named = if is_control_file(document) {
         sources_in_bcf(rt.alloc(), whole)?
@@ -235,8 +236,8 @@ fn cited_status(rt: &HostRuntime, document: &str, given: &[&str]) -> Result<u8, 
     Ok(run_names(rt, document, whole.text, names).max(whole.status))
 }
 
-/// Prints the entries that a document cites, and returns the status. Reads the files with the names `given`, or those that the
-/// document names if none is given.
+/// Prints the entries of files that a document cites, and returns the status. The files are those with the names `given`, or those that
+/// the document names if `given` is empty.
 pub fn run_cited(rt: &HostRuntime, document: &str, given: &[&str]) -> u8 {
     match cited_status(rt, document, given) {
         Ok(status) => status,

@@ -265,7 +265,7 @@ fn printing_stop(
     }
 }
 
-// Returns the reason for which a file can't be written.
+// Returns the text of the reason why a file can't be written.
 fn write_reason(kind: ErrorKind) -> &'static str {
     match kind {
         ErrorKind::PermissionDenied => "it may not be written",
@@ -275,8 +275,8 @@ fn write_reason(kind: ErrorKind) -> &'static str {
     }
 }
 
-// Returns the message for an error of replacing a file. After `Unsure` the file may have the new text, and after `Unsettled` it has
-// the new text until a crash.
+// Returns the message for an error of replacing a file. After `Unsure`, the file may have the new text. After `Unsettled`, it has the
+// new text, but a crash may bring back the old one.
 fn unwritten_line(alloc: Global, name: &str, error: &ReplaceError) -> Result<String, AllocError> {
     let reason = match error {
         ReplaceError::NotReplaced(error) | ReplaceError::Unsure(error) => {

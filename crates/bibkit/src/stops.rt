@@ -1,4 +1,4 @@
-//! The reasons for which a command ends early, and their messages.
+//! The reasons why a command ends early, and their messages.
 
 use crate::files::SystemFiles;
 use bib_source::positions::Positions;
@@ -6,7 +6,7 @@ use bib_syntax::raw::ParseError;
 use bibkit_core::files::Files;
 use std::alloc::{AllocError, AllocFailed, Global};
 
-/// The reason for which a command on a file ends early.
+/// The reason why a command on a file ends early.
 #[derive(Drop)]
 pub enum Stop {
     /// An error with this message and this status.

@@ -68,8 +68,8 @@ pub record CantReadDocument {F : Type 0} (reads : F → List ℕ → Option (Lis
   pub document : IsOnDocument request name
   pub unread : reads files name None files'
 
--- the reasons for status 2: a file can't be read, and the whole output for the others is printed; or the file of the document
--- can't be read, and nothing is printed; or the output takes a first part of the texts, and refuses the text after it
+-- a run has the status 2 for one of these reasons: a file can't be read, and the whole output for the others is printed; or the file
+-- of the document can't be read, and nothing is printed; or the output takes the first texts, and refuses the text after them
 pub data HasFailed {F K : Type 0} (reads : F → List ℕ → Option (List ℕ) → F → Type 0) (taken : K → Option (List ℕ))
     (refusals : K → ℕ) (hands_over : K → List ℕ → Bool → K → Type 0) (files : F) (names : List (List ℕ))
     (request : Request) (old new : K) : Type 0 where

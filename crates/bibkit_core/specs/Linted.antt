@@ -25,7 +25,7 @@ pub data AreShown (style : Style) (name bytes : List ℕ) : Bool → List Findin
 abbrev pub tally_after : Tally → List Finding → Tally
 tally_after tally found = fold (λ t f. one_more t (severity_of f.code)) tally found
 
--- `text` is the output for these findings of a file, with the counts before and after them
+-- `text` is the output for these findings in a file with these bytes, with the counts before and after them
 pub record ArePrinted (style : Style) (name bytes : List ℕ) (found : List Finding) (before : Tally) (text : List ℕ)
     (after : Tally) : Type 0 where
   pub shown : AreShown style name bytes (is_none before) found text

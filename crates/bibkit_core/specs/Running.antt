@@ -15,7 +15,7 @@ pub data IsStep {F T : Type 0} (reads : F → List ℕ → Option (List ℕ) →
       → IsStep reads prints files task name text true files' task'
   unread : {files' : F} → reads files name None files' → IsStep reads prints files task name [] false files' task
 
--- the output for files in turn, and whether all of them could be read
+-- the output for files in turn, and whether all of them could be read; a file that can't be read has no output
 pub data AreRun {F T : Type 0} (reads : F → List ℕ → Option (List ℕ) → F → Type 0) (prints : T → List ℕ → List ℕ → List ℕ → T → Type 0)
     : F → T → List (List ℕ) → List ℕ → Bool → F → T → Type 0 where
   none : {files : F} {task : T} → AreRun reads prints files task [] [] true files task

@@ -34,8 +34,8 @@ pub record HasRun {F T : Type 0} (reads : F → List ℕ → Option (List ℕ) �
   pub run : AreRun reads prints files task names text are_read files' task'
   pub printed : Appends taken taken' text
 
--- the reasons for which a run ends early: the output refused a text after those that `Prints` allows; or the file of the document
--- can't be read (`Unread`), and nothing is printed; or out of memory, and the output refused no text
+-- a run ends early for this reason: the output refused a text after one that `Prints` allows; or the file of the document can't be
+-- read (`Unread`), and nothing is printed; or out of memory, and the output refused no text
 pub data HasStopped {K : Type 0} (taken : K → Option (List ℕ)) (refusals : K → ℕ)
     (hands_over : K → List ℕ → Bool → K → Type 0) (Prints : List ℕ → Option ℕ → Type 0) (Unread : Type 0) (old new : K)
     : Stop → Type 0 where
@@ -60,7 +60,7 @@ pub record AreFirst {F T : Type 0} (reads : F → List ℕ → Option (List ℕ)
   pub parts : names ≡ done ++ rest
   pub run : AreRun reads prints files task done text are_read files' task'
 
--- the reasons for which the text of a document is missing: its file can't be read, or out of memory
+-- the text of a document is missing for this reason: its file can't be read, or out of memory
 abbrev pub HasNoText : {F : Type 0} → (F → List ℕ → Option (List ℕ) → F → Type 0) → F → List ℕ → F → Stop → Type 0
 HasNoText reads files name files' NoDocument = reads files name None files'
 HasNoText reads files name files' OutOfMemory = ⊤

@@ -140,8 +140,8 @@ fn unmarked_findings(
 }
 
 impl<'t> Document<'t> {
-    /// Returns the document whose .aux or .bcf file has this name and text, before any file is compared. `has_unused` requests
-    /// the findings of entries that it doesn't cite.
+    /// Returns the document whose .aux or .bcf file has this name and text, without a marked citation. `has_unused` requests the findings
+    /// of entries that it doesn't cite.
     pub fn new(
         alloc: Global,
         name: &'t str,

@@ -1,4 +1,4 @@
-//! The task that counts the entries, types, fields, years and findings of files.
+//! The task that counts the entries, types, fields, years and findings of files, and prints the counts at the end.
 
 ghost use Rattle.std.specs.Prelude.{◌≡◌, [], ◌∷◌, ◌++◌, ℕ, List, map, IfOk, OnOk};
 ghost use Rattle.std.specs.Char.{is_ascii_digit};

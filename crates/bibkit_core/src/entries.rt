@@ -46,7 +46,7 @@ fn is_found_with(is_found: bool, has_entry: bool) -> bool
     is_found || has_entry
 }
 
-// Returns the status: 1 for a search that found nothing, otherwise 0.
+// Returns the status of a request: 1 for a search that found nothing, otherwise 0.
 fn entries_status(request: &Excerpts<'_>, is_found: bool) -> u8
     ensures { result ≡ spec.entries_status request.now is_found }
 {

@@ -40,7 +40,8 @@ last_text = 0xF4 ∷ 0x8F ∷ 0xBF ∷ 0xBF ∷ []
 abbrev pub or_last : List ℕ → List ℕ
 or_last text = if length text == 0 then last_text else text
 
--- the text by which an entry is sorted; `last_text` for an entry without a year or without an author and an editor, in these orders
+-- the text by which an entry is sorted; in the order by year, it is `last_text` for an entry without a year, and in the order by author
+-- for an entry that has neither author nor editor
 abbrev pub order_text : Order → EntryReading → List ℕ
 order_text order.Key e = str_to_ascii_lowercase e.key.text
 order_text order.Year e = or_last (year_of e)

@@ -40,11 +40,11 @@ abbrev pub unless_no_memory : ParseErrorKind → Refusal → Refusal
 unless_no_memory kind.OutOfMemory other = refusal.OutOfMemory
 unless_no_memory _ other = other
 
--- the refusal for an error of the text to be added
+-- the refusal for an error of parsing the text to be added
 abbrev pub added_refusal : ParseError → Refusal
 added_refusal e = unless_no_memory e.kind (refusal.Added e)
 
--- the refusal for an error of the text of the file
+-- the refusal for an error of parsing the text of the file
 abbrev pub file_refusal : ParseError → Refusal
 file_refusal e = unless_no_memory e.kind (refusal.File e)
 
@@ -88,7 +88,7 @@ pub record IsUnresolvedAt (edit : Edit) (text : List ℕ) (why : ResolveError) :
   pub read : IsDocumentOf text document
   pub refused : IsUnresolved edit document why
 
--- the edit adds a text with the error `e`
+-- the edit adds a text with the error `e`, which makes parsing fail
 pub record AddsError (edit : Edit) (e : ParseError) : Type 0 where
   pub more : List ℕ
   pub adds : AddsText edit more

@@ -67,8 +67,8 @@ fn author_text(alloc: Global, entry: &Spanned<RawEntry<'_>>) -> Result<String, A
     family_first(alloc, &person)
 }
 
-// Returns the text by which an entry is sorted. It is U+10FFFF for an entry without a year (in the order by year) or without an author
-// and an editor (in the order by author).
+// Returns the text by which an entry is sorted. In the order by year, it is U+10FFFF for an entry without a year. In the order by
+// author, it is U+10FFFF for an entry that has neither author nor editor.
 fn order_text(
     alloc: Global,
     order: Order,

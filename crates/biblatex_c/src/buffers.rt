@@ -6,8 +6,8 @@ ghost use Rattle.biblatex_c.specs.Calls.{IsEnd};
 
 use crate::status::Status;
 
-// Writes `answer` to the start of `out`, and its length in bytes to `size`. If `out` is too short, leaves it unchanged, sets `size` all
-// the same, and returns `TooShort`.
+// Writes `answer` to the start of `out`, and its length in bytes to `size`. If `out` is too short, leaves it unchanged, but sets `size`,
+// and returns `TooShort`.
 pub(crate) fn write(answer: &[u8], out: &mut [u8], size: &mut usize) -> Status
     ensures { IsEnd (λ bytes. bytes ≡ answer.now) (λ _. ⊥) out.old size.old out.new size.new result }
 {

@@ -1,4 +1,4 @@
-//! Calls that edit the text of a file.
+//! Calls that edit or format the text of a file.
 
 ghost use Rattle.std.specs.Prelude.{◌≡◌, [], ◌∷◌, IfOk, IfErr};
 ghost use Rattle.std.specs.String.{string_bytes};
@@ -15,7 +15,7 @@ use edit_format::formatting::format;
 use edit_format::style::Style;
 use std::alloc::Global;
 
-// Returns the text in the default style.
+// Returns the text in the default style. Fails with `Refused` if the text isn't a file of the grammar.
 fn format_text(alloc: Global, text: &[u8]) -> Result<String, Status>
     ensures text { IfOk result (λ edited. IsLaidOut text.now (string_bytes edited)) }
     ensures fails { IfErr result (TextFails (IsNoFile text.now) text.now) }
@@ -82,8 +82,8 @@ fn unset_in(alloc: Global, text: &[u8], key: &[u8], name: &[u8]) -> Result<Strin
     Ok(document.unset_field(alloc, key, name)?)
 }
 
-/// Writes the text without the field `name` of the first entry `key`: each occurrence of the field is removed. If the entry has
-/// no such field, the text is unchanged.
+/// Writes the text without the field `name` of the first entry `key`. If the field occurs several times, each occurrence is removed. If
+/// the entry has no such field, the text is unchanged.
 #[unsafe(no_mangle)]
 pub extern "C" fn biblatex_unset(
     alloc: Global,
@@ -166,9 +166,9 @@ fn add_to(alloc: Global, text: &[u8], added: &[u8]) -> Result<String, Status>
     Ok(document.add_entries(alloc, &more)?)
 }
 
-/// Writes the text, a line feed, and the text `added`. Returns `KeyIsThere` if an entry of `added` has a name of another entry,
-/// in any ASCII case, `NotAKey` if BibTeX, Biber or bibtool wouldn't read the key of one, and `DefinitionIsThere` if `added` defines an
-/// abbreviation of the text with another value.
+/// Writes the text, a line feed, and the text `added`. Returns `KeyIsThere` if an entry of `added` has a name of another entry, in any
+/// ASCII case. Returns `NotAKey` if BibTeX, Biber or bibtool wouldn't read the key of an entry of `added`. Returns `DefinitionIsThere` if
+/// `added` defines an abbreviation that the text defines with another value, in any ASCII case of the name.
 #[unsafe(no_mangle)]
 pub extern "C" fn biblatex_add(
     alloc: Global,
