@@ -1,5 +1,5 @@
 -- Machinery: words of private contracts.
--- The output for further findings.
+-- Appending the output for findings to the output so far.
 use Rattle.std.specs.Prelude.{◌≡◌, ℕ, List, ◌++◌, string_bytes}
 use Rattle.bib_source.specs.declared.positions.Position.{Position}
 use Rattle.bib_findings.specs.Codes.{severity_of}

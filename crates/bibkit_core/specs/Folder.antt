@@ -30,9 +30,9 @@ pub record Disk : Type 1 where
   -- the contents that a crash could have left for a name, at some moment since the one with this number, during a call or
   -- between two calls
   pub left_since : ℕ → List ℕ → Option (List ℕ) → Type 0
-  -- the current moment is one of the moments since an earlier one
+  -- since an earlier moment or the current one, a crash could have left any contents that it may leave now
   pub counts_now : (t : ℕ) (name : List ℕ) (c : Option (List ℕ)) → t ≤ moment → may_leave name c → left_since t name c
-  -- the only moment since the current one is the current one
+  -- since the current moment, a crash could have left only contents that it may leave now
   pub only_now : (name : List ℕ) (c : Option (List ℕ)) → left_since moment name c → may_leave name c
 
 -- Time has elapsed from `old` to `new`. The contents that a crash since an earlier moment could have left are those that it could have

@@ -1,5 +1,5 @@
 -- Machinery: words of private contracts.
--- Marks on the citations of a document: whether a file has an entry for each.
+-- Marks on the citations of a document, which say whether a file has an entry for the citation.
 use Rattle.std.specs.Prelude.{◌≡◌, ◌||◌, ℕ, Bool, true, false, List, [], ◌∷◌, ◌++◌, length, map, replicate, string_bytes}
 use Rattle.bib_source.specs.declared.decoding.Decoded.{Decoded}
 use Rattle.bib_queries.specs.Known.{IsKnownIn, IsUncited}

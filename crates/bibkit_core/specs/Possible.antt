@@ -25,7 +25,7 @@ abbrev pub firm_since : Files → ℕ → List ℕ → Option (List ℕ) → Typ
 firm_since files zero name c = Unit {0}
 firm_since files (suc t) name c = c ≡ files name
 
--- on `firm_disk`, the current moment is one of the moments since `t`
+-- on `firm_disk`, a crash since the moment `t` could have left the current contents
 pub firm_counts : (files : Files) (t : ℕ) (name : List ℕ) (c : Option (List ℕ)) → c ≡ files name → firm_since files t name c
 firm_counts files zero name c now = tt
 firm_counts files (suc t) name c now = now

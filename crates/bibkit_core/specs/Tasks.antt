@@ -45,7 +45,7 @@ pub record PrintsFindings (lint : Lint) (name bytes : List ℕ) (before : Tally)
   pub of_bytes : AreDecoded bytes decoded
   pub printed : IsPrintedFile lint name bytes decoded before text after
 
--- `text` is the output for the requested entries of a file with these bytes; `has_entry` says whether the output has an entry
+-- `text` is the output for a request for entries or keys of a file with these bytes; `has_entry` says whether the output has one
 pub record PrintsEntries (request : Request) (bytes text : List ℕ) (has_entry : Bool) : Type 0 where
   pub decoded : Decoded
   pub of_bytes : AreDecoded bytes decoded
@@ -87,7 +87,7 @@ pub record BeginsEntries (request : Request) (task : Entries) : Type 0 where
 abbrev pub entries_begins : Entries → List ℕ
 entries_begins task = []
 
--- the output of the entries task for a file, and the task afterwards; `is_found` says whether the output of a file so far has an entry
+-- the output of the entries task for a file, and the task afterwards; `is_found` says whether the output so far has an entry or a key
 abbrev pub entries_prints : Entries → List ℕ → List ℕ → List ℕ → Entries → Type 0
 entries_prints old name bytes text new =
     (new.request.now ≡ old.request.now)

@@ -1,4 +1,4 @@
-//! Prints a finding in colours for a terminal, with the line of the file below it.
+//! Returns the text of a finding in colours for a terminal, with the line of the file below it.
 
 ghost use Rattle.std.specs.Prelude.{◌≡◌, ◌≤◌, length, IfOk};
 ghost use Rattle.std.specs.String.{string_bytes};

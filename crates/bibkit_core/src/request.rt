@@ -46,7 +46,7 @@ pub enum Request<'a> {
     Entries(Excerpts<'a>),
     /// Prints the entries that the document of this .aux or .bcf file cites.
     Cited(&'a str),
-    /// Prints the numbers of entries, types, fields, years and findings.
+    /// Prints the number of entries, and the counts of types, fields, years and codes of findings.
     Stats,
 }
 

@@ -99,13 +99,13 @@ pub record IsMade (edit : Edit) (text new : List ℕ) : Type 0 where
   pub read : IsDocumentOf text document
   pub edited : IsEdited (EditOutcome edit document) new
 
--- the last text is the first one after these edits, each of the text after the previous one
+-- the second text is the first one after these edits, each made of the text after the previous edit
 pub data AreMade : List Edit → List ℕ → List ℕ → Type 0 where
   none : {text : List ℕ} → AreMade [] text text
   next : {edit : Edit} {rest : List Edit} {text new : List ℕ} (between : List ℕ) → IsMade edit text between
       → AreMade rest between new → AreMade (edit ∷ rest) text new
 
--- adding `text`, which is a document, to the document `d` may be refused with the error `why`
+-- adding the document of `text` to the document `d` may be refused with the error `why`
 pub record TextIsRefused (d : Document) (text : List ℕ) (why : EditError) : Type 0 where
   pub more : Document
   pub read : IsDocumentOf text more

@@ -70,19 +70,19 @@ refusal_at (step.Refused why) index = edit_refusal why index
 refusal_at (step.Cycle definition) index = refusal.Cycle index definition
 refusal_at (step.Unresolved why) index = unresolved_refusal why index
 
--- `text` is a document, and an edit of it may be refused with the error `why`
+-- an edit of the document of `text` may be refused with the error `why`
 pub record IsRefusedAt (edit : Edit) (text : List ℕ) (why : EditError) : Type 0 where
   pub document : Document
   pub read : IsDocumentOf text document
   pub refused : IsEditRefused edit document why
 
--- `text` is a document, and an edit of it expands the definition at this index, which refers to itself
+-- an edit of the document of `text` expands the definition at this index, which refers to itself
 pub record MeetsCycleAt (edit : Edit) (text : List ℕ) (definition : ℕ) : Type 0 where
   pub document : Document
   pub read : IsDocumentOf text document
   pub meets : MeetsCycle edit document definition
 
--- `text` is a document, and an edit of it can't resolve references with the error `why`
+-- an edit of the document of `text` may fail to resolve references with the error `why`
 pub record IsUnresolvedAt (edit : Edit) (text : List ℕ) (why : ResolveError) : Type 0 where
   pub document : Document
   pub read : IsDocumentOf text document
