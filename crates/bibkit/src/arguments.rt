@@ -63,7 +63,7 @@ pub struct Words<'a> {
     pub names: Vec<&'a str>,
 }
 
-// Returns the values of an argument.
+// Returns the values of an argument, or an empty list if the argument is missing.
 fn texts<'a>(
     alloc: Global,
     matches: &ArgMatches<'a>,
@@ -75,7 +75,7 @@ fn texts<'a>(
     }
 }
 
-// Returns the values of an option, if it is given.
+// Returns the values of an option, or `None` if the option is missing.
 fn given_texts<'a>(
     alloc: Global,
     matches: &ArgMatches<'a>,
@@ -87,14 +87,14 @@ fn given_texts<'a>(
     }
 }
 
-// Returns the number that is the value of an option, if it is given.
+// Returns the number that is the value of an option, or `None` if the option is missing.
 fn number(matches: &ArgMatches<'_>, id: &str) -> Option<usize> {
     matches
         .get_str(id)
         .and_then(|word| word.parse::<usize>().ok())
 }
 
-// Returns the codes that are the values of an option, if it is given.
+// Returns the codes that are the values of an option, or `None` if the option is missing.
 fn given_codes(
     alloc: Global,
     matches: &ArgMatches<'_>,
@@ -112,7 +112,7 @@ fn given_codes(
     }
 }
 
-// Returns the request of `lint`.
+// Returns the request of `lint`: the explanation of a code for `--explain`, otherwise the findings of files.
 fn lint_asked<'a>(alloc: Global, matches: &ArgMatches<'a>) -> Result<Asked<'a>, AllocError> {
     if let Some(code) = matches.get_str("explain").and_then(Code::from_name) {
         return Ok(Asked::Other(Request::Explain(code)));
@@ -135,7 +135,7 @@ fn text<'a>(matches: &ArgMatches<'a>, id: &str) -> &'a str {
     matches.get_str(id).unwrap_or("")
 }
 
-// Returns the edits that set fields of an entry. Each word is FIELD=VALUE.
+// Returns the edits that set fields of an entry. Each word is FIELD=VALUE. Returns `NoValue` for the first word without `=`.
 fn set_fields<'a>(alloc: Global, key: &'a str, words: &[&'a str]) -> Result<Edits<'a>, AllocError> {
     let mut edits = Vec::new(alloc);
     'words: for word in words {
@@ -180,7 +180,7 @@ fn strings_edits<'a>(alloc: Global, matches: &ArgMatches<'a>) -> Result<Edits<'a
     })
 }
 
-// Returns the edits of the command `name`.
+// Returns the edits of the command `name`, which edits a file.
 fn edits_of<'a>(
     alloc: Global,
     name: &str,
@@ -210,7 +210,8 @@ fn edits_of<'a>(
     }
 }
 
-// Returns the use of the new text. `--diff` takes precedence over a check, and a check over `--write`.
+// Returns the use of the new text. With `--diff`, that is a diff, with a check if `is_check`. Otherwise a check takes precedence over
+// `--write`.
 fn mode_of(matches: &ArgMatches<'_>, is_check: bool) -> Mode {
     if matches.get_flag("diff") {
         Mode::Diff { is_check }
@@ -272,7 +273,7 @@ fn format_asked<'a>(alloc: Global, matches: &ArgMatches<'a>) -> Result<Asked<'a>
     })
 }
 
-// Returns the dialect that a word names.
+// Returns the dialect with this name, or `None` for any other name and for a missing one.
 fn dialect_named(name: Option<&str>) -> Option<Dialect> {
     match name {
         Some("biblatex") => Some(Dialect::Biblatex),
@@ -321,7 +322,8 @@ fn request_of<'a>(
     Ok(Asked::Other(request))
 }
 
-// Returns the names of the files of the command `name`, or `-` (standard input) without any, except for `cited`.
+// Returns the names of the files that the command line of the command `name` contains. If it contains none, returns `-` (standard
+// input), or an empty list for `cited`.
 fn file_names<'a>(
     alloc: Global,
     name: &str,
@@ -368,8 +370,8 @@ fn matches<'a>(alloc: Global, words: &'a [String]) -> Result<ArgMatches<'a>, Err
     command(alloc)?.try_get_matches_from(words)
 }
 
-/// Parses a command line. Its first word is the name of the program. The error is printed instead of running a command: the
-/// requested help, or the reason for which the words are wrong.
+/// Parses a command line. Its first word is the name of the program. Instead of running a command, the caller reports the error: the
+/// requested help, the reason why the command line is wrong, or out of memory.
 pub fn read<'a>(alloc: Global, words: &'a [String]) -> Result<Words<'a>, Error> {
     let matches = matches(alloc, words)?;
     let words = parse_matches(alloc, &matches)?;

@@ -1,4 +1,4 @@
-//! Runs `convert` for files with entries.
+//! Runs `convert` for bibliography files.
 
 use crate::edits::{after_mark, print};
 use crate::stops::{Stop, bytes_of, error_line, say};
@@ -16,13 +16,13 @@ use std::alloc::{AllocError, Global};
 use std::io;
 use std::str::from_utf8;
 
-// Returns the error of an output that can't be written.
+// Returns the message and status 2 for an output that can't be written.
 fn output_stop(alloc: Global) -> Result<Stop, AllocError> {
     let said = String::from_str(alloc, "bibkit: the output can't be written\n")?;
     Ok(Stop::Said(said, 2))
 }
 
-// Returns the error of a text that isn't a bibliography.
+// Returns the message and status 1 for the error of parsing a text as a bibliography.
 fn syntax_stop(
     alloc: Global,
     name: &str,
@@ -53,7 +53,7 @@ impl Progress {
     }
 }
 
-// Prints the entries of a file's text. If it isn't a bibliography, reports that.
+// Prints the entries of a file's text. If parsing it as a bibliography fails, reports the error.
 fn convert_text<K: Sink>(
     rt: &HostRuntime,
     target: Target,
@@ -77,7 +77,7 @@ fn convert_text<K: Sink>(
     }
 }
 
-// Prints the entries of a file. If it can't be read or isn't a bibliography, reports that.
+// Prints the entries of a file. If the file can't be read, or parsing it as a bibliography fails, reports the error.
 fn convert_file<K: Sink>(
     rt: &HostRuntime,
     target: Target,
@@ -125,8 +125,8 @@ fn convert_files(rt: &HostRuntime, target: Target, names: &[&str]) -> Result<u8,
     Ok(progress.status)
 }
 
-/// Prints the entries of files in another format, and returns the greatest status of a file. If the output refuses a text, or
-/// memory runs out, prints nothing more.
+/// Prints the entries of files in another format, and returns the greatest status of a file. If the output refuses a text, or if out
+/// of memory, stops and returns the status of that error.
 pub fn run_convert(rt: &HostRuntime, target: Target, names: &[&str]) -> u8 {
     match convert_files(rt, target, names) {
         Ok(status) => status,

@@ -1,4 +1,4 @@
-//! Runs `cited`: reads the file of a document, with the .aux files that it inputs, and finds the .bib files that it names.
+//! Runs `cited`: reads the file of a document, with the .aux files that it inputs, and prints the cited entries of .bib files.
 
 use crate::files::SystemFiles;
 use crate::stops::{Stop, bytes_of, say};
@@ -18,8 +18,8 @@ use std::{fs, io, rt};
 // The maximum number of .aux files of a document.
 const MOST_FILES: usize = 1000;
 
-// The text of the file of a document, in which a line that inputs an .aux file is replaced by the lines of that file, and the status
-// so far: 2 if an input can't be read.
+// The text of the file of a document, and the status so far. Each line that inputs an .aux file is replaced by the lines of that file,
+// or removed if the file occurred before, can't be read, or is beyond `MOST_FILES`. The status is 2 in the last two cases.
 #[derive(Drop)]
 struct Whole {
     text: String,
@@ -66,7 +66,8 @@ fn exists(rt: &HostRuntime, name: &str) -> bool {
     matches!(fs::exists(rt, name), Ok(true))
 }
 
-// Returns the name of a file that a document names: as it is, or in the folder of the document if only that file exists.
+// Returns the name of a file that a document names. If no file has this name, but a file in the folder of the document has it, returns
+// the name of the latter.
 fn located(rt: &HostRuntime, document: &str, name: &str) -> Result<String, AllocError> {
     if exists(rt, name) {
         return String::from_str(rt.alloc(), name);
@@ -97,8 +98,8 @@ fn push_lines(alloc: Global, pending: &mut Vec<String>, text: &str) -> Result<()
     Ok(())
 }
 
-// Adds the lines of an input file to a stack of lines, unless the file was input before. Reports a file that can't be read, and
-// returns its status.
+// Adds the lines of an input file to a stack of lines, unless the file was input before. Returns the status: 0, or 2 after reporting
+// that the file can't be read or that there are too many files.
 fn enter(
     rt: &HostRuntime,
     seen: &mut BTreeMap<String, ()>,
@@ -152,7 +153,7 @@ fn whole_aux(rt: &HostRuntime, document: &str, text: &str) -> Result<Whole, Stop
     Ok(whole)
 }
 
-// Returns the names of files that a document names, each once: as they are, or in the folder of the document.
+// Returns the result of `located` for each name in `named`. A name that occurs several times has one result.
 fn located_once(
     rt: &HostRuntime,
     document: &str,
@@ -169,7 +170,7 @@ fn located_once(
     Ok(files)
 }
 
-// Returns the names of the .bib files that a document with this whole text names, or `-` if it names none.
+// Returns the names of the .bib files that a document with this whole text names, or `-` (standard input) if it names none.
 fn named_files(rt: &HostRuntime, document: &str, whole: &str) -> Result<Vec<String>, AllocError> {
     let named = if is_control_file(document) {
         sources_in_bcf(rt.alloc(), whole)?
@@ -235,8 +236,8 @@ fn cited_status(rt: &HostRuntime, document: &str, given: &[&str]) -> Result<u8, 
     Ok(run_names(rt, document, whole.text, names).max(whole.status))
 }
 
-/// Prints the entries that a document cites, and returns the status. Reads the files with the names `given`, or those that the
-/// document names if none is given.
+/// Prints the entries of files that a document cites, and returns the status. The files are those with the names `given`, or those that
+/// the document names if `given` is empty.
 pub fn run_cited(rt: &HostRuntime, document: &str, given: &[&str]) -> u8 {
     match cited_status(rt, document, given) {
         Ok(status) => status,

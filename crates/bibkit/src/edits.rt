@@ -20,18 +20,18 @@ use std::str::from_utf8;
 /// The edits of a command.
 #[derive(Drop)]
 pub enum Edits<'a> {
-    /// These edits.
+    /// Makes these edits.
     These(Vec<Edit<'a>>),
-    /// Add the entries of standard input.
+    /// Adds the entries of standard input.
     AddInput,
-    /// Define abbreviations for texts that occur in several fields.
+    /// Defines abbreviations for texts that occur in several fields.
     Collect {
         /// The names of the fields whose texts are collected, or `None` for the default fields.
         fields: Option<Vec<&'a str>>,
-        /// The minimum number of fields with the text.
+        /// The minimum number of fields with the same text.
         at_least: usize,
     },
-    /// No edits, since this word isn't FIELD=VALUE.
+    /// Makes no edits, since this word isn't FIELD=VALUE.
     NoValue(&'a str),
 }
 
@@ -49,15 +49,15 @@ pub struct Editing<'a> {
 /// The use of the new text of a file.
 #[derive(Clone, Copy, PartialEq, Eq)]
 pub enum Mode {
-    /// Print it.
+    /// Prints it.
     Print,
-    /// Write it into the file.
+    /// Writes it into the file.
     Write,
-    /// Report whether it differs from the old text.
+    /// Prints nothing, and fails with status 1 if it differs from the old text.
     Check,
-    /// Print the diff from the old text.
+    /// Prints the diff from the old text.
     Diff {
-        /// Whether a difference is reported like in `Check`, with status 1.
+        /// Whether the command fails with status 1 if the texts differ, as with `Check`.
         is_check: bool,
     },
 }
@@ -85,7 +85,8 @@ pub fn after_mark(bytes: &[u8]) -> &[u8] {
     }
 }
 
-// Returns the message for an added text whose first key that can't be a new key is the reason `why`. It names no key if there is none.
+// Returns the message for the error `why` that a key of the added text can't be a new key. The message contains the first such key of
+// `text`, or no key if there is none.
 fn unsafe_key_line(
     alloc: Global,
     name: &str,
@@ -100,7 +101,7 @@ fn unsafe_key_line(
     format!(in alloc; "bibkit: {name}: {why}\n")
 }
 
-// Returns the message for an edit that is refused.
+// Returns the message for the error `why` of an edit.
 fn refused_line(
     alloc: Global,
     name: &str,
@@ -141,8 +142,8 @@ fn definition_line(
     error_line(alloc, name, text, definition.key.span.start, &said)
 }
 
-// Returns the message for a definition that refers to itself, by its index. It has no position if `text` has no definition with
-// that index.
+// Returns the message for the definition with the index `definition`, which refers to itself. The message has no position if `text`
+// has no definition with this index.
 fn cycle_line(
     alloc: Global,
     name: &str,
@@ -159,7 +160,8 @@ fn cycle_line(
     format!(in alloc; "bibkit: {name}: an abbreviation uses itself\n")
 }
 
-// Returns the message for an entry, by its index, whose `field` resolving references would change.
+// Returns the message for an error of `resolve`: `field` of the entry with the index `entry` would change. If `text` has no such
+// entry, returns the message of `unlike_line`.
 fn differing_line(
     alloc: Global,
     name: &str,
@@ -181,7 +183,7 @@ fn differing_line(
     unlike_line(alloc, name)
 }
 
-// Returns the message for a file whose entries resolving references would change.
+// Returns the message for an error of `resolve`: the entries of the file would change.
 fn unlike_line(alloc: Global, name: &str) -> Result<String, AllocError> {
     format!(in alloc;
         "bibkit: {name}: with what they inherit in fields of their own entries would say something else\n"
@@ -208,7 +210,7 @@ fn unresolved_line(
     }
 }
 
-// Returns the text that the first edit adds, or an empty text.
+// Returns the text that the first edit adds, or an empty text if it adds none.
 fn added_text<'a>(edits: &[Edit<'a>]) -> &'a str {
     match edits.first() {
         Some(Edit::Add { text }) => *text,
@@ -263,7 +265,7 @@ fn printing_stop(
     }
 }
 
-// Returns the reason for which a file can't be written.
+// Returns the text of the reason why a file can't be written.
 fn write_reason(kind: ErrorKind) -> &'static str {
     match kind {
         ErrorKind::PermissionDenied => "it may not be written",
@@ -273,7 +275,8 @@ fn write_reason(kind: ErrorKind) -> &'static str {
     }
 }
 
-// Returns the message for a file that isn't written, or that may be lost in a crash.
+// Returns the message for an error of replacing a file. After `Unsure`, the file may have the new text. After `Unsettled`, it has the
+// new text, but a crash may bring back the old one.
 fn unwritten_line(alloc: Global, name: &str, error: &ReplaceError) -> Result<String, AllocError> {
     let reason = match error {
         ReplaceError::NotReplaced(error) | ReplaceError::Unsure(error) => {
@@ -296,7 +299,7 @@ fn unless_out_of_memory(error: ReplaceError) -> Result<ReplaceError, AllocError>
     }
 }
 
-// Replaces the text of a file.
+// Replaces the text of a file. Fails with a message and status 2, or if out of memory.
 fn write(rt: &HostRuntime, name: &str, text: &str) -> Result<(), Stop> {
     match replace(rt, name, text) {
         Ok(()) => Ok(()),
@@ -402,7 +405,7 @@ fn edit(rt: &HostRuntime, editing: &Editing<'_>, edits: &[Edit<'_>]) -> Result<(
     }
 }
 
-// Adds the entries of standard input to a file.
+// Decodes standard input, and adds its entries to a file.
 fn add_input(rt: &HostRuntime, editing: &Editing<'_>) -> Result<(), Stop> {
     let bytes = bytes_of(rt, "-")?;
     let input = decode(rt.alloc(), &bytes)?;

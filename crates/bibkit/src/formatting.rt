@@ -6,7 +6,7 @@ use edit_format::style::Style;
 use edit_sort::order::Order;
 use std::alloc::{AllocError, Global};
 
-// Returns the edits that format a file: they sort its entries first if `sort` is an order.
+// Returns the edits that format a file. If `sort` is an order, they sort its entries first.
 fn edits_of<'a>(
     alloc: Global,
     style: Style<'a>,
@@ -44,7 +44,7 @@ fn format_file(
     }
 }
 
-/// Formats each file in turn, and returns the greatest status. Sorts the entries of each file first if `sort` is an order.
+/// Formats each file in turn, and returns the greatest status. If `sort` is an order, sorts the entries of each file first.
 pub fn run_format(
     rt: &HostRuntime,
     style: Style<'_>,

@@ -23,7 +23,7 @@ fn fault_text(fault: Fault) -> &'static str {
     }
 }
 
-// Returns the error of a text that isn't an array of items, with its position.
+// Returns the message and status 1 for a text that isn't an array of items. The message has the position of the fault.
 fn fault_stop(
     alloc: Global,
     name: &str,
@@ -35,7 +35,7 @@ fn fault_stop(
     Ok(Stop::Said(line, 1))
 }
 
-// Returns the error of converting items.
+// Returns the message and status 1 for an error of converting items.
 fn items_stop(
     alloc: Global,
     name: &str,
@@ -59,7 +59,7 @@ fn convert_items(alloc: Global, name: &str, text: &str) -> Result<Converted, Sto
     }
 }
 
-// Returns the text of a note on a member of an item that is lost or changed.
+// Returns the text of a note on a member of an item that is lost or changed in the entry.
 fn loss_text(kind: LossKind) -> &'static str {
     match kind {
         LossKind::NoField => "is left out, since no field has it",

@@ -23,7 +23,7 @@ struct SystemFolder<'r, R: Files> {
     failures: u64,
 }
 
-// Counts a call if it failed.
+// Increments `failures` if a call failed. The count stays at its maximum.
 fn count<T>(failures: &mut u64, answer: &io::Result<T>)
     ensures { IsCounted failures.old failures.new answer.now }
 {
@@ -119,7 +119,7 @@ fn rights<R: Files>(rt: &R, target: &str) -> io::Result<Permissions> {
     }
 }
 
-// Opens the folder of a file. Fails if the file can't be opened for writing or isn't a regular file.
+// Opens the folder of a file. Fails if the folder can't be opened, or if the file can't be opened for writing or isn't a regular file.
 fn folder_of<'r, R: Files>(rt: &'r R, target: &PathBuf) -> io::Result<SystemFolder<'r, R>> {
     let rights = rights(rt, target.to_string_lossy())?;
     let Some(parent) = target.parent() else {
@@ -136,7 +136,7 @@ fn folder_of<'r, R: Files>(rt: &'r R, target: &PathBuf) -> io::Result<SystemFold
 }
 
 /// Replaces the text of the file `name` by `text`, as `bibkit_core::replacing` specifies. The file keeps its permissions. If
-/// `name` is a symbolic link, its target is replaced. Fails if the file isn't a regular file.
+/// `name` is a symbolic link, its target is replaced. Fails if the file can't be opened for writing or isn't a regular file.
 pub fn replace<R: Files + AllocGlobal>(rt: &R, name: &str, text: &str) -> Result<(), ReplaceError> {
     let target = fs::canonicalize(rt, name).map_err(ReplaceError::NotReplaced)?;
     let mut folder = folder_of(rt, &target).map_err(ReplaceError::NotReplaced)?;

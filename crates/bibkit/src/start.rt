@@ -25,7 +25,8 @@ fn words(rt: &HostRuntime) -> io::Result<Vec<String>> {
     Ok(words)
 }
 
-// Prints the requested help, or the error of the command line, and returns the status.
+// Prints the requested help, or the error of the command line, and returns the status: 0 for help, 2 for an error, 3 if
+// out of memory. If printing fails, the status is 2.
 fn refuse(rt: &HostRuntime, error: &clap::Error) -> u8 {
     if error.kind() == ErrorKind::OutOfMemory {
         return out_of_memory(rt);
@@ -55,7 +56,7 @@ fn are_colors_shown(rt: &HostRuntime) -> bool {
     rt.stdout().is_terminal() && rt.stderr().is_terminal() && !refuses_color(rt)
 }
 
-// Returns the name of the file whose project has the settings: the first file, or standard input without files.
+// Returns the name of the file whose project has the settings: the first of `names`, or `-` (standard input) if there is none.
 fn first<'a>(names: &[&'a str]) -> &'a str {
     names.first().copied().unwrap_or("-")
 }
@@ -88,7 +89,7 @@ fn run_request<'a>(rt: &HostRuntime, request: Request<'a>, names: Vec<&'a str>) 
     run(rt.alloc(), &call, &mut files, &mut output, messages)
 }
 
-// Reports the error of reading settings, and returns the status.
+// Reports the error of reading settings, and returns the status: 2, or 3 if out of memory.
 fn refuse_settings(rt: &HostRuntime, error: ConfigurationError) -> u8 {
     match error {
         ConfigurationError::OutOfMemory => out_of_memory(rt),
@@ -117,7 +118,7 @@ fn run_settings(rt: &HostRuntime, settings: StyleSettings<'_>, mode: Mode, names
     run_format(rt, settings.style(), settings.sort(), mode, names)
 }
 
-// Returns the order of fields of a project, if it sets one.
+// Returns the order of fields of a project, or `None` if the project sets no order.
 fn project_order<'p>(
     alloc: Global,
     project: &'p Project,

@@ -1,4 +1,4 @@
-//! The reasons for which a command ends early, and their messages.
+//! The reasons why a command ends early, and their messages.
 
 use crate::files::SystemFiles;
 use bib_source::positions::Positions;
@@ -6,7 +6,7 @@ use bib_syntax::raw::ParseError;
 use bibkit_core::files::Files;
 use std::alloc::{AllocError, AllocFailed, Global};
 
-/// The reason for which a command on a file ends early.
+/// The reason why a command on a file ends early.
 #[derive(Drop)]
 pub enum Stop {
     /// An error with this message and this status.
@@ -37,7 +37,8 @@ impl Stop {
     }
 }
 
-/// Returns the bytes of a file, or the message of the error with status 2. `-` is standard input.
+/// Returns the bytes of a file. `-` is standard input. If the file can't be read, fails with a message and status 2, or with
+/// `OutOfMemory`.
 pub fn bytes_of(rt: &HostRuntime, name: &str) -> Result<Vec<u8>, Stop> {
     let mut files = SystemFiles::new(rt);
     match files.read(rt.alloc(), name) {
@@ -50,8 +51,8 @@ pub fn bytes_of(rt: &HostRuntime, name: &str) -> Result<Vec<u8>, Stop> {
     }
 }
 
-/// Returns the message for an error at the byte offset `at` of `bytes`: `name:line:column: error: text` and a line feed. `bytes` is the
-/// content of the file `name`.
+/// Returns the message for an error at the byte offset `at` of `bytes`: `name:line:column: error: text` and a line feed. `bytes` are
+/// the bytes of the file `name` in which the offset is counted, with or without a byte order mark.
 pub fn error_line(
     alloc: Global,
     name: &str,
@@ -66,7 +67,7 @@ pub fn error_line(
     )
 }
 
-/// Returns the line of a syntax error of the file `name` with this text.
+/// Returns the message for a syntax error of the file `name`. `text` is its text without a byte order mark.
 pub fn syntax_line(
     alloc: Global,
     name: &str,

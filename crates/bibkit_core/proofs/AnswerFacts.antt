@@ -1,4 +1,4 @@
--- The output of a request follows from that of its task, and its failure from the stop of its run.
+-- The output of a task is an output of its request, and the stop of a run is a failure of its request.
 use Rattle.std.proofs.Common.{◌≡◌, ◌≤◌, ◌&&◌, ℕ, List, Bor, Bool, true, false, not, refl, sym, subst, ◌∙◌, arith}
 use Rattle.std.specs.Prelude.{Option, Some, None, IfSome, if◌then◌else◌}
 use Rattle.bib_queries.specs.declared.citations.Citations.{Citations}
@@ -21,7 +21,7 @@ use Rattle.bibkit_core.specs.declared.tally.Tally.{Tally}
 use Rattle.bibkit_core.specs.declared.run.Stop.{Stop}
 use Rattle.bibkit_core.specs.declared.run.Stop.TheVariants.{Refused, NoDocument, OutOfMemory}
 
--- the output of `lint` without a document is the output of its request; the next lemmas say the same of the other tasks
+-- the output of `lint` without a document is an output of the request for it; the next lemmas state this for the other tasks
 pub findings_answer : {F : Type 0} {reads : F → List ℕ → Option (List ℕ) → F → Type 0} {files : F}
     {names : List (List ℕ)} {lint : Lint} → lint.cited ≡ None → (text : List ℕ) (status : Option ℕ)
     → AreFindingsPrinted reads lint files names text status → IsCallAnswer reads files names (request.Lint lint) text status
@@ -52,7 +52,7 @@ pub meaning_answer : {F : Type 0} {reads : F → List ℕ → Option (List ℕ) 
 meaning_answer text status IsMeaningPrinted.nothing = IsCallAnswer.no_meaning
 meaning_answer text status (IsMeaningPrinted.all meaning) = IsCallAnswer.meaning meaning
 
--- a file that is read and decoded to a text with these citations is the file of a document
+-- if a file is decoded to a text with these citations, then the file of the document is read
 pub document_read : {F : Type 0} {reads : F → List ℕ → Option (List ℕ) → F → Type 0} {files files' : F}
     {name text : List ℕ} {found : Citations} (document : List ℕ) → document ≡ text
     → ReadsText reads files name files' text
@@ -100,7 +100,7 @@ pub memory_same : {K : Type 0} {taken : K → Option (List ℕ)} {refusals : K �
     → HasStopped taken refusals hands_over P Unread old new OutOfMemory → refusals new ≡ refusals old
 memory_same (HasStopped.no_memory same) = same
 
--- the status of a run is at most 2 if `status` is, which is its status if all files could be read
+-- if the status at the end of a task is at most 2, so is the status of its run, also if a file can't be read
 bounded_if : (b : Bool) (status : ℕ) → status ≤ 2 → (if b then status else 2) ≤ 2
 bounded_if true status bound = bound
 bounded_if false status bound = omega arith
@@ -113,7 +113,7 @@ entries_bounded asked is_found =
     elim (is_search asked && not is_found) as (λ b. (if b then 1 else 0) ≤ 2)
     [ true ↦ omega arith | false ↦ omega arith ]
 
--- the status of a task is at most 2 if each end of the task has such a status
+-- if each end of a task has a status of at most 2, so has its whole output
 task_bounded : {F T : Type 0} {reads : F → List ℕ → Option (List ℕ) → F → Type 0} {begins : T → List ℕ}
     {prints : T → List ℕ → List ℕ → List ℕ → T → Type 0} {ends : T → List ℕ → ℕ → Type 0} {files : F} {task : T}
     {names : List (List ℕ)} {text : List ℕ} {status : Option ℕ}

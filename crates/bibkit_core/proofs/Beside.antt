@@ -1,4 +1,4 @@
--- The name of a new file is longer than that of its target, so they differ.
+-- The name of a new file is longer than that of its target, so the two names differ.
 use Rattle.std.proofs.Common.{◌≡◌, ◌≢◌, ℕ, ◌+◌, ◌++◌, List, length, codes, ap, arith, length-append}
 use Rattle.std.specs.Fmt.{decimal}
 use Rattle.bibkit_core.specs.Replaced.{new_name}

@@ -1,4 +1,4 @@
--- The output of the comparing task: its marks say which citations have entries in the files so far.
+-- Facts about the output of the comparing task, whose marks say which citations have entries in the files so far.
 use Rattle.std.proofs.Common.{◌≡◌, ◌<◌, ◌+◌, ◌||◌, ◌&&◌, ℕ, zero, suc, Bool, true, false, not, cond, List, [], ◌∷◌, ◌++◌, length, take, get_or, map, refl, sym, ap, ap₂, subst, ◌∙◌, arith}
 use Rattle.std.specs.Prelude.{Option, filter, min, replicate}
 use Rattle.std.specs.String.{string_bytes}
@@ -22,13 +22,13 @@ use Rattle.bibkit_core.specs.declared.comparing.Comparing.{Comparing}
 use Rattle.bibkit_core.specs.declared.request.Lint.{Lint}
 use Rattle.bibkit_core.proofs.RunFacts.{printed_seen}
 
--- if `h` is true exactly where `f` or `g` is, then the marks by `f` and `g` combine to the marks by `h`
+-- if `h x` is true exactly if `f x` or `g x` is, then the marks by `f` and `g` combine to the marks by `h`
 either_tested : {X : Type 0} (f g h : X → Bool) (xs : List X) → ((x : X) → (f x || g x) ≡ h x)
     → either_mark (map f xs) (map g xs) ≡ map h xs
 either_tested f g h [] is = refl
 either_tested f g h (x ∷ xs) is = ap₂ (λ b bs. b ∷ bs) (is x) (either_tested f g h xs is)
 
--- one citation more: its finding is added unless its mark is true
+-- with one more citation, its finding is added unless its mark `b` is true
 unmarked_one : (c : Citation) (rest : List Citation) (marks : List Bool) (found : List Citation) (b : Bool)
     → unmarked_findings rest marks ≡ map missing_finding found
     → unmarked_findings (c ∷ rest) (b ∷ marks) ≡ map missing_finding (cond (not b) (c ∷ found) found)
@@ -46,19 +46,19 @@ or_none true b = refl
 or_none false true = refl
 or_none false false = refl
 
--- after one more file, a key is known if it was before, or if the file has an entry with that name
+-- a key is in the files with one more file exactly if it is in the earlier files, or if an entry of the new file has it as a name
 known_more : (readings : List FileReading) (says : FileReading) (key : List ℕ)
     → (is_in_files readings key || is_listed (all_names says.entries) key) ≡ is_in_files (readings ++ says ∷ []) key
 known_more readings says key =
     or_none (is_in_files readings key) (is_listed (all_names says.entries) key)
     ∙ sym (list_any-append (λ (s : FileReading). is_listed (all_names s.entries) key) readings (says ∷ []))
 
--- no key is known before any file
+-- the marks by no files are all false
 known_nowhere : (cs : List Citation) → replicate (length cs) false ≡ map (λ c. is_in_files [] c.key) cs
 known_nowhere [] = refl
 known_nowhere (c ∷ rest) = ap (λ l. false ∷ l) (known_nowhere rest)
 
--- combining one more pair of marks appends one mark
+-- combining the first `n + 1` marks appends the mark of the pair at the index `n` to the marks of the first `n` pairs
 either_more : (first second : List Bool) (n : ℕ) (a b : Bool) → n < length first → n < length second
     → get_or first n a ≡ a → get_or second n b ≡ b
     → either_mark (take (suc n) first) (take (suc n) second) ≡ either_mark (take n first) (take n second) ++ (a || b) ∷ []
@@ -68,7 +68,7 @@ either_more (x ∷ first) (y ∷ second) zero a b within short here there = ap�
 either_more (x ∷ first) (y ∷ second) (suc n) a b within short here there =
     ap (λ l. (x || y) ∷ l) (either_more first second n a b (omega (arith, within)) (omega (arith, short)) here there)
 
--- the same, with the number of marks as `m` (equal to `n + 1`)
+-- combining the first `m` marks, with `m` equal to `n + 1`, appends one mark to those of the first `n` pairs
 pub either_step : (first second : List Bool) (n m : ℕ) (a b : Bool) → m ≡ n + 1 → n < length first → n < length second
     → get_or first n a ≡ a → get_or second n b ≡ b
     → either_mark (take m first) (take m second) ≡ either_mark (take n first) (take n second) ++ (a || b) ∷ []
@@ -76,7 +76,7 @@ either_step first second n m a b more within short here there =
     let next : m ≡ suc n = omega arith in
     ap (λ k. either_mark (take k first) (take k second)) next ∙ either_more first second n a b within short here there
 
--- all combined marks are reached at the end of the shorter list
+-- combining the first marks, as many as the shorter list has, combines all marks
 pub either_all : (first second : List Bool) (n : ℕ) → n ≡ min (length first) (length second)
     → either_mark (take n first) (take n second) ≡ either_mark first second
 either_all [] second n end = let none : n ≡ 0 = omega (arith, end) in ap (λ m. either_mark (take {A = Bool} m []) (take m second)) none
@@ -85,19 +85,19 @@ either_all (x ∷ first) [] n end =
 either_all (x ∷ first) (y ∷ second) zero end = absurd (omega (arith, end))
 either_all (x ∷ first) (y ∷ second) (suc n) end = ap (λ l. (x || y) ∷ l) (either_all first second n (omega (arith, end)))
 
--- the findings of one citation with its mark
+-- the findings of one citation with its mark are none if the mark is true, otherwise its finding
 unmarked_here : (c : Citation) (m : Bool) → unmarked_findings (c ∷ []) (m ∷ []) ≡ cond m [] (missing_finding c ∷ [])
 unmarked_here c true = refl
 unmarked_here c false = refl
 
--- a citation before others keeps the findings that are appended for the others
+-- if findings are appended for other citations, the same ones are appended with a citation before the others
 unmarked_past : (c : Citation) (rest some : List Citation) (marks others : List Bool) (m : Bool) (more : List Finding)
     → unmarked_findings rest marks ≡ unmarked_findings some others ++ more
     → unmarked_findings (c ∷ rest) (m ∷ marks) ≡ unmarked_findings (c ∷ some) (m ∷ others) ++ more
 unmarked_past c rest some marks others true more are = are
 unmarked_past c rest some marks others false more are = ap (λ l. missing_finding c ∷ l) are
 
--- one more citation with its mark appends its finding unless the mark is true
+-- the first `n + 1` citations have the findings of the first `n`, and that of the next one unless its mark is true
 unmarked_more : (cs : List Citation) (marks : List Bool) (n : ℕ) (c : Citation) (m : Bool) → n < length cs
     → n < length marks → get_or cs n c ≡ c → get_or marks n m ≡ m
     → unmarked_findings (take (suc n) cs) (take (suc n) marks)
@@ -111,7 +111,7 @@ unmarked_more (d ∷ cs) (k ∷ marks) (suc n) c m within short here there =
     (cond m [] (missing_finding c ∷ []))
     (unmarked_more cs marks n c m (omega (arith, within)) (omega (arith, short)) here there)
 
--- the same, with the number of citations as `m` (equal to `n + 1`)
+-- the first `m` citations, with `m` equal to `n + 1`, have the findings of the first `n`, and that of the next one unless its mark is true
 pub unmarked_step : (cs : List Citation) (marks : List Bool) (n m : ℕ) (c : Citation) (k : Bool) → m ≡ n + 1
     → n < length cs → n < length marks → get_or cs n c ≡ c → get_or marks n k ≡ k
     → unmarked_findings (take m cs) (take m marks) ≡ unmarked_findings (take n cs) (take n marks) ++ cond k [] (missing_finding c ∷ [])
@@ -119,14 +119,14 @@ unmarked_step cs marks n m c k more within short here there =
     let next : m ≡ suc n = omega arith in
     ap (λ j. unmarked_findings (take j cs) (take j marks)) next ∙ unmarked_more cs marks n c k within short here there
 
--- a citation before others keeps the equality of the findings of the others
+-- if the findings of two lists of citations are equal, they are equal with the same citation and mark before both
 unmarked_same : (c : Citation) (some rest : List Citation) (others marks : List Bool) (m : Bool)
     → unmarked_findings some others ≡ unmarked_findings rest marks
     → unmarked_findings (c ∷ some) (m ∷ others) ≡ unmarked_findings (c ∷ rest) (m ∷ marks)
 unmarked_same c some rest others marks true are = are
 unmarked_same c some rest others marks false are = ap (λ l. missing_finding c ∷ l) are
 
--- all findings are reached at the end of the shorter list
+-- the findings of the first citations, as many as the shorter list has, are all findings
 pub unmarked_all : (cs : List Citation) (marks : List Bool) (n : ℕ) → n ≡ min (length cs) (length marks)
     → unmarked_findings (take n cs) (take n marks) ≡ unmarked_findings cs marks
 unmarked_all [] marks n end =
@@ -149,7 +149,7 @@ unused_asked document text parts asked uncited says skipped recovery =
     (recovery_same uncited.recovery recovery).0)
     ∙ ap (λ b. cond b (map unused_finding (uncited_keys (cited_keys document.citations) says.entries)) []) (sym asked)
 
--- if they aren't requested, or the document cites all entries, there are no such findings
+-- if uncited entries aren't requested, or the document cites all entries, there are no findings of uncited entries
 pub unused_unasked : (document : Document) (text : List ℕ) → (document.has_unused && not document.citations.all) ≡ false
     → AreUnused document text []
 unused_unasked document text unasked says skipped recovery =
@@ -166,7 +166,7 @@ record IsSeen (lint : Lint) (has_unused : Bool) (name document : List ℕ) (foun
   pub citations : task.document.citations ≡ found
   pub known : task.document.known.items ≡ map (λ c. is_in_files s.readings c.key) found.keys.items
 
--- the new task has the same contents as the state before the first file
+-- a new task has the settings, document, counts and citations of the state before the first file
 begins_seen : (lint : Lint) (has_unused : Bool) (name document : List ℕ) (task : Comparing)
     → BeginsLinting lint task.linting → BeginsDocument name document has_unused task.document
     → IsSeen lint has_unused name document task.document.citations task none_compared
@@ -180,7 +180,8 @@ begins_seen lint has_unused name document task linting begins = record {
   known = begins.none_known ∙ known_nowhere task.document.citations.keys.items;
 }
 
--- the output of the task for a file is specified, and leads to a state with the same contents as the new task
+-- the output of the task for a file is the output that `PrintsCompared` specifies, and the state after it has the contents of the new
+-- task
 step_compared : (lint : Lint) (has_unused : Bool) (name document : List ℕ) (found : Citations) (old new : Comparing)
     (before : ComparisonState) (file bytes text : List ℕ) → IsSeen lint has_unused name document found old before
     → PrintsComparing old file bytes text new
@@ -233,7 +234,7 @@ step_compared lint has_unused name document found old new before file bytes text
       },
     )
 
--- the output of the task after the files is specified
+-- the output of the task after the files is the output that `EndsCompared` specifies
 ends_compared : (lint : Lint) (has_unused : Bool) (name document : List ℕ) (found : Citations) (task : Comparing)
     (s : ComparisonState) (text : List ℕ) (status : ℕ) → IsSeen lint has_unused name document found task s
     → EndsComparing task text status → EndsCompared lint name document found s text status

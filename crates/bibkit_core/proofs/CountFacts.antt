@@ -1,4 +1,4 @@
--- The counts of entries and findings, one after another.
+-- Facts about counting names, entries and findings one after another.
 use Rattle.std.proofs.Common.{◌≡◌, ℕ, ◌+◌, ◌<◌, List, [], ◌∷◌, ◌++◌, length, take, get_or, map, refl, sym, ap, subst, ◌∙◌, append_assoc, append-nil, arith, length-append}
 use Rattle.std.specs.Prelude.{Option, codes, min}
 use Rattle.std.specs.List.{flat_map}
@@ -18,7 +18,7 @@ use Rattle.bibkit_core.proofs.RunFacts.{printed_seen}
 pub adds_no_names : (counts : Counts) → AddsNames [] counts counts
 adds_no_names counts = record { adds = λ before was. subst (λ names. AreCounted names counts) (sym (append-nil before)) was }
 
--- counting names and then more names is counting all of them
+-- counting `some` names and then `more` names counts all of them
 pub adds_more_names : {some more : List (List ℕ)} {old mid new : Counts} → AddsNames some old mid
     → AddsNames more mid new → AddsNames (some ++ more) old new
 adds_more_names {some} {more} {new = new} first second = record {
@@ -27,11 +27,11 @@ adds_more_names {some} {more} {new = new} first second = record {
       (second.adds (before ++ some) (first.adds before was));
 }
 
--- a count that stays at its maximum is increased by one
+-- adding one to a capped count gives the capped count of one more
 one_counted : (n greatest : ℕ) → min (min n greatest + 1) greatest ≡ min (n + 1) greatest
 one_counted n greatest = omega arith
 
--- counting the type, the fields and the year of an entry is counting the entry
+-- adding one to the entries, and counting the type, the fields and the year of an entry, counts the entry
 pub adds_entry : (e : EntryReading) (old new : Counting) → new.entries ≡ min (old.entries + 1) 18446744073709551615
     → AddsNames (type_name e ∷ []) old.types new.types → AddsNames (lowercase_names e.fields) old.fields new.fields
     → AddsNames (years_in e.fields) old.years new.years → new.findings ≡ old.findings → AddsEntries (e ∷ []) old new
@@ -64,7 +64,7 @@ adds_no_entries task = record {
       (sym (append-nil all.entries)) was;
 }
 
--- counting entries and then more entries is counting all of them
+-- counting `some` entries and then `more` entries counts all of them
 pub adds_more_entries : {some more : List EntryReading} {old mid new : Counting} → AddsEntries some old mid
     → AddsEntries more mid new → AddsEntries (some ++ more) old new
 adds_more_entries {some} {more} {new = new} first second = record {
@@ -73,7 +73,7 @@ adds_more_entries {some} {more} {new = new} first second = record {
       (append_assoc all.entries some more) (second.adds _ (first.adds all was));
 }
 
--- counting the code of a finding is counting the finding
+-- counting the name of the code of a finding counts the finding
 pub adds_finding : (f : Finding) (old new : Counting) → new.entries ≡ old.entries → new.types ≡ old.types
     → new.fields ≡ old.fields → new.years ≡ old.years → AddsNames (code_name f.code ∷ []) old.findings new.findings
     → AddsFindings (f ∷ []) old new
@@ -100,7 +100,7 @@ adds_no_findings task = record {
       was;
 }
 
--- counting findings and then more findings is counting all of them
+-- counting `some` findings and then `more` findings counts all of them
 pub adds_more_findings : {some more : List Finding} {old mid new : Counting} → AddsFindings some old mid
     → AddsFindings more mid new → AddsFindings (some ++ more) old new
 adds_more_findings {some} {more} {new = new} first second = record {
@@ -109,7 +109,7 @@ adds_more_findings {some} {more} {new = new} first second = record {
       (append_assoc all.found some more) (second.adds _ (first.adds all was));
 }
 
--- four tables that are appended in turn after the line with the number of entries
+-- appending four tables in turn to the line with the number of entries gives the line followed by all tables
 pub tables_after : (t0 t1 t2 t3 t4 a b c d first number : List ℕ) → t0 ≡ first ++ (number ++ codes "\n") → t1 ≡ t0 ++ a
     → t2 ≡ t1 ++ b → t3 ≡ t2 ++ c → t4 ≡ t3 ++ d
     → t4 ≡ first ++ (number ++ (codes "\n" ++ (a ++ (b ++ (c ++ d)))))

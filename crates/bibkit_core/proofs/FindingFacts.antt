@@ -1,4 +1,4 @@
--- The output for findings, one after another.
+-- Facts about the output for findings one after another.
 use Rattle.std.proofs.Common.{◌≡◌, ◌+◌, ◌<◌, ◌==◌, ◌&&◌, ℕ, Bool, true, false, cond, List, [], ◌∷◌, ◌++◌, min, refl, sym, ap, subst, ◌∙◌, arith, append_assoc, append-nil}
 use Rattle.std.proofs.lemmas.Bool.Decides.{nat_tests}
 use Rattle.std.specs.Prelude.{string_bytes}
@@ -24,12 +24,12 @@ use Rattle.bibkit_core.specs.Linted.AreShown.{none, next}
 use Rattle.bibkit_core.specs.Printed.{IsShown, is_none, one_more}
 use Rattle.std.proofs.Math.Bool.{and-false}
 
--- whether the next finding after these is the first of all
+-- whether the next finding after a list of findings is the first of all; the Boolean says whether the list begins with the first
 pub is_first_after : {X : Type 0} → Bool → List X → Bool
 is_first_after b [] = b
 is_first_after b (x ∷ xs) = false
 
--- after a finding that isn't the first, no finding is the first
+-- if a list of findings doesn't begin with the first of all, the next finding after it isn't the first of all
 never_first : {X : Type 0} (xs : List X) → is_first_after false xs ≡ false
 unfolding is_first_after
 never_first [] = refl
@@ -55,7 +55,7 @@ none_counted t (f ∷ rest) =
     none_counted (one_more t (severity_of f.code)) rest
     ∙ ap (λ b. is_first_after b rest) (not_none t (severity_of f.code)) ∙ never_first rest
 
--- the text of findings, followed by that of one more finding
+-- the text of findings, followed by the text of one more finding, is the text of all of them
 shown_more : {style : Style} {name bytes : List ℕ} {is_first : Bool} {xs : List Finding} {t : List ℕ} (f : Finding)
     (u : List ℕ) → AreShown style name bytes is_first xs t
     → IsShown style (is_first_after is_first xs) name (position_at bytes f.span.start) f u
@@ -69,7 +69,7 @@ shown_more {style} {name} {bytes} {is_first} f u (next {f = g} {rest = rest} tex
     subst (λ t. AreShown style name bytes is_first (g ∷ (rest ++ f ∷ [])) t) (sym (append_assoc text texts u))
     (next text s (shown_more f u more later))
 
--- the output for findings, followed by that for one more finding
+-- the output for findings, followed by the output for one more finding, is the output for all of them
 pub one_added : {style : Style} {name bytes : List ℕ} {xs : List Finding} {a b c : Printed} (f : Finding)
     → IsAdded (ArePrinted style name bytes xs) a b
     → IsAdded (IsPrintedOne style name (position_at bytes f.span.start) f) b c → IsAdded (ArePrinted style name bytes (xs ++ f ∷ [])) a c
@@ -103,7 +103,7 @@ asked_same s xs f isnt =
     filter-append (λ g. is_asked s g.code) xs (f ∷ []) ∙ ap (λ b. selected_findings s xs ++ cond b (f ∷ []) []) isnt
     ∙ append-nil (selected_findings s xs)
 
--- one step of the loop for a finding whose code is selected
+-- after a turn of the loop with a selected code, the output is that for the selected findings including this one
 pub step_printed : {style : Style} {name bytes : List ℕ} (s : Selection) (xs more : List Finding) (f : Finding)
     (place : Position) {a b c d : Printed} → more ≡ xs ++ f ∷ [] → is_asked s f.code ≡ true
     → place ≡ position_at bytes f.span.start → IsAdded (ArePrinted style name bytes (selected_findings s xs)) a b
@@ -113,7 +113,7 @@ step_printed {style} {name} {bytes} s xs more f place {a} {b} {c} {d} grows is a
     (subst (λ ys. IsAdded (ArePrinted style name bytes ys) a c) (sym (ap (selected_findings s) grows ∙ asked_more s xs f is))
     (one_added f before (subst (λ p. IsAdded (IsPrintedOne style name p f) b c) at one)))
 
--- one step of the loop for a finding whose code isn't selected
+-- after a turn of the loop with a code that isn't selected, the output is that for the selected findings
 pub step_passed : {style : Style} {name bytes : List ℕ} (s : Selection) (xs more : List Finding) (f : Finding)
     {a b d : Printed} → more ≡ xs ++ f ∷ [] → is_asked s f.code ≡ false
     → IsAdded (ArePrinted style name bytes (selected_findings s xs)) a b → d ≡ b
@@ -122,7 +122,7 @@ step_passed {style} {name} {bytes} s xs more f {a} {b} {d} grows isnt before sam
     subst (λ p. IsAdded (ArePrinted style name bytes (selected_findings s more)) a p) (sym same)
     (subst (λ ys. IsAdded (ArePrinted style name bytes ys) a b) (sym (ap (selected_findings s) grows ∙ asked_same s xs f isnt)) before)
 
--- the finding that a file isn't UTF-8, and then those of its text, are the output for the file
+-- the output for the finding that a file isn't UTF-8, followed by the output for the findings of its text, is that for the file
 pub file_added : {lint : Lint} {name bytes : List ℕ} {decoded : Decoded} (found : List Finding) {a b c : Printed}
     → AreFindings (string_bytes decoded.text) found
     → IsAdded (ArePrinted lint.style name bytes (selected_findings lint.selection (unread_findings decoded.invalid))) a b
@@ -143,7 +143,7 @@ file_added found {a} {b} {c} are first second = record {
   printed = second.printed ∙ ap (λ t. t ++ second.text) first.printed ∙ append_assoc (string_bytes a.text) first.text second.text;
 }
 
--- the output after an empty text is the whole text
+-- if a text was empty, the text that was appended to it is the whole text
 pub added_alone : {Are : Tally → List ℕ → Tally → Type 0} {a b : Printed} → string_bytes a.text ≡ [] → IsAdded Are a b
     → Are a.tally (string_bytes b.text) b.tally
 added_alone {Are} {a} {b} empty added = subst (λ t. Are a.tally t b.tally) (sym (added.printed ∙ ap (λ s. s ++ added.text) empty)) added.are

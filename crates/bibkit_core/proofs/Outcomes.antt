@@ -1,4 +1,4 @@
--- The state of a folder after a file of it is replaced.
+-- Facts about a folder after one of its files is replaced.
 use Rattle.std.proofs.Common.{◌≡◌, ◌≢◌, ◌⊎◌, inl, inr, ⊎_elim, ℕ, ◌<◌, ◌≤◌, List, Option, None, Some, IsSome, is_some, true, false, sym, ap, ◌∙◌, arith}
 use Rattle.std.specs.Str.{bytes_eq}
 use Rattle.std.proofs.lemmas.Bool.{cases_Bool}
@@ -14,18 +14,18 @@ cases_name one other = ⊎_elim
     (λ differ. inr (λ same. let is : bytes_eq one other ≡ true = (bytes_eq-Decides one other).1 same in cc))
     (cases_Bool (bytes_eq one other))
 
--- each name except these two is kept
+-- each name except `name` and `target` is kept
 abbrev pub KeepsBut : List ℕ → List ℕ → Disk → Disk → Type 0
 KeepsBut name target old new = (other : List ℕ) → other ≢ name → other ≢ target → IsKept other old new
 
--- calls that affect only one name keep the others
+-- calls that affect only `name` keep all names except `name` and `target`
 pub kept_untouched : (name target : List ℕ) (old new : Disk) → TouchesOnly name old new → KeepsBut name target old new
 kept_untouched name target old new touches other ne _ = record {
   holds = touches.others.holds other ne;
   crash = λ c left. touches.others.crash other c ne left;
 }
 
--- calls that affect only the new file, followed by its rename, keep the names except these two
+-- calls that affect only the new file, followed by the exchange, keep all names except those of the new file and the target
 pub kept_exchanged : (name target : List ℕ) (old mid new : Disk) → TouchesOnly name old mid
     → IsExchange name target mid new → KeepsBut name target old new
 kept_exchanged name target old mid new touches exchange other ne not_target = record {
@@ -55,7 +55,7 @@ module _ (target name : List ℕ) (old made new : Disk) (beside : IsMadeBeside t
       (λ differs. (kept other differs not_target).holds)
       (cases_name other name)
 
--- if only a name other than the target is affected, the target is never torn
+-- if calls affect only a name other than the target, a crash leaves in the target contents that it could leave before, or the text
 pub never_torn_untouched : (name target text : List ℕ) (old new : Disk) → name ≢ target → TouchesOnly name old new
     → IsNeverTorn target text old new
 never_torn_untouched name target text old new differs touches = record {
@@ -67,18 +67,18 @@ never_torn_untouched name target text old new differs touches = record {
     past : (t : ℕ) (c : Option (List ℕ)) → t ≤ old.moment → new.left_since t target c → old.left_since t target c
     past t c le left = touches.past t target c le (λ same. differs (sym same)) left
 
--- if the target was on the disk and is never torn, a crash leaves its old bytes or the text
+-- if the target was on the disk and `IsNeverTorn` holds, a crash leaves its old contents or all of the text
 pub old_or_new : (target text : List ℕ) (old new : Disk) → IsNeverTorn target text old new → IsOnDisk target old
     → IsOldOrNew target text old new
 old_or_new target text old new never on_disk c left = ⊎_elim (λ was. inl (on_disk c was)) (λ whole. inr whole) (never.since c left)
 
--- a crash leaves the new file with all of its text, whatever names it then has
+-- a crash leaves all of the text in the new file, whatever names the file then has
 file_is_whole : (name text : List ℕ) (disk : Disk) (c : Option (List ℕ)) → IsFilled text name disk → IsFileOf disk name c → c ≡ Some text
 file_is_whole name text disk c filled file = file.whole ∙ sym (filled.saved file.bytes file.left) ∙ filled.full
 
 module _ (name target text : List ℕ) (old mid new : Disk) (differs : name ≢ target) (touches : TouchesOnly name old mid)
     (filled : IsFilled text name mid) where
-  -- the target is never torn by the rename of a file that has all of the text
+  -- `IsNeverTorn` holds for the target after the exchange with a file that has all of the text
   pub never_torn_exchanged : IsExchange name target mid new → IsNeverTorn target text old new
   never_torn_exchanged exchange = record {
     later = omega (arith, touches.later, exchange.later);
@@ -100,7 +100,7 @@ module _ (name target text : List ℕ) (old mid new : Disk) (differs : name ≢ 
   pub left_exchanged : IsExchanged name target mid new → IsLeft target text new
   left_exchanged exchanged c left = file_is_whole name text mid c filled (exchanged.left (ap is_some filled.full) c left)
 
-  -- the target that holds its old file or the new one has its old bytes or the text
+  -- if the target holds the file that it had before the exchange or the new file, it holds its old contents or the text
   pub either_exchanged : (new.holds target ≡ mid.holds target) ⊎ (new.holds target ≡ mid.holds name)
       → (new.holds target ≡ old.holds target) ⊎ (new.holds target ≡ Some text)
   either_exchanged either = ⊎_elim

@@ -6,28 +6,28 @@ use Rattle.bibkit_core.specs.ReplaceSteps.{IsExchangeError}
 use Rattle.bibkit_core.specs.declared.replacing.ReplaceError.{ReplaceError}
 use Rattle.bibkit_core.specs.declared.replacing.ReplaceError.TheVariants.{OutOfMemory, NamesTaken, NotReplaced, Unsure, Unsettled}
 
--- a fact that follows from a fact about a call that succeeded
+-- if `A` implies `B`, and `A` holds if the call succeeded, then `B` holds if it succeeded
 pub on_ok_by : {T E : Type 0} (result : Result T E) (A B : Type 0) → (A → B) → OnOk result A → OnOk result B
 on_ok_by (Ok v) A B gives a = gives a
 on_ok_by (Err e) A B gives a = tt
 
--- a fact that follows from two such facts
+-- if `A` and `B` imply `C`, and both hold if the call succeeded, then `C` holds if it succeeded
 pub on_ok : {T E : Type 0} (result : Result T E) (A B C : Type 0) → (A → B → C) → OnOk result A → OnOk result B → OnOk result C
 on_ok (Ok v) A B C gives a b = gives a b
 on_ok (Err e) A B C gives a b = tt
 
--- a fact that follows from a fact about a call that failed
+-- if `A` implies `B`, and `A` holds if the call failed, then `B` holds if it failed
 pub on_err_by : {T E : Type 0} (result : Result T E) (A B : Type 0) → (A → B) → OnErr result A → OnErr result B
 on_err_by (Ok v) A B gives a = tt
 on_err_by (Err e) A B gives a = gives a
 
--- after a failed call, the removal succeeded, or two calls have failed
+-- after a failed call, the removal of the new file succeeded, or two calls have failed
 pub removed_or_two : {T E : Type 0} (result : Result T E) (gone : Type 0) (first mid last : ℕ)
     → mid ≡ min (first + 1) (2 ^ 64 - 1) → OnOk result gone → IsCounted mid last result → gone ⊎ AreTwoFailed first last
 removed_or_two (Ok v) gone first mid last once done counted = inl done
 removed_or_two (Err e) gone first mid last once done counted = inr (omega (arith, once, counted))
 
--- the state of the target after an error of the rename
+-- after an error of the exchange (the rename or the sync of the folder), the target has the contents that `IsAfterError` states
 pub after_exchange : {T : Type 0} (result : Result T ReplaceError) (name target text : List ℕ)
     (failures_mid failures_new : ℕ) (old mid new : Disk)
     →
@@ -42,7 +42,7 @@ after_exchange (Err (NotReplaced e)) name target text failures_mid failures_new 
 after_exchange (Err (Unsure e)) name target text failures_mid failures_new old mid new either full failed = either failed.either
 after_exchange (Err (Unsettled e)) name target text failures_mid failures_new old mid new either full failed = failed.moved ∙ full
 
--- after an error of the rename, the name of the new file has no file, or two calls have failed
+-- after an error of the exchange (the rename or the sync of the folder), the name of the new file has no file, or two calls have failed
 pub gone_or_two : {T : Type 0} (result : Result T ReplaceError) (name target : List ℕ) (failures_mid failures_new : ℕ) (mid new : Disk)
     → IfErr result (IsExchangeError name target failures_mid failures_new mid new)
     → OnErr result ((new.holds name ≡ None) ⊎ AreTwoFailed failures_mid failures_new)

@@ -1,4 +1,4 @@
--- Runs of a task over files: their outputs, and the reasons for which they stop.
+-- Facts about the outputs of runs of a task on files, and about the reasons for which runs stop.
 use Rattle.std.proofs.Common.{◌≡◌, ◌<◌, ◌+◌, ◌&&◌, ℕ, Bool, true, false, List, [], ◌∷◌, ◌++◌, length, take, drop, get_or, map, refl, sym, ap, subst, ◌∙◌, append_assoc, append-nil}
 use Rattle.std.specs.Prelude.{Option, Some, None, if◌then◌else◌}
 use Rattle.std.specs.Io.KnownBytes.{Appends}
@@ -16,7 +16,7 @@ and_assoc : (a b c : Bool) → (a && b) && c ≡ a && (b && c)
 and_assoc true b c = refl
 and_assoc false b c = refl
 
--- a run, with an equal output and an equal mark whether all files are read
+-- a run is also a run with an equal output and with an equal Boolean for whether all files could be read
 run_as : {F T : Type 0} {reads : F → List ℕ → Option (List ℕ) → F → Type 0}
     {prints : T → List ℕ → List ℕ → List ℕ → T → Type 0} {f f' : F} {t t' : T} {names : List (List ℕ)}
     {texts texts' : List ℕ} {b b' : Bool} → AreRun reads prints f t names texts b f' t' → texts ≡ texts' → b ≡ b'
@@ -24,7 +24,7 @@ run_as : {F T : Type 0} {reads : F → List ℕ → Option (List ℕ) → F → 
 run_as {reads = reads} {prints} {f} {f'} {t} {t'} {names} {texts} {texts'} {b} {b'} run same both =
     subst (λ d. AreRun reads prints f t names texts' d f' t') both (subst (λ u. AreRun reads prints f t names u b f' t') same run)
 
--- a run, followed by one more file
+-- a run on files, followed by a step for one more file, is a run on all of them
 run_more : {F T : Type 0} {reads : F → List ℕ → Option (List ℕ) → F → Type 0}
     {prints : T → List ℕ → List ℕ → List ℕ → T → Type 0} {f f' f'' : F} {t t' t'' : T}
     {names : List (List ℕ)} {texts : List ℕ} {b : Bool} {name : List ℕ} (text : List ℕ) (is_read : Bool)
@@ -37,7 +37,7 @@ run_more text is_read (next f1 t1 first rest b d one more) step =
     run_as (next f1 t1 first (rest ++ text) b (d && is_read) one (run_more text is_read more step))
     (sym (append_assoc first rest text)) (sym (and_assoc b d is_read))
 
--- the same with the text that the output takes
+-- a run on files and a step for one more file, with the texts that the output takes, are a run on all of them
 pub has_run_more : {F T : Type 0} {reads : F → List ℕ → Option (List ℕ) → F → Type 0}
     {prints : T → List ℕ → List ℕ → List ℕ → T → Type 0} {f f' f'' : F} {t t' t'' : T}
     {k k' k'' : Option (List ℕ)} {names : List (List ℕ)} {b : Bool} {name : List ℕ} {is_read : Bool}
@@ -49,7 +49,7 @@ has_run_more {k = k} {k'} {k''} {is_read = is_read} run step = record {
   printed = appends_more k k' k'' run.text step.text (run.text ++ step.text) run.printed step.printed refl;
 }
 
--- a run over no files prints nothing
+-- a run on no files prints nothing
 pub has_run_none : {F T : Type 0} {reads : F → List ℕ → Option (List ℕ) → F → Type 0}
     {prints : T → List ℕ → List ℕ → List ℕ → T → Type 0} (f : F) (t : T) (k : Option (List ℕ))
     → HasRun reads prints f t k [] true f t k
@@ -60,7 +60,7 @@ pub names_more : {X : Type 0} (g : X → List ℕ) (xs : List X) (i : ℕ) (d : 
     → map g (take (i + 1) xs) ≡ map g (take i xs) ++ g (get_or xs i d) ∷ []
 names_more g xs i d below = ap (map g) (take_more xs i d below) ∙ map-append g (take i xs) (get_or xs i d ∷ [])
 
--- the texts before the files, for them, and after them are the whole output
+-- the texts that the output takes before the files, for the files and after them are the whole output of the task
 pub has_printed : {K F T : Type 0} {taken : K → Option (List ℕ)} {reads : F → List ℕ → Option (List ℕ) → F → Type 0}
     {begins : T → List ℕ} {prints : T → List ℕ → List ℕ → List ℕ → T → Type 0}
     {ends : T → List ℕ → ℕ → Type 0} {f f' : F} {t t' : T} {names : List (List ℕ)} {b : Bool} (k k1 k2 k3 : K)
@@ -112,7 +112,7 @@ stopped_after {taken = taken} old mid new text printed same so (HasStopped.refus
 stopped_after old mid new text printed same so (HasStopped.no_document unread is) = absurd unread
 stopped_after old mid new text printed same so (HasStopped.no_memory is) = HasStopped.no_memory (is ∙ same)
 
--- weakens the facts of a stop on the texts so far and on the document
+-- the reason for a stop is also one with a weaker fact about the texts so far and a weaker fact about the document
 pub stopped_so : {K : Type 0} {taken : K → Option (List ℕ)} {refusals : K → ℕ}
     {hands_over : K → List ℕ → Bool → K → Type 0} {P Q : List ℕ → Option ℕ → Type 0} {U V : Type 0} {old new : K}
     {stop : Stop}
@@ -126,7 +126,7 @@ stopped_so so unread (HasStopped.no_memory is) = HasStopped.no_memory is
 pub names_parts : {X : Type 0} (g : X → List ℕ) (xs : List X) (i : ℕ) → map g xs ≡ map g (take i xs) ++ map g (drop i xs)
 names_parts g xs i = ap (map g) (sym (take-append-drop i xs)) ∙ map-append g (take i xs) (drop i xs)
 
--- a stop at a file, after a run over the files before it
+-- a stop at a file, after a run on the files before it, is a stop of the run on all files
 pub stopped_at_file : {K F T : Type 0} {taken : K → Option (List ℕ)} {refusals : K → ℕ}
     {hands_over : K → List ℕ → Bool → K → Type 0} {reads : F → List ℕ → Option (List ℕ) → F → Type 0}
     {prints : T → List ℕ → List ℕ → List ℕ → T → Type 0}
@@ -201,7 +201,7 @@ step_seen R one {t = t} {t'} {name} {text} s same (IsStep.read bytes reading pri
     let seen = one t t' s name bytes text same printing in (seen.0, IsStep.read bytes reading seen.1, seen.2)
 step_seen R one s same (IsStep.unread reading) = (s, IsStep.unread reading, same)
 
--- the same for a run over files
+-- if the relation `R` between tasks and states is kept by each file, then a run of a task is a run of each related state
 run_seen : {F S T : Type 0} {reads : F → List ℕ → Option (List ℕ) → F → Type 0}
     {prints : T → List ℕ → List ℕ → List ℕ → T → Type 0} {shows : S → List ℕ → List ℕ → List ℕ → S → Type 0}
     (R : T → S → Type 0)
@@ -215,7 +215,8 @@ run_seen R one s same (next f1 t1 text texts b d step more) =
     let rest = run_seen R one first.0 first.2 more in
     (rest.0, next f1 first.0 text texts b d first.1 rest.1, rest.2)
 
--- the same for the output of the task, if `R` also implies equal first texts and equal ends
+-- Let `R` be kept by each file. If a task and a related state have equal first texts, and each end of the task is one of the state, then
+-- an output of a task is an output of each related state.
 pub printed_seen : {F S T : Type 0} {reads : F → List ℕ → Option (List ℕ) → F → Type 0} {begins : T → List ℕ}
     {opens : S → List ℕ} {prints : T → List ℕ → List ℕ → List ℕ → T → Type 0}
     {shows : S → List ℕ → List ℕ → List ℕ → S → Type 0}
@@ -246,7 +247,7 @@ printed_seen R opened one close t s same text status (IsTaskPrinted.all answer) 
       status_is = answer.status_is;
     })
 
--- weakens the fact on the whole output
+-- a whole output is also one with a weaker fact about its text and status
 pub printed_so : {K : Type 0} {taken : K → Option (List ℕ)} {P Q : List ℕ → Option ℕ → Type 0} {old new : K}
     {status : ℕ} → ((text : List ℕ) → P text (Some status) → Q text (Some status))
     → HasPrinted taken P old new status → HasPrinted taken Q old new status

@@ -1,4 +1,4 @@
--- Counts of names, and the rows of a table.
+-- Facts about the counts of names, and about the rows of a table.
 use Rattle.std.proofs.Common.{◌≡◌, ℕ, ◌+◌, ◌||◌, Bool, true, false, List, [], ◌∷◌, ◌++◌, map, refl, sym, ap, subst, ◌∙◌, arith, cond, true≢false}
 use Rattle.std.proofs.lemmas.Bool.{false≢true}
 use Rattle.std.specs.Prelude.{Option, Some, None, min, bytes_eq, count_by, unwrap_or, if◌then◌else◌}
@@ -23,7 +23,7 @@ use Rattle.bib_text.proofs.ListFacts.{count_more}
 abbrev pub entry_pair : {Y : Type 0} → String Y × ℕ → List ℕ × ℕ
 entry_pair e = (string_bytes e.0, e.1)
 
--- an element that doesn't occur has the count 0
+-- if no element passes a test, the number of elements that pass it is 0
 none_counted : {X : Type 0} (p : X → Bool) (xs : List X) → list_any p xs ≡ false → count_by p xs ≡ 0
 none_counted p [] none = refl
 none_counted p (x ∷ xs) none =
@@ -35,18 +35,18 @@ none_counted p (x ∷ xs) none =
     none_here true rest n none more = absurd (true≢false none)
     none_here false rest n none more = let zero : n ≡ 0 = more none in omega arith
 
--- a count that stays at its maximum is increased by one; a missing count is 0
+-- adding one to a capped count, which is 0 if it is missing, gives the capped count of one more
 one_more : (greatest : ℕ) (any : Bool) (n : ℕ) → (any ≡ false → n ≡ 0)
     → min (unwrap_or (if any then Some (min n greatest) else None) 0 + 1) greatest ≡ min (n + 1) greatest
 one_more greatest true n none = omega arith
 one_more greatest false n none = let zero : n ≡ 0 = none refl in omega arith
 
--- if an element occurs, the capped counts of equal numbers are equal
+-- if the Boolean `any` is true, equal numbers have equal capped counts, also by the test of `any`
 shown : (greatest : ℕ) (any : Bool) (n m : ℕ) → any ≡ true → n ≡ m → Some (min m greatest) ≡ (if any then Some (min n greatest) else None)
 shown greatest true n m is same = ap (λ k. Some (min k greatest)) (sym same)
 shown greatest false n m is same = absurd (false≢true is)
 
--- equal marks of occurrence and equal numbers give equal capped counts
+-- if two Booleans and two numbers are equal, the capped counts are equal (`None` if the Boolean is false)
 shown_same : (greatest : ℕ) (a b : Bool) (n m : ℕ) → a ≡ b → n ≡ m
     → (if b then Some (min m greatest) else None) ≡ (if a then Some (min n greatest) else None)
 shown_same greatest a b n m same count =
@@ -63,7 +63,7 @@ or_none true b isnt = refl
 or_none false false isnt = refl
 or_none false true isnt = isnt
 
--- the count of a name after one more occurrence of it
+-- after one more occurrence of a name, its count is the capped old count (0 if missing) plus one
 met_again : (names : List (List ℕ)) (name : List ℕ)
     → Some (min (unwrap_or (times_met names name) 0 + 1) 18446744073709551615) ≡ times_met (names ++ name ∷ []) name
 met_again names name =
@@ -92,7 +92,8 @@ apart_back name other true same apart =
     absurd (false≢true (sym apart ∙ (bytes_eq-Decides name other).1 (sym ((bytes_eq-Decides other name).0 same))))
 apart_back name other false same apart = refl
 
--- the count of a name after one more occurrence of a name, by whether the two names are equal
+-- after one more occurrence of `name`, the count of `other` is the new count if the names are equal, otherwise the old one; the Boolean
+-- says whether they are equal
 met_either : (names : List (List ℕ)) (name other : List ℕ) (count : ℕ) (was : Option ℕ) (b : Bool)
     → bytes_eq name other ≡ b → count ≡ min (unwrap_or (times_met names name) 0 + 1) 18446744073709551615
     → was ≡ times_met names other
@@ -102,13 +103,13 @@ met_either names name other count was true same counted held =
 met_either names name other count was false same counted held =
     held ∙ met_other names name other (apart_back name other (bytes_eq other name) refl same)
 
--- the count of any name after one more occurrence of a name
+-- after one more occurrence of `name`, the count of `other` is the new count if the names are equal, otherwise the old one
 pub met_more : (names : List (List ℕ)) (name other : List ℕ) (count : ℕ) (was : Option ℕ)
     → count ≡ min (unwrap_or (times_met names name) 0 + 1) 18446744073709551615 → was ≡ times_met names other
     → cond (bytes_eq name other) (Some count) was ≡ times_met (names ++ name ∷ []) other
 met_more names name other count was counted held = met_either names name other count was (bytes_eq name other) refl counted held
 
--- keys that are sorted as strings are sorted by their bytes
+-- if a key is less than each of the other keys as a string, it is less than each by its bytes
 above_by_bytes : {Y : Type 0} (k : String Y) (ks : List (String Y)) → AllByRecursion (λ y. string_cmp k y ≡ Less) ks
     → AllByRecursion (λ y. slice_cmp nat_cmp (string_bytes k) y ≡ Less) (map string_bytes ks)
 above_by_bytes k [] above = tt
@@ -120,7 +121,7 @@ unfolding IsStrictlySortedBy
 sorted_by_bytes [] sorted = tt
 sorted_by_bytes (k ∷ ks) sorted = (above_by_bytes k ks sorted.0, sorted_by_bytes ks sorted.1)
 
--- looking up a name by the bytes of the keys gives the same count as comparing it with the keys
+-- looking up a name by equality with the bytes of the keys gives the same count as looking it up by comparison with them
 found_by_bytes : {Y : Type 0} (name : List ℕ) (es : List (String Y × ℕ))
     → lookup (bytes_eq name) (map entry_pair es) ≡ lookup (is_at (λ k. slice_cmp nat_cmp name (string_bytes k))) es
 found_by_bytes name [] = refl

@@ -1,4 +1,4 @@
--- The names that calls affect, one call after another.
+-- Facts about the names that one call or several calls in turn affect.
 use Rattle.std.proofs.Common.{⊎_elim, ◌∙◌, ℕ, List, refl, arith}
 use Rattle.bibkit_core.specs.Folder.{Disk, Elapses, IsAsBefore, IsAsBeforeBut}
 use Rattle.bibkit_core.specs.ReplaceSteps.{TouchesOnly, TouchesNothing}
@@ -25,7 +25,7 @@ touches_none old new known same time = record {
       (time.nothing_else t other c le left);
 }
 
--- no call affects no name
+-- without any call, no name is affected
 pub touches_none_at_first : (disk : Disk) → disk.is_known → TouchesNothing disk disk
 touches_none_at_first disk known = record {
   known = known;
@@ -34,7 +34,7 @@ touches_none_at_first disk known = record {
   past = λ t other c le left. left;
 }
 
--- calls that affect no name, followed by calls that affect only one name
+-- calls that affect no name, followed by calls that affect only one name, affect only that name
 pub none_then_one : (name : List ℕ) (old mid new : Disk) → TouchesNothing old mid → TouchesOnly name mid new → TouchesOnly name old new
 none_then_one name old mid new first next = record {
   known = next.known;
@@ -47,7 +47,7 @@ none_then_one name old mid new first next = record {
   past = λ t other c le ne left. first.past t other c le (next.past t other c (omega (arith, le, first.later)) ne left);
 }
 
--- calls that affect no name, one after another
+-- calls that affect no name, followed by calls that affect no name, affect no name
 pub none_then_none : (old mid new : Disk) → TouchesNothing old mid → TouchesNothing mid new → TouchesNothing old new
 none_then_none old mid new first next = record {
   known = next.known;
@@ -60,7 +60,7 @@ none_then_none old mid new first next = record {
   past = λ t other c le left. first.past t other c le (next.past t other c (omega (arith, le, first.later)) left);
 }
 
--- calls that affect only one name, one after another
+-- calls that affect only one name, followed by calls that affect only that name, affect only that name
 pub one_then_one : (name : List ℕ) (old mid new : Disk) → TouchesOnly name old mid → TouchesOnly name mid new → TouchesOnly name old new
 one_then_one name old mid new first next = record {
   known = next.known;

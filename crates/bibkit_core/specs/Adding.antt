@@ -1,5 +1,5 @@
 -- Machinery: words of private contracts.
--- The output for further findings.
+-- Appending the output for findings to the output so far.
 use Rattle.std.specs.Prelude.{◌≡◌, ℕ, List, ◌++◌, string_bytes}
 use Rattle.bib_source.specs.declared.positions.Position.{Position}
 use Rattle.bib_findings.specs.Codes.{severity_of}
@@ -9,7 +9,7 @@ use Rattle.bibkit_core.specs.declared.request.Style.{Style}
 use Rattle.bibkit_core.specs.declared.tally.Tally.{Tally}
 use Rattle.bibkit_core.specs.Printed.{IsShown, is_none, one_more}
 
--- the output is extended by a text for which `Are` holds, with the counts before and after it
+-- `new` has the text in `old`, followed by a text for which `Are` holds, with the counts before and after it
 pub record IsAdded (Are : Tally → List ℕ → Tally → Type 0) (old new : Printed) : Type 0 where
   pub text : List ℕ
   pub are : Are old.tally text new.tally

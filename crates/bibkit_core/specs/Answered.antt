@@ -29,7 +29,7 @@ pub record AsksForCited (found : Citations) (asked : CitedKeys) : Type 0 where
   pub keys : map (λ key. key.now) asked.keys.items ≡ cited_keys found
   pub all : asked.all ≡ found.all
 
--- the output of a request on the files with these names, and the status if the output is whole; `reads` relates the state before
+-- an output of a request on the files with these names, and the status if the output is whole; `reads` relates the state before
 -- reading a file, its name, its bytes (`None` for an error) and the state afterwards
 pub data IsCallAnswer {F : Type 0} (reads : F → List ℕ → Option (List ℕ) → F → Type 0) (files : F)
     (names : List (List ℕ)) : Request → List ℕ → Option ℕ → Type 0 where
@@ -56,7 +56,7 @@ pub data IsCallAnswer {F : Type 0} (reads : F → List ℕ → Option (List ℕ)
       → IsTaskPrinted reads counted_begins PrintsCounted EndsCounted files none_counted names text status
       → IsCallAnswer reads files names request.Stats text status
 
--- a request that reads the citations of a document, whose file has this name
+-- the request reads the citations of the document whose file has this name
 pub data IsOnDocument : Request → List ℕ → Type 0 where
   compared : {lint : Lint} {cited : Cited} → lint.cited ≡ Some cited → IsOnDocument (request.Lint lint) cited.name.now
   cited : {name : Bor (List ℕ)} → IsOnDocument (request.Cited name) name.now
@@ -68,8 +68,8 @@ pub record CantReadDocument {F : Type 0} (reads : F → List ℕ → Option (Lis
   pub document : IsOnDocument request name
   pub unread : reads files name None files'
 
--- the reasons for status 2: a file can't be read, and the whole output for the others is printed; or the file of the document
--- can't be read, and nothing is printed; or the output takes a first part of the texts, and refuses the text after it
+-- a run has the status 2 for one of these reasons: a file can't be read, and the whole output for the others is printed; or the file
+-- of the document can't be read, and nothing is printed; or the output takes the first texts, and refuses the text after them
 pub data HasFailed {F K : Type 0} (reads : F → List ℕ → Option (List ℕ) → F → Type 0) (taken : K → Option (List ℕ))
     (refusals : K → ℕ) (hands_over : K → List ℕ → Bool → K → Type 0) (files : F) (names : List (List ℕ))
     (request : Request) (old new : K) : Type 0 where

@@ -64,8 +64,8 @@ unused_finding key = record {
   message = key.text ++ codes ": never cited";
 }
 
--- the findings of the entries that the document cites by none of their names; no findings if they aren't requested
--- (`has_unused`), or if the document cites all entries
+-- the findings of the entries that have no name among the citations; no findings if they aren't requested (`has_unused`), or if the
+-- document cites all entries
 abbrev pub unused_findings : Bool → Citations → List EntryReading → List Finding
 unused_findings has_unused found entries =
     if has_unused && not found.all then map unused_finding (uncited_keys (cited_keys found) entries) else []
@@ -79,11 +79,11 @@ pub record ComparisonState : Type 0 where
 abbrev pub none_compared : ComparisonState
 none_compared = record { tally = record { errors = 0; warnings = 0 }; readings = [] }
 
--- the text before the files
+-- the text of the comparison before the files
 abbrev pub compared_begins : Lint → ComparisonState → List ℕ
 compared_begins lint before = opening lint.style
 
--- the output for a file: its findings, and then the findings of its entries that the document doesn't cite, at their keys
+-- the output for a file: the findings of `lint`, and then those of the entries that the document doesn't cite, at their keys
 pub record PrintsCompared (lint : Lint) (has_unused : Bool) (found : Citations) (before : ComparisonState)
     (name bytes text : List ℕ) (after : ComparisonState) : Type 0 where
   pub first : List ℕ

@@ -30,13 +30,13 @@ pub record Disk : Type 1 where
   -- the contents that a crash could have left for a name, at some moment since the one with this number, during a call or
   -- between two calls
   pub left_since : ℕ → List ℕ → Option (List ℕ) → Type 0
-  -- the current moment is one of the moments since an earlier one
+  -- since an earlier moment or the current one, a crash could have left any contents that it may leave now
   pub counts_now : (t : ℕ) (name : List ℕ) (c : Option (List ℕ)) → t ≤ moment → may_leave name c → left_since t name c
-  -- the only moment since the current one is the current one
+  -- since the current moment, a crash could have left only contents that it may leave now
   pub only_now : (name : List ℕ) (c : Option (List ℕ)) → left_since moment name c → may_leave name c
 
--- Time has elapsed: the contents that a crash since an old moment could have left are those until `old`, and those that a crash
--- in `new` may leave.
+-- Time has elapsed from `old` to `new`. The contents that a crash since an earlier moment could have left are those that it could have
+-- left until `old`, and those that a crash at the moment of `new` may leave.
 pub record Elapses (old new : Disk) : Type 0 where
   pub later : old.moment ≤ new.moment
   pub nothing_else : (t : ℕ) (name : List ℕ) (c : Option (List ℕ)) → t ≤ old.moment → new.left_since t name c
@@ -49,7 +49,8 @@ pub record IsAsBefore (old new : Disk) : Type 0 where
   pub crash : (name : List ℕ) (c : Option (List ℕ)) → new.may_leave name c → old.may_leave name c
   pub crash_in : (name bytes : List ℕ) → new.may_leave_in name bytes → old.may_leave_in name bytes
 
--- the same for each name except this one
+-- Each name except this one holds the same contents as before. A crash leaves only contents for it and in its file that it could leave
+-- before.
 pub record IsAsBeforeBut (name : List ℕ) (old new : Disk) : Type 0 where
   pub holds : (other : List ℕ) → other ≢ name → new.holds other ≡ old.holds other
   pub crash : (other : List ℕ) (c : Option (List ℕ)) → other ≢ name → new.may_leave other c → old.may_leave other c
@@ -85,7 +86,7 @@ pub record IsNewFile (name : List ℕ) (old new : Disk) : Type 0 where
 abbrev pub OfOpen : Disk → (List ℕ → Type 0) → Type 0
 OfOpen disk p = (name : List ℕ) → disk.open_name ≡ Some name → p name
 
--- the file has its old bytes and then the text
+-- if the name had a file, it now has the old bytes followed by the text
 abbrev pub IsAppended : List ℕ → List ℕ → Disk → Disk → Type 0
 IsAppended text name old new = (bytes : List ℕ) → old.holds name ≡ Some bytes → new.holds name ≡ Some (bytes ++ text)
 
@@ -116,12 +117,12 @@ pub record IsCrashOfRename (from to : List ℕ) (old new : Disk) : Type 0 where
 abbrev pub IsCrashOfRemoval : List ℕ → Disk → Disk → Type 0
 IsCrashOfRemoval name old new = (c : Option (List ℕ)) → new.may_leave name c → old.may_leave name c ⊎ (c ≡ None)
 
--- for a name, this is the file that it has now, with bytes that a crash may leave in it, or no file if it has none
+-- these contents are the current file of a name, with bytes that a crash may leave in it, or no file if the name has none
 abbrev pub IsLeftAsNow : Disk → List ℕ → Option (List ℕ) → Type 0
 IsLeftAsNow disk name None = disk.holds name ≡ None
 IsLeftAsNow disk name (Some bytes) = disk.may_leave_in name bytes
 
--- The number of failed calls after a call with this result: one more if the call failed. The number stays at its maximum.
+-- the number of failed calls after a call with this result: one more if the call failed; the number stays at its maximum
 abbrev pub IsCounted : {T E : Type 0} → ℕ → ℕ → Result T E → Type 0
 IsCounted old new result = MatchResult result (λ _. new ≡ old) (λ _. new ≡ min (old + 1) (2 ^ 64 - 1))
 

@@ -13,8 +13,8 @@ use Rattle.bibkit_core.specs.declared.request.Style.{Style}
 use Rattle.bibkit_core.specs.declared.tally.Tally.{Tally}
 use Rattle.bibkit_core.specs.Printed.{IsShown, is_none, one_more}
 
--- the text of findings in the file with this name and these bytes, in turn, each at the position where it begins; the Boolean
--- says whether the first of them is the first of all findings
+-- the text of findings in the file with this name and these bytes, in turn, each at the position of its start; the Boolean says
+-- whether the first of them is the first of all findings
 pub data AreShown (style : Style) (name bytes : List ℕ) : Bool → List Finding → List ℕ → Type 0 where
   none : {is_first : Bool} → AreShown style name bytes is_first [] []
   next : {is_first : Bool} {f : Finding} {rest : List Finding} (text : List ℕ) {texts : List ℕ}
@@ -25,13 +25,13 @@ pub data AreShown (style : Style) (name bytes : List ℕ) : Bool → List Findin
 abbrev pub tally_after : Tally → List Finding → Tally
 tally_after tally found = fold (λ t f. one_more t (severity_of f.code)) tally found
 
--- `text` is the output for these findings of a file, with the counts before and after them
+-- `text` is the output for these findings in a file with these bytes, with the counts before and after them
 pub record ArePrinted (style : Style) (name bytes : List ℕ) (found : List Finding) (before : Tally) (text : List ℕ)
     (after : Tally) : Type 0 where
   pub shown : AreShown style name bytes (is_none before) found text
   pub tally : after ≡ tally_after before found
 
--- the finding of the first byte that isn't UTF-8, at this offset
+-- the finding that the byte at this offset is the first that isn't UTF-8
 abbrev pub unread_finding : ℕ → Finding
 unread_finding at = record {
   code = UnreadBytes;
@@ -39,13 +39,13 @@ unread_finding at = record {
   message = codes "not UTF-8 from here on, so the file is read as Windows-1252";
 }
 
--- the finding of bytes that aren't UTF-8, or no finding if there is no offset
+-- the finding that the byte at this offset isn't UTF-8, or no finding for `None`
 abbrev pub unread_findings : Option ℕ → List Finding
 unread_findings None = []
 unread_findings (Some at) = unread_finding at ∷ []
 
--- `text` is the output for the selected findings of a file, with the counts before and after them: first the finding that it
--- isn't UTF-8, at its position in the bytes, and then the findings of the decoded text, each at its position in that text
+-- `text` is the output for the selected findings of a file, with the counts before and after them: the finding that the file isn't
+-- UTF-8, if it isn't, at its position in the bytes, and then the findings of the decoded text, at their positions in that text
 pub record IsPrintedFile (lint : Lint) (name bytes : List ℕ) (decoded : Decoded) (before : Tally) (text : List ℕ)
     (after : Tally) : Type 0 where
   pub found : List Finding

@@ -1,5 +1,5 @@
 -- Machinery: words of private contracts.
--- Marks on the citations of a document: whether a file has an entry for each.
+-- Marks on the citations of a document, which say whether a file has an entry for the citation.
 use Rattle.std.specs.Prelude.{◌≡◌, ◌||◌, ℕ, Bool, true, false, List, [], ◌∷◌, ◌++◌, length, map, replicate, string_bytes}
 use Rattle.bib_source.specs.declared.decoding.Decoded.{Decoded}
 use Rattle.bib_queries.specs.Known.{IsKnownIn, IsUncited}
@@ -16,20 +16,20 @@ use Rattle.bibkit_core.specs.declared.cited.Document.{Document}
 use Rattle.bibkit_core.specs.declared.comparing.Comparing.{Comparing}
 use Rattle.bibkit_core.specs.declared.tally.Tally.{Tally}
 
--- whether one of two marks is true, for each position that both lists have
+-- for each index of the shorter list, whether one of the two marks at this index is true
 abbrev pub either_mark : List Bool → List Bool → List Bool
 either_mark [] others = []
 either_mark (mark ∷ marks) [] = []
 either_mark (mark ∷ marks) (other ∷ others) = (mark || other) ∷ either_mark marks others
 
--- the findings of the citations whose mark is false
+-- the findings of the citations whose mark (at the same index) is false
 abbrev pub unmarked_findings : List Citation → List Bool → List Finding
 unmarked_findings [] marks = []
 unmarked_findings (c ∷ rest) [] = []
 unmarked_findings (c ∷ rest) (true ∷ marks) = unmarked_findings rest marks
 unmarked_findings (c ∷ rest) (false ∷ marks) = missing_finding c ∷ unmarked_findings rest marks
 
--- a document before the first file: no citation is marked
+-- `document` has this name, text and setting, and the citations of the text, and no citation is marked
 pub record BeginsDocument (name text : List ℕ) (has_unused : Bool) (document : Document) : Type 0 where
   pub name_is : document.name.now ≡ name
   pub text_is : document.text.now ≡ text
@@ -37,7 +37,7 @@ pub record BeginsDocument (name text : List ℕ) (has_unused : Bool) (document :
   pub cited : AreCitedBy name text document.citations
   pub none_known : document.known.items ≡ replicate (length document.citations.keys.items) false
 
--- a document after a file: everything except its marks is unchanged
+-- two documents are the same except for their marks
 pub record IsSameDocument (old new : Document) : Type 0 where
   pub name_is : new.name.now ≡ old.name.now
   pub text_is : new.text.now ≡ old.text.now

@@ -1,10 +1,10 @@
 -- Meaning: words of public contracts.
--- The text that an output has taken at the end of a run. What may be printed is a fact about a text and a status. The status is
--- `None` if more texts follow.
+-- The text that an output has taken at the end of a run. `Prints` says which texts a run may print, and with which status. The status
+-- is `None` if more texts follow.
 use Rattle.std.specs.Prelude.{◌≡◌, ℕ, ◌-◌, ◌<◌, ◌^◌, Bool, false, List, Option, Some}
 use Rattle.std.specs.Io.KnownBytes.{Appends}
 
--- the output has taken the whole text, and the run has this status
+-- the output has taken a whole text that the run may print with this status
 pub record HasPrinted {K : Type 0} (taken : K → Option (List ℕ)) (Prints : List ℕ → Option ℕ → Type 0) (old new : K)
     (status : ℕ) : Type 0 where
   pub text : List ℕ

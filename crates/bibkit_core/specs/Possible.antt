@@ -1,6 +1,6 @@
 -- Meaning: words of public contracts.
--- Disks for which the contracts of the calls hold: one keeps the bytes of each file but may lose any name, and the other keeps
--- both in a crash.
+-- Disks for which the contracts of the calls hold. In a crash, `loose_disk` keeps the bytes of each file but may leave anything for a
+-- name, and `firm_disk` keeps names and bytes.
 use Rattle.std.specs.Prelude.{◌≡◌, ℕ, zero, suc, List, Option, None, Some, if◌then◌else◌}
 use Rattle.std.specs.Str.{bytes_eq}
 use Rattle.bibkit_core.specs.Folder.{Disk, Files}
@@ -19,13 +19,13 @@ loose_disk files open_name = record {
   only_now = λ _ _ _. tt;
 }
 
--- the contents that a crash since a moment could have left on `firm_disk`: any since moment 0, and since a later one those of
--- `files`
+-- the contents that a crash since a moment could have left on `firm_disk`: any contents since moment 0, and the contents in `files`
+-- since a later moment
 abbrev pub firm_since : Files → ℕ → List ℕ → Option (List ℕ) → Type 0
 firm_since files zero name c = Unit {0}
 firm_since files (suc t) name c = c ≡ files name
 
--- on `firm_disk`, the current moment is one of the moments since `t`
+-- on `firm_disk`, a crash since the moment `t` could have left the current contents
 pub firm_counts : (files : Files) (t : ℕ) (name : List ℕ) (c : Option (List ℕ)) → c ≡ files name → firm_since files t name c
 firm_counts files zero name c now = tt
 firm_counts files (suc t) name c now = now
@@ -44,6 +44,6 @@ firm_disk files = record {
   only_now = λ name c left. left;
 }
 
--- the files with `file` (bytes or no file) at the name `name`
+-- the files with `file` (bytes or `None`) at the name `name`, and otherwise those in `files`
 abbrev pub with_file : Files → List ℕ → Option (List ℕ) → Files
 with_file files name file other = if bytes_eq other name then file else files other

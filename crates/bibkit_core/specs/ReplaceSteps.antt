@@ -15,7 +15,8 @@ pub record TouchesOnly (name : List ℕ) (old new : Disk) : Type 0 where
   pub past : (t : ℕ) (other : List ℕ) (c : Option (List ℕ)) → t ≤ old.moment → other ≢ name → new.left_since t other c
       → old.left_since t other c
 
--- calls that affect no name, in the same sense
+-- calls that affect no name: each name holds the same contents as before, and during and after the calls a crash leaves only contents
+-- for it that it could leave before
 pub record TouchesNothing (old new : Disk) : Type 0 where
   pub known : new.is_known
   pub same : IsAsBefore old new
@@ -62,17 +63,19 @@ pub record IsExchanged (name target : List ℕ) (old new : Disk) : Type 0 where
   pub gone : new.holds name ≡ None
   pub left : IsSome (old.holds name) → (c : Option (List ℕ)) → new.may_leave target c → IsFileOf old name c
 
--- The target holds its old contents, or the new file. The name of the new file has no file, unless two calls have failed.
+-- The rename failed. The target holds its old contents, or the new file. The name of the new file has no file, unless two calls have
+-- failed.
 pub record IsUnsure (name target : List ℕ) (failures_old failures_new : ℕ) (old new : Disk) : Type 0 where
   pub either : (new.holds target ≡ old.holds target) ⊎ (new.holds target ≡ old.holds name)
   pub gone : (new.holds name ≡ None) ⊎ AreTwoFailed failures_old failures_new
 
--- the target has the file now, and the old name has none
+-- the rename is done and the sync of the folder failed: the target holds the new file, and the old name has no file
 pub record IsUnsettled (name target : List ℕ) (old new : Disk) : Type 0 where
   pub moved : new.holds target ≡ old.holds name
   pub gone : new.holds name ≡ None
 
--- the state of the files after the rename has failed with this error; only `Unsure` and `Unsettled` are possible
+-- the state of the files after the rename or the sync of the folder failed with this error; only `Unsure` (for the rename) and
+-- `Unsettled` (for the sync) are possible
 abbrev pub IsExchangeError : List ℕ → List ℕ → ℕ → ℕ → Disk → Disk → ReplaceError → Type 0
 IsExchangeError name target failures_old failures_new old new OutOfMemory = ⊥
 IsExchangeError name target failures_old failures_new old new NamesTaken = ⊥

@@ -10,7 +10,7 @@ use Rattle.bibkit_core.specs.declared.replacing.ReplaceError.TheVariants.{OutOfM
 abbrev pub new_name : List ℕ → ℕ → List ℕ
 new_name target number = target ++ (codes ".bibkit-" ++ decimal number)
 
--- the names of new files with the numbers below `number` are all in use
+-- each name of a new file with a number below `number` is in use
 abbrev pub AreNamesTaken : List ℕ → ℕ → Disk → Type 0
 AreNamesTaken target number disk = (k : ℕ) → k < number → IsSome (disk.holds (new_name target k))
 
@@ -19,7 +19,7 @@ AreNamesTaken target number disk = (k : ℕ) → k < number → IsSome (disk.hol
 pub record IsNeverTorn (target text : List ℕ) (old new : Disk) : Type 0 where
   pub later : old.moment ≤ new.moment
   pub since : (c : Option (List ℕ)) → new.left_since old.moment target c → old.may_leave target c ⊎ (c ≡ Some text)
-  -- the same since a moment before that of `old`
+  -- since a moment before that of `old`, a crash leaves in the target contents that it could leave until `old`, or all of this text
   pub earlier : (t : ℕ) (c : Option (List ℕ)) → t ≤ old.moment → new.left_since t target c → old.left_since t target c ⊎ (c ≡ Some text)
 
 -- the file of a name is on the disk: a crash leaves exactly the current contents of the name
@@ -43,7 +43,7 @@ IsAfterError target text old new (NotReplaced e) = new.holds target ≡ old.hold
 IsAfterError target text old new (Unsure e) = (new.holds target ≡ old.holds target) ⊎ (new.holds target ≡ Some text)
 IsAfterError target text old new (Unsettled e) = new.holds target ≡ Some text
 
--- a name holds the same contents as before, and a crash leaves only contents for it that it could leave before
+-- a name holds the same contents as before, and a crash leaves for it only contents that a crash could leave before
 pub record IsKept (name : List ℕ) (old new : Disk) : Type 0 where
   pub holds : new.holds name ≡ old.holds name
   pub crash : (c : Option (List ℕ)) → new.may_leave name c → old.may_leave name c
@@ -52,7 +52,7 @@ pub record IsKept (name : List ℕ) (old new : Disk) : Type 0 where
 abbrev pub OthersHold : List ℕ → Disk → Disk → Type 0
 OthersHold target old new = (other : List ℕ) → other ≢ target → new.holds other ≡ old.holds other
 
--- the error is an error of the folder only if the count of its failed calls has grown, unless that count is at its maximum
+-- if the error is one of the folder, the count of its failed calls has grown, unless that count is at its maximum
 abbrev pub IsCaused : ℕ → ℕ → ReplaceError → Type 0
 IsCaused old new OutOfMemory = Unit {0}
 IsCaused old new NamesTaken = Unit {0}
@@ -60,6 +60,6 @@ IsCaused old new (NotReplaced e) = old < 2 ^ 64 - 1 → old < new
 IsCaused old new (Unsure e) = old < 2 ^ 64 - 1 → old < new
 IsCaused old new (Unsettled e) = old < 2 ^ 64 - 1 → old < new
 
--- two more calls have failed; the count stays at its maximum
+-- the count of failed calls after two more; it stays at its maximum
 abbrev pub AreTwoFailed : ℕ → ℕ → Type 0
 AreTwoFailed old new = new ≡ min (old + 2) (2 ^ 64 - 1)

@@ -7,7 +7,7 @@ use Rattle.std.specs.Borrow.{Bor}
 abbrev pub names_given : List (Bor (List ℕ)) → List (List ℕ)
 names_given names = map (λ name. name.now) names
 
--- the output for a file, and whether the file could be read: the text of the task for its bytes, or no text if reading it failed
+-- the output for a file, and whether the file could be read: the text of the task for its bytes, or an empty text if it couldn't
 pub data IsStep {F T : Type 0} (reads : F → List ℕ → Option (List ℕ) → F → Type 0) (prints : T → List ℕ → List ℕ → List ℕ → T → Type 0)
     (files : F) (task : T) (name : List ℕ) : List ℕ → Bool → F → T → Type 0 where
   read : (bytes : List ℕ) {text : List ℕ} {files' : F} {task' : T} → reads files name (Some bytes) files'
@@ -15,7 +15,7 @@ pub data IsStep {F T : Type 0} (reads : F → List ℕ → Option (List ℕ) →
       → IsStep reads prints files task name text true files' task'
   unread : {files' : F} → reads files name None files' → IsStep reads prints files task name [] false files' task
 
--- the output for files in turn, and whether all of them could be read
+-- the output for files in turn, and whether all of them could be read; a file that can't be read has no output
 pub data AreRun {F T : Type 0} (reads : F → List ℕ → Option (List ℕ) → F → Type 0) (prints : T → List ℕ → List ℕ → List ℕ → T → Type 0)
     : F → T → List (List ℕ) → List ℕ → Bool → F → T → Type 0 where
   none : {files : F} {task : T} → AreRun reads prints files task [] [] true files task
@@ -24,8 +24,8 @@ pub data AreRun {F T : Type 0} (reads : F → List ℕ → Option (List ℕ) →
       → IsStep reads prints files task name text is_read files' task' → AreRun reads prints files' task' names texts are_read files'' task''
       → AreRun reads prints files task (name ∷ names) (text ++ texts) (is_read && are_read) files'' task''
 
--- the whole output of a task, and its status: the texts before the files, for each file, and after them; the status is 2 if a
--- file can't be read
+-- the whole output of a task, and its status: the texts before the files, for each file, and after them; the status is 2 if a file
+-- can't be read, otherwise that of the end of the task
 pub record IsTaskAnswer {F T : Type 0} (reads : F → List ℕ → Option (List ℕ) → F → Type 0) (begins : T → List ℕ)
     (prints : T → List ℕ → List ℕ → List ℕ → T → Type 0)
     (ends : T → List ℕ → ℕ → Type 0) (files : F) (task : T) (names : List (List ℕ)) (text : List ℕ) (status : ℕ) : Type 0 where
@@ -40,8 +40,8 @@ pub record IsTaskAnswer {F T : Type 0} (reads : F → List ℕ → Option (List 
   pub text_is : text ≡ begins task ++ (texts ++ last)
   pub status_is : status ≡ (if are_read then end_status else 2)
 
--- the output of a task so far: nothing, or the texts before the files and for the first of them, without a status; or the whole
--- output with its status
+-- an output of a task, with its status if it is whole: an empty text, or the texts before the files and for the first of them, or the
+-- whole output
 pub data IsTaskPrinted {F T : Type 0} (reads : F → List ℕ → Option (List ℕ) → F → Type 0) (begins : T → List ℕ)
     (prints : T → List ℕ → List ℕ → List ℕ → T → Type 0)
     (ends : T → List ℕ → ℕ → Type 0) (files : F) (task : T) (names : List (List ℕ)) : List ℕ → Option ℕ → Type 0 where

@@ -33,16 +33,18 @@ abbrev pub trimmed_literal : Piece → Option (List ℕ)
 trimmed_literal (literal p) = Some (trim p.text)
 trimmed_literal (abbreviation p) = None
 
--- the trimmed text of the first piece of a value, if it is a literal
+-- the trimmed text of the first piece of a value; `None` if that is an abbreviation or missing
 abbrev pub first_text : List Piece → Option (List ℕ)
 first_text [] = None
 first_text (p ∷ rest) = trimmed_literal p
 
--- the trimmed text of the first piece of the last field with this name, if it is a literal
+-- the trimmed text of the first piece of the last field with this name; `None` if there is no such field, or its first piece isn't a
+-- literal
 abbrev pub text_of_last : List FieldReading → List ℕ → Option (List ℕ)
 text_of_last fields name = option_and_then (λ f. first_text f.value.pieces) (last_named fields name)
 
--- that text of the field `date`, or that of the field `year` if the former is `None`
+-- the trimmed text of the first piece of the last field `date`, or of the last field `year` if `date` is missing or its first piece
+-- isn't a literal
 abbrev pub text_of_date : List FieldReading → Option (List ℕ)
 text_of_date fields = option_or (text_of_last fields (codes "date")) (text_of_last fields (codes "year"))
 
@@ -58,11 +60,12 @@ before_slash text = before_first (λ b. b == char.slash) text
 abbrev pub is_number : List ℕ → Bool
 is_number text = not (length text == 0) && list_all is_ascii_digit text
 
--- the text before the first hyphen or slash, if it is one or more digits
+-- the text before the first hyphen or slash (or the whole text without one) if it is one or more digits, otherwise `None`
 abbrev pub leading_year : List ℕ → Option (List ℕ)
 leading_year text = let year = before_slash (before_hyphen text) in if is_number year then Some year else None
 
--- the year of an entry with these fields; the field `year` is used only if `date` is missing or doesn't begin with a literal
+-- the year of an entry with these fields: the leading year of the field `date`, or that of `year` if `date` is missing or doesn't begin
+-- with a literal
 abbrev pub year_in : List FieldReading → Option (List ℕ)
 year_in fields = option_and_then leading_year (text_of_date fields)
 
@@ -83,7 +86,7 @@ none_counted = record { entries = []; found = [] }
 abbrev pub counted_begins : FilesSoFar → List ℕ
 counted_begins before = []
 
--- a file is counted: the entries that can be parsed of it, and its findings
+-- `after` has the entries and findings in `before`, the entries of the file that can be parsed, and the findings of the file
 pub record IsCountedWith (before : FilesSoFar) (bytes : List ℕ) (after : FilesSoFar) : Type 0 where
   pub decoded : Decoded
   pub says : FileReading
@@ -94,12 +97,12 @@ pub record IsCountedWith (before : FilesSoFar) (bytes : List ℕ) (after : Files
   pub are : AreFindings (string_bytes decoded.text) found
   pub after_is : after ≡ record { entries = before.entries ++ says.entries; found = before.found ++ found }
 
--- a file is counted, and its output is empty
+-- the output for a file is empty, and `after` also has the entries and findings of the file
 abbrev pub PrintsCounted : FilesSoFar → List ℕ → List ℕ → List ℕ → FilesSoFar → Type 0
 PrintsCounted before name bytes text after = (text ≡ []) × IsCountedWith before bytes after
 
--- the output after all files: the number of entries, and tables of types, fields, years and findings; the years are in order, and
--- the other tables begin with the greatest count; the status is 0
+-- the output after all files: the number of entries, and tables of types, fields, years and findings. The years are in the order of their
+-- bytes. The other tables begin with the greatest count. The status is 0.
 pub record EndsCounted (all : FilesSoFar) (text : List ℕ) (status : ℕ) : Type 0 where
   pub types : List Row
   pub fields : List Row

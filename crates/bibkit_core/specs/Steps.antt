@@ -18,7 +18,7 @@ use Rattle.bibkit_core.specs.declared.request.Lint.{Lint}
 use Rattle.bibkit_core.specs.declared.run.Stop.{Stop}
 use Rattle.bibkit_core.specs.declared.run.Stop.TheVariants.{Refused, NoDocument, OutOfMemory}
 
--- one file is processed, and the output takes its text
+-- the task processes one file, and the output takes the text for it
 pub record HasStep {F T : Type 0} (reads : F → List ℕ → Option (List ℕ) → F → Type 0) (prints : T → List ℕ → List ℕ → List ℕ → T → Type 0)
     (files : F) (task : T) (taken : Option (List ℕ)) (name : List ℕ) (is_read : Bool) (files' : F) (task' : T)
     (taken' : Option (List ℕ)) : Type 0 where
@@ -26,7 +26,7 @@ pub record HasStep {F T : Type 0} (reads : F → List ℕ → Option (List ℕ) 
   pub step : IsStep reads prints files task name text is_read files' task'
   pub printed : Appends taken taken' text
 
--- files are processed in turn, and the output takes their texts
+-- the task processes files in turn, and the output takes the texts for them
 pub record HasRun {F T : Type 0} (reads : F → List ℕ → Option (List ℕ) → F → Type 0) (prints : T → List ℕ → List ℕ → List ℕ → T → Type 0)
     (files : F) (task : T) (taken : Option (List ℕ)) (names : List (List ℕ)) (are_read : Bool) (files' : F) (task' : T)
     (taken' : Option (List ℕ)) : Type 0 where
@@ -34,8 +34,8 @@ pub record HasRun {F T : Type 0} (reads : F → List ℕ → Option (List ℕ) �
   pub run : AreRun reads prints files task names text are_read files' task'
   pub printed : Appends taken taken' text
 
--- the reasons for which a run ends early: the output refused a text after those that `Prints` allows; or the file of the document
--- can't be read (`Unread`), and nothing is printed; or out of memory, and the output refused no text
+-- a run ends early for this reason: the output refused a text after one that `Prints` allows; or the file of the document can't be
+-- read (`Unread`), and nothing is printed; or out of memory, and the output refused no text
 pub data HasStopped {K : Type 0} (taken : K → Option (List ℕ)) (refusals : K → ℕ)
     (hands_over : K → List ℕ → Bool → K → Type 0) (Prints : List ℕ → Option ℕ → Type 0) (Unread : Type 0) (old new : K)
     : Stop → Type 0 where
@@ -44,11 +44,11 @@ pub data HasStopped {K : Type 0} (taken : K → Option (List ℕ)) (refusals : K
   no_document : Unread → new ≡ old → HasStopped taken refusals hands_over Prints Unread old new NoDocument
   no_memory : refusals new ≡ refusals old → HasStopped taken refusals hands_over Prints Unread old new OutOfMemory
 
--- nothing is printed
+-- the text is empty, with any status
 abbrev pub IsNothing : List ℕ → Option ℕ → Type 0
 IsNothing text status = text ≡ []
 
--- `text` is the output for the first of these files
+-- `text` is the output for some of these files, from the first on
 pub record AreFirst {F T : Type 0} (reads : F → List ℕ → Option (List ℕ) → F → Type 0)
     (prints : T → List ℕ → List ℕ → List ℕ → T → Type 0) (files : F) (task : T) (names : List (List ℕ))
     (text : List ℕ) (status : Option ℕ) : Type 0 where
@@ -60,7 +60,7 @@ pub record AreFirst {F T : Type 0} (reads : F → List ℕ → Option (List ℕ)
   pub parts : names ≡ done ++ rest
   pub run : AreRun reads prints files task done text are_read files' task'
 
--- the reasons for which the text of a document is missing: its file can't be read, or out of memory
+-- the text of a document is missing for this reason: its file can't be read, or out of memory
 abbrev pub HasNoText : {F : Type 0} → (F → List ℕ → Option (List ℕ) → F → Type 0) → F → List ℕ → F → Stop → Type 0
 HasNoText reads files name files' NoDocument = reads files name None files'
 HasNoText reads files name files' OutOfMemory = ⊤

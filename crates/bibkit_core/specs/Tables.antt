@@ -19,7 +19,7 @@ times_met names name = if list_any (bytes_eq name) names then Some (min (count_b
 abbrev pub name_and_count : Row → List ℕ × ℕ
 name_and_count row = (row.name.now, row.count)
 
--- rows by name: one row for each name that occurs, with the number of its occurrences, in the order of the names' bytes
+-- `rows` has one row for each name that occurs in `names`, with the number of its occurrences, in the order of the names' bytes
 pub record AreByName (names : List (List ℕ)) (rows : List Row) : Type 0 where
   pub counts : (name : List ℕ) → lookup (bytes_eq name) (map name_and_count rows) ≡ times_met names name
   pub sorted : IsStrictlySortedBy (slice_cmp nat_cmp) (map (λ row. row.name.now) rows)
@@ -28,7 +28,8 @@ pub record AreByName (names : List (List ℕ)) (rows : List Row) : Type 0 where
 abbrev pub count_below_greatest : Row → ℕ
 count_below_greatest row = 2 ^ 64 - 1 - row.count
 
--- rows by count, the greatest first; rows with equal counts are in the order of their names
+-- `rows` has one row for each name that occurs in `names`, the greatest count first; rows with equal counts are in the order of their
+-- names
 pub record AreByCount (names : List (List ℕ)) (rows : List Row) : Type 0 where
   pub by_name : List Row
   pub are : AreByName names by_name
@@ -40,7 +41,7 @@ pub record AreByCount (names : List (List ℕ)) (rows : List Row) : Type 0 where
 abbrev pub widest : List Row → ℕ
 widest rows = fold (λ width row. max (length (chars row.name.now)) width) 0 rows
 
--- the spaces that follow `written` characters up to a width
+-- the spaces after `written` characters up to a width; none if the text is as wide or wider
 abbrev pub padding : ℕ → ℕ → List ℕ
 padding written width = replicate (width - written) char.space
 

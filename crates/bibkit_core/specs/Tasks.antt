@@ -16,20 +16,20 @@ use Rattle.bibkit_core.specs.declared.request.Style.{Style}
 use Rattle.bibkit_core.specs.declared.request.Style.TheVariants.{Plain, Colored, Json}
 use Rattle.bibkit_core.specs.declared.tally.Tally.{Tally}
 
--- the decoding of bytes: as UTF-8 without a byte order mark, or as Windows-1252 if they aren't UTF-8; `invalid` is the offset of
--- the first invalid byte, or `None` for UTF-8
+-- `decoded` is the text of the bytes: without a byte order mark if they are UTF-8, otherwise decoded as Windows-1252. `invalid` is the
+-- offset of the first byte that isn't UTF-8, or `None` for UTF-8.
 pub record AreDecoded (bytes : List ℕ) (decoded : Decoded) : Type 0 where
   pub utf8 : IsUtf8 (without_byte_order_mark bytes) → string_bytes decoded.text ≡ without_byte_order_mark bytes
   pub windows : ¬ (IsUtf8 (without_byte_order_mark bytes)) → string_bytes decoded.text ≡ windows_1252_text bytes
   pub invalid : MatchOption decoded.invalid (IsUtf8 (without_byte_order_mark bytes)) (IsFirstInvalid bytes)
 
--- the text before findings: in JSON the opening bracket of the array
+-- the text before findings: the opening bracket of the array in JSON, otherwise none
 abbrev pub opening : Style → List ℕ
 opening Plain = []
 opening Colored = []
 opening Json = codes "["
 
--- the text after findings: the line with the counts, or in JSON the closing bracket of the array
+-- the text after findings: the closing bracket of the array in JSON, otherwise the line with the counts
 abbrev pub closing : Style → Tally → List ℕ
 closing Plain tally = counts_line tally
 closing Colored tally = counts_line tally
@@ -39,19 +39,19 @@ closing Json tally = codes "\n]\n"
 abbrev pub lint_status : Tally → ℕ
 lint_status tally = if is_none tally then 0 else 1
 
--- `text` is the output for the selected findings of a file, with the counts before and after them
+-- `text` is the output for the selected findings of a file with these bytes, with the counts before and after them
 pub record PrintsFindings (lint : Lint) (name bytes : List ℕ) (before : Tally) (text : List ℕ) (after : Tally) : Type 0 where
   pub decoded : Decoded
   pub of_bytes : AreDecoded bytes decoded
   pub printed : IsPrintedFile lint name bytes decoded before text after
 
--- `text` is the output for the requested entries of a file; `has_entry` says whether it has one
+-- `text` is the output for a request for entries or keys of a file with these bytes; `has_entry` says whether the output has one
 pub record PrintsEntries (request : Request) (bytes text : List ℕ) (has_entry : Bool) : Type 0 where
   pub decoded : Decoded
   pub of_bytes : AreDecoded bytes decoded
   pub answer : IsTextAnswer request (string_bytes decoded.text) text has_entry
 
--- whether a request is a search, which fails if it finds nothing: each request is one, except the list of all keys
+-- whether a request is a search: any request except that for all keys; a search that finds nothing has the status 1
 abbrev pub is_search : Request → Bool
 is_search Keys = false
 is_search _ = true
@@ -87,7 +87,7 @@ pub record BeginsEntries (request : Request) (task : Entries) : Type 0 where
 abbrev pub entries_begins : Entries → List ℕ
 entries_begins task = []
 
--- the output of the entries task for a file, and the task afterwards: something is found if the output of a file has an entry
+-- the output of the entries task for a file, and the task afterwards; `is_found` says whether the output so far has an entry or a key
 abbrev pub entries_prints : Entries → List ℕ → List ℕ → List ℕ → Entries → Type 0
 entries_prints old name bytes text new =
     (new.request.now ≡ old.request.now)

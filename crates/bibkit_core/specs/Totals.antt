@@ -18,7 +18,7 @@ use Rattle.bibkit_core.specs.declared.tables.Counts.{Counts}
 pub record AreCounted (names : List (List ℕ)) (counts : Counts) : Type 0 where
   pub held : (name : List ℕ) → get_by_text counts.counts name ≡ times_met names name
 
--- the counts are increased by these names
+-- the count of each name is increased by the number of its occurrences in this list
 pub record AddsNames (names : List (List ℕ)) (old new : Counts) : Type 0 where
   pub adds : (before : List (List ℕ)) → AreCounted before old → AreCounted (before ++ names) new
 
@@ -51,12 +51,12 @@ pub record AddsTextFindings (text : List ℕ) (old new : Counting) : Type 0 wher
   pub are : AreFindings text found
   pub added : AddsFindings found old new
 
--- a file is counted, and its output is empty
+-- the task counts a file, and the output for the file is empty
 pub record PrintsCounting (old : Counting) (name bytes text : List ℕ) (new : Counting) : Type 0 where
   pub text_is : text ≡ []
   pub counted : (before : FilesSoFar) → AreCountsOf before old
       → (after : FilesSoFar) × IsCountedWith before bytes after × AreCountsOf after new
 
--- the output after all files is that of the counted entries and findings
+-- for all entries and findings that the task has counted, this is the output after all files, with this status
 pub record EndsCounting (task : Counting) (text : List ℕ) (status : ℕ) : Type 0 where
   pub ends : (all : FilesSoFar) → AreCountsOf all task → EndsCounted all text status

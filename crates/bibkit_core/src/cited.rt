@@ -62,7 +62,7 @@ fn is_either(one: bool, other: bool) -> bool
     one || other
 }
 
-// Returns, for each position that both lists have, whether one of the two marks is true.
+// Returns a list as long as the shorter list. Each of its marks is true if one of the two marks at its index is true.
 fn either(alloc: Global, first: &[bool], second: &[bool]) -> Result<Vec<bool>, AllocError>
     ensures { IfOk result (λ marks. marks.items ≡ either_mark first.now second.now) }
 {
@@ -124,7 +124,7 @@ fn push_unless_known(
     Ok(())
 }
 
-// Returns the findings of the citations whose mark is false.
+// Returns the findings of the citations whose mark is false. A mark belongs to the citation at the same index.
 fn unmarked_findings(
     alloc: Global,
     citations: &[Citation],
@@ -140,8 +140,8 @@ fn unmarked_findings(
 }
 
 impl<'t> Document<'t> {
-    /// Returns the document whose .aux or .bcf file has this name and text, before any file is compared. `has_unused` requests
-    /// the findings of entries that it doesn't cite.
+    /// Returns the document whose .aux or .bcf file has this name and text, without a marked citation. `has_unused` requests the findings
+    /// of entries that it doesn't cite.
     pub fn new(
         alloc: Global,
         name: &'t str,
@@ -161,7 +161,7 @@ impl<'t> Document<'t> {
         })
     }
 
-    /// Returns the file of the document, for the positions of its findings.
+    /// Returns the name and the bytes of the file of the document, for the positions of findings in it.
     pub fn origin(&self) -> Origin<'t>
         ensures name { result.name.now ≡ self.now.name.now }
         ensures bytes { result.bytes.now ≡ self.now.text.now }
@@ -184,7 +184,8 @@ impl<'t> Document<'t> {
         Ok(unused)
     }
 
-    // Returns the marks of the citations for which the files so far or this one have an entry.
+    // Returns the marks of the citations after a file with this text. A mark is true if it was true before, or if the file has an entry for
+    // the citation.
     fn known_with(&self, alloc: Global, text: &str) -> Result<Vec<bool>, AllocError>
         ensures { IfOk result (λ known. AreKnownWith text.now self.now known.items) }
     {
@@ -200,7 +201,7 @@ impl<'t> Document<'t> {
         self.has_unused && !self.citations.all
     }
 
-    // Returns the findings of the entries of a file that the document doesn't cite.
+    // Returns the findings of the entries of a file that have no name among the keys of the citations.
     fn uncited_entries(&self, alloc: Global, text: &str) -> Result<Vec<Finding>, AllocError>
         ensures { IfOk result (λ found. AreUncited text.now (cited_keys self.now.citations) found.items) }
     {
@@ -210,7 +211,8 @@ impl<'t> Document<'t> {
         Ok(found)
     }
 
-    // Returns the same findings if they are requested and the document doesn't cite all entries, otherwise none.
+    // Returns the findings of the entries of a file that the document doesn't cite. Returns none if they aren't requested, or if the
+    // document cites all entries.
     fn unused_findings(&self, alloc: Global, text: &str) -> Result<Vec<Finding>, AllocError>
         ensures { IfOk result (λ found. AreUnused self.now text.now found.items) }
     {

@@ -12,7 +12,7 @@ use crate::request::Lint;
 use crate::task::{End, Task};
 use std::alloc::{AllocError, Global};
 
-/// Prints the selected findings of files, and those of the citations of a document.
+/// Prints the selected findings of files, and the selected findings that compare the files with the citations of a document.
 #[derive(Drop)]
 pub struct Comparing<'r, 'a> {
     linting: Linting<'r, 'a>,

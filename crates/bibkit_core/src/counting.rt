@@ -1,4 +1,4 @@
-//! The task that counts the entries, types, fields, years and findings of files.
+//! The task that counts the entries, types, fields, years and findings of files, and prints the counts at the end.
 
 ghost use Rattle.std.specs.Prelude.{◌≡◌, [], ◌∷◌, ◌++◌, ℕ, List, map, IfOk, OnOk};
 ghost use Rattle.std.specs.Char.{is_ascii_digit};
@@ -57,7 +57,7 @@ fn literal_text<'s>(piece: &Spanned<RawChunk<'s>>) -> Option<&'s str>
     }
 }
 
-// Returns the trimmed text of the first piece of a value, if it is a literal.
+// Returns the trimmed text of the first piece of a value. Returns `None` if the first piece is an abbreviation or missing.
 fn first_text<'s>(pieces: &[Spanned<RawChunk<'s>>]) -> Option<&'s str>
     ensures { option_map (λ text. text.now) result ≡ spec.first_text (map piece_of pieces.now) }
 {
@@ -67,7 +67,8 @@ fn first_text<'s>(pieces: &[Spanned<RawChunk<'s>>]) -> Option<&'s str>
     }
 }
 
-// Returns the trimmed text of the first piece of the last field with this name, if it is a literal.
+// Returns the trimmed text of the first piece of the last field with this name. Returns `None` if there is no such field, or if its
+// first piece isn't a literal.
 fn text_of_last<'s>(fields: &[Pair<'s>], name: &str) -> Option<&'s str>
     ensures { option_map (λ text. text.now) result ≡ spec.text_of_last (map field_of fields.now) name.now }
 {
@@ -77,7 +78,8 @@ fn text_of_last<'s>(fields: &[Pair<'s>], name: &str) -> Option<&'s str>
     }
 }
 
-// Returns that text of the field `date`, or that of the field `year` if the former is `None`.
+// Returns the trimmed text of the first piece of the last field `date`. If `date` is missing or its first piece isn't a literal, returns
+// that text of the last field `year`.
 fn date_text<'s>(fields: &[Pair<'s>]) -> Option<&'s str>
     ensures { option_map (λ text. text.now) result ≡ spec.text_of_date (map field_of fields.now) }
 {
@@ -121,7 +123,7 @@ fn is_number(text: &str) -> bool
     !text.is_empty() && are_digits(text)
 }
 
-// Returns the text before the first hyphen or slash if it is one or more digits.
+// Returns the text before the first hyphen or slash, or the whole text without one. Returns `None` if it isn't one or more digits.
 fn leading_year(text: &str) -> Option<&str>
     ensures { option_map (λ year. year.now) result ≡ spec.leading_year text.now }
 {
@@ -129,8 +131,8 @@ fn leading_year(text: &str) -> Option<&str>
     if is_number(year) { Some(year) } else { None }
 }
 
-// Returns the year of an entry with these fields. The field `year` is used only if `date` is missing or doesn't begin with a
-// literal, and not if the text of `date` doesn't begin with a year.
+// Returns the year of an entry with these fields: the leading year of the field `date`, or that of `year` if `date` is missing or
+// doesn't begin with a literal. If the text of `date` has no leading year, returns `None`, whatever `year` contains.
 fn year_of<'s>(fields: &[Pair<'s>]) -> Option<&'s str>
     ensures { option_map (λ year. year.now) result ≡ spec.year_in (map field_of fields.now) }
 {
@@ -140,7 +142,7 @@ fn year_of<'s>(fields: &[Pair<'s>]) -> Option<&'s str>
     }
 }
 
-// Counts the names of fields in lowercase.
+// Counts the names of fields, in lowercase.
 fn count_fields(alloc: Global, counts: &mut Counts, fields: &[Pair<'_>]) -> Result<(), AllocError>
     ensures { OnOk result (AddsNames (spec.lowercase_names (map field_of fields.now)) counts.old counts.new) }
 {
@@ -177,7 +179,7 @@ impl Counting {
         }
     }
 
-    // Counts an entry, its type, its fields and its year.
+    // Counts an entry, its type, the names of its fields and its year.
     fn add_entry(&mut self, alloc: Global, entry: &Spanned<RawEntry<'_>>) -> Result<(), AllocError>
         ensures { OnOk result (AddsEntries (entry_reading_of entry.now ∷ []) self.old self.new) }
     {

@@ -29,7 +29,7 @@ impl<'r, 'a> Entries<'r, 'a> {
     }
 }
 
-// Returns whether the request is a search, which fails if it finds nothing. Each request is one, except the list of all keys.
+// Returns whether the request is a search: any request except that for all keys. A search that finds nothing has the status 1.
 fn is_search(request: &Excerpts<'_>) -> bool
     ensures { result ≡ spec.is_search request.now }
 {
@@ -39,14 +39,14 @@ fn is_search(request: &Excerpts<'_>) -> bool
     }
 }
 
-// Returns whether something is found so far, if the output for the next file has an entry.
+// Returns whether an entry (or a key, for the request `Keys`) is found so far: before this file, or in the output for this file.
 fn is_found_with(is_found: bool, has_entry: bool) -> bool
     ensures { result ≡ (is_found || has_entry) }
 {
     is_found || has_entry
 }
 
-// Returns the status: 1 for a search that found nothing, otherwise 0.
+// Returns the status of a request: 1 for a search that found nothing, otherwise 0.
 fn entries_status(request: &Excerpts<'_>, is_found: bool) -> u8
     ensures { result ≡ spec.entries_status request.now is_found }
 {

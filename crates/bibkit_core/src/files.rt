@@ -44,7 +44,8 @@ impl FileError {
 
 /// Reads files by their names.
 pub trait Files {
-    // Whether one call with this name may lead from the first state to the second and return these bytes, or an error (`None`).
+    // Whether one call with this name may lead from the first state to the second and return these bytes, or fail for a reason other than
+    // out of memory (`None`).
     ghost reads: { Self → List ℕ → Option (List ℕ) → Self → Type 0 };
 
     /// Returns all bytes of the file with this name. `-` is standard input.

@@ -1,4 +1,4 @@
-//! Prints a finding for a terminal: in colours, and with the line of the file.
+//! Returns the text of a finding in colours for a terminal, with the line of the file below it.
 
 ghost use Rattle.std.specs.Prelude.{◌≡◌, ◌≤◌, length, IfOk};
 ghost use Rattle.std.specs.String.{string_bytes};
@@ -25,7 +25,7 @@ fn color(severity: Severity) -> &'static str
     }
 }
 
-// Returns the bytes of the line before the offset `at`, at most `MOST_SHOWN`.
+// Returns the bytes before the offset `at` that are in the same line, at most the last `MOST_SHOWN`.
 fn before(bytes: &[u8], at: usize) -> &[u8]
     requires { at ≤ length bytes.now }
 {
@@ -36,7 +36,7 @@ fn before(bytes: &[u8], at: usize) -> &[u8]
     }
 }
 
-// Returns the bytes of the line from the offset `at` on, at most `MOST_SHOWN`.
+// Returns the bytes from the offset `at` on that are in the same line, at most the first `MOST_SHOWN`.
 fn after(bytes: &[u8], at: usize) -> &[u8]
     requires { at ≤ length bytes.now }
 {
@@ -63,7 +63,7 @@ fn end_of(bytes: &[u8]) -> &str {
     text_of(bytes.get(cut..).unwrap_or(&[]))
 }
 
-// Returns the character to print: a control character other than a tab is replaced, since it could move the cursor or change
+// Returns the character to print. A control character other than a tab is replaced by U+FFFD, since it could move the cursor or change
 // colours.
 fn printable_char(character: char) -> char {
     if character == '\t' || !character.is_control() {
@@ -78,8 +78,8 @@ fn blank(character: char) -> char {
     if character == '\t' { '\t' } else { ' ' }
 }
 
-// Returns the line that contains the offset `at`, cut to `MOST_SHOWN` bytes on each side, and a line with a mark under that
-// offset.
+// Returns the line that contains the offset `at`, and a line with a mark below the character at that offset. The first line is cut to
+// `MOST_SHOWN` bytes on each side, and its control characters are replaced.
 fn frame(alloc: Global, bytes: &[u8], at: usize) -> Result<String, AllocError> {
     let at = at.min(bytes.len());
     let before = end_of(before(bytes, at));

@@ -9,8 +9,8 @@
 //! progress.
 //!
 //! `folder` specifies each call on the files of a folder, and the contents that a crash may leave. `replacing` replaces the text
-//! of a file as a whole: it writes a new file beside the old one, and renames it. `laws` proves that the contracts of `folder`
-//! can be met: it has disks on which each call succeeds.
+//! of a file as a whole: it writes a new file beside the old one, and renames it. `laws` proves that the contracts of `folder`,
+//! except that of `remove`, can be met: it has disks on which each of these calls succeeds.
 #![tactic(auto)]
 
 mod cited;

@@ -1,4 +1,4 @@
-//! Prints a finding as a line.
+//! Returns the line of a finding.
 
 ghost use Rattle.std.specs.Prelude.{◌≡◌, IfOk};
 ghost use Rattle.std.specs.String.{string_bytes};

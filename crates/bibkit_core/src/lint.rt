@@ -30,12 +30,12 @@ pub struct Origin<'a> {
     pub bytes: &'a [u8],
 }
 
-/// The output so far.
+/// A text to print, and the counts of the findings so far.
 #[derive(Drop)]
 pub struct Printed {
     /// The text to print.
     pub text: String,
-    /// The number of all findings so far, including those before `text`.
+    /// The counts of all findings so far, including those before `text`.
     pub tally: Tally,
 }
 
@@ -96,7 +96,7 @@ pub fn print_findings(
     Ok(())
 }
 
-// Returns the finding of the first byte that isn't UTF-8.
+// Returns the finding that the byte at the offset `at` is the first that isn't UTF-8.
 fn unread_bytes(alloc: Global, at: usize) -> Result<Finding, AllocError>
     ensures { IfOk result (λ finding. finding ≡ unread_finding at) }
 {
@@ -110,7 +110,7 @@ fn unread_bytes(alloc: Global, at: usize) -> Result<Finding, AllocError>
     })
 }
 
-// Appends the finding that a file isn't UTF-8, if `invalid` is an offset and the code is selected.
+// Appends the finding that a file isn't UTF-8, and counts it, if `invalid` is an offset and the code is selected.
 fn print_unread(
     alloc: Global,
     printed: &mut Printed,
@@ -128,8 +128,9 @@ fn print_unread(
     print_findings(alloc, printed, lint, origin, &[unread])
 }
 
-/// Appends the selected findings of a file to `printed`, and counts them: first the finding that it isn't UTF-8, then those of
-/// its decoded text. The position of the first is counted in the file's bytes, and that of the others in the decoded text.
+/// Appends the selected findings of a file to `printed`, and counts them: the finding that the file isn't UTF-8, if it isn't, and then
+/// the findings of its decoded text. The position of the former is that in the file's bytes, and the positions of the latter are those
+/// in the decoded text.
 pub fn print_file(
     alloc: Global,
     printed: &mut Printed,

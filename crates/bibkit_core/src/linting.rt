@@ -33,7 +33,7 @@ impl<'r, 'a> Linting<'r, 'a> {
         }
     }
 
-    // Returns an empty output, with the counts of the findings so far.
+    // Returns an empty text, with the counts of the findings so far.
     fn nothing(&self, alloc: Global) -> Printed
         ensures text { string_bytes result.text ≡ [] }
         ensures tally { result.tally ≡ self.now.tally }
@@ -72,7 +72,7 @@ impl<'r, 'a> Linting<'r, 'a> {
     }
 }
 
-// Returns the text before all findings.
+// Returns the text before all findings: the start of the JSON array, or an empty text in the other styles.
 fn opening(style: Style) -> &'static str
     ensures { result.now ≡ spec.opening style }
 {
@@ -82,7 +82,7 @@ fn opening(style: Style) -> &'static str
     }
 }
 
-// Returns the text after all findings: the counts, or the end of the JSON array.
+// Returns the text after all findings: the end of the JSON array, or the line with the counts in the other styles.
 fn closing(alloc: Global, style: Style, tally: Tally) -> Result<String, AllocError>
     ensures { IfOk result (λ text. string_bytes text ≡ spec.closing style tally) }
 {
@@ -92,7 +92,7 @@ fn closing(alloc: Global, style: Style, tally: Tally) -> Result<String, AllocErr
     }
 }
 
-// Returns the status: 1 if there are findings, otherwise 0.
+// Returns the status: 1 if findings were printed, otherwise 0.
 fn lint_status(tally: Tally) -> u8
     ensures { result ≡ spec.lint_status tally }
 {

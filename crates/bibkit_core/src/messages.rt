@@ -4,10 +4,10 @@ use crate::files::FileError;
 use biblatex::Sink;
 use std::alloc::{AllocError, Global};
 
-// The maximum number of characters of a file name that are shown.
+// The maximum number of characters of a file name in the line of progress.
 const MOST_SHOWN: usize = 60;
 
-// Moves the cursor to the start of the line, and clears the line.
+// The escape sequence that moves the cursor to the start of the line, and clears the line.
 const CLEAR: &str = "\r\x1b[K";
 
 /// The sink for messages, and the progress of a run.
@@ -30,7 +30,7 @@ impl<M: Sink> Messages<M> {
         }
     }
 
-    /// Shows the name of the next file, and its number, if progress is shown.
+    /// Counts the next file. If progress is shown, replaces the line of progress by the number and the name of this file.
     pub fn begin(&mut self, alloc: Global, name: &str) -> Result<(), AllocError> {
         self.begun = self.begun.saturating_add(1);
         if self.has_progress {
@@ -51,14 +51,14 @@ impl<M: Sink> Messages<M> {
         Ok(())
     }
 
-    /// Clears the line that shows progress.
+    /// Clears the line of progress, if progress is shown.
     pub fn clear(&mut self) {
         if self.has_progress {
             let _ = self.sink.write_str(CLEAR);
         }
     }
 
-    /// Prints the error of a file that could not be read.
+    /// Clears the line of progress, and prints the error of a file that can't be read.
     pub fn report(
         &mut self,
         alloc: Global,
@@ -71,7 +71,7 @@ impl<M: Sink> Messages<M> {
         Ok(())
     }
 
-    /// Prints the message that ends the run.
+    /// Clears the line of progress, and prints the message that ends the run.
     pub fn end(&mut self, text: &str) {
         self.clear();
         let _ = self.sink.write_str(text);

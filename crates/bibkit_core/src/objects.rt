@@ -1,4 +1,4 @@
-//! Prints a finding as a JSON object.
+//! Returns the JSON object of a finding.
 
 ghost use Rattle.std.specs.Prelude.{◌≡◌, IfOk};
 ghost use Rattle.std.specs.String.{string_bytes};

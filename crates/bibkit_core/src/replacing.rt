@@ -20,7 +20,7 @@ pub enum ReplaceError {
     OutOfMemory,
     /// All names for the new file are in use. The file is unchanged.
     NamesTaken,
-    /// The new file could not be created, written or synced. The old file is unchanged.
+    /// The new file can't be created, written or synced. The old file is unchanged.
     NotReplaced(io::Error),
     /// Renaming the new file failed. The file has the old text or the new one.
     Unsure(io::Error),
@@ -82,7 +82,7 @@ fn fill<F: Folder>(folder: &mut F, text: &str) -> io::Result<()>
     folder.sync()
 }
 
-// Renames the new file `name` to `target`, and syncs the folder. If the rename fails, removes the new file.
+// Renames the new file `name` to `target`, and syncs the folder. If the rename fails, tries to remove the new file.
 fn exchange<F: Folder>(folder: &mut F, name: &str, target: &str) -> Result<(), ReplaceError>
     requires { name.now ≢ target.now }
     ensures exchange { (F.disk folder.old).is_known →
@@ -106,7 +106,7 @@ fn exchange<F: Folder>(folder: &mut F, name: &str, target: &str) -> Result<(), R
 
 /// Replaces the text of the file `target` by `text`. Writes `text` into a new file `TARGET.bibkit-0`, or the next name up to
 /// `TARGET.bibkit-99` that isn't in use. Syncs the new file, renames it to `target`, and syncs the folder. If the new file can't
-/// be written, synced or renamed, removes it. [`ReplaceError`] describes the state of `target` after each error.
+/// be written, synced or renamed, tries to remove it. [`ReplaceError`] describes the state of `target` after each error.
 pub fn replace<F: Folder>(
     alloc: Global,
     folder: &mut F,
@@ -117,7 +117,7 @@ pub fn replace<F: Folder>(
     ensures whole { (F.disk folder.old).is_known → IsOnDisk target.now (F.disk folder.old) →
         IsOldOrNew target.now text.now (F.disk folder.old) (F.disk folder.new) }
 
-    // The same if the old bytes may not be on the disk: a crash leaves contents that it could leave before, or all of the text.
+    // Even if the old bytes may not be on the disk, a crash leaves contents that it could leave before the call, or all of the text.
     ensures crash { (F.disk folder.old).is_known →
         IsNeverTorn target.now text.now (F.disk folder.old) (F.disk folder.new) }
     ensures done { (F.disk folder.old).is_known →
@@ -141,7 +141,7 @@ pub fn replace<F: Folder>(
         OnErr result (OthersHold target.now (F.disk folder.old) (F.disk folder.new)
         ⊎ AreTwoFailed (F.failures folder.old) (F.failures folder.new)) }
 
-    // It returns `NamesTaken` only if all names are in use, and an error of the folder only if a call of the folder failed.
+    // The error is `NamesTaken` only if all names are in use, and an error of the folder only if a call of the folder failed.
     ensures names_taken { (F.disk folder.old).is_known → IsErrOf result ReplaceError.NamesTaken →
         AreNamesTaken target.now 100 (F.disk folder.old) }
     ensures caused { IfErr result (IsCaused (F.failures folder.old) (F.failures folder.new)) }

@@ -9,7 +9,7 @@ use bib_queries::request::Request as Excerpts;
 pub enum Style {
     /// A line for each finding, and a line with the counts.
     Plain,
-    /// The same in colours. Below the line of each finding is the line of the file, with a mark under the column.
+    /// A line in colours for each finding, the line of the file with a mark under the column, and a line with the counts.
     Colored,
     /// A JSON array with an object for each finding.
     Json,
@@ -46,7 +46,7 @@ pub enum Request<'a> {
     Entries(Excerpts<'a>),
     /// Prints the entries that the document of this .aux or .bcf file cites.
     Cited(&'a str),
-    /// Prints the numbers of entries, types, fields, years and findings.
+    /// Prints the number of entries, and the counts of types, fields, years and codes of findings.
     Stats,
 }
 
@@ -57,6 +57,6 @@ pub struct Call<'a> {
     pub request: Request<'a>,
     /// The names of the files; `-` is standard input.
     pub names: Vec<&'a str>,
-    /// Whether the name of the file in progress is shown.
+    /// Whether progress is shown: the number and the name of each file while it is processed.
     pub has_progress: bool,
 }

@@ -75,7 +75,7 @@ fn bytes_of<F: Files, M: Sink>(
     }
 }
 
-// Reads a file, runs the task on it and prints the text. Returns whether the file could be read.
+// Reads a file, runs the task on it and prints the text of the task. If the file can't be read, prints the error and returns false.
 fn run_file<T: Task, F: Files, K: Sink, M: Sink>(
     alloc: Global,
     name: &str,
@@ -136,7 +136,8 @@ fn status_of(are_read: bool, status: u8) -> u8
     if are_read { status } else { 2 }
 }
 
-// Runs a task on files, with the texts before and after them, and returns the status: 2 if a file can't be read.
+// Runs a task on files, and prints its texts before, for and after the files. Returns the status: 2 if a file can't be read, otherwise
+// that of the end of the task.
 fn run_task<T: Task, F: Files, K: Sink, M: Sink>(
     alloc: Global,
     names: &[&str],
@@ -158,7 +159,7 @@ fn run_task<T: Task, F: Files, K: Sink, M: Sink>(
     Ok(status_of(are_read, end.status))
 }
 
-// Reads and decodes the .aux or .bcf file of a document.
+// Reads and decodes the .aux or .bcf file of a document. Fails with `NoDocument` if it can't be read.
 fn document_text<F: Files, M: Sink>(
     alloc: Global,
     name: &str,
@@ -175,7 +176,7 @@ fn document_text<F: Files, M: Sink>(
     Ok(decoded.text)
 }
 
-// Prints the selected findings of files.
+// Prints the selected findings of files, and returns the status.
 fn run_findings<F: Files, K: Sink, M: Sink>(
     alloc: Global,
     lint: &Lint<'_>,
@@ -196,7 +197,8 @@ fn run_findings<F: Files, K: Sink, M: Sink>(
     Ok(status)
 }
 
-// Prints the selected findings of files, and those of the citations of a document.
+// Prints the selected findings of files, and the selected findings that compare the files with the citations of a document. Returns the
+// status.
 fn run_compared<F: Files, K: Sink, M: Sink>(
     alloc: Global,
     lint: &Lint<'_>,
@@ -220,7 +222,7 @@ fn run_compared<F: Files, K: Sink, M: Sink>(
     Ok(status)
 }
 
-// Runs `lint`, with or without a document.
+// Runs `lint`, with or without a document, and returns the status.
 fn run_lint<F: Files, K: Sink, M: Sink>(
     alloc: Global,
     lint: &Lint<'_>,
@@ -248,7 +250,7 @@ fn run_lint<F: Files, K: Sink, M: Sink>(
     }
 }
 
-// Prints the requested entries of files.
+// Prints the requested entries of files, and returns the status.
 fn run_entries<F: Files, K: Sink, M: Sink>(
     alloc: Global,
     request: &Excerpts<'_>,
@@ -269,7 +271,7 @@ fn run_entries<F: Files, K: Sink, M: Sink>(
     Ok(status)
 }
 
-// Prints the entries that a document cites.
+// Prints the entries of files that a document cites, and returns the status.
 fn run_cited<F: Files, K: Sink, M: Sink>(
     alloc: Global,
     document: &str,
@@ -295,7 +297,7 @@ fn run_cited<F: Files, K: Sink, M: Sink>(
     Ok(status)
 }
 
-// Prints the counts of files.
+// Prints the counts of files, and returns the status.
 fn run_counts<F: Files, K: Sink, M: Sink>(
     alloc: Global,
     names: &[&str],
@@ -315,7 +317,7 @@ fn run_counts<F: Files, K: Sink, M: Sink>(
     Ok(status)
 }
 
-// Prints the explanation of a code.
+// Prints the explanation of a code, and returns the status 0.
 fn explain<K: Sink>(alloc: Global, code: Code, output: &mut K) -> Result<u8, Stop>
     ensures printed { IfOk result (HasPrinted K.taken
         (IsMeaningPrinted code) output.old output.new) }
@@ -376,7 +378,7 @@ fn answer<F: Files, K: Sink, M: Sink>(
 
 /// Runs a request, and returns the status:
 /// - 0: done.
-/// - 1: `lint` has findings, or a search found nothing.
+/// - 1: `lint` printed findings, or a search found nothing.
 /// - 2: a file can't be read, or the output refused a text.
 /// - 3: out of memory.
 pub fn run<F: Files, K: Sink, M: Sink + Drop>(

@@ -8,7 +8,7 @@ use bib_findings::codes::Code;
 /// The codes to report. A code that is both in `only` and in `ignored` isn't reported.
 #[derive(Debug, Drop)]
 pub struct Selection {
-    /// The codes to report, or no codes to report all.
+    /// The codes to report. If it is empty, all codes except the ignored ones are reported.
     pub only: Vec<Code>,
     /// The codes not to report.
     pub ignored: Vec<Code>,

@@ -34,7 +34,7 @@ impl Counts {
         }
     }
 
-    // Returns the count of a name, or 0 if it has none.
+    // Returns the count of a name, or 0 if the name isn't counted yet.
     fn count(&self, name: &str) -> u64
         ensures { result ≡ unwrap_or (get_by_text self.now.counts name.now) 0 }
     {
@@ -133,7 +133,8 @@ fn push_spaces(text: &mut String, written: usize, width: usize) -> Result<(), Al
     Ok(())
 }
 
-// Appends a row: its name, padded to `width` characters, and its count, aligned to the right in eight characters.
+// Appends the line of a row: two spaces, its name, padded to `width` characters, a space, and its count. The count is aligned to the
+// right in eight characters.
 fn push_row(alloc: Global, text: &mut String, row: &Row<'_>, width: usize) -> Result<(), AllocError>
     ensures { OnOk result (string_bytes text.new ≡ string_bytes text.old ++ row_line width row.now) }
 {
@@ -148,7 +149,7 @@ fn push_row(alloc: Global, text: &mut String, row: &Row<'_>, width: usize) -> Re
     Ok(())
 }
 
-// Appends rows.
+// Appends a line for each row. All names are padded to the width of the longest.
 fn push_rows(alloc: Global, text: &mut String, rows: &[Row<'_>]) -> Result<(), AllocError>
     ensures { OnOk result (string_bytes text.new ≡ string_bytes text.old ++ flat_map (row_line (widest rows.now)) rows.now) }
 {
@@ -159,7 +160,7 @@ fn push_rows(alloc: Global, text: &mut String, rows: &[Row<'_>]) -> Result<(), A
     Ok(())
 }
 
-// Appends an empty line, the title, and the rows.
+// Appends an empty line, a line with the title, and a line for each row.
 fn push_table(
     alloc: Global,
     text: &mut String,

@@ -19,7 +19,7 @@ pub trait Task {
     // The text before that of the first file.
     ghost begins: { Self → List ℕ };
 
-    // Whether a file with this name and these bytes may lead from the first state to the second, and have this text printed.
+    // Whether processing a file with this name and these bytes may lead from the first state to the second and print this text.
     ghost prints: { Self → List ℕ → List ℕ → List ℕ → Self → Type 0 };
 
     // Whether this text may be printed after that of the last file, with this status.

@@ -93,7 +93,7 @@ resolution_made d new made = record {
   read = made.read;
 }
 
--- edits of a text, followed by one more edit
+-- if edits of `text` make `new`, and one more edit of `new` makes `newer`, then all these edits of `text` make `newer`
 pub made_more : {edits : List Edit} {edit : Edit} {text new newer : List ℕ} → AreMade edits text new
     → IsMade edit new newer → AreMade (edits ++ edit ∷ []) text newer
 made_more {newer = newer} none more = next newer more none
@@ -105,7 +105,7 @@ edits_parts edits i d below =
     sym (take-append-drop (i + 1) edits) ∙ ap (λ first. first ++ drop (i + 1) edits) (take_more edits i d below)
     ∙ append_assoc (take i edits) (get_or edits i d ∷ []) (drop (i + 1) edits)
 
--- before any edit, the text is unchanged
+-- no edits leave the text unchanged
 pub first_none : (text : List ℕ) → AreFirstMade [] text text
 first_none text = record { made = none; read = inl refl }
 
@@ -113,7 +113,7 @@ first_none text = record { made = none; read = inl refl }
 made_read : {edit : Edit} {text new : List ℕ} → IsMade edit text new → (d : Document) × IsDocumentOf new d
 made_read made = (made.edited.document, record { same = sym made.edited.is; read = made.edited.read })
 
--- one more edit after the first ones
+-- if the first `i` edits are made, and the edit at the index `i` is made of their text, then the first `i + 1` edits are made
 pub first_more : (edits : List Edit) (i : ℕ) (d : Edit) {text new between newer : List ℕ} → i < length edits
     → AreFirstMade (take i edits) text new → between ≡ new
     → IsMade (get_or edits i d) between newer → AreFirstMade (take (i + 1) edits) text newer
@@ -124,12 +124,12 @@ first_more edits i d {text} {new} {between} {newer} below first same made = reco
   read = inr (made_read made);
 }
 
--- a text that is a document has no error
+-- if a text is that of a document, it has no error that makes parsing fail
 read_fine : {text : List ℕ} {e : ParseError} {d : Document} → IsDocumentOf text d → IsReported text e → ⊥
 read_fine {text} {e} {d} read reported =
     let fails = subst (λ t. IsReported t e) (sym read.same) reported in file_unread fails.fails read.read
 
--- if the first edits are made and the next one is refused, then all of them are refused for that reason
+-- if the edits `done` are made and the edit after them is refused, then all edits are refused for that reason
 pub first_refused : (done rest : List Edit) (edit : Edit) {text new : List ℕ} (why : Refusal)
     → AreFirstMade done text new → IsTextRefused edit new (length done) why → AreRefused (done ++ edit ∷ rest) text why
 first_refused done rest edit (refusal.NotUtf8 at) first refused = absurd refused
@@ -151,7 +151,7 @@ first_refused done rest edit {text} {new} (refusal.Unresolved at why) first refu
     (AreRefused.unresolved edit done rest new refused.1.document refl first.made refused.1.read refused.1.refused)
 first_refused done rest edit refusal.OutOfMemory first refused = AreRefused.no_memory
 
--- the same, with the refused edit given by its index
+-- if the edits before the index `i` are made and the edit at `i` is refused, then all of them are refused for that reason
 pub refused_at : (edits : List Edit) (i : ℕ) (d : Edit) {text new between : List ℕ} (why : Refusal) → i < length edits
     → AreFirstMade (take i edits) text new → between ≡ new
     → IsTextRefused (get_or edits i d) between i why → AreRefused edits text why
@@ -162,7 +162,7 @@ refused_at edits i d {text} {new} why below first same refused =
     (subst (λ n. IsTextRefused (get_or edits i d) new n why) (sym count)
     (subst (λ t. IsTextRefused (get_or edits i d) t i why) same refused)))
 
--- an error that isn't out of memory is an error of the text to be added
+-- if parsing the text to be added fails with an error that isn't out of memory, then that text has this error
 adds_error : {edit : Edit} {e : ParseError} → (e.kind ≡ kind.OutOfMemory → ⊥) → AddsUnread edit e → AddsError edit e
 adds_error {e = e} other adds = record {
   more = adds.more;
@@ -170,7 +170,7 @@ adds_error {e = e} other adds = record {
   reported = elim adds.why as (λ _. IsReported adds.more e) [ inl out ↦ absurd (other (ap (λ e. e.kind) out)) | inr reported ↦ reported ];
 }
 
--- an edit whose text to be added can't be parsed is refused, by the kind of the error
+-- if parsing the text to be added fails with an error of the kind `k`, the edit is refused with the refusal for that kind
 added_refused : (edit : Edit) (text : List ℕ) (index : ℕ) (e : ParseError) (k : ParseErrorKind) → e.kind ≡ k
     → AddsUnread edit e → IsTextRefused edit text index (unless_no_memory k (refusal.Added e))
 added_refused edit text index e kind.OutOfMemory is adds = tt
@@ -193,7 +193,7 @@ added_refused edit text index e (kind.AbbreviationCycle n) is adds =
 added_refused edit text index e (kind.ReferenceCycle n) is adds =
     adds_error (λ out. let clash : kind.ReferenceCycle n ≡ kind.OutOfMemory = sym is ∙ out in cc) adds
 
--- an edit that is refused, or out of memory, is refused if the error isn't out of memory
+-- if an edit may be refused with an error that isn't out of memory, `IsEditRefused` holds for the error
 why_refused : (edit : Edit) (d : Document) {why : EditError} → (why ≡ error.OutOfMemory → ⊥)
     → IsEditRefused edit d why ⊎ (why ≡ error.OutOfMemory) → IsEditRefused edit d why
 why_refused edit d other (inl refused) = refused
@@ -261,7 +261,7 @@ edit_refused edit text index d error.NoFieldLeft read refused = (
   },
 )
 
--- the same for an edit that can't resolve references
+-- if an edit of a document can't resolve references, the edit of its text is refused with the same error
 unresolved_at : (edit : Edit) (text : List ℕ) (index : ℕ) (d : Document) (why : ResolveError) → IsDocumentOf text d
     → IsUnresolved edit d why → IsTextRefused edit text index (unresolved_refusal why index)
 unresolved_at edit text index d (resolve_error.File e) read refused = (refl, record { document = d; read = read; refused = refused })
@@ -278,7 +278,7 @@ step_refused edit text index d (step.Refused why) read refused = edit_refused ed
 step_refused edit text index d (step.Cycle definition) read refused = (refl, record { document = d; read = read; meets = refused })
 step_refused edit text index d (step.Unresolved why) read refused = unresolved_at edit text index d why read refused
 
--- adding the document of a text is adding the text
+-- the result of adding the document of a text is the result of adding the text
 pub adds_made : {d : Document} {text new : List ℕ} (more : Document) → IsDocumentOf text more
     → IsEdited (EntriesAdded d more) new → IsEdited (TextAdded d text) new
 adds_made more read made = record {

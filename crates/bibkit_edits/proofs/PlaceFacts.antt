@@ -1,4 +1,4 @@
--- The places of texts among sorted texts compare as the texts do.
+-- Facts about the places of texts among sorted texts: two places compare as their texts do.
 use Rattle.std.proofs.Common.{◌≡◌, inl, inr, ℕ, ◌+◌, ◌<◌, ◌≤◌, Bool, true, false, List, [], ◌∷◌, ◌++◌, get_or, length, map, refl, sym, ap, ◌∙◌, subst, arith, Less, Equal, Greater, Ordering, IsPermutation, IsSorted, IsSortedBy, Contains, is_lt, nat_cmp}
 use Rattle.std.specs.List.Sorted.{IsPartitionPoint, IsPartitionedBy}
 use Rattle.std.specs.Cmp.{nat_cmp_is}
@@ -44,7 +44,7 @@ place_rises sorted t u m n there less p q =
     ] in
     omega arith
 
--- a text has one place
+-- no text has two places of which one is less
 no_gap : (sorted : List (List ℕ)) (t : List ℕ) (m n : ℕ) → IsPlaceIn sorted t m → IsPlaceIn sorted t n → m < n → ⊥
 no_gap sorted t m n p q less =
     false≢true (sym (p.after m t (omega arith) (omega (arith, q.small))) ∙ q.before m t (omega arith) less)
@@ -56,7 +56,7 @@ one_place sorted t m n p q =
       | inr other ↦ elim (cases_lt n m) [ inl less ↦ absurd (no_gap sorted t n m q p less) | inr both ↦ omega arith ]
     ]
 
--- places compare as their texts do
+-- the places of two texts that occur among the sorted texts compare as the texts do
 pub places_compare : (sorted : List (List ℕ)) (t u : List ℕ) (m n : ℕ) → Contains sorted t → Contains sorted u
     → IsPlaceIn sorted t m → IsPlaceIn sorted u n → nat_cmp m n ≡ cmp t u
 places_compare sorted t u m n there there' p q = by_order (cmp t u) refl
@@ -70,7 +70,7 @@ places_compare sorted t u m n there there' p q = by_order (cmp t u) refl
         let back : cmp u t ≡ Less = nat_list_cmp_total.antisymm u t ∙ ap ordering_reverse is in
         sym (nat_cmp_is m n Greater (place_rises sorted u t n m there' back q p))
 
--- a sorted list, each element as a function gives it
+-- if a list is sorted by the values of a function, the list of these values is sorted
 pub sorted_map : {X Y : Type 0} (f : X → Y) (lt : Y → Y → Bool) (xs : List X) → IsSortedBy (λ a b. lt (f a) (f b)) xs
     → IsSortedBy lt (map f xs)
 sorted_map f lt [] up k d from within = absurd (omega arith)
@@ -100,7 +100,7 @@ less_first f any xs t up i j d ordered within less =
     ∙ ap (λ x. is_lt (cmp (get_or (map f xs) j (f d)) x)) (sym (get_or-map f xs i d (f d) (omega arith))) ∙ far)
     less
 
--- where they end is the place of the text
+-- the place of a text is the index at which the lesser texts end
 pub place_from : {X : Type 0} (f : X → List ℕ) (any : List ℕ → X) (xs : List X) (t : List ℕ) (n : ℕ) → n ≤ length xs
     → IsPartitionPoint (λ x. is_lt (cmp (f x) t) ≡ true) (λ x. is_lt (cmp (f x) t) ≡ false) xs n → IsPlaceIn (map f xs) t n
 place_from f any xs t n small parts =
@@ -113,7 +113,7 @@ place_from f any xs t n small parts =
           ap (λ x. is_lt (cmp x t)) (get_or-map f xs k (any d) d (omega arith)) ∙ parts.1 k (any d) from (omega arith);
     }
 
--- places of texts, each found among the sorted texts, are places
+-- if each number is the place of its text among the sorted texts, then the numbers are places of the texts
 pub are_places : (texts sorted : List (List ℕ)) (places : List ℕ) → IsPermutation texts sorted → length places ≡ length texts
     → ((k : ℕ) → k < length texts → IsPlaceIn sorted (get_or texts k []) (get_or places k 0)) → ArePlacesOf texts places
 are_places texts sorted places same size each = record {
@@ -125,7 +125,7 @@ are_places texts sorted places same size each = record {
       (each i within) (each j within');
 }
 
--- one more place
+-- if `P` holds for each place in `places` and for one more, it holds for each place of the extended list
 pub each_more : (P : ℕ → ℕ → Type 0) (places new : List ℕ) (n i : ℕ) → length places ≡ i → new ≡ places ++ n ∷ [] → P i n
     → ((k : ℕ) → k < i → P k (get_or places k 0)) → (k : ℕ) → k < i + 1 → P k (get_or new k 0)
 each_more P places new n i size is here before k within =

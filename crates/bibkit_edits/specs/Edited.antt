@@ -34,7 +34,7 @@ pub record IsDocumentOf (text : List ℕ) (d : Document) : Type 0 where
   pub same : d.text ≡ text
   pub read : IsDocument d
 
--- `after` is the document `d` with the document of `text` added
+-- `after` is the document `d` with a line feed and the document of `text` after it
 pub record TextAdded (d : Document) (text : List ℕ) (after : Document) : Type 0 where
   pub more : Document
   pub read : IsDocumentOf text more
@@ -99,13 +99,13 @@ pub record IsMade (edit : Edit) (text new : List ℕ) : Type 0 where
   pub read : IsDocumentOf text document
   pub edited : IsEdited (EditOutcome edit document) new
 
--- the last text is the first one after these edits, each of the text after the previous one
+-- the second text is the first one after these edits, each made of the text after the previous edit
 pub data AreMade : List Edit → List ℕ → List ℕ → Type 0 where
   none : {text : List ℕ} → AreMade [] text text
   next : {edit : Edit} {rest : List Edit} {text new : List ℕ} (between : List ℕ) → IsMade edit text between
       → AreMade rest between new → AreMade (edit ∷ rest) text new
 
--- adding `text`, which is a document, to the document `d` may be refused with the error `why`
+-- adding the document of `text` to the document `d` may be refused with the error `why`
 pub record TextIsRefused (d : Document) (text : List ℕ) (why : EditError) : Type 0 where
   pub more : Document
   pub read : IsDocumentOf text more
@@ -171,9 +171,9 @@ AddsText ToBibtex added = ⊥
 AddsText Resolve added = ⊥
 AddsText (Format style) added = ⊥
 
--- the refusals of edits of a text: the text has an error of the file grammar; or some first edits are made, and the next one adds
--- a text with such an error, or is refused, or expands a definition that refers to itself, or can't resolve references; or out of
--- memory. An index counts the edits before the refused one.
+-- Edits of a text may be refused for this reason. Either the text has an error that makes parsing fail, or out of memory. Or the first
+-- edits are made, and the next one adds a text with such an error, is refused, expands a definition that refers to itself, or can't
+-- resolve references. The index in a refusal is the number of edits before the refused one.
 pub data AreRefused (edits : List Edit) (text : List ℕ) : Refusal → Type 0 where
   file : {e : ParseError} → IsReported text e → AreRefused edits text (refusal.File e)
   added : {e : ParseError} (edit : Edit) (done rest : List Edit) (between more : List ℕ) → edits ≡ done ++ edit ∷ rest
@@ -202,7 +202,7 @@ pub record IsFileMade (edits : List Edit) (bytes new : List ℕ) : Type 0 where
   pub made : AreMade edits (without_byte_order_mark bytes) text
   pub is : new ≡ mark_of bytes ++ text
 
--- the refusals of edits of a file: its bytes aren't UTF-8, or the edits of its text are refused, or out of memory
+-- edits of a file may be refused for this reason: its bytes aren't UTF-8, or the edits of its text are refused, or out of memory
 pub data IsFileRefused (edits : List Edit) (bytes : List ℕ) : Refusal → Type 0 where
   not_utf8 : {at : ℕ} → IsFirstInvalid bytes at → IsFileRefused edits bytes (refusal.NotUtf8 at)
   text : {why : Refusal} → IsUtf8 (without_byte_order_mark bytes) → AreRefused edits (without_byte_order_mark bytes) why

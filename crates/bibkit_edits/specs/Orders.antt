@@ -1,5 +1,5 @@
 -- Meaning: words of public contracts.
--- The texts by which entries are sorted, and the places that they give.
+-- The texts by which entries are sorted, and the places of entries in the order of these texts.
 use Rattle.std.specs.Prelude.{◌≡◌, ◌<◌, ℕ, Bool, ◌==◌, ◌-◌, List, [], ◌∷◌, ◌++◌, bytes_eq, codes, length, slice_index, slice_index_or, take, Option, None, Some, if◌then◌else◌}
 use Rattle.std.specs.Cmp.Lexicographic.{slice_cmp}
 use Rattle.std.specs.Ordering.{nat_cmp}
@@ -40,7 +40,8 @@ last_text = 0xF4 ∷ 0x8F ∷ 0xBF ∷ 0xBF ∷ []
 abbrev pub or_last : List ℕ → List ℕ
 or_last text = if length text == 0 then last_text else text
 
--- the text by which an entry is sorted
+-- the text by which an entry is sorted; in the order by year, it is `last_text` for an entry without a year, and in the order by author
+-- for an entry that has neither author nor editor
 abbrev pub order_text : Order → EntryReading → List ℕ
 order_text order.Key e = str_to_ascii_lowercase e.key.text
 order_text order.Year e = or_last (year_of e)

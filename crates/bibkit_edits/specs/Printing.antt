@@ -10,7 +10,7 @@ use Rattle.bibkit_edits.specs.declared.edit.Refusal.TheVariants as refusal
 use Rattle.bibkit_edits.specs.declared.printing.Unprinted.{Unprinted}
 use Rattle.bibkit_edits.specs.declared.printing.Unprinted.TheVariants as unprinted
 
--- the output takes the result of edits of a file's bytes
+-- the output takes the result of edits of a file's bytes, after its earlier contents
 pub record HasPrintedEdited {K : Type 0} (taken : K → Option (List ℕ)) (edits : List Edit) (bytes : List ℕ) (old new : K) : Type 0 where
   pub text : List ℕ
   pub made : IsFileMade edits bytes text
@@ -23,12 +23,12 @@ pub record IsNotTaken {K : Type 0} (hands_over : K → List ℕ → Bool → K �
   pub made : IsFileMade edits bytes text
   pub handed : hands_over old text false new
 
--- edits are refused, and nothing is printed
+-- edits are refused with this refusal, and nothing is printed
 pub record IsRefusedUnprinted {K : Type 0} (edits : List Edit) (bytes : List ℕ) (why : Refusal) (old new : K) : Type 0 where
   pub refused : IsFileRefused edits bytes why
   pub same : new ≡ old
 
--- the errors of printing the result of edits: the edits are refused, and the output is unchanged; or the output refuses the
+-- printing the result of edits may fail with this error: the edits are refused, and the output is unchanged; or the output refuses the
 -- result
 abbrev pub IsNotPrinted : {K : Type 0} → (K → List ℕ → Bool → K → Type 0) → List Edit → List ℕ → K → K → Unprinted → Type 0
 IsNotPrinted hands_over edits bytes old new (unprinted.Refused why) = IsRefusedUnprinted edits bytes why old new
@@ -53,7 +53,7 @@ pub record IsDifferenceNotTaken {K : Type 0} (hands_over : K → List ℕ → Bo
   pub is : IsDiff name bytes text diff
   pub handed : hands_over old diff false new
 
--- the errors of printing a diff: the edits are refused, and the output is unchanged; or the output refuses the diff
+-- printing a diff may fail with this error: the edits are refused, and the output is unchanged; or the output refuses the diff
 abbrev pub IsDifferenceNotPrinted : {K : Type 0} → (K → List ℕ → Bool → K → Type 0) → List ℕ → List Edit → List ℕ → K
     → K → Unprinted → Type 0
 IsDifferenceNotPrinted hands_over name edits bytes old new (unprinted.Refused why) = IsRefusedUnprinted edits bytes why old new

@@ -5,7 +5,7 @@ use Rattle.std.specs.Cmp.Lexicographic.{slice_cmp}
 use Rattle.std.specs.List.{AllWithin}
 use Rattle.std.specs.Ordering.{is_lt, nat_cmp}
 
--- the texts before a place are less than a text, and those from it on aren't
+-- `place` is the place of `text` among sorted texts: the texts before the place are less than `text`, and the others aren't
 pub record IsPlaceIn (sorted : List (List ℕ)) (text : List ℕ) (place : ℕ) : Type 0 where
   pub small : place ≤ length sorted
   pub before : AllWithin (λ t. is_lt (slice_cmp nat_cmp t text) ≡ true) sorted 0 place

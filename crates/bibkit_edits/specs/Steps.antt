@@ -22,33 +22,33 @@ use Rattle.bibkit_edits.specs.declared.edit.Refusal.TheVariants as refusal
 use Rattle.bibkit_edits.specs.declared.editing.Step.{Step}
 use Rattle.bibkit_edits.specs.declared.editing.Step.TheVariants as step
 
--- the edit adds a text that can't be parsed: it has the error `e`, or out of memory
+-- the edit adds a text, and parsing that text fails with `e`: an error of the text, or out of memory
 pub record AddsUnread (edit : Edit) (e : ParseError) : Type 0 where
   pub more : List ℕ
   pub adds : AddsText edit more
   pub why : (e ≡ out_of_memory) ⊎ IsReported more e
 
--- an edit of a document may fail with this step
+-- an edit of a document may fail with this reason
 abbrev pub StepIsRefused : Edit → Document → Step → Type 0
 StepIsRefused edit d (step.Added e) = AddsUnread edit e
 StepIsRefused edit d (step.Refused why) = IsEditRefused edit d why ⊎ (why ≡ error.OutOfMemory)
 StepIsRefused edit d (step.Cycle definition) = MeetsCycle edit d definition
 StepIsRefused edit d (step.Unresolved why) = IsUnresolved edit d why
 
--- the refusal for an error of this kind: out of memory if that is the kind, otherwise the given refusal
+-- the refusal for an error of this kind: `OutOfMemory` for that kind, otherwise the second argument
 abbrev pub unless_no_memory : ParseErrorKind → Refusal → Refusal
 unless_no_memory kind.OutOfMemory other = refusal.OutOfMemory
 unless_no_memory _ other = other
 
--- the refusal for an error of the text to be added
+-- the refusal for an error of parsing the text to be added
 abbrev pub added_refusal : ParseError → Refusal
 added_refusal e = unless_no_memory e.kind (refusal.Added e)
 
--- the refusal for an error of the text of the file
+-- the refusal for an error of parsing the text of the file
 abbrev pub file_refusal : ParseError → Refusal
 file_refusal e = unless_no_memory e.kind (refusal.File e)
 
--- the step of an error of expanding abbreviations
+-- the reason for refusing an edit, from an error of expanding abbreviations
 abbrev pub step_of : ExpandError → Step
 step_of (expand_error.Cycle definition) = step.Cycle definition
 step_of expand_error.OutOfMemory = step.Refused error.OutOfMemory
@@ -63,38 +63,38 @@ abbrev pub unresolved_refusal : ResolveError → ℕ → Refusal
 unresolved_refusal resolve_error.OutOfMemory index = refusal.OutOfMemory
 unresolved_refusal why index = refusal.Unresolved index why
 
--- the refusal that reports this failed step of the edit at an index
+-- the refusal of the edit at an index, for this reason
 abbrev pub refusal_at : Step → ℕ → Refusal
 refusal_at (step.Added e) index = added_refusal e
 refusal_at (step.Refused why) index = edit_refusal why index
 refusal_at (step.Cycle definition) index = refusal.Cycle index definition
 refusal_at (step.Unresolved why) index = unresolved_refusal why index
 
--- `text` is a document, and an edit of it may be refused with the error `why`
+-- an edit of the document of `text` may be refused with the error `why`
 pub record IsRefusedAt (edit : Edit) (text : List ℕ) (why : EditError) : Type 0 where
   pub document : Document
   pub read : IsDocumentOf text document
   pub refused : IsEditRefused edit document why
 
--- `text` is a document, and an edit of it expands the definition at this index, which refers to itself
+-- an edit of the document of `text` expands the definition at this index, which refers to itself
 pub record MeetsCycleAt (edit : Edit) (text : List ℕ) (definition : ℕ) : Type 0 where
   pub document : Document
   pub read : IsDocumentOf text document
   pub meets : MeetsCycle edit document definition
 
--- `text` is a document, and an edit of it can't resolve references with the error `why`
+-- an edit of the document of `text` may fail to resolve references with the error `why`
 pub record IsUnresolvedAt (edit : Edit) (text : List ℕ) (why : ResolveError) : Type 0 where
   pub document : Document
   pub read : IsDocumentOf text document
   pub refused : IsUnresolved edit document why
 
--- the edit adds a text with the error `e`
+-- the edit adds a text with the error `e`, which makes parsing fail
 pub record AddsError (edit : Edit) (e : ParseError) : Type 0 where
   pub more : List ℕ
   pub adds : AddsText edit more
   pub reported : IsReported more e
 
--- the edit with this index may be refused for a text with this refusal
+-- the edit of a text, with this index, may fail with this refusal
 abbrev pub IsTextRefused : Edit → List ℕ → ℕ → Refusal → Type 0
 IsTextRefused edit text index (refusal.NotUtf8 at) = ⊥
 IsTextRefused edit text index (refusal.File e) = IsReported text e

@@ -41,7 +41,7 @@ pub enum Edit<'a> {
         /// The key of the entry.
         key: &'a str,
     },
-    /// Appends another text with its entries.
+    /// Appends a line feed and another text with its entries.
     Add {
         /// The text to append.
         text: &'a str,
@@ -57,7 +57,7 @@ pub enum Edit<'a> {
     Collect {
         /// The names of the fields whose texts are collected.
         fields: &'a [&'a str],
-        /// The minimum number of fields with the text. A number below 2 counts as 2.
+        /// The minimum number of fields with the same text. A number below 2 counts as 2.
         at_least: usize,
     },
     /// Converts entries to the types and fields of BibLaTeX.
@@ -82,9 +82,9 @@ pub enum Refusal {
         /// The offset of the first byte that isn't UTF-8, in bytes of the file.
         at: usize,
     },
-    /// The text of the file has an error of the file grammar.
+    /// The text of the file has an error that makes parsing fail.
     File(ParseError),
-    /// The text to be added has an error of the file grammar.
+    /// The text to be added has an error that makes parsing fail.
     Added(ParseError),
     /// An edit is refused.
     Edit {
@@ -93,7 +93,7 @@ pub enum Refusal {
         /// The error of the edit.
         why: EditError,
     },
-    /// The edit [`Edit::Expand`] is refused, since the definition of an abbreviation refers to itself.
+    /// The edit [`Edit::Expand`] is refused: the definition of an abbreviation refers to itself, directly or through others.
     Cycle {
         /// The index of the edit, from 0.
         index: usize,

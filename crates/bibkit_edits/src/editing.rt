@@ -38,7 +38,7 @@ enum Step {
     Refused(EditError),
     // The definition of an abbreviation at this index refers to itself.
     Cycle(usize),
-    // Resolving references failed.
+    // References can't be resolved.
     Unresolved(ResolveError),
 }
 
@@ -90,7 +90,8 @@ fn sort_document(
     Ok(sort_entries(alloc, document, &places)?)
 }
 
-// Returns the text of a document with its abbreviations replaced by their texts.
+// Returns the text of a document with its abbreviations replaced by their texts. Fails if a definition refers to itself, or if out of
+// memory.
 fn expand_document(alloc: Global, document: &RawDocument<'_>) -> Result<String, ExpandError>
     ensures made { IfOk result (λ new. IsEdited (IsWrittenOut document.now) (string_bytes new)) }
     ensures refused { IfErr result (ExpandIsRefused document.now) }
@@ -98,7 +99,8 @@ fn expand_document(alloc: Global, document: &RawDocument<'_>) -> Result<String, 
     expand(alloc, document)
 }
 
-// Returns the text of a document with abbreviations for repeated texts of these fields. Fails only if out of memory.
+// Returns the text of a document with abbreviations for the texts that occur in at least `at_least` of these fields. Fails only if out
+// of memory.
 fn collect_texts(
     alloc: Global,
     document: &RawDocument<'_>,
@@ -167,7 +169,7 @@ fn edit_document(alloc: Global, document: &RawDocument<'_>, edit: &Edit<'_>) -> 
     }
 }
 
-// Returns the refusal for an error of the text to be added.
+// Returns the refusal for an error of parsing the text to be added.
 fn added_refusal(error: ParseError) -> Refusal
     ensures { result ≡ added_refusal error }
 {
@@ -177,7 +179,7 @@ fn added_refusal(error: ParseError) -> Refusal
     }
 }
 
-// Returns the refusal for an error of the text of the file.
+// Returns the refusal for an error of parsing the text of the file.
 fn file_refusal(error: ParseError) -> Refusal
     ensures { result ≡ file_refusal error }
 {
@@ -254,8 +256,8 @@ fn latest<'a>(new: &'a Option<String>, first: &'a str) -> &'a str
     }
 }
 
-/// Applies edits to a text, each to the text after the previous one, and returns the new text. If one edit is refused, returns
-/// its refusal.
+/// Applies edits to a text, each to the text after the previous one, and returns the new text. Without edits, returns `text`. If an edit
+/// is refused, returns its refusal.
 pub fn edit_text(alloc: Global, text: &str, edits: &[Edit<'_>]) -> Result<String, Refusal>
     ensures made { IfOk result (λ new. AreMade edits.now text.now (string_bytes new)) }
     ensures refused { IfErr result (AreRefused edits.now text.now) }
@@ -270,8 +272,8 @@ pub fn edit_text(alloc: Global, text: &str, edits: &[Edit<'_>]) -> Result<String
     }
 }
 
-/// Applies edits to the bytes of a file, and returns the new text. The bytes must be UTF-8. A byte order mark at their start is
-/// kept, and the text after it is edited.
+/// Applies edits to the bytes of a file, and returns the new text. A byte order mark at their start is kept, and the text after it is
+/// edited. Returns `NotUtf8` if the bytes aren't UTF-8, or the refusal of the first refused edit.
 pub fn edit_file(alloc: Global, bytes: &[u8], edits: &[Edit<'_>]) -> Result<String, Refusal>
     ensures made { IfOk result (λ new. IsFileMade edits.now bytes.now (string_bytes new)) }
     ensures refused { IfErr result (IsFileRefused edits.now bytes.now) }

@@ -1,4 +1,4 @@
-//! The places of entries in an order.
+//! Computes the places of entries in an order.
 
 ghost use Rattle.std.specs.Prelude.{◌≡◌, ◌-◌, ◌≤◌, IfOk, length, map};
 ghost use Rattle.std.specs.List.{after_last};
@@ -18,7 +18,7 @@ use bib_text::spanned::Spanned;
 use edit_sort::order::Order;
 use std::alloc::{AllocError, Global};
 
-// Returns the offset of the last word, in bytes: the one after the last space, or 0 without a space.
+// Returns the offset in bytes of the last word: the offset after the last space, or 0 without a space.
 fn last_word(words: &str) -> usize
     ensures is { result ≡ length words.now - length (after_last is_word_space words.now) }
     ensures boundary { IsCharBoundary words.now result }
@@ -45,7 +45,7 @@ fn family_first(alloc: Global, person: &str) -> Result<String, AllocError>
     format!(in alloc; "{}, {}", &name[start..], &name[..start])
 }
 
-// Returns a text, or U+10FFFF if it is empty, which sorts after all other texts.
+// Returns a text, or U+10FFFF if it is empty. U+10FFFF sorts after all texts that don't begin with it.
 fn or_last(alloc: Global, text: String) -> Result<String, AllocError>
     ensures { IfOk result (λ found. string_bytes found ≡ orders.or_last (string_bytes text)) }
 {
@@ -56,7 +56,7 @@ fn or_last(alloc: Global, text: String) -> Result<String, AllocError>
     }
 }
 
-// Returns the name of the first author or editor of an entry, with the family name first, or an empty text.
+// Returns the name of the first author or editor of an entry, with the family name first, or an empty text if there is none.
 fn author_text(alloc: Global, entry: &Spanned<RawEntry<'_>>) -> Result<String, AllocError>
     ensures { IfOk result (λ text. string_bytes text ≡ orders.author_text (entry_reading_of entry.now)) }
 {
@@ -67,7 +67,8 @@ fn author_text(alloc: Global, entry: &Spanned<RawEntry<'_>>) -> Result<String, A
     family_first(alloc, &person)
 }
 
-// Returns the text by which an entry is sorted.
+// Returns the text by which an entry is sorted. In the order by year, it is U+10FFFF for an entry without a year. In the order by
+// author, it is U+10FFFF for an entry that has neither author nor editor.
 fn order_text(
     alloc: Global,
     order: Order,
@@ -83,7 +84,7 @@ fn order_text(
     }
 }
 
-// Returns, for each entry, the text by which it is sorted. Entries without a year or a name come last in those orders.
+// Returns the text by which each entry is sorted.
 fn order_texts(
     alloc: Global,
     order: Order,
@@ -118,7 +119,7 @@ fn sorted_texts<'a>(mut texts: Vec<&'a str>) -> Result<Vec<&'a str>, AllocError>
     Ok(texts)
 }
 
-// Returns the place of a text among sorted texts: how many are less.
+// Returns the place of a text among sorted texts: the number of texts that are less.
 fn place_in(sorted: &[&str], text: &str) -> usize
     requires { IsSorted (slice_cmp nat_cmp) (map (λ s. s.now) sorted.now) }
     ensures { IsPlaceIn (map (λ s. s.now) sorted.now) text.now result }
@@ -126,7 +127,7 @@ fn place_in(sorted: &[&str], text: &str) -> usize
     sorted.partition_point(|other| *other < text)
 }
 
-// Returns the place of each text in their order. Equal texts have equal places.
+// Returns the place of each text among the sorted texts. Equal texts have equal places.
 fn places_of(alloc: Global, texts: &[String]) -> Result<Vec<usize>, AllocError>
     ensures { IfOk result (λ places. ArePlacesOf (map string_bytes texts.now) places.items) }
 {

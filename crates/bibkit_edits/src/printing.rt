@@ -20,13 +20,13 @@ use std::str::from_utf8;
 pub enum Unprinted {
     /// The edits are refused.
     Refused(Refusal),
-    /// The output refused the text.
+    /// The output refused the new text or the diff.
     NotTaken,
 }
 
 impl Unprinted {
     /// Returns the status:
-    /// - 1: an edit is refused, or a text has an error of the file grammar.
+    /// - 1: an edit is refused, or a text has an error that makes parsing fail.
     /// - 2: the file isn't UTF-8, or the output refused the text.
     /// - 3: out of memory.
     pub fn status(&self) -> u8
@@ -62,7 +62,7 @@ impl From<AllocError> for Unprinted {
     }
 }
 
-// Writes a text to the output.
+// Writes a text to the output in one call. Fails with `NotTaken` if the output refuses the text.
 fn hand_over<K: Sink>(text: &str, output: &mut K) -> Result<(), Unprinted>
     ensures taken { OnOk result (Appends (K.taken output.old) (K.taken output.new) text.now) }
     ensures refused { IfErr result (λ why. (why ≡ NotTaken) × K.hands_over output.old text.now false output.new) }

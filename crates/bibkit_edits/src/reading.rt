@@ -20,7 +20,8 @@ fn mark_length(bytes: &[u8]) -> usize
     }
 }
 
-/// Returns the text of a file after its byte order mark, or the offset in the file of the first byte that isn't UTF-8.
+/// Returns the text of a file, without its byte order mark if it has one. If the bytes aren't UTF-8, fails with the offset in the file of
+/// the first byte that isn't.
 pub fn text_after_mark(bytes: &[u8]) -> Result<&str, usize>
     ensures text { IfOk result (λ text. text.now ≡ without_byte_order_mark bytes.now) }
     ensures utf8 { IfOk result (λ _. IsUtf8 (without_byte_order_mark bytes.now)) }

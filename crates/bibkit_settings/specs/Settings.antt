@@ -1,5 +1,5 @@
 -- Meaning: words of public contracts.
--- Settings of `lint`, from the command line or from bibkit.toml, and the request that they make.
+-- Settings of `lint`, from the command line or from bibkit.toml, and the parts of the request for `lint` that depend on them.
 use Rattle.std.specs.Prelude.{ℕ, Bool, true, false, List, [], ◌∷◌, Option, Some, None, bytes_eq, codes, find}
 use Rattle.std.specs.Global.{Vec}
 use Rattle.std.specs.Option.{option_map_or, option_or}
@@ -58,18 +58,18 @@ over given project =
 abbrev pub listed_codes : Option (Vec Code) → List Code
 listed_codes set = option_map_or (λ codes. codes.items) set []
 
--- whether colours are printed: always or never if that is set, otherwise if the second argument is true
+-- whether colours are printed: true for `Always`, false for `Never`, and otherwise the second argument
 abbrev pub is_colored : Option Color → Bool → Bool
 is_colored (Some Always) are_shown = true
 is_colored (Some Never) are_shown = false
 is_colored _ are_shown = are_shown
 
--- the style of findings as lines, by whether colours are printed
+-- the style of findings as lines, with or without colours
 abbrev pub line_style : Bool → Style
 line_style true = style.Colored
 line_style false = style.Plain
 
--- the style of findings, by the format (lines if it isn't set) and whether colours are printed; JSON has no colours
+-- the style of findings in a format (lines if it isn't set), with or without colours; JSON has no colours
 abbrev pub style_of : Option OutputFormat → Bool → Style
 style_of (Some Json) colored = style.Json
 style_of _ colored = line_style colored

@@ -1,5 +1,5 @@
 -- Meaning: words of public contracts.
--- Settings of `fmt`, from the command line or from bibkit.toml, and the style that they make.
+-- Settings of `fmt`, from the command line or from bibkit.toml, and the style and the order of entries that they set.
 use Rattle.std.specs.Prelude.{◌≡◌, ◌==◌, ℕ, List, [], bytes_eq, codes, map, Option, None, Some, if◌then◌else◌, true, false}
 use Rattle.std.specs.Borrow.{Bor}
 use Rattle.std.specs.Option.{option_or, unwrap_or}

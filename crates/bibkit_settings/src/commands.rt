@@ -153,7 +153,7 @@ const CITED: [Argument; 1] = [Argument {
     help: "The .aux or .bcf file that LaTeX wrote for the document",
 }];
 
-// Options of the commands that edit a file.
+// The options of the commands that edit a file.
 const FILE: Argument = Argument {
     name: "file",
     takes: Takes::EditedFile,
@@ -616,7 +616,7 @@ fn edited_file<'a>(alloc: Global, row: &'static Argument) -> Arg<'a> {
     value(alloc, row, "FILE").short('f')
 }
 
-// Returns the argument of a row.
+// Returns the argument that clap parses for a row.
 fn argument_of<'a>(alloc: Global, row: &'static Argument) -> Result<Arg<'a>, AllocError> {
     match row.takes {
         Takes::Text => Ok(required_argument(alloc, row)),

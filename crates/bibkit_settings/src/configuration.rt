@@ -65,7 +65,7 @@ impl<T: Drop> From<AllocFailed<T>> for ConfigurationError {
 }
 
 impl ConfigurationError {
-    // Returns this error with the file name before its text.
+    // Returns this error with the file name `name` before its text. `OutOfMemory` is unchanged.
     fn of_file(self, alloc: Global, name: &str) -> Result<Self, AllocError> {
         match self {
             Self::Wrong(reason) => Ok(Self::Wrong(format!(in alloc;
@@ -82,7 +82,7 @@ fn wrong<T: Drop>(alloc: Global, key: &str, wanted: &str) -> Result<T, Configura
     Err(ConfigurationError::Wrong(format!(in alloc; "{key} has to be {wanted}")?))
 }
 
-// Returns the code that a value names.
+// Returns the code that a value names. Fails if the value isn't the name of a code.
 fn code(alloc: Global, key: &str, value: &Value) -> Result<Code, ConfigurationError> {
     match value.as_str().and_then(Code::from_name) {
         Some(code) => Ok(code),
@@ -90,7 +90,7 @@ fn code(alloc: Global, key: &str, value: &Value) -> Result<Code, ConfigurationEr
     }
 }
 
-// Returns the codes that a value lists.
+// Returns the codes that a value lists, as a setting. Fails if the value isn't an array of names of codes.
 fn codes(alloc: Global, key: &str, value: &Value) -> Result<Option<Vec<Code>>, ConfigurationError> {
     let Some(values) = value.as_array() else {
         return wrong(alloc, key, "a list of codes");
@@ -107,7 +107,7 @@ fn unknown<T: Drop>(alloc: Global, key: &str) -> Result<T, ConfigurationError> {
     Err(ConfigurationError::Wrong(format!(in alloc; "there is no setting {key}")?))
 }
 
-// Sets the setting of `lint` with this key.
+// Sets the setting of `lint` with this key. Fails if `lint` has no such setting, or if the value is wrong for it.
 fn set_lint(
     alloc: Global,
     settings: &mut Settings,
@@ -149,7 +149,7 @@ fn blank_lines(alloc: Global, value: &Value) -> Result<Option<Option<usize>>, Co
     }
 }
 
-// Returns the boolean of a value.
+// Returns the boolean of a value, as a setting.
 fn choice(alloc: Global, key: &str, value: &Value) -> Result<Option<bool>, ConfigurationError> {
     match value.as_bool() {
         Some(yes) => Ok(Some(yes)),
@@ -157,7 +157,7 @@ fn choice(alloc: Global, key: &str, value: &Value) -> Result<Option<bool>, Confi
     }
 }
 
-// Returns the delimiters that a value names.
+// Returns the delimiters that `fmt.delimiters` names, as a setting.
 fn delimiters(alloc: Global, value: &Value) -> Result<Option<Delimiters>, ConfigurationError> {
     match value.as_str().and_then(delimiters_named) {
         Some(delimiters) => Ok(Some(delimiters)),
@@ -177,7 +177,7 @@ fn field_name(alloc: Global, value: &Value) -> Result<String, ConfigurationError
     }
 }
 
-// Returns the field names that `fmt.order` lists.
+// Returns the field names that `fmt.order` lists, as a setting.
 fn field_names(alloc: Global, value: &Value) -> Result<Option<Vec<String>>, ConfigurationError> {
     let Some(values) = value.as_array() else {
         return wrong(alloc, "fmt.order", "a list of names of fields");
@@ -212,7 +212,7 @@ fn sort(alloc: Global, value: &Value) -> Result<Option<Option<Order>>, Configura
     }
 }
 
-// Sets the setting with this key of the table `fmt`.
+// Sets the setting with this key of the table `fmt`. Fails if the table has no such setting, or if the value is wrong for it.
 fn set_style(
     alloc: Global,
     project: &mut Project,
@@ -252,7 +252,7 @@ fn set_styles(
     Ok(())
 }
 
-// Sets the setting with this key of the file, if it is a setting of the command. Settings of the other command are skipped.
+// Sets the setting with this key of the file, if it is a setting of the command `reader`. Skips settings of the other command.
 fn set(
     alloc: Global,
     project: &mut Project,
@@ -269,7 +269,7 @@ fn set(
     }
 }
 
-// Returns the settings that the table of a file contains.
+// Returns the settings of the command `reader` that the table of a file contains.
 fn settings_of(
     alloc: Global,
     reader: Reader,
@@ -282,7 +282,7 @@ fn settings_of(
     Ok(project)
 }
 
-// Parses the settings in the bytes of a file.
+// Parses the settings of the command `reader` in the bytes of a file, which must be UTF-8.
 fn read(alloc: Global, reader: Reader, bytes: Vec<u8>) -> Result<Project, ConfigurationError> {
     let Ok(text) = String::from_utf8(bytes) else {
         return Err(ConfigurationError::Wrong(String::from_str(alloc, "it is not UTF-8")?));
@@ -333,8 +333,9 @@ fn settings_in<R: Files + AllocGlobal>(
 }
 
 /// Returns the settings for the command `reader` from the project of the file `name`. They are in `bibkit.toml` in the folder of
-/// the file, or in the nearest folder above that has such a file. Returns empty settings if there is none, or if the folder of
-/// `name` can't be resolved. For `-` the search starts at the current folder.
+/// the file, or in the nearest folder above that has such a file. Returns settings of which none is set if there is no such file, or if
+/// the folder of `name` can't be resolved. For `-` the search starts at the current folder. Fails if the file can't be read or has an
+/// error.
 pub fn project_settings<R: Files + AllocGlobal>(
     rt: &R,
     reader: Reader,

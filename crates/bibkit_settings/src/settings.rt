@@ -124,8 +124,8 @@ impl Settings {
         }
     }
 
-    /// Returns these settings (of the command line), with those of `project` for each that isn't set. A list replaces the list of
-    /// `project`.
+    /// Returns these settings (of the command line). Each that isn't set has the value of `project`. A list of codes replaces the list of
+    /// `project`, and isn't joined with it.
     pub fn over(self, project: Self) -> Self
         ensures { result ≡ over self project }
     {
@@ -143,8 +143,8 @@ impl Settings {
         }
     }
 
-    /// Returns the request for `lint` with these settings. All codes are reported if `only` isn't set. `are_colors_shown` decides
-    /// about colours if `color` is `Auto` or isn't set; JSON has no colours.
+    /// Returns the request for `lint` with these settings. If `only` isn't set or empty, all codes except the ignored ones are reported.
+    /// If `color` is `Auto` or isn't set, `are_colors_shown` says whether lines are printed in colours. JSON has no colours.
     pub fn lint<'a>(
         self,
         alloc: Global,
@@ -179,7 +179,7 @@ fn is_colored(color: Option<Color>, are_shown: bool) -> bool
     }
 }
 
-// Returns the style of a format: lines if the setting is missing. JSON has no colours.
+// Returns the style of a format. If `format` is missing, the style is that of lines. JSON has no colours.
 fn style(format: Option<OutputFormat>, is_colored: bool) -> Style
     ensures { result ≡ style_of format is_colored }
 {

@@ -79,7 +79,7 @@ impl<'a> StyleSettings<'a> {
         }
     }
 
-    /// Returns these settings (of the command line), with those of `project` for each that isn't set.
+    /// Returns these settings (of the command line). Each that isn't set has the value of `project`.
     pub fn over(self, project: Self) -> Self
         ensures { result ≡ over_project self.entry project.entry }
     {
@@ -95,7 +95,7 @@ impl<'a> StyleSettings<'a> {
         }
     }
 
-    /// Returns the style of these settings, with the default style for each that isn't set.
+    /// Returns the style of these settings. Each that isn't set has the value of the default style.
     pub fn style(self) -> Style<'a>
         ensures { IsStyleSet self.entry result }
     {
@@ -111,7 +111,7 @@ impl<'a> StyleSettings<'a> {
         }
     }
 
-    /// Returns the order of entries, or `None` if they keep their order.
+    /// Returns the order of entries. Returns `None` if they keep their order, which is the default.
     pub fn sort(self) -> Option<Order>
         ensures { result ≡ sort_set self.entry }
     {

@@ -1,4 +1,4 @@
--- The end of a call follows from its result or its error.
+-- Facts about the end of a call, from its result or its error.
 use Rattle.std.proofs.Common.{◌≡◌, ◌≤◌, ◌++◌, ℕ, List, length, drop, Result, Ok, Err, IfOk, IfErr, IsOkAnd, IsErrAnd, String, Global, refl, sym, subst}
 use Rattle.std.specs.String.{string_bytes}
 use Rattle.biblatex_c.specs.Calls.{IsEnd}
@@ -6,7 +6,7 @@ use Rattle.biblatex_c.specs.Calls.IsEnd.{done, too_short, failed}
 use Rattle.biblatex_c.specs.declared.status.Status.{Status}
 use Rattle.biblatex_c.specs.declared.status.Status.TheVariants.{Done}
 
--- weakens the results and the failures that the end of a call allows
+-- the end of a call is also one that allows weaker results and failures
 pub end_else : {A B : List ℕ → Type 0} {F G : Status → Type 0} {out out' : List ℕ} {size size' : ℕ} {status : Status}
     → ((answer : List ℕ) → A answer → B answer) → ((why : Status) → F why → G why)
     → IsEnd A F out size out' size' status → IsEnd B G out size out' size' status
@@ -14,7 +14,7 @@ end_else f g (done is fits) = done (f _ is) fits
 end_else f g (too_short is short) = too_short (f _ is) short
 end_else f g (failed why) = failed (g _ why)
 
--- a call is done if the result is at the start of a buffer that is long enough
+-- if a result fits into the buffer, the call that writes it to the start of the buffer is done
 pub written_answer : {answer bytes out : List ℕ} {size : ℕ} → bytes ≡ answer → length answer ≤ length out
     → IsEnd (λ bytes. bytes ≡ answer) (λ _. ⊥) out size (bytes ++ drop (length answer) out) (length answer) Done
 written_answer is fits = rw is (done refl fits)

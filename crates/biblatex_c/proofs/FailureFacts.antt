@@ -14,7 +14,7 @@ use Rattle.biblatex_c.specs.Statuses.{status_of_edit, status_of_error, status_of
 use Rattle.biblatex_c.specs.declared.status.Status.{Status}
 use Rattle.biblatex_c.specs.declared.status.Status.TheVariants.{Refused, OutOfMemory}
 
--- if `F` holds of out of memory and of refused, it holds of the status of each error kind
+-- if `F` holds for `OutOfMemory` and for `Refused`, it holds for the status of each kind of error
 kind_fails : (F : Status → Type 0) (kind : ParseErrorKind) → F OutOfMemory → F Refused → F (status_of_kind kind)
 kind_fails F kind.UnexpectedEof memory text = text
 kind_fails F (kind.Unexpected t) memory text = text
@@ -27,32 +27,32 @@ kind_fails F (kind.AbbreviationCycle n) memory text = text
 kind_fails F (kind.ReferenceCycle k) memory text = text
 kind_fails F kind.OutOfMemory memory text = memory
 
--- `F` holds of the status of an error if the error is out of memory or one of the text, and `F` holds in both cases
+-- if an error is out of memory or an error of the text, and `F` holds for the status in both cases, it holds for the status of the error
 error_fails : {Q R : Type 0} (F : Status → Type 0) (e : ParseError) → (e ≡ out_of_memory) ⊎ (Q × R) → F OutOfMemory
     → (R → F Refused) → F (status_of_error e)
 error_fails F e (inl is) memory text = subst (λ e. F (status_of_error e)) (sym is) memory
 error_fails F e (inr found) memory text = kind_fails F e.kind memory (text found.1)
 
--- a call may fail with the status of the error of a text that isn't a file of the grammar
+-- if a text isn't a file of the grammar, a call with it may fail with the status of the error of that text
 pub file_fails : (bytes text : List ℕ) (e : ParseError) → text ≡ bytes → Refuses text e (IsFile text → ⊥)
     → TextFails (IsNoFile bytes) bytes (status_of_error e)
 file_fails bytes text e same refuses = error_fails (TextFails (IsNoFile bytes) bytes) e refuses tt (λ unread. subst IsNoFile same unread)
 
--- a call may fail with the status of the error of a text that isn't a bibliography
+-- if a text isn't accepted as a bibliography, a call with it may fail with the status of the error of that text
 pub bibliography_fails : (bytes text : List ℕ) (e : ParseError) → text ≡ bytes
     → (e ≡ out_of_memory) ⊎ (IsErrorOf text e × (IsAcceptedText text → ⊥))
     → TextFails (IsNoBibliography bytes) bytes (status_of_error e)
 bibliography_fails bytes text e same refuses =
     error_fails (TextFails (IsNoBibliography bytes) bytes) e refuses tt (λ unread. subst IsNoBibliography same unread)
 
--- an edit may fail with the status of the error of a text that isn't a file of the grammar
+-- if a text isn't a file of the grammar, an edit of it may fail with the status of the error of that text
 pub unread_fails : (Refuses' : Document → EditError → Type 0) (bytes : List ℕ) (others : List (List ℕ)) (text : List ℕ)
     (e : ParseError) → text ≡ bytes
     → Refuses text e (IsFile text → ⊥) → EditFails Refuses' bytes others (status_of_error e)
 unread_fails Refuses' bytes others text e same refuses =
     error_fails (EditFails Refuses' bytes others) e refuses tt (λ unread. subst IsNoFile same unread)
 
--- an edit that is refused may fail with the status of its error
+-- if an edit is refused with an error, the call may fail with the status of that error
 pub edit_fails : (Refuses' : Document → EditError → Type 0) (bytes : List ℕ) (others : List (List ℕ)) (d : Document)
     (why : EditError) → d.text ≡ bytes
     → IsDocument d → Refuses' d why → EditFails Refuses' bytes others (status_of_edit why)
@@ -110,7 +110,7 @@ pub added_fails : (bytes added text : List ℕ) (e : ParseError) → text ≡ ad
     → AddFails bytes added (status_of_error e)
 added_fails bytes added text e same refuses = error_fails (AddFails bytes added) e refuses tt (λ unread. inr (subst IsNoFile same unread))
 
--- adding that is refused may fail with the status of its error
+-- if adding a document is refused with an error, the call may fail with the status of that error
 pub add_fails : (bytes added : List ℕ) (d more : Document) (why : EditError) → d.text ≡ bytes → IsDocument d
     → more.text ≡ added → IsDocument more
     → EntriesAreRefused d more why → AddFails bytes added (status_of_edit why)

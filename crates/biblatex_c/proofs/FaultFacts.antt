@@ -1,4 +1,4 @@
--- The findings of a text as a JSON array.
+-- Facts about the JSON array of the findings of a text.
 use Rattle.std.proofs.Common.{◌≡◌, ◌∙◌, ℕ, List, [], ◌++◌, codes, None, ap, ap₂, append_assoc}
 use Rattle.bibkit_core.specs.Tasks.{BeginsLinting, closing, linting_begins, linting_ends, linting_prints, opening}
 use Rattle.bibkit_core.specs.declared.linting.Linting.{Linting}
@@ -6,7 +6,7 @@ use Rattle.bibkit_core.specs.declared.request.Lint.{Lint}
 use Rattle.bibkit_core.specs.declared.request.Style.TheVariants as style
 use Rattle.biblatex_c.specs.Calls.{AreFaults}
 
--- the beginning, the findings of one file with an empty name, and the end that the lint task prints are all findings of the file
+-- the texts of the lint task before, for and after one file with an empty name are the JSON array of all findings of the file
 pub faults_found : {bytes begin found end : List ℕ} {status : ℕ} {lint : Lint} (begun ended : Linting)
     → BeginsLinting lint begun → lint.style ≡ style.Json
     → lint.selection.only.items ≡ [] → lint.selection.ignored.items ≡ [] → lint.cited ≡ None → begin ≡ linting_begins begun

@@ -1,4 +1,4 @@
--- The bibliography recovered from bytes, for UTF-8 and for other bytes.
+-- Facts about the bibliography recovered from bytes, for UTF-8 and for other bytes.
 use Rattle.std.proofs.Common.{◌≡◌, ℕ, Bool, true, false, cond, List, [], ◌∷◌, ◌++◌, take, drop, refl, ap, ap₂, ◌∙◌, subst, Some}
 use lib.Utf8.{encode}
 use Rattle.std.specs.Prelude.{nat_eq, ◌&&◌}

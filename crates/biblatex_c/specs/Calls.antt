@@ -22,25 +22,25 @@ use Rattle.biblatex_c.specs.Statuses.{status_number}
 use Rattle.biblatex_c.specs.declared.status.Status.{Status}
 use Rattle.biblatex_c.specs.declared.status.Status.TheVariants.{Done, TooShort, NotUtf8, Refused, OutOfMemory, UnknownKey, KeyIsThere, NotAKey, NotAName, NotInBraces, DefinitionIsThere, NoFieldLeft}
 
--- a call on the buffer `out` and the size `size` leaves this buffer and this size, and returns this status. `Answers` says which
--- bytes may be its result, and `Fails` with which statuses it may fail. A result that fits is at the start of the buffer, and the
--- rest of the buffer is unchanged. A longer result leaves the buffer unchanged. In both cases the new size is the length of the
--- result. A failure leaves buffer and size unchanged.
+-- A call on the buffer `out` and the size `size` leaves this buffer and this size, and returns this status. `Answers` says which bytes
+-- may be the result, and `Fails` says with which statuses the call may fail. A result that fits is at the start of the buffer, and the
+-- rest of the buffer is unchanged. A longer result leaves the buffer unchanged. In both cases the new size is the length of the result.
+-- A failure leaves buffer and size unchanged.
 pub data IsEnd (Answers : List ℕ → Type 0) (Fails : Status → Type 0) (out : List ℕ) (size : ℕ) : List ℕ → ℕ → Status → Type 0 where
   done : {answer : List ℕ} → Answers answer → length answer ≤ length out
       → IsEnd Answers Fails out size (answer ++ drop (length answer) out) (length answer) Done
   too_short : {answer : List ℕ} → Answers answer → length out < length answer → IsEnd Answers Fails out size out (length answer) TooShort
   failed : {why : Status} → Fails why → IsEnd Answers Fails out size out size why
 
--- the same as `IsEnd` for a call that returns the number of its status
+-- a call that returns this number ends as `IsEnd` states, with the status that has the number
 pub record IsNumberedEnd (Answers : List ℕ → Type 0) (Fails : Status → Type 0) (out : List ℕ) (size : ℕ) (out' : List ℕ)
     (size' number : ℕ) : Type 0 where
   pub status : Status
   pub is : number ≡ status_number status
   pub ends : IsEnd Answers Fails out size out' size' status
 
--- a call with the text `bytes` may fail with this status: not UTF-8 only if the bytes aren't, refused only if `IsRefused` holds,
--- out of memory always, and no other status
+-- a call with the text `bytes` may fail with this status: `NotUtf8` only if the bytes aren't UTF-8, `Refused` only if `IsRefused` holds,
+-- `OutOfMemory` always, and no other status
 abbrev pub TextFails : Type 0 → List ℕ → Status → Type 0
 TextFails IsRefused bytes NotUtf8 = IsUtf8 bytes → ⊥
 TextFails IsRefused bytes Refused = IsRefused
@@ -55,7 +55,7 @@ IsNoFile text = IsFile text → ⊥
 abbrev pub IsNoBibliography : List ℕ → Type 0
 IsNoBibliography text = IsAcceptedText text → ⊥
 
--- `answer` is the keys of the entries of the file `text`, in file order, each followed by a line feed
+-- `answer` contains the keys of the entries of the file `text`, in file order, each followed by a line feed
 pub record AreKeysInLines (text answer : List ℕ) : Type 0 where
   pub says : FileReading
   pub read : IsRawReading text says
@@ -67,7 +67,8 @@ pub record IsWrittenAnew (write : Entry → List ℕ) (text answer : List ℕ) :
   pub of_text : IsBibliographyOf text bibliography
   pub is : answer ≡ entries_text write bibliography.entries
 
--- a bibliography in the format `target`: each entry that the format has, after its separator, and then the end of the format
+-- the text of a bibliography in the format `target`: each entry that can be written in the format, after its separator, and then the end
+-- of the format
 abbrev pub exported_text : Target → Bibliography → List ℕ
 exported_text target bibliography =
     texts_after target true bibliography.entries ++ end target (is_first_after target true bibliography.entries)
@@ -108,9 +109,8 @@ pub record IsRefusedFor (Refuses : Document → EditError → Type 0) (text : Li
   pub read : IsDocument document
   pub refused : Refuses document why
 
--- an edit of the first text, with the other texts as arguments, may fail with this status: not UTF-8 only if one of all these
--- texts isn't, refused only if the first isn't a file of the grammar, out of memory always, and the status of an edit error only
--- if `Refuses` allows it
+-- an edit of `text` with the arguments `others` may fail with this status: `NotUtf8` only if one of these texts isn't UTF-8, `Refused`
+-- only if `text` isn't a file of the grammar, `OutOfMemory` always, and the status of an edit error only if `Refuses` allows that error
 abbrev pub EditFails : (Document → EditError → Type 0) → List ℕ → List (List ℕ) → Status → Type 0
 EditFails Refuses text others Done = ⊥
 EditFails Refuses text others TooShort = ⊥
@@ -125,7 +125,7 @@ EditFails Refuses text others NotInBraces = IsRefusedFor Refuses text edit_error
 EditFails Refuses text others DefinitionIsThere = IsRefusedFor Refuses text edit_error.DefinitionIsThere
 EditFails Refuses text others NoFieldLeft = IsRefusedFor Refuses text edit_error.NoFieldLeft
 
--- the second document is the first with the document of the text `added` after it
+-- the second document is the first with a line feed and the document of the text `added` after it
 abbrev pub WithEntriesOf : List ℕ → Document → Document → Type 0
 WithEntriesOf added document new = (more : Document) × (more.text ≡ added) × IsDocument more × EntriesAdded document more new
 
@@ -139,9 +139,9 @@ pub record IsAddingRefused (text added : List ℕ) (why : EditError) : Type 0 wh
   pub read_added : IsDocument more
   pub refused : EntriesAreRefused document more why
 
--- adding the second text to the first may fail with this status: not UTF-8 only if one of them isn't, refused only if one of them
--- isn't a file of the grammar, out of memory always, a name or definition in use or not a key only if adding is refused for it, and
--- no other status
+-- adding the second text to the first may fail with this status: `NotUtf8` only if one of them isn't UTF-8, `Refused` only if one of them
+-- isn't a file of the grammar, `OutOfMemory` always, `KeyIsThere`, `NotAKey` and `DefinitionIsThere` only if adding is refused with that
+-- error, and no other status
 abbrev pub AddFails : List ℕ → List ℕ → Status → Type 0
 AddFails text added NotUtf8 = AllByRecursion IsUtf8 (text ∷ added ∷ []) → ⊥
 AddFails text added Refused = IsNoFile text ⊎ IsNoFile added

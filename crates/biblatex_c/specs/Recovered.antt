@@ -52,8 +52,8 @@ pub record IsRecoveredIn (number : ℕ) (bytes answer : List ℕ) : Type 0 where
   pub of_bytes : IsTextOf bytes text
   pub answers : IsRecoveredText format text answer
 
--- recovering in the format with this number may fail with this status: refused only if no format has the number, out of memory
--- always, and no other status
+-- recovering in the format with this number may fail with this status: `Refused` only if no format has the number, `OutOfMemory` always,
+-- and no other status
 abbrev pub RecoverFails : ℕ → Status → Type 0
 RecoverFails number Refused = format_numbered number ≡ None
 RecoverFails number OutOfMemory = ⊤

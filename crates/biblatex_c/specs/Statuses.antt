@@ -41,16 +41,16 @@ status_text number =
     else if number == status_number NoFieldLeft then codes "the entry would have no field left"
     else codes "no status"
 
--- the status of a call whose text fails to parse with an error of this kind
+-- the status of a call if parsing its text fails with an error of this kind
 abbrev pub status_of_kind : ParseErrorKind → Status
 status_of_kind kind.OutOfMemory = OutOfMemory
 status_of_kind _ = Refused
 
--- the status of a call whose text fails to parse with this error
+-- the status of a call if parsing its text fails with this error
 abbrev pub status_of_error : ParseError → Status
 status_of_error e = status_of_kind e.kind
 
--- the status of a call whose edit fails with this error
+-- the status of a call if its edit fails with this error
 abbrev pub status_of_edit : EditError → Status
 status_of_edit edit_error.UnknownKey = UnknownKey
 status_of_edit edit_error.KeyIsThere = KeyIsThere

@@ -1,4 +1,4 @@
-//! Calls that edit the text of a file.
+//! Calls that edit or format the text of a file.
 
 ghost use Rattle.std.specs.Prelude.{◌≡◌, [], ◌∷◌, IfOk, IfErr};
 ghost use Rattle.std.specs.String.{string_bytes};
@@ -15,7 +15,7 @@ use edit_format::formatting::format;
 use edit_format::style::Style;
 use std::alloc::Global;
 
-// Returns the text in the default style.
+// Returns the text in the default style. Fails with `Refused` if the text isn't a file of the grammar.
 fn format_text(alloc: Global, text: &[u8]) -> Result<String, Status>
     ensures text { IfOk result (λ edited. IsLaidOut text.now (string_bytes edited)) }
     ensures fails { IfErr result (TextFails (IsNoFile text.now) text.now) }
@@ -33,7 +33,7 @@ pub extern "C" fn biblatex_fmt(alloc: Global, text: &[u8], out: &mut [u8], size:
     end(format_text(alloc, text), out, size).number()
 }
 
-// Returns the text with the field `name` of the entry `key` set to `value` in braces.
+// Returns the text with each field `name` of the first entry `key` set to `value` in braces.
 fn set_in(
     alloc: Global,
     text: &[u8],
@@ -51,9 +51,9 @@ fn set_in(
     Ok(document.set_field(alloc, key, name, value)?)
 }
 
-/// Writes the text with the field `name` of the first entry `key` set to `value`, in braces. If the field occurs several times,
-/// its last occurrence is set. If the entry has no such field, the field is inserted before the others. If the field has this
-/// value already, the text is unchanged.
+/// Writes the text with the field `name` of the first entry `key` set to `value`, in braces. If the field occurs several times, each
+/// occurrence is set. If the entry has no such field, the field is inserted before the others. A field that has this value already is
+/// unchanged.
 #[unsafe(no_mangle)]
 pub extern "C" fn biblatex_set(
     alloc: Global,
@@ -71,7 +71,7 @@ pub extern "C" fn biblatex_set(
     end(set_in(alloc, text, key, name, value), out, size).number()
 }
 
-// Returns the text without the field `name` of the entry `key`.
+// Returns the text without each field `name` of the first entry `key`.
 fn unset_in(alloc: Global, text: &[u8], key: &[u8], name: &[u8]) -> Result<String, Status>
     ensures made { IfOk result (λ edited. IsEditedText (λ d. FieldUnset d key.now name.now) text.now (string_bytes edited)) }
     ensures fails { IfErr result (EditFails (λ d why. UnsetIsRefused d key.now name.now why) text.now (key.now ∷ name.now ∷ [])) }
@@ -82,8 +82,8 @@ fn unset_in(alloc: Global, text: &[u8], key: &[u8], name: &[u8]) -> Result<Strin
     Ok(document.unset_field(alloc, key, name)?)
 }
 
-/// Writes the text without the field `name` of the first entry `key`: each occurrence of the field is removed. If the entry has
-/// no such field, the text is unchanged.
+/// Writes the text without the field `name` of the first entry `key`. If the field occurs several times, each occurrence is removed. If
+/// the entry has no such field, the text is unchanged.
 #[unsafe(no_mangle)]
 pub extern "C" fn biblatex_unset(
     alloc: Global,
@@ -100,7 +100,7 @@ pub extern "C" fn biblatex_unset(
     end(unset_in(alloc, text, key, name), out, size).number()
 }
 
-// Returns the text with `new` as the key of the entry `old`, also in the references to it.
+// Returns the text with `new` as the key of the first entry `old`, also in the references to it.
 fn rename_in(alloc: Global, text: &[u8], old: &[u8], new: &[u8]) -> Result<String, Status>
     ensures made { IfOk result (λ edited. IsEditedText (λ d. KeyRenamed d old.now new.now) text.now (string_bytes edited)) }
     ensures fails { IfErr result (EditFails (λ d why. RenameIsRefused d old.now new.now why) text.now (old.now ∷ new.now ∷ [])) }
@@ -111,8 +111,9 @@ fn rename_in(alloc: Global, text: &[u8], old: &[u8], new: &[u8]) -> Result<Strin
     Ok(document.rename_key(alloc, old, new)?)
 }
 
-/// Writes the text with `new` as the key of the first entry `old`, also in the references to it. Returns `KeyIsThere` if
-/// another entry has the name `new`, in any ASCII case, and `NotAKey` if BibTeX, Biber or bibtool wouldn't read the key `new`.
+/// Writes the text with `new` as the key of the first entry `old`, also in the references to it. Returns `KeyIsThere` if another entry
+/// has the name `new`, in any ASCII case, or this one has it in its field `ids`. Returns `NotAKey` if `old` is empty, or if BibTeX,
+/// Biber or bibtool wouldn't read the key `new`. Returns `NotInBraces` if a changed reference can't be written in braces.
 #[unsafe(no_mangle)]
 pub extern "C" fn biblatex_rename(
     alloc: Global,
@@ -129,7 +130,7 @@ pub extern "C" fn biblatex_rename(
     end(rename_in(alloc, text, old, new), out, size).number()
 }
 
-// Returns the text without the entry `key`.
+// Returns the text without the first entry `key`.
 fn remove_in(alloc: Global, text: &[u8], key: &[u8]) -> Result<String, Status>
     ensures made { IfOk result (λ edited. IsEditedText (λ d. EntryRemoved d key.now) text.now (string_bytes edited)) }
     ensures fails { IfErr result (EditFails (λ d why. EntryIsRefused d key.now why) text.now (key.now ∷ [])) }
@@ -165,9 +166,9 @@ fn add_to(alloc: Global, text: &[u8], added: &[u8]) -> Result<String, Status>
     Ok(document.add_entries(alloc, &more)?)
 }
 
-/// Writes the text, a line feed, and the text `added`. Returns `KeyIsThere` if an entry of `added` has a name of another entry,
-/// in any ASCII case, `NotAKey` if BibTeX, Biber or bibtool wouldn't read the key of one, and `DefinitionIsThere` if `added` defines an
-/// abbreviation of the text with another value.
+/// Writes the text, a line feed, and the text `added`. Returns `KeyIsThere` if an entry of `added` has a name of another entry, in any
+/// ASCII case. Returns `NotAKey` if BibTeX, Biber or bibtool wouldn't read the key of an entry of `added`. Returns `DefinitionIsThere` if
+/// `added` defines an abbreviation that the text defines with another value, in any ASCII case of the name.
 #[unsafe(no_mangle)]
 pub extern "C" fn biblatex_add(
     alloc: Global,

@@ -1,4 +1,4 @@
-//! Bibliographies written as JSON and CSL-JSON.
+//! Calls that write a bibliography as JSON or as CSL-JSON.
 
 ghost use Rattle.std.specs.Prelude.{◌≡◌, ⊤, Some, IfErr, IfOk};
 ghost use Rattle.std.specs.String.{string_bytes};
@@ -39,7 +39,7 @@ impl Sink for Growing {
     }
 }
 
-// Returns the error of the file, or `AllocError` for every other error. A write to a `Growing` fails only if out of memory.
+// Returns the error of the file, or `AllocError` for any other error. A write to a `Growing` fails only if out of memory.
 fn unless_out_of_memory(error: ConvertError) -> Result<ParseError, AllocError>
     ensures file { IfOk result (λ file. error ≡ ConvertError.File file) }
 {

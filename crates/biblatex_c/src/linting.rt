@@ -1,4 +1,4 @@
-//! The findings of a text as JSON.
+//! The call that writes the findings of a text as JSON.
 
 ghost use Rattle.std.specs.Prelude.{◌≡◌, IfOk, IfErr};
 ghost use Rattle.std.specs.String.{string_bytes};
@@ -35,8 +35,8 @@ fn faults_of(alloc: Global, bytes: &[u8]) -> Result<String, Status>
     Ok(text)
 }
 
-/// Writes the findings of a text as a JSON array of objects with an empty file name, line and column, severity, code and
-/// message. Bytes that aren't UTF-8 are decoded as Windows-1252, and reported as a finding.
+/// Writes the findings of a text as a JSON array of objects. The members of an object are the file name (empty), line, column, severity,
+/// code and message. A text that isn't UTF-8 is decoded as Windows-1252, and has a finding that says so.
 #[unsafe(no_mangle)]
 pub extern "C" fn biblatex_lint(alloc: Global, text: &[u8], out: &mut [u8], size: &mut usize) -> u32
     ensures { IsNumberedEnd (AreFaults text.now) (λ why. why ≡ OutOfMemory) out.old size.old out.new size.new result }

@@ -1,4 +1,4 @@
-//! Calls that parse a text: its keys, and its bibliography written as BibLaTeX or BibTeX.
+//! Calls that parse a text and write its keys, or its bibliography as BibLaTeX or BibTeX.
 
 ghost use Rattle.std.specs.Prelude.{◌≡◌, map, IfOk, IfErr};
 ghost use Rattle.std.specs.Str.{IsUtf8};

@@ -1,4 +1,4 @@
-//! Everything that can be parsed of a text with errors.
+//! The call that writes everything that can be parsed of a text with errors.
 
 ghost use Rattle.std.specs.Prelude.{◌≡◌, IfErr, IfOk};
 ghost use Rattle.std.specs.String.{string_bytes};
@@ -14,7 +14,7 @@ use biblatex::{Bibliography, decode};
 use std::alloc::Global;
 use std::str::from_utf8;
 
-/// The format in which a recovered bibliography is written.
+/// A format in which a recovered bibliography is written.
 #[derive(Debug, Clone, Copy, PartialEq, Eq)]
 pub enum ExportFormat {
     /// The types and fields of BibLaTeX.
@@ -68,8 +68,8 @@ fn recovered_text(alloc: Global, format: ExportFormat, text: &str) -> Result<Str
     text_in(alloc, format, &found.bibliography)
 }
 
-// Decodes `bytes`, and returns everything that can be parsed of them in the format with this number. Bytes that aren't UTF-8
-// are decoded as Windows-1252.
+// Decodes `bytes`, and returns everything that can be parsed of their text, in the format with this number. Bytes that aren't UTF-8 are
+// decoded as Windows-1252. Fails with `Refused` if no format has the number.
 fn recover_in(alloc: Global, number: u32, bytes: &[u8]) -> Result<String, Status>
     ensures text { IfOk result (λ answer. IsRecoveredIn number bytes.now (string_bytes answer)) }
     ensures fails { IfErr result (RecoverFails number) }
@@ -86,7 +86,7 @@ fn recover_in(alloc: Global, number: u32, bytes: &[u8]) -> Result<String, Status
     }
 }
 
-/// Writes everything that can be parsed of a text, in the format with this number. For a text without errors that is its whole
+/// Writes everything that can be parsed of a text, in the format with this number. For a text without errors, this is its whole
 /// bibliography. Bytes that aren't UTF-8 are decoded as Windows-1252. Returns `Refused` only if no format has the number.
 #[unsafe(no_mangle)]
 pub extern "C" fn biblatex_recover(

@@ -1,4 +1,4 @@
-//! The status of a call, its number, and its text.
+//! The status of a call, its number, and the call that writes its text.
 
 ghost use Rattle.std.specs.Prelude.{◌≡◌};
 ghost use Rattle.biblatex_c.specs.Calls.{IsNumberedEnd};
@@ -18,28 +18,28 @@ pub enum Status {
     TooShort,
     /// The bytes of an argument aren't UTF-8.
     NotUtf8,
-    /// A text has an error that makes parsing fail, or no format has the number.
+    /// A text has an error that makes parsing fail, or no format has the given number.
     Refused,
     /// Out of memory.
     OutOfMemory,
     /// No entry has the key.
     UnknownKey,
-    /// Another entry has the name already, as its key or in its field `ids`, in any ASCII case.
+    /// Another entry has the name already, as its key or in its field `ids`, in any ASCII case, or the renamed entry has it in its `ids`.
     KeyIsThere,
-    /// The new key, or the key of an added entry, isn't one for BibTeX, Biber and bibtool.
+    /// BibTeX, Biber or bibtool wouldn't read the new key, or the key of an added entry; or the old key is empty.
     NotAKey,
     /// The text can't be a field name.
     NotAName,
-    /// The value can't be written in braces.
+    /// The value, or a changed reference to a renamed entry, can't be written in braces.
     NotInBraces,
-    /// An added abbreviation is defined already with another text.
+    /// An added abbreviation is defined already, in any ASCII case, with another value.
     DefinitionIsThere,
     /// The entry would have no field left.
     NoFieldLeft,
 }
 
 impl Status {
-    /// Returns the number of the status, from 0 to 11, as c/biblatex.h lists them.
+    /// Returns the number of the status, from 0 to 11, as in c/biblatex.h.
     pub fn number(self) -> u32
         ensures { result ≡ spec.status_number self }
     {

@@ -1,4 +1,4 @@
-//! The library's version.
+//! The call that writes the version of the library.
 
 ghost use Rattle.std.specs.Prelude.{◌≡◌, codes};
 ghost use Rattle.biblatex_c.specs.Calls.{IsNumberedEnd};

@@ -7,7 +7,7 @@ use Rattle.bibkit_core.proofs.Touching.{touches_one, one_then_one}
 use Rattle.bibkit_core.proofs.Outcomes.{kept_untouched, kept_exchanged, taken_kept, others_kept, others_hold, old_or_new, never_torn_untouched, never_torn_exchanged, done_exchanged, left_exchanged, either_exchanged}
 use Rattle.bibkit_core.proofs.replacing.replace.Goals as goal
 
--- The new file could not be written or synced, and is removed.
+-- The case in which the new file can't be written or synced, and is removed.
 
 pub returns-in-Err-clause-crash : goal.returns-in-Err-clause-crash
 returns-in-Err-clause-crash g c known =
@@ -123,7 +123,7 @@ returns-in-Err-clause-removed g c known =
     (c.in-Err.ensures.counted ∙ ap (λ (n : ℕ). min (n + 1) (2 ^ 64 - 1)) c.in_ok-name.ensures.counted)
     (c.remove.ensures.removed filled.known) c.remove.ensures.counted)
 
--- The new file is written and synced, and is renamed to the target.
+-- The case in which the new file is written and synced, and then renamed to the target.
 
 pub returns-clause-crash : goal.returns-clause-crash
 returns-clause-crash g c known =

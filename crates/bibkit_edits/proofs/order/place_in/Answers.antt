@@ -4,7 +4,7 @@ use Rattle.std.proofs.lemmas.List.Sorted.{IsPartitionPoint-from_clause}
 use Rattle.bibkit_edits.proofs.PlaceFacts.{less_first, place_from}
 use Rattle.bibkit_edits.proofs.order.place_in.Goals as goal
 
--- a reference to a text
+-- any reference to a text, used as the default of `get_or`
 abbrev any : List ℕ → Bor (List ℕ)
 any text = record { ref_ptr = (0, 0); now = text }
 

@@ -2,7 +2,7 @@ use Rattle.std.proofs.Common.{◌≡◌, ◌<◌, ℕ, [], get_or, length, map, 
 use Rattle.bibkit_edits.specs.Sorting.{IsPlaceIn}
 use Rattle.bibkit_edits.proofs.order.places_of.Given as goal
 
--- the places of the texts so far
+-- the places so far are those of the first texts
 abbrev pub invariant-texts : goal.invariant-texts
 invariant-texts l = record {
   as_many : length l.places.items ≡ l.text-index;
