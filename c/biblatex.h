@@ -89,8 +89,8 @@ uint32_t biblatex_unset(const uint8_t *text, size_t length, const uint8_t *key, 
     uint8_t *name, size_t name_length, uint8_t *out, size_t capacity, size_t *size);
 
 /* Writes the text with another key for an entry, also in the references to it. Returns BIBLATEX_KEY_IS_THERE if another entry has
-   the new key as its key or in its field `ids`, in any ASCII case, and BIBLATEX_NOT_A_KEY if BibTeX, Biber or bibtool wouldn't read
-   it. */
+   the new key as its key, or an entry has it in its field `ids`, in any ASCII case. Returns BIBLATEX_NOT_A_KEY if the old key is empty,
+   or if BibTeX, Biber or bibtool wouldn't read the new one, and BIBLATEX_NOT_IN_BRACES if a reference can't be written in braces. */
 uint32_t biblatex_rename(const uint8_t *text, size_t length, const uint8_t *old_key, size_t old_key_length,
     const uint8_t *new_key, size_t new_key_length, uint8_t *out, size_t capacity, size_t *size);
 
