@@ -6,7 +6,7 @@ ghost use Rattle.edit_resolve.specs.Resolutions as spec;
 use bib_chunks::chunk::{Chunks, format_styled};
 use bib_collections::names::Names;
 use bib_entry::entry::Entry;
-use bib_syntax::raw::Pair;
+use bib_syntax::raw::{Pair, RawChunk};
 use std::alloc::{AllocError, Global};
 use std::collections::BTreeSet;
 
@@ -46,8 +46,32 @@ fn is_crossref_known(alloc: Global, entry: &Entry, names: &Names) -> Result<bool
     }
 }
 
+// Returns whether a field is an `xdata` with one literal that names no entry. `name` is the name of the field in lowercase.
+fn is_unknown_xdata(name: &str, field: &Pair<'_>, names: &Names) -> bool {
+    if name != "xdata" {
+        return false;
+    }
+    match field.value.v.as_slice() {
+        [piece] => match piece.v {
+            RawChunk::Normal(text) => is_each_unknown(text, names),
+            RawChunk::Abbreviation(_) => false,
+        },
+        _ => false,
+    }
+}
+
+// Returns whether no element of a comma list is the name of an entry.
+fn is_each_unknown(list: &str, names: &Names) -> bool {
+    'keys: for key in list.split(',') {
+        if names.get(key.trim()).is_some() {
+            return false;
+        }
+    }
+    true
+}
+
 // Decides about each field of an entry. A field is removed if the resolved entry lacks it, or if it is a `crossref` to an entry
-// of the file.
+// of the file. An `xdata` that names no entry is kept.
 fn own_fates(
     alloc: Global,
     fields: &[Pair<'_>],
@@ -59,7 +83,8 @@ fn own_fates(
     'fields: for field in fields {
         let name = field.key.v.to_ascii_lowercase(alloc)?;
         let is_parent = has_parent && name.as_str() == "crossref";
-        let stays = !is_parent && entry.fields.get(name.as_str()).is_some();
+        let is_there = entry.fields.get(name.as_str()).is_some();
+        let stays = !is_parent && (is_there || is_unknown_xdata(&name, field, names));
         fates.push(if stays { Fate::Stays } else { Fate::GoesOut })?;
     }
     Ok(fates)

@@ -101,9 +101,9 @@ fn check_kept(alloc: Global, document: &RawDocument<'_>, text: &str) -> Result<(
 /// gives the entry through `crossref` and `xdata`, except `ids`.
 ///
 /// The value of an inherited field is copied from the file, byte for byte, but an inherited date is written without its time. Each
-/// `xdata` and each `crossref` to an entry of the file is removed. If the entry inherits a date, its own `year`, `month` and `day`
-/// are removed. The inherited fields replace the last removed field of their entry. A comment after any other removed field is
-/// removed too. A `crossref` to an unknown key and everything else is unchanged.
+/// `xdata` and each `crossref` that names an entry of the file is removed. If the entry inherits a date, its own `year`, `month` and
+/// `day` are removed. The inherited fields replace the last removed field of their entry. A comment after any other removed field is
+/// removed too. A `crossref` to an unknown key, an `xdata` with one literal that names no entry, and everything else is unchanged.
 ///
 /// The new text is parsed and compared with the old one, and is returned only if the comparison succeeds (clause `resolved`).
 /// Returns `File` if `Bibliography::parse` fails for the text, `Differs` if the new text would change an entry, and `Unlike` if it
