@@ -268,7 +268,7 @@ def unread_fields(source, after, said):
     old = {(it.key, name) for it in source for name, _ in it.fields}
     for entry in after:
         for name, text in entry.fields:
-            is_named = re.search(rf"note: {'date becomes' if name in DATE_PARTS else re.escape(name)}\b", said, re.I)
+            is_named = re.search("note: `date` becomes" if name in DATE_PARTS else rf"note: .*`{re.escape(name)}`", said, re.I)
             if name not in STANDARD_FIELDS and (entry.key, name) not in old and not is_named:
                 yield Difference("unread field", entry.key, name, "", text)
 

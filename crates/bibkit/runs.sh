@@ -272,7 +272,7 @@ run 'an indent that is none' 2 '' fmt --indent 9 style.bib
 run 'a file that is not in the style' 1 '' fmt --check style.bib
 run_messages 'a file that is not in the style is named' 1 $'bibkit: style.bib: not in this style\n' fmt --check style.bib
 run_messages 'a file with an error has no style' 1 $'broken.bib:3:1: error: expected comma [syntax]\n' fmt broken.bib
-run_messages 'standard input is not written' 2 $'bibkit: --write needs the name of a file\n' fmt --write
+run_messages 'standard input is not written' 2 $'bibkit: `--write` needs the name of a file\n' fmt --write
 : >input
 chmod 600 style.bib
 run 'a file is put in one style' 0 '' fmt --write style.bib
@@ -389,25 +389,25 @@ refuses() {
     run "$name" "$status" '' "$@"
     run_messages "$name: what is said" "$status" "$said" "$@"
 }
-refuses 'no such key' 1 $'bibkit: two.bib: z: title: no entry has the key\n' set z title=A -f two.bib
-refuses 'no such key, after an edit that is made' 1 $'bibkit: two.bib: z: no entry has the key\n' remove a z -f two.bib
+refuses 'no such key' 1 $'bibkit: two.bib: `z`: `title`: no entry has the key\n' set z title=A -f two.bib
+refuses 'no such key, after an edit that is made' 1 $'bibkit: two.bib: `z`: no entry has the key\n' remove a z -f two.bib
 is_there=': an entry has the name already, as its key or in its field `ids`'
-refuses 'a key that is there' 1 "bibkit: two.bib: a to b$is_there"$'\n' rename a b -f two.bib
+refuses 'a key that is there' 1 "bibkit: two.bib: \`a\` to \`b\`$is_there"$'\n' rename a b -f two.bib
 no_key=$': a key for BibTeX, Biber and bibtool isn\'t empty or `*`, and has no white space, comma, quote, brace, parenthesis, `--` or any of # $ % = \\ ~\n'
-refuses 'no key' 1 "bibkit: two.bib: a to b c$no_key" rename a 'b c' -f two.bib
-refuses 'a key that Biber cuts' 1 "bibkit: two.bib: a to o'hara$no_key" rename a "o'hara" -f two.bib
-refuses 'a key that cites all entries' 1 "bibkit: two.bib: a to *$no_key" rename a '*' -f two.bib
-refuses 'a key of another entry in another case' 1 "bibkit: two.bib: a to B$is_there"$'\n' rename a B -f two.bib
-refuses 'no name of a field' 1 $'bibkit: two.bib: a: a b: the text can\'t be the name of a field\n' set a 'a b=c' -f two.bib
-refuses 'no field left' 1 $'bibkit: two.bib: a: author: the entry would have no field left\n' unset a title author -f two.bib
-refuses 'no value' 1 $'bibkit: two.bib: a: title: the braces of the value don\'t balance\n' set a 'title=}' -f two.bib
-refuses 'a value that is not closed' 1 $'bibkit: two.bib: a: title: the braces of the value don\'t balance\n' set a 'title=a\' -f two.bib
-refuses 'a brace that only TeX passes over' 1 $'bibkit: two.bib: a: title: the braces of the value don\'t balance\n' set a 'title=a \}' -f two.bib
+refuses 'no key' 1 "bibkit: two.bib: \`a\` to \`b c\`$no_key" rename a 'b c' -f two.bib
+refuses 'a key that Biber cuts' 1 "bibkit: two.bib: \`a\` to \`o'hara\`$no_key" rename a "o'hara" -f two.bib
+refuses 'a key that cites all entries' 1 "bibkit: two.bib: \`a\` to \`*\`$no_key" rename a '*' -f two.bib
+refuses 'a key of another entry in another case' 1 "bibkit: two.bib: \`a\` to \`B\`$is_there"$'\n' rename a B -f two.bib
+refuses 'no name of a field' 1 $'bibkit: two.bib: `a`: `a b`: the text can\'t be the name of a field\n' set a 'a b=c' -f two.bib
+refuses 'no field left' 1 $'bibkit: two.bib: `a`: `author`: the entry would have no field left\n' unset a title author -f two.bib
+refuses 'no value' 1 $'bibkit: two.bib: `a`: `title`: the braces of the value don\'t balance\n' set a 'title=}' -f two.bib
+refuses 'a value that is not closed' 1 $'bibkit: two.bib: `a`: `title`: the braces of the value don\'t balance\n' set a 'title=a\' -f two.bib
+refuses 'a brace that only TeX passes over' 1 $'bibkit: two.bib: `a`: `title`: the braces of the value don\'t balance\n' set a 'title=a \}' -f two.bib
 refuses 'entries that are there' 1 "bibkit: two.bib$is_there"$'\n' add -f two.bib
 printf '@misc{c, ids={B}}\n' >input
 refuses 'an entry whose ids are there' 1 "bibkit: two.bib$is_there"$'\n' add -f two.bib
 printf '@misc{c,}@misc{d{,}@misc{*,}\n' >input
-refuses 'an entry whose key Biber cuts' 1 "bibkit: two.bib: d{$no_key" add -f two.bib
+refuses 'an entry whose key Biber cuts' 1 "bibkit: two.bib: \`d{\`$no_key" add -f two.bib
 printf '@string{s = {x}}\n@misc{a, title=s}\n' >defined.bib
 printf '@STRING{S = {y}}\n' >input
 refuses 'an abbreviation that is there' 1 $'bibkit: defined.bib: an abbreviation is defined already with another text\n' add -f defined.bib
@@ -420,9 +420,9 @@ refuses 'added entries with an error' 1 $'-:3:1: error: expected comma [syntax]\
 : >input
 refuses 'bytes that are not UTF-8 are not edited' 2 $'latin.bib:1:17: error: not UTF-8 from here on, so the file can\'t be edited [unread-bytes]\n' set a title=B -f latin.bib
 refuses 'an edit of a file that is not there' 2 $'bibkit: no.bib: there is no such file\n' remove a -f no.bib
-refuses 'a word that is no field with a value' 2 $'bibkit: two.bib is no FIELD=VALUE; --file names a file\n' set a title=B two.bib
-refuses 'adding to standard input' 2 $'bibkit: add needs the name of a file\n' add -f -
-refuses 'writing into standard input' 2 $'bibkit: --write needs the name of a file\n' remove a -f - --write
+refuses 'a word that is no field with a value' 2 $'bibkit: `two.bib` isn\'t FIELD=VALUE; use `--file` for the name of the file\n' set a title=B two.bib
+refuses 'adding to standard input' 2 $'bibkit: `add` needs the name of a file\n' add -f -
+refuses 'writing into standard input' 2 $'bibkit: `--write` needs the name of a file\n' remove a -f - --write
 run 'writing into no file' 2 '' remove a --write
 run 'adding to no file' 2 '' add
 run 'nothing to set' 2 '' set a -f two.bib
@@ -442,9 +442,9 @@ run 'abbreviations of an empty input' 0 '' strings --expand
 printf '@string{s = "a", s = {b}}\n@misc{k, t = s, u = S}\n' >again.bib
 run 'the last of two definitions' 0 $'@string{s = "a", s = {b}}\n@misc{k, t = {b}, u = S}\n' strings --expand -f again.bib
 printf '@string{z = one}\n@string{one = two}\n@string{two = {y} # one}\n@misc{k, t = z}\n' >cycle.bib
-refuses 'an abbreviation that uses itself' 1 $'cycle.bib:2:9: error: the abbreviation one uses itself [circular-abbreviation]\n' strings --expand -f cycle.bib
+refuses 'an abbreviation that uses itself' 1 $'cycle.bib:2:9: error: abbreviation `one` refers to itself [circular-abbreviation]\n' strings --expand -f cycle.bib
 printf '\xef\xbb\xbf@string{\r\n  \xc3\xa9 = {x}, own = own}\r\n@misc{k, t = own}\r\n' >own.bib
-refuses 'the place of an abbreviation that uses itself' 1 $'own.bib:2:12: error: the abbreviation own uses itself [circular-abbreviation]\n' strings --expand -f own.bib
+refuses 'the place of an abbreviation that uses itself' 1 $'own.bib:2:12: error: abbreviation `own` refers to itself [circular-abbreviation]\n' strings --expand -f own.bib
 refuses 'abbreviations of a file with an error' 1 $'broken.bib:3:1: error: expected comma [syntax]\n' strings --expand -f broken.bib
 refuses 'abbreviations of a file that is not there' 2 $'bibkit: no.bib: there is no such file\n' strings --expand -f no.bib
 
@@ -509,7 +509,7 @@ for option in '--fields publisher' '--at-least 3'; do run "$option where nothing
 for times in 1 0 1000001 x; do run "a number of times that is none, $times" 2 '' strings --collect --at-least $times -f two.bib; done
 run 'abbreviations of two files' 2 '' strings --expand two.bib
 run 'abbreviations that are written into no file' 2 '' strings --expand --write
-refuses 'abbreviations that are written into standard input' 2 $'bibkit: --write needs the name of a file\n' strings --expand -f - --write
+refuses 'abbreviations that are written into standard input' 2 $'bibkit: `--write` needs the name of a file\n' strings --expand -f - --write
 cp collect.bib rewritten.bib
 run 'abbreviations are written' 0 '' strings --collect -f rewritten.bib --write
 holds 'the file has the abbreviations' cmp -s rewritten.bib collected.bib
@@ -564,7 +564,7 @@ run 'a difference in a line without an end' 0 $'--- open.bib\n+++ open.bib\n@@ -
 printf '\xef\xbb\xbf@misc{a, title={A}}\r\n@misc{b, year=1}\r\n' >returned.bib
 run 'a difference with a byte order mark, and ends of lines' 0 $'--- returned.bib\n+++ returned.bib\n@@ -1,2 +1,2 @@\n-\xef\xbb\xbf@misc{a, title={A}}\r\n+\xef\xbb\xbf@misc{a, title={B}}\r\n @misc{b, year=1}\r\n' set a title=B -f returned.bib --diff
 for words in 'set b year=1984' 'unset a year' 'strings --expand' 'strings --collect'; do run "no difference, $words" 0 '' $words -f two.bib --diff; done
-refuses 'no difference of a refused edit' 1 $'bibkit: two.bib: z: no entry has the key\n' remove a z -f two.bib --diff
+refuses 'no difference of a refused edit' 1 $'bibkit: two.bib: `z`: no entry has the key\n' remove a z -f two.bib --diff
 printf '@misc{a, title={A}}\n' >unlaid.bib
 laid=$'@misc{a,\n  title = {A},\n}\n'
 difference=$'--- unlaid.bib\n+++ unlaid.bib\n@@ -1,1 +1,3 @@\n-@misc{a, title={A}}\n+@misc{a,\n+  title = {A},\n+}\n'
@@ -660,13 +660,13 @@ if [ "$(id -u)" != 0 ] || [ -x /usr/bin/setpriv ]; then
     [ "$(id -u)" = 0 ] || chmod 555 written
     want=$(cat written/a.bib)
     "${as_nobody[@]}" ./program set a title=E -f written/a.bib --write >results 2>output
-    count 'a folder without rights' $? 2 $'bibkit: written/a.bib: it may not be written\n'
+    count 'a folder without rights' $? 2 $'bibkit: written/a.bib: can\'t be written: permission denied\n'
     holds 'the file is as it was' has written/a.bib "$want"$'\n'
     holds 'nothing is left beside it' are_in written a.bib
     chmod 777 written
     chmod 444 written/a.bib
     "${as_nobody[@]}" ./program set a title=E -f written/a.bib --write >results 2>output
-    count 'a file without rights is not written' $? 2 $'bibkit: written/a.bib: it may not be written\n'
+    count 'a file without rights is not written' $? 2 $'bibkit: written/a.bib: can\'t be written: permission denied\n'
     chmod 644 written/a.bib
     chmod 755 written
 else
@@ -762,10 +762,10 @@ run 'codes of the command line, in the place of those of settings' 1 '[
 run 'codes that are left out of those of settings' 0 $'[\n]\n' lint --ignore missing-field project/deep/er/one.bib
 printf 'only = ["no-code"]\n' >project/bibkit.toml
 run 'a wrong code in settings' 2 '' lint project/one.bib
-holds 'its file is named' messages_have "project/bibkit.toml: only has to be a list of codes"
+holds 'its file is named' messages_have 'project/bibkit.toml: expected a list of codes for `only`'
 printf 'colour = "always"\n' >project/bibkit.toml
 run 'an unknown setting' 2 '' lint project/one.bib
-holds 'an unknown setting is named' messages_have 'there is no setting colour'
+holds 'an unknown setting is named' messages_have 'unknown setting `colour`'
 printf 'only = [\n' >project/bibkit.toml
 run 'settings that are no TOML' 2 '' lint project/one.bib
 printf '\xff' >project/bibkit.toml
@@ -828,37 +828,37 @@ for order in key year author type; do
 done
 printf '[fmt]\nindent = 0\n' >styled/bibkit.toml
 run 'a part of a style' 0 $'@book{a,\ntitle = {X},\nyear = 1999,\n}\n' fmt styled/a.bib
-# settings of a style that are wrong: the key, what stands there, and what it has to be
+# settings of a style that are wrong: the key, the value, and the message
 while IFS='|' read -r key value wanted; do
     printf '[fmt]\n%s = %s\n' "$key" "$value" >styled/bibkit.toml
     run "a wrong setting, $key = $value" 2 '' fmt styled/a.bib
     holds "a wrong setting, $key = $value: what is said" messages_have "styled/bibkit.toml: $wanted"
     run "lint passes over it, $key = $value" 0 $'errors: 0, warnings: 0\n' lint --only syntax styled/a.bib
 done <<'ROWS'
-indent|9|fmt.indent has to be a number from 0 to 8
-indent|-1|fmt.indent has to be a number from 0 to 8
-indent|"4"|fmt.indent has to be a number from 0 to 8
-align|1|fmt.align has to be true or false
-trailing-comma|"no"|fmt.trailing-comma has to be true or false
-blank-lines|4|fmt.blank-lines has to be "keep" or a number from 0 to 3
-blank-lines|"one"|fmt.blank-lines has to be "keep" or a number from 0 to 3
-delimiters|"brackets"|fmt.delimiters has to be "keep", "braces" or "quotes"
-delimiters|true|fmt.delimiters has to be "keep", "braces" or "quotes"
-order|"author"|fmt.order has to be a list of names of fields
-order|["author", 1]|fmt.order has to be a list of names of fields
-width|-1|fmt.width has to be a number, 0 for none
-width|"80"|fmt.width has to be a number, 0 for none
-sort|"title"|fmt.sort has to be "keep", "key", "year", "author" or "type"
-sort|["key"]|fmt.sort has to be "keep", "key", "year", "author" or "type"
-diff|true|there is no setting fmt.diff
-aligned|true|there is no setting fmt.aligned
+indent|9|expected a number from 0 to 8 for `fmt.indent`
+indent|-1|expected a number from 0 to 8 for `fmt.indent`
+indent|"4"|expected a number from 0 to 8 for `fmt.indent`
+align|1|expected true or false for `fmt.align`
+trailing-comma|"no"|expected true or false for `fmt.trailing-comma`
+blank-lines|4|expected "keep" or a number from 0 to 3 for `fmt.blank-lines`
+blank-lines|"one"|expected "keep" or a number from 0 to 3 for `fmt.blank-lines`
+delimiters|"brackets"|expected "keep", "braces" or "quotes" for `fmt.delimiters`
+delimiters|true|expected "keep", "braces" or "quotes" for `fmt.delimiters`
+order|"author"|expected a list of field names for `fmt.order`
+order|["author", 1]|expected a list of field names for `fmt.order`
+width|-1|expected a number (0 for none) for `fmt.width`
+width|"80"|expected a number (0 for none) for `fmt.width`
+sort|"title"|expected "keep", "key", "year", "author" or "type" for `fmt.sort`
+sort|["key"]|expected "keep", "key", "year", "author" or "type" for `fmt.sort`
+diff|true|unknown setting `fmt.diff`
+aligned|true|unknown setting `fmt.aligned`
 ROWS
 printf 'fmt = true\n' >styled/bibkit.toml
 run 'a style that is no table' 2 '' fmt styled/a.bib
-holds 'a style that is no table: what is said' messages_have 'styled/bibkit.toml: fmt has to be a table'
+holds 'a style that is no table: what is said' messages_have 'styled/bibkit.toml: expected a table for `fmt`'
 printf 'indent = 4\n' >styled/bibkit.toml
 run 'a setting of no table' 2 '' fmt styled/a.bib
-holds 'a setting of no table: what is said' messages_have 'styled/bibkit.toml: there is no setting indent'
+holds 'a setting of no table: what is said' messages_have 'styled/bibkit.toml: unknown setting `indent`'
 printf 'ignore = ["unknown-field"]\nonly = ["no-code"]\ncolor = "never"\nformat = "text"\n' >styled/bibkit.toml
 run 'fmt passes over settings of lint' 0 "$(cat usual.bib)"$'\n' fmt styled/a.bib
 printf '[fmt]\nindent = 9\n' >styled/bibkit.toml
@@ -972,17 +972,17 @@ run 'BibTeX' 0 '@string{aw = {Addison-Wesley}}
 @misc{x, address = {Paris}}
 @book{m, xdata = {x}, title = {A \emph{b} & <c>}}
 ' convert --to bibtex convert.bib
-run_messages 'fields that stay are named' 0 $'convert.bib:4:10: note: xdata stays, though no standard style of BibTeX reads it\n' convert --to bibtex convert.bib
+run_messages 'fields that stay are named' 0 $'convert.bib:4:10: note: no standard style of BibTeX reads `xdata`\n' convert --to bibtex convert.bib
 run 'BibLaTeX' 0 "$(cat convert.bib)"$'\n' convert --to biblatex convert.bib
 printf '@phdthesis{p, school={S}, Journal="J", journaltitle={K}}\n' >thesis.bib
 run 'a thesis of BibLaTeX' 0 $'@thesis{p, institution={S}, type = {phdthesis}, Journal="J", journaltitle={K}}\n' convert --to biblatex thesis.bib
-run_messages 'a name that is there' 0 $'thesis.bib:1:27: note: Journal stays, since the entry has the field that takes its place\n' convert --to biblatex thesis.bib
+run_messages 'a name that is there' 0 $'thesis.bib:1:27: note: `Journal` is kept: the entry already has the field that would replace it\n' convert --to biblatex thesis.bib
 printf '@misc{a,\n  year = {2020},\n  month = may,\n  title = {A},\n}\n@misc{b, year = 1999, month = {Fall}}\n' >months.bib
 run 'a year and a month' 0 $'@misc{a,\n  date = {2020-05},\n  title = {A},\n}\n@misc{b, year = 1999, month = {Fall}}\n' convert --to biblatex months.bib
-run_messages 'a month that stays' 0 $'months.bib:6:23: note: month stays, since it can\'t be joined with a year to a date\n' convert --to biblatex months.bib
+run_messages 'a month that stays' 0 $'months.bib:6:23: note: `month` is kept: it can\'t be joined with a year to a date\n' convert --to biblatex months.bib
 printf '@string{JAN = {Winter}}\n@misc{a, date = {2020-01-05}}\n' >months.bib
 run 'a month that the file defines' 0 $'@string{JAN = {Winter}}\n@misc{a, year = {2020}, month = {January}, day = {05}}\n' convert --to bibtex months.bib
-run_messages 'a day of a date' 0 $'months.bib:2:10: note: date becomes several fields, and no standard style of BibTeX reads the day or a second date\n' convert --to bibtex months.bib
+run_messages 'a day of a date' 0 $'months.bib:2:10: note: `date` becomes several fields, but no standard style of BibTeX reads a day or a second date\n' convert --to bibtex months.bib
 rm months.bib
 for format in csl json; do
     : >input
@@ -1030,12 +1030,12 @@ JSON
 run 'entries of items' 0 $'@book{a_b,\n  title = {A \\emph{b}},\n  author = {Doe, J. and {Foo, Inc.}},\n  date = {2020-05/2021},\n  pages = {1--9},\n}\n\n@thesis{c,\n  institution = {U},\n  type = {PhD thesis},\n}\n' convert --from csl --to biblatex items.json
 printf '[{"id":"c","type":"thesis","publisher":"U"}]' >thesis.json
 run 'entries of BibTeX' 0 $'@phdthesis{c,\n  school = {U},\n}\n' convert --from csl --to bibtex thesis.json
-run_messages 'what no field has' 0 $'items.json: note: a b: id is changed, since the field that has it is read as something else\nitems.json: note: a b: medium is left out, since no field has it\n' convert --from csl --to biblatex items.json
+run_messages 'what no field has' 0 $'items.json: note: `a b`: `id` is changed: its field reads back as another value\nitems.json: note: `a b`: `medium` is left out: no field for it\n' convert --from csl --to biblatex items.json
 printf '[\n  {"id": "a", "type": "book"},\n  {"type": "book"}\n]\n' >noid.json
-run_messages 'an item without an id' 1 $'noid.json:3:3: error: the item has no id that is a text or a number\n' convert --from csl --to biblatex noid.json
+run_messages 'an item without an id' 1 $'noid.json:3:3: error: expected a text or a number as the `id` of the item\n' convert --from csl --to biblatex noid.json
 printf '[\n  {"id": "a",}\n]\n' >nojson.json
-run_messages 'a file that is no JSON' 1 $'nojson.json:2:14: error: no JSON from here on\n' convert --from csl --to biblatex nojson.json
-run_messages 'items that go nowhere' 2 $'bibkit: --from csl goes with --to biblatex or --to bibtex\n' convert --from csl --to ris items.json
+run_messages 'a file that is no JSON' 1 $'nojson.json:2:14: error: expected JSON\n' convert --from csl --to biblatex nojson.json
+run_messages 'items that go nowhere' 2 $'bibkit: `--from csl` requires `--to biblatex` or `--to bibtex`\n' convert --from csl --to ris items.json
 printf '[{"id":"a","type":"document"}]' >one.json
 run 'a file that is not there, and items' 2 $'@misc{a,\n}\n' convert --from csl --to biblatex nothing.json one.json
 printf '[]' >noitems.json
@@ -1106,7 +1106,7 @@ run 'inherited fields are written' 0 '' resolve --write resolving.bib
 holds 'the file has the inherited fields' eval 'printf %s "$resolved" | cmp -s - resolving.bib'
 run 'inherited fields are written again' 0 '' resolve --write resolving.bib two.bib
 holds 'the file has the inherited fields still' eval 'printf %s "$resolved" | cmp -s - resolving.bib'
-run_messages 'inherited fields are not written into standard input' 2 $'bibkit: --write needs the name of a file\n' resolve --write
+run_messages 'inherited fields are not written into standard input' 2 $'bibkit: `--write` needs the name of a file\n' resolve --write
 printf '\xef\xbb\xbf@misc{a, xdata={b}}\r\n@xdata{b, type={T}}\r\n' >resolve-mark.bib
 run 'inherited fields after a byte order mark' 0 $'\xef\xbb\xbf@misc{a, type={T}}\r\n@xdata{b, type={T}}\r\n' resolve resolve-mark.bib
 printf '@misc{a, title={A}}\n@misc{b, crossref={c}}\n@misc{c, crossref={b}}\n' >circle.bib

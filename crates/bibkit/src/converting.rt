@@ -142,15 +142,27 @@ fn edit_of<'a>(dialect: Dialect) -> Edit<'a> {
     }
 }
 
-// Returns the text of a note on a field.
-fn note_text(kind: NoteKind) -> &'static str {
+// Returns the text of a note on the field with the name `field`.
+fn note_text(alloc: Global, kind: NoteKind, field: &str) -> Result<String, AllocError> {
     match kind {
-        NoteKind::NameIsThere => "stays, since the entry has the field that takes its place",
-        NoteKind::DateStays => "stays, since it isn't one date, or a field for its parts is there",
-        NoteKind::MonthStays => "stays, since it can't be joined with a year to a date",
-        NoteKind::NotRead => "stays, though no standard style of BibTeX reads it",
+        NoteKind::NameIsThere => {
+            format!(in alloc;
+                "`{field}` is kept: the entry already has the field that would replace it"
+            )
+        }
+        NoteKind::DateStays => {
+            format!(in alloc;
+                "`{field}` is kept: it isn't one date, or the entry already has a field for a part of it"
+            )
+        }
+        NoteKind::MonthStays => {
+            format!(in alloc; "`{field}` is kept: it can't be joined with a year to a date")
+        }
+        NoteKind::NotRead => format!(in alloc; "no standard style of BibTeX reads `{field}`"),
         NoteKind::PartsNotRead => {
-            "becomes several fields, and no standard style of BibTeX reads the day or a second date"
+            format!(in alloc;
+                "`{field}` becomes several fields, but no standard style of BibTeX reads a day or a second date"
+            )
         }
     }
 }
@@ -164,12 +176,12 @@ fn note_line(
     kind: NoteKind,
 ) -> Result<String, AllocError> {
     let position = positions.position(field.key.span.start);
+    let said = note_text(alloc, kind, field.key.v)?;
     format!(in alloc;
-        "{name}:{}:{}: note: {} {}\n",
+        "{name}:{}:{}: note: {}\n",
         position.line,
         position.column,
-        field.key.v,
-        note_text(kind)
+        said.as_str()
     )
 }
 

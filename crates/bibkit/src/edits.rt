@@ -71,8 +71,11 @@ fn wrong_usage(alloc: Global, text: &str) -> Result<(), Stop> {
 fn check(alloc: Global, editing: &Editing<'_>) -> Result<(), Stop> {
     match editing.edits {
         _ if editing.name != "-" => Ok(()),
-        _ if editing.mode == Mode::Write => wrong_usage(alloc, "--write needs the name of a file"),
-        Edits::AddInput => wrong_usage(alloc, "add needs the name of a file"),
+        _ if editing.mode == Mode::Write => wrong_usage(
+            alloc,
+            "`--write` needs the name of a file",
+        ),
+        Edits::AddInput => wrong_usage(alloc, "`add` needs the name of a file"),
         _ => Ok(()),
     }
 }
@@ -95,7 +98,7 @@ fn unsafe_key_line(
 ) -> Result<String, AllocError> {
     if let Ok(added) = RawDocument::parse(alloc, text) {
         if let Some(key) = added.first_unsafe_key() {
-            return format!(in alloc; "bibkit: {name}: {key}: {why}\n");
+            return format!(in alloc; "bibkit: {name}: `{key}`: {why}\n");
         }
     }
     format!(in alloc; "bibkit: {name}: {why}\n")
@@ -116,11 +119,11 @@ fn refused_line(
                 ..
             }
             | Edit::Unset { key, name: field },
-        ) => { format!(in alloc; "bibkit: {name}: {key}: {field}: {why}\n") }
+        ) => { format!(in alloc; "bibkit: {name}: `{key}`: `{field}`: {why}\n") }
         Some(Edit::Rename { old, new }) => {
-            format!(in alloc; "bibkit: {name}: {old} to {new}: {why}\n")
+            format!(in alloc; "bibkit: {name}: `{old}` to `{new}`: {why}\n")
         }
-        Some(Edit::Remove { key }) => format!(in alloc; "bibkit: {name}: {key}: {why}\n"),
+        Some(Edit::Remove { key }) => format!(in alloc; "bibkit: {name}: `{key}`: {why}\n"),
         Some(Edit::Add { text }) if why == EditError::NotAKey => unsafe_key_line(
             alloc, name, text, why,
         ),
@@ -136,7 +139,7 @@ fn definition_line(
     definition: &Pair<'_>,
 ) -> Result<String, AllocError> {
     let said = format!(in alloc;
-        "the abbreviation {} uses itself [circular-abbreviation]",
+        "abbreviation `{}` refers to itself [circular-abbreviation]",
         definition.key.v
     )?;
     error_line(alloc, name, text, definition.key.span.start, &said)
@@ -157,7 +160,17 @@ fn cycle_line(
             }
         }
     }
-    format!(in alloc; "bibkit: {name}: an abbreviation uses itself\n")
+    format!(in alloc; "bibkit: {name}: an abbreviation refers to itself\n")
+}
+
+// Returns the text for an error of `resolve`: `field` of the entry with the key `key` would change. If `field` is empty, its key or type
+// would change, or the file would have another number of entries.
+fn differing_text(alloc: Global, key: &str, field: &str) -> Result<String, AllocError> {
+    if field.is_empty() {
+        format!(in alloc; "entry `{key}`: resolving would change its key or type, or remove it")
+    } else {
+        format!(in alloc; "entry `{key}`: resolving would change `{field}`")
+    }
 }
 
 // Returns the message for an error of `resolve`: `field` of the entry with the index `entry` would change. If `text` has no such
@@ -172,10 +185,7 @@ fn differing_line(
     if let Ok(src) = from_utf8(text) {
         if let Ok(raw) = RawBibliography::parse(alloc, src) {
             if let Some(entry) = raw.entries.get(entry) {
-                let said = format!(in alloc;
-                    "with what it inherits in fields of its own the entry {} would have another {field}",
-                    entry.v.key.v
-                )?;
+                let said = differing_text(alloc, entry.v.key.v, field)?;
                 return error_line(alloc, name, text, entry.v.key.span.start, &said);
             }
         }
@@ -183,11 +193,9 @@ fn differing_line(
     unlike_line(alloc, name)
 }
 
-// Returns the message for an error of `resolve`: the entries of the file would change.
+// Returns the message for an error of `resolve`: other text of the file would change.
 fn unlike_line(alloc: Global, name: &str) -> Result<String, AllocError> {
-    format!(in alloc;
-        "bibkit: {name}: with what they inherit in fields of their own entries would say something else\n"
-    )
+    format!(in alloc; "bibkit: {name}: resolving would change other text of the file\n")
 }
 
 // Returns the message for an error of resolving references.
@@ -268,10 +276,10 @@ fn printing_stop(
 // Returns the text of the reason why a file can't be written.
 fn write_reason(kind: ErrorKind) -> &'static str {
     match kind {
-        ErrorKind::PermissionDenied => "it may not be written",
-        ErrorKind::InvalidInput => "it is no regular file",
-        ErrorKind::StorageFull => "the disk is full",
-        _ => "it can't be written",
+        ErrorKind::PermissionDenied => "can't be written: permission denied",
+        ErrorKind::InvalidInput => "not a regular file",
+        ErrorKind::StorageFull => "can't be written: the disk is full",
+        _ => "can't be written",
     }
 }
 
@@ -282,8 +290,8 @@ fn unwritten_line(alloc: Global, name: &str, error: &ReplaceError) -> Result<Str
         ReplaceError::NotReplaced(error) | ReplaceError::Unsure(error) => {
             write_reason(error.kind())
         }
-        ReplaceError::Unsettled(_) => "it is written, but the disk may not have it yet",
-        _ => "it can't be written",
+        ReplaceError::Unsettled(_) => "written, but a crash of the machine may lose it",
+        _ => "can't be written",
     };
     format!(in alloc; "bibkit: {name}: {reason}\n")
 }
@@ -451,7 +459,9 @@ fn answer(rt: &HostRuntime, editing: &Editing<'_>) -> Result<(), Stop> {
             )
         }
         Edits::NoValue(word) => {
-            let text = format!(in rt.alloc(); "{word} is no FIELD=VALUE; --file names a file")?;
+            let text = format!(in rt.alloc();
+                "`{word}` isn't FIELD=VALUE; use `--file` for the name of the file"
+            )?;
             wrong_usage(rt.alloc(), &text)
         }
     }

@@ -13,12 +13,12 @@ use std::str::from_utf8;
 // Returns the message for a fault of a text that isn't an array of items.
 fn fault_text(fault: Fault) -> &'static str {
     match fault {
-        Fault::NotJson => "no JSON from here on",
+        Fault::NotJson => "expected JSON",
         Fault::NotAnArray => "expected an array of items",
         Fault::NotAnObject => "expected an item, which is an object",
-        Fault::NoId => "the item has no id that is a text or a number",
-        Fault::NoType => "the item has no type that is a text",
-        Fault::WrongForm => "a variable of the item hasn't the form that CSL has for it",
+        Fault::NoId => "expected a text or a number as the `id` of the item",
+        Fault::NoType => "expected a text as the `type` of the item",
+        Fault::WrongForm => "a variable of the item has a form that CSL doesn't allow",
         Fault::KeyTwice => "the item has the key of an earlier one",
     }
 }
@@ -45,7 +45,9 @@ fn items_stop(
     match error.unless_out_of_memory()? {
         ItemsError::Refused(refusal) => fault_stop(alloc, name, text, &refusal),
         _ => {
-            let line = format!(in alloc; "bibkit: {name}: the entries aren't read again\n")?;
+            let line = format!(in alloc;
+                "bibkit: {name}: the converted entries can't be parsed\n"
+            )?;
             Ok(Stop::Said(line, 1))
         }
     }
@@ -62,9 +64,9 @@ fn convert_items(alloc: Global, name: &str, text: &str) -> Result<Converted, Sto
 // Returns the text of a note on a member of an item that is lost or changed in the entry.
 fn loss_text(kind: LossKind) -> &'static str {
     match kind {
-        LossKind::NoField => "is left out, since no field has it",
-        LossKind::Changed => "is changed, since the field that has it is read as something else",
-        LossKind::Partly => "is there in part, since no field has the rest",
+        LossKind::NoField => "is left out: no field for it",
+        LossKind::Changed => "is changed: its field reads back as another value",
+        LossKind::Partly => "is kept in part: no field for the rest",
     }
 }
 
@@ -72,7 +74,7 @@ fn loss_text(kind: LossKind) -> &'static str {
 fn say_losses(rt: &HostRuntime, name: &str, losses: &[Loss]) {
     'losses: for loss in losses {
         let _ = eprint!(rt;
-            "{name}: note: {}: {} {}\n",
+            "{name}: note: `{}`: `{}` {}\n",
             loss.id.as_str(),
             loss.name.as_str(),
             loss_text(loss.kind)
@@ -128,6 +130,6 @@ pub fn run_import(rt: &HostRuntime, dialect: Dialect, names: &[&str]) -> u8 {
 
 /// Reports that items are only converted to BibLaTeX or BibTeX, and returns the status.
 pub fn refuse_target(rt: &HostRuntime) -> u8 {
-    let _ = rt.eprintln("bibkit: --from csl goes with --to biblatex or --to bibtex");
+    let _ = rt.eprintln("bibkit: `--from csl` requires `--to biblatex` or `--to bibtex`");
     2
 }

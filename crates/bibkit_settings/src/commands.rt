@@ -316,12 +316,12 @@ journaltitle, publisher, series, institution, school, organization, address and 
 Example:
   bibkit strings --collect --fields journaltitle,publisher --file refs.bib --write
 
-Status: 0 done, 1 an abbreviation uses itself or the file has errors, 2 wrong usage, or a file or the output failed, 3 out of memory";
+Status: 0 done, 1 an abbreviation refers to itself or the file has errors, 2 wrong usage, or a file or the output failed, 3 out of memory";
 
 // The text at the end of the help of `fmt`.
 const FMT_HELP: &str = "\
-Writes each entry with its type and field names in lower case, one field per line, and values unchanged. All other text stays, and so does
-an entry that contains a comment. A table [fmt] in a file bibkit.toml in the folder of the first file, or in one above it, has the style
+Writes each entry with its type and field names in lower case, one field per line, and values unchanged. Keeps all other text, and entries
+that contain a comment. A table [fmt] in a file bibkit.toml in the folder of the first file, or in one above it, has the style
 of a project: indent, align, trailing-comma, blank-lines, delimiters, order, width and sort.
 
 Example:
@@ -331,9 +331,9 @@ Status: 0 done, 1 a file isn't in this style (--check) or has errors, 2 wrong us
 
 // The text at the end of the help of `convert`.
 const CONVERT_HELP: &str = "\
-csl, json and ris print the entries of all files with inherited fields. biblatex and bibtex change the names of types and fields, bibtex
-also splits dates, and all other text stays. A file with errors is not printed, and its first error is reported. --from csl makes an entry
-of each item of CSL-JSON, and reports what the entry lacks or has otherwise.
+csl, json and ris print the entries of all files with inherited fields. biblatex and bibtex change dates and the names of types and fields,
+and keep all other text. A file with errors is not printed, and its first error is reported. --from csl converts each item of CSL-JSON to an
+entry, and reports each variable that is lost or changed.
 
 Examples:
   bibkit convert --to csl refs.bib >refs.json
@@ -369,12 +369,12 @@ const FMT: [Argument; 13] = [
     Argument {
         name: "no-align",
         takes: Takes::NothingAfter("align"),
-        help: "Don't align them, whatever bibkit.toml says",
+        help: "Don't align the equals signs (overrides bibkit.toml)",
     },
     Argument {
         name: "trailing-comma",
         takes: Takes::NothingAfter("no-trailing-comma"),
-        help: "Write a comma after the last field, whatever bibkit.toml says",
+        help: "Write a comma after the last field (overrides bibkit.toml)",
     },
     Argument {
         name: "no-trailing-comma",
@@ -389,7 +389,7 @@ const FMT: [Argument; 13] = [
     Argument {
         name: "delimiters",
         takes: Takes::Delimiters,
-        help: "Write texts in braces or in quotes, if that keeps them",
+        help: "Write texts in braces or in quotes if possible",
     },
     Argument {
         name: "order",
@@ -399,7 +399,7 @@ const FMT: [Argument; 13] = [
     Argument {
         name: "width",
         takes: Takes::Width,
-        help: "Break longer lines between joined texts; 0 breaks none",
+        help: "Break longer lines between joined texts; 0 is no limit",
     },
     Argument {
         name: "sort",
@@ -441,8 +441,8 @@ const CONVERT: [Argument; 2] = [
 
 // The text at the end of the help of `resolve`.
 const RESOLVE_HELP: &str = "\
-Replaces the references of each entry (crossref, xdata) by the fields that it inherits, with their text from the file. A crossref to an
-unknown key stays. All other text stays, and so do the entries that were referred to.
+Replaces the references of each entry (crossref, xdata) by the fields that it inherits, with their text from the file. Keeps references to
+unknown keys, the entries that are referred to, and all other text.
 
 Example:
   bibkit resolve --write refs.bib

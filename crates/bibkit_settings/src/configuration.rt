@@ -79,7 +79,7 @@ impl ConfigurationError {
 
 // Returns the error of a setting whose value isn't `wanted`.
 fn wrong<T: Drop>(alloc: Global, key: &str, wanted: &str) -> Result<T, ConfigurationError> {
-    Err(ConfigurationError::Wrong(format!(in alloc; "{key} has to be {wanted}")?))
+    Err(ConfigurationError::Wrong(format!(in alloc; "expected {wanted} for `{key}`")?))
 }
 
 // Returns the code that a value names. Fails if the value isn't the name of a code.
@@ -104,7 +104,7 @@ fn codes(alloc: Global, key: &str, value: &Value) -> Result<Option<Vec<Code>>, C
 
 // Returns the error of an unknown setting.
 fn unknown<T: Drop>(alloc: Global, key: &str) -> Result<T, ConfigurationError> {
-    Err(ConfigurationError::Wrong(format!(in alloc; "there is no setting {key}")?))
+    Err(ConfigurationError::Wrong(format!(in alloc; "unknown setting `{key}`")?))
 }
 
 // Sets the setting of `lint` with this key. Fails if `lint` has no such setting, or if the value is wrong for it.
@@ -173,14 +173,14 @@ fn delimiters(alloc: Global, value: &Value) -> Result<Option<Delimiters>, Config
 fn field_name(alloc: Global, value: &Value) -> Result<String, ConfigurationError> {
     match value.as_str() {
         Some(name) => Ok(String::from_str(alloc, name)?),
-        None => wrong(alloc, "fmt.order", "a list of names of fields"),
+        None => wrong(alloc, "fmt.order", "a list of field names"),
     }
 }
 
 // Returns the field names that `fmt.order` lists, as a setting.
 fn field_names(alloc: Global, value: &Value) -> Result<Option<Vec<String>>, ConfigurationError> {
     let Some(values) = value.as_array() else {
-        return wrong(alloc, "fmt.order", "a list of names of fields");
+        return wrong(alloc, "fmt.order", "a list of field names");
     };
     let mut names = Vec::new(alloc);
     'values: for value in values {
@@ -193,7 +193,7 @@ fn field_names(alloc: Global, value: &Value) -> Result<Option<Vec<String>>, Conf
 fn width(alloc: Global, value: &Value) -> Result<Option<Option<usize>>, ConfigurationError> {
     match value.as_integer().map(usize::try_from) {
         Some(Ok(characters)) => Ok(Some(width_of(characters))),
-        _ => wrong(alloc, "fmt.width", "a number, 0 for none"),
+        _ => wrong(alloc, "fmt.width", "a number (0 for none)"),
     }
 }
 
