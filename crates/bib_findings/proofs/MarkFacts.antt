@@ -319,7 +319,7 @@ both_kept before between rest first second all is shares =
       any_passes (is_repeated all) s.mark (listed (marks_of second)) s.of_other repeated,
     )
 
--- if an entry shares an identity with another one, both have a mark that occurs more than once
+-- whether both entries have a mark that occurs more than once, if they share an identity
 abbrev Covers : List ℕ → EntryReading → EntryReading → Type 0
 Covers all said one =
     has_any (identities said) one ≡ true
@@ -573,7 +573,7 @@ times_other all one other differs =
     ap (λ b. cond b (Some (is_repeated (all ++ one ∷ []) other)) None) there
     ∙ ap (λ n. cond (list_any (nat_eq other) all) (Some (nat_lt 1 n)) None) counts
 
--- storing a mark, with whether it occurred before, and changing no other mark stores the marks with one more
+-- if only the value of one mark changes, to whether the mark occurred before, the map contains the marks with this one appended
 noted_by : (met new : BTreeMap ℕ Bool) (all : List ℕ) (one : ℕ) (is_there : Bool) → AreMetMarks met all
     → is_there ≡ is_some (get nat_cmp met one) → get nat_cmp new one ≡ Some is_there
     → ((other : ℕ) → nat_eq other one ≡ false → get nat_cmp new other ≡ get nat_cmp met other) → AreMetMarks new (all ++ one ∷ [])
@@ -588,7 +588,7 @@ noted_by met new all one is_there noted is here others other = by (nat_eq other 
 apart : (one other : ℕ) → nat_eq other one ≡ false → is_at (nat_cmp one) other ≡ false
 apart one other differs = grind (arith, nat_tests, differs)
 
--- storing a new mark with `false` stores the marks with one more
+-- if a mark is new and gets the value `false`, the map contains the marks with this one appended
 pub noted_once : (met new : BTreeMap ℕ Bool) (all : List ℕ) (one : ℕ) → AreMetMarks met all
     → is_some (get nat_cmp met one) ≡ false → Updates nat_cmp met new one (Some false)
     → AreMetMarks new (all ++ one ∷ [])
@@ -596,7 +596,7 @@ noted_once met new all one noted absent updates =
     noted_by met new all one false noted (sym absent) updates.1
     (λ other differs. updates.2 other (apart one other differs))
 
--- storing a mark that occurred before with `true` stores the marks with one more
+-- if a mark occurred before and gets the value `true`, the map contains the marks with this one appended
 pub noted_again : (met mid new : BTreeMap ℕ Bool) (all : List ℕ) (one : ℕ) → AreMetMarks met all
     → is_some (get nat_cmp met one) ≡ true → Updates nat_cmp met mid one (Some false)
     → Updates nat_cmp mid new one (Some true) → AreMetMarks new (all ++ one ∷ [])
@@ -652,7 +652,7 @@ as_many_entries said (index ∷ indices) there =
     ap (λ o. length (cons_option o (entries_at said indices))) one.1
     ∙ ap suc (as_many_entries said indices (All-tail (λ i. i < length said) index indices there))
 
--- a fact about the value of an Ok is replaced by one that follows from it
+-- if the value of an Ok satisfies `P`, it satisfies each `Q` that follows from `P`
 pub on_result : {A E : Type 0} {P Q : A → Type 0} (r : Result A E) → ((a : A) → P a → Q a) → IfOk r P → IfOk r Q
 on_result (Ok a) more holds = more a holds
 on_result (Err e) more holds = tt

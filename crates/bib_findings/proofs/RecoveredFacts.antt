@@ -53,7 +53,7 @@ pub origins_within : {d : Definitions} {said : List EntryReading} {own : List En
     → IsKeptSoFar d said own names places origins errors → All (λ index. index < length said) origins
 origins_within {said = said} {origins = origins} is = indices_within said origins is.kept is.origin
 
--- indices that are in range for a list are in range for a number that equals its length
+-- if indices are below the length of a list, equal indices are below a number that equals this length
 pub within_of : (said : List EntryReading) (origins indices : List ℕ) (n : ℕ)
     → All (λ index. index < length said) origins → indices ≡ origins → length said ≡ n
     → All (λ index. index < n) indices

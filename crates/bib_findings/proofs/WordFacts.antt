@@ -266,7 +266,7 @@ words_stop_last is_first characters count text word before all utf8 stops =
     (words_stopped is_first before.begun [] (sym (ends_same is_first word before.begun utf8 before.spelt) ∙ stops))
     ∙ append-nil text)
 
--- if only the first person isn't wanted, the words end before none of them
+-- if the words of all people are wanted, no word ends them
 pub all_words : (words : List (List ℕ)) → words_before false words ≡ words
 all_words [] = refl
 all_words (word ∷ words) = take_while-cons (λ w. not (ends_before false w)) word words ∙ ap (λ l. word ∷ l) (all_words words)

@@ -5,14 +5,14 @@ use Rattle.bib_queries.specs.Lines.{aux_data}
 use Rattle.bib_queries.specs.Names.{comma_parts}
 use Rattle.bib_queries.specs.Sources.{first_data}
 
--- these lines name no files
+-- whether these lines name no files
 abbrev pub NameNothing : List (List ℕ) → Type 0
 NameNothing lines = (rest : List (List ℕ)) → first_data (lines ++ rest) ≡ first_data rest
 
 pub no_lines : NameNothing []
 no_lines rest = refl
 
--- one more line that names nothing
+-- if one more line names no files, the lines with it name none
 pub nothing_more : (lines : List (List ℕ)) (line : List ℕ) → aux_data line ≡ None → NameNothing lines → NameNothing (lines ++ line ∷ [])
 nothing_more lines line none before rest =
     ap first_data (append_assoc lines (line ∷ []) rest) ∙ before (line ∷ rest)
