@@ -62,7 +62,7 @@ report_findings said entry errors =
     ++ (map (field_finding said code.SuperfluousField (codes "superfluous")) (superfluous_of entry)
     ++ map (malformed_finding said) errors)
 
--- whether these are the findings of the report on an entry, which `said` is the raw form of
+-- whether these are the findings of the report on an entry, with its raw form `said`
 pub record AreOfReport (said : EntryReading) (entry : Entry) (found : List Finding) : Type 0 where
   pub errors : List (List ℕ × TypeError)
   pub malformed : AreMalformed entry errors

@@ -20,7 +20,7 @@ finding_at c span message = record { code = c; span = span; message = message }
 abbrev pub with_name : List ℕ → List ℕ → List ℕ
 with_name words name = words ++ (codes " \"" ++ (name ++ codes "\""))
 
--- the message of an error; any kind that isn't listed is out of memory
+-- the message of an error; the last case is out of memory
 abbrev pub error_message : ParseErrorKind → List ℕ
 error_message UnexpectedEof = codes "unexpected end of file"
 error_message (Unexpected token) = codes "unexpected " ++ token_text token
@@ -33,7 +33,7 @@ error_message (AbbreviationCycle name) = with_name (codes "circular abbreviation
 error_message (ReferenceCycle key) = with_name (codes "circular reference") key
 error_message _ = codes "out of memory"
 
--- the code of an error; any kind that isn't listed is an error of a field that can't be read
+-- the code of an error; the last case is an error of a field that can't be parsed
 abbrev pub error_code : ParseErrorKind → Code
 error_code (UnknownAbbreviation name) = code.UnknownAbbreviation
 error_code (AbbreviationCycle name) = code.CircularAbbreviation

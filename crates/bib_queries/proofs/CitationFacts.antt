@@ -85,7 +85,7 @@ or_then true false = refl
 or_then false true = refl
 or_then false false = refl
 
--- if `some` and `more` are whether a name is a set's before and after one more element, `more` is right if `some` is
+-- a name is a set's among elements and one more exactly if it is that of the last element, or a set's among the other elements
 pub listed_more : (pieces : List (Bor (List ℕ))) (piece : Bor (List ℕ)) (key : List ℕ) (some more : Bool)
     → more ≡ (is_listed (set_name piece.now) key || some)
     → some ≡ is_listed (flat_map set_name (map (λ p. p.now) pieces)) key

@@ -22,9 +22,7 @@ use Rattle.bib_queries.specs.Standing.{IsFieldIn}
 use Rattle.bib_text.proofs.ListFacts.{all_append}
 use Rattle.bib_text.proofs.BoundaryFacts.{char_boundary}
 
--- ---- a text may be cut before a character
-
--- ---- a text may be cut after a character, and after the parts of a field
+-- ---- a text may be cut before and after a character, and after a part of a field
 
 -- whether a text may be cut at a place of it
 abbrev Cut : List ℕ → Place → Type 0

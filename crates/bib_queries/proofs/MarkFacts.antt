@@ -85,7 +85,7 @@ any_more v test xs i d within =
     ∙ ap (list_any test) (map-append v (take i xs) (get_or xs i d ∷ []))
     ∙ any_push test (map v (take i xs)) (v (get_or xs i d))
 
--- if the image of one element passes a test, the images of a list have one that passes
+-- if the image of an element of a list passes a test, the images of the list have one that passes
 pub any_at : {X Y : Type 0} (v : X → Y) (test : Y → Bool) (xs : List X) (i : ℕ) (d : X) → i < length xs
     → test (v (get_or xs i d)) ≡ true → list_any test (map v xs) ≡ true
 any_at v test [] i d within passes = absurd (omega (arith, within))

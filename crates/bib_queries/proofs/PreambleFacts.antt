@@ -228,7 +228,7 @@ goes_on (b ∷ inside) rest is_hidden (suc at) within hidden other =
           (λ n. are_quotes_hidden (hides is_hidden (get_or (inside ++ 34 ∷ rest) at 0)) (drop n (b ∷ inside)) ≡ true) one next.1,
     )
 
--- whether `at` is an offset in the text of a preamble, and a backslash hides each quote after it
+-- whether `at` is an offset in the text of a preamble or its end, and all quotes from there on are hidden
 abbrev pub IsAt : List ℕ → Bool → ℕ → Type 0
 IsAt inside is_hidden at = (at ≤ length inside) × (are_quotes_hidden is_hidden (drop at inside) ≡ true)
 
@@ -375,7 +375,7 @@ left_next rest opened inside' closed rest' printed printed' whole n is at front 
           ∙ ap (λ l. printed ++ flat_map preamble_line l) (sym first.parts) ∙ before.same;
     }
 
--- a text without a quote at its start doesn't begin with a quote
+-- if no text after a quote is found, the text doesn't begin with a quote
 begun : (rest more : List ℕ) → text_after_prefix (codes "\"") rest ≡ None → rest ≡ 34 ∷ more → ⊥
 begun rest more none is =
     false≢true (ap is_some (sym none ∙ ap (text_after_prefix (codes "\"")) is ∙ after_begins (codes "\"") more))

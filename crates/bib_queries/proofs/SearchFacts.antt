@@ -27,14 +27,14 @@ pub empty : (l : List ℕ) → length l ≡ 0 → l ≡ []
 empty [] is = refl
 empty (x ∷ l) is = absurd (omega (arith, is))
 
--- ---- one more name, one more thing
+-- ---- one more name, one more node
 
 -- a name is among names and one more if it is this one or among the others
 pub among_push : (names : List (List ℕ)) (one name : List ℕ)
     → is_listed (names ++ one ∷ []) name ≡ cond (bytes_eq one name) true (is_listed names name)
 among_push names one name = any_push (λ n. bytes_eq n name) names one
 
--- the indices of a name after one more index, which is added if `b`
+-- if the indices of a name are right for the names so far, they are right after one more name, with the index appended if `b`
 pub holder_more : (b : Bool) (old now after : List ℕ) (index one : ℕ) (among among' : Bool)
     → after ≡ cond b (now ++ index ∷ []) now → among' ≡ cond b true among
     → Contains now one ↔ (Contains old one ⊎ ((one ≡ index) × (among ≡ true)))
@@ -122,7 +122,7 @@ node_push (first ∷ nodes) node (suc index) name =
       λ h. so.1 (⊎_elim (λ x. inl x) (λ x. inr (omega (arith, x.0), x.1)) h),
     )
 
--- a map of the nodes with each name, extended by one more node
+-- a map of the nodes with each name stays one if a node is appended and its index is added to its names
 pub holders_push : (nodes : List Node) (node : Node) (m m' : Map) → AreHolders nodes m
     →
     ((name : List ℕ) (one : ℕ)
@@ -314,7 +314,7 @@ left_below m mid names marks n h below other =
 
 -- ---- the search
 
--- all nodes with a name have marks
+-- whether all nodes with a name have marks
 abbrev pub IsTaken : List Node → List Bool → List ℕ → Type 0
 IsTaken nodes marks name = (index : ℕ) → HasName nodes index name → IsMarked marks index
 

@@ -54,7 +54,7 @@ each_at P [] i x within is all = absurd (omega (arith, within))
 each_at P (y ∷ xs) zero x within is all = subst P is all.0
 each_at P (y ∷ xs) (suc i) x within is all = each_at P xs i x (omega (arith, within)) is all.1
 
--- if one element passes a test, a list has one that passes
+-- if an element of a list passes a test, the list has one that passes
 pub any_here : {X : Type 0} (test : X → Bool) (xs : List X) (i : ℕ) (x : X) → i < length xs → get_or xs i x ≡ x
     → test x ≡ true → list_any test xs ≡ true
 any_here test [] i x within is passes = absurd (omega (arith, within))
