@@ -1,4 +1,4 @@
--- Facts on findings that are added to others.
+-- Findings that are appended to others.
 use Rattle.std.proofs.Common.{◌≡◌, ℕ, List, [], ◌∷◌, ◌++◌, ◌+◌, ◌<◌, length, get_or, take, map, Result, Ok, Err, OnOk, refl, sym, ap, ◌∙◌, append_assoc, append-nil, subst, arith}
 use Rattle.std.specs.Prelude.{codes, slice_get, Some}
 use Rattle.std.specs.List.{All}
@@ -25,7 +25,7 @@ use Rattle.bib_findings.specs.Names.{AreOfUnknown}
 use Rattle.bib_findings.specs.declared.codes.Code.TheVariants.{MissingField, SuperfluousField}
 use Rattle.bib_findings.specs.declared.finding.Finding.{Finding}
 
--- one more finding is added, that of one more item
+-- appending the finding of the next item extends the findings of the first items by it
 pub mapped_next : {A : Type 0} (f : A → Finding) (items : List A) (index : ℕ) (item : A) (old mid new : List Finding)
     (finding : Finding) → index < length items → item ≡ get_or items index item
     → mid ≡ old ++ map f (take index items) → new ≡ mid ++ finding ∷ [] → finding ≡ f item → new ≡ old ++ map f (take (index + 1) items)
@@ -34,18 +34,18 @@ mapped_next f items index item old mid new finding within is before more of_item
     ∙ ap (λ one. old ++ (map f (take index items) ++ one ∷ [])) (of_item ∙ ap f is)
     ∙ ap (λ l. old ++ l) (sym (map_more f items index item within))
 
--- three lists that are added one after another
+-- appending three lists in turn appends their concatenation
 added_thrice : (old one two new a b c : List Finding) → one ≡ old ++ a → two ≡ one ++ b → new ≡ two ++ c → new ≡ old ++ (a ++ (b ++ c))
 added_thrice old one two new a b c first second third =
     third ∙ ap (λ l. l ++ c) (second ∙ ap (λ l. l ++ b) first) ∙ append_assoc (old ++ a) b c ∙ append_assoc old a (b ++ c)
 
--- the findings of a report's three parts
+-- the findings of the three parts of a report
 abbrev parts : EntryReading → Names → Names → List (List ℕ × TypeError) → List Finding
 parts said missing superfluous errors =
     map (field_finding said MissingField (codes "missing")) missing
     ++ (map (field_finding said SuperfluousField (codes "superfluous")) superfluous ++ map (malformed_finding said) errors)
 
--- the three parts of a report, one after another
+-- appending the findings of the three parts of a report adds the findings of the report
 pub report_added : {E U : Type 0} (said : EntryReading) (entry : Entry) (missing superfluous : Names)
     (errors listed : List (List ℕ × TypeError)) (old one two new : List Finding) (r : Result U E)
     → missing ≡ missing_of entry → superfluous ≡ superfluous_of entry → errors ≡ listed → AreMalformed entry listed
@@ -65,7 +65,7 @@ report_added said entry missing superfluous errors listed old one two new (Ok u)
 report_added said entry missing superfluous errors listed old one two new (Err x) lacks forbids same_errors malformed first second third =
     tt
 
--- the findings of an entry: those of its report, and those of fields whose names aren't known
+-- appending the findings of a report and then those of unknown fields adds the findings of the entry
 pub entry_added : {E U : Type 0} (said : EntryReading) (entry : Entry) (old mid new : List Finding) (r : Result U E)
     → Adds (AreOfReport said entry) old mid
     → OnOk r (Adds (AreOfUnknown said) mid new) → OnOk r (Adds (AreOfEntry said entry) old new)
@@ -76,7 +76,7 @@ entry_added said entry old mid new (Ok u) first second = record {
 }
 entry_added said entry old mid new (Err x) first second = tt
 
--- the findings of entries, and those of one more
+-- the findings of entries, followed by those of one more entry, are the findings of all of them
 each_more : (Are : EntryReading → Entry → List Finding → Type 0) (said : List EntryReading) (indices : List ℕ)
     (entries : List Entry) (found : List Finding) (index : ℕ) (one : EntryReading) (entry : Entry)
     (more : List Finding)
@@ -90,7 +90,7 @@ each_more Are said _ _ _ index one entry more
     subst (AreOfEach Are said _ _) (sym (append_assoc first rest more))
     (AreOfEach.next here its (each_more Are said indices entries rest index one entry more following there are))
 
--- the findings of one more entry are added
+-- adding the findings of entries and then those of one more entry adds the findings of all of them
 pub each_next : (Are : EntryReading → Entry → List Finding → Type 0) (said : List EntryReading) (indices : List ℕ)
     (entries : List Entry) (old mid new : List Finding) (index : ℕ) (one : EntryReading) (entry : Entry)
     → Adds (AreOfEach Are said indices entries) old mid → slice_get said index ≡ Some one → Adds (Are one entry) mid new
@@ -101,12 +101,12 @@ each_next Are said indices entries old mid new index one entry before there more
   new_is = more.new_is ∙ ap (λ l. l ++ more.added) before.new_is ∙ append_assoc old before.added more.added;
 }
 
--- before any entry nothing is added
+-- for no entries, nothing is added
 pub each_none : (Are : EntryReading → Entry → List Finding → Type 0) (said : List EntryReading) (old : List Finding)
     → Adds (AreOfEach Are said [] []) old old
 each_none Are said old = record { added = []; are = AreOfEach.none; new_is = sym (append-nil old) }
 
--- the findings of the entry at an index are added
+-- adding the findings of the entry at `index` extends those of the entries before it
 pub each_at : (Are : EntryReading → Entry → List Finding → Type 0) (said : List (Spanned RawEntry)) (origins : List ℕ)
     (entries : List Entry) (index : ℕ) (one : Spanned RawEntry) (entry : Entry) (old mid new : List Finding)
     → All (λ i. i < length said) origins → length origins ≡ length entries → index < length entries
@@ -126,11 +126,11 @@ each_at Are said origins entries index one entry old mid new there same within o
     (each_next Are (map entry_reading_of said) (take index origins) (take index entries) old mid new origin
     (entry_reading_of one) entry before here added))
 
--- findings that are known are added
+-- appending findings that satisfy `Are` adds such findings
 pub added_known : (Are : List Finding → Type 0) (known old new : List Finding) → Are known → new ≡ old ++ known → Adds Are old new
 added_known Are known old new are is = record { added = known; are = are; new_is = is }
 
--- four lists that are added one after another to none
+-- appending four lists in turn to an empty list makes their concatenation
 pub added_in_order : (none one two three new a b c d : List Finding) → none ≡ [] → one ≡ none ++ a → two ≡ one ++ b
     → three ≡ two ++ c → new ≡ three ++ d
     → new ≡ a ++ (b ++ (c ++ d))
@@ -138,7 +138,7 @@ added_in_order none one two three new a b c d empty first second third fourth =
     let start : one ≡ a = first ∙ ap (λ l. l ++ a) empty in
     added_thrice one two three new b c d second third fourth ∙ ap (λ l. l ++ (b ++ (c ++ d))) start
 
--- all findings, once they are sorted
+-- the sorted findings of all parts are the findings of the recovered file
 pub sorted_are : {E : Type 0} (skipped : List SkippedBlock) (errors : List ParseError) (said : List EntryReading)
     (origins : List ℕ) (entries : List Entry) (between of_entries all : List Finding)
     (r : Result (Vec Finding Global) E)

@@ -1,4 +1,4 @@
--- Facts on the texts by which entries are likely the same work.
+-- Removing the prefix of a DOI.
 use Rattle.std.proofs.Common.{◌≡◌, ℕ, Bool, true, false, List, [], ◌∷◌, ◌+◌, ◌<◌, length, get_or, drop, map, Option, Some, None, refl, sym, ap, ◌∙◌, subst, arith, cond, suc, nat_eq}
 use Rattle.std.specs.Prelude.{reverse, option_map}
 use mathlib.Core.List.{reverse_aux}
@@ -10,11 +10,11 @@ use Rattle.std.proofs.lemmas.Str.Pattern.{starts_text}
 use denote.Ref.{Bor}
 use Rattle.bib_findings.specs.Identities.{without_prefixes}
 
--- prefixes that are borrowed, as texts
+-- the texts of borrowed prefixes
 abbrev pub spelled : List (Bor (List ℕ)) → List (List ℕ)
 spelled = map (λ p. p.now)
 
--- the prefixes from an index on, the first apart
+-- the prefixes from `index` on are the one at `index` and those after it
 from_index : (prefixes : List (Bor (List ℕ))) (index : ℕ) (prefix : Bor (List ℕ)) → index < length prefixes
     → spelled (drop index prefixes) ≡ (get_or prefixes index prefix).now ∷ spelled (drop (index + 1) prefixes)
 from_index prefixes index prefix within =
@@ -23,7 +23,7 @@ from_index prefixes index prefix within =
     ∙ ap (λ n. get_or prefixes index prefix ∷ drop n prefixes)
     (let same : suc index ≡ index + 1 = omega arith in same))
 
--- a text that begins with a prefix loses it
+-- if the text begins with the prefix at `index` and with none before it, the result is the text after this prefix
 pub prefix_here : (text : List ℕ) (prefixes : List (Bor (List ℕ))) (index : ℕ) (prefix : Bor (List ℕ)) (rest : List ℕ)
     → index < length prefixes
     → without_prefixes text (spelled prefixes) ≡ without_prefixes text (spelled (drop index prefixes))
@@ -38,7 +38,7 @@ prefix_here text prefixes index prefix rest within before strips =
     ∙ ap (λ b. cond b (drop (length p) text) (without_prefixes text (spelled (drop (index + 1) prefixes)))) begins
     ∙ sym (ap (without_prefixes text) (from_index prefixes index prefix within)) ∙ sym before
 
--- a text that doesn't begin with a prefix
+-- if the text doesn't begin with the prefix at `index`, the result is determined by the prefixes after it
 pub prefix_gone : (text : List ℕ) (prefixes : List (Bor (List ℕ))) (index : ℕ) (prefix : Bor (List ℕ)) → index < length prefixes
     → without_prefixes text (spelled prefixes) ≡ without_prefixes text (spelled (drop index prefixes))
     → FindsTextPrefix (get_or prefixes index prefix).now text None

@@ -1,4 +1,4 @@
--- Facts on marks: entries that share an identity share a mark.
+-- Marks: entries that share an identity share a mark.
 use Rattle.std.proofs.Common.{◌≡◌, ℕ, Bool, true, false, not, List, [], ◌∷◌, ◌++◌, ◌+◌, ◌<◌, ◌≤◌, ◌==◌, ◌||◌, length, map, Some, None, refl, sym, ap, ◌∙◌, append_assoc, append-nil, subst, arith, cond, suc, zero, nat_eq, get_or, inl, inr, take, Result, Ok, Err, OnOk, IfOk}
 use mathlib.Core.Logic.{◌⊎◌, ⊎_elim}
 use Rattle.std.specs.Prelude.{bytes_eq, codes, count_by, find, is_some, nat_lt, slice_get, unwrap_or}
@@ -38,7 +38,7 @@ or_right : (p q : Bool) → q ≡ true → (p || q) ≡ true
 or_right true q is = refl
 or_right false q is = is
 
--- what stands before the first brace of a text that goes on with one
+-- a brace and the text after it don't change the text before the first brace
 before_cut : (text rest : List ℕ) → before_brace (text ++ char.open_brace ∷ rest) ≡ before_brace text
 before_cut [] rest = take_while-cons (λ b. not (b == char.open_brace)) char.open_brace rest
 before_cut (c ∷ text) rest =
@@ -46,7 +46,7 @@ before_cut (c ∷ text) rest =
     ∙ ap (λ l. cond (not (c == char.open_brace)) (c ∷ l) []) (before_cut text rest)
     ∙ sym (take_while-cons (λ b. not (b == char.open_brace)) c text)
 
--- an identity of a kind among others
+-- if the identity of a kind passes a test, its text isn't empty and the kind with the text passes
 in_identity : (test : List ℕ → Bool) (kind text : List ℕ) → list_any test (identity kind text) ≡ true
     → (test (kind ++ text) ≡ true) × ((length text == 0) ≡ false)
 in_identity test kind text is = by (length text == 0) refl
@@ -62,7 +62,7 @@ in_identity test kind text is = by (length text == 0) refl
       some,
     )
 
--- of which kind an identity is
+-- which of the three identities of an entry passes a test
 data OfKind (test : List ℕ → Bool) (said : EntryReading) : Type 0 where
   is_doi : test (codes "doi " ++ doi_of said) ≡ true → (length (doi_of said) == 0) ≡ false → OfKind test said
   is_isbn : test (codes "isbn " ++ isbn_of said) ≡ true → (length (isbn_of said) == 0) ≡ false → OfKind test said
@@ -79,7 +79,7 @@ kind_of test said is =
     (or_cases (list_any test isbns) (list_any test works) (sym (list_any-append test isbns works) ∙ q)))
     (or_cases (list_any test dois) (list_any test (isbns ++ works)) (sym (list_any-append test dois (isbns ++ works)) ∙ is))
 
--- what stands after the first letters of a text
+-- the text after its first four bytes
 abbrev after_four : List ℕ → List ℕ
 after_four (a ∷ b ∷ c ∷ d ∷ rest) = rest
 after_four _ = []
@@ -88,7 +88,7 @@ abbrev after_five : List ℕ → List ℕ
 after_five (a ∷ b ∷ c ∷ d ∷ e ∷ rest) = rest
 after_five _ = []
 
--- a mark that an entry has
+-- whether an entry has this mark
 abbrev HasMark : EntryReading → ℕ → Type 0
 HasMark said one = list_any (nat_eq one) (listed (marks_of said)) ≡ true
 
@@ -129,7 +129,7 @@ title_mark said some =
     (option_to_list (mark (codes "isbn ") (isbn_of said))) (option_to_list (mark (codes "work ") (title_of said)))
     (inr (inr (marked (codes "work ") (title_of said) some)))
 
--- a title, a first person and a year, where none is empty
+-- if the text of title, person and year isn't empty, the title isn't empty and the three are joined by `{`
 work_is : (title person year : List ℕ) → (length (work_text title person year) == 0) ≡ false
     → ((length title == 0) ≡ false) × (work_text title person year ≡ title ++ (codes "{" ++ (person ++ (codes "{" ++ year))))
 work_is title person year some = by (length title == 0) (length person == 0) (length year == 0) refl refl refl
@@ -169,13 +169,13 @@ title_of_work : (title person year : List ℕ) → (length (work_text title pers
     → before_brace (work_text title person year) ≡ before_brace title
 title_of_work title person year some = ap before_brace (work_is title person year some).1 ∙ before_cut title (person ++ (codes "{" ++ year))
 
--- entries that share an identity have a mark in common
+-- a mark that two entries have in common
 pub record ShareMark (one other : EntryReading) : Type 0 where
   pub mark : ℕ
   pub of_one : HasMark one mark
   pub of_other : HasMark other mark
 
--- one entry has an identity of this kind and text
+-- two entries that share an identity share a mark
 shared_with : (one other : EntryReading) → OfKind (λ id. has_identity id one) other → ShareMark one other
 shared_with one other (is_doi has some) = by (kind_of (bytes_eq (codes "doi " ++ doi_of other)) one has)
   where
@@ -264,7 +264,7 @@ count_last test all one =
     sum_by-append (λ n. cond (test n) 1 0) all (one ∷ []) in
     omega (arith, sum)
 
--- one that is there counts
+-- a mark that occurs counts at least once
 any_counts : (one : ℕ) (all : List ℕ) → list_any (nat_eq one) all ≡ true → 1 ≤ count_by (nat_eq one) all
 any_counts one [] is = absurd (let clash : false ≡ true = is in cc)
 any_counts one (first ∷ all) is =
@@ -286,7 +286,7 @@ any_passes test one (first ∷ all) is passes =
     (λ later. or_right (test first) (list_any test all) (any_passes test one all later passes))
     (or_cases (nat_eq one first) (list_any (nat_eq one) all) is)
 
--- a mark that two entries have is repeated
+-- a mark that two entries have occurs more than once
 twice : (one : ℕ) (before between rest : List EntryReading) (first second : EntryReading) → HasMark first one → HasMark second one
     → is_repeated (listed_all (before ++ first ∷ (between ++ second ∷ rest))) one ≡ true
 twice one before between rest first second here there =
@@ -307,7 +307,7 @@ twice one before between rest first second here there =
     omega (arith, outer, inner, any_counts one (f first) here, any_counts one (f second) there) in
     grind (arith, nat_tests, more)
 
--- both of two entries that share an identity are kept
+-- if two entries share an identity, both have a mark that occurs more than once
 pub both_kept : (before between rest : List EntryReading) (first second : EntryReading) (all : List ℕ)
     → all ≡ listed_all (before ++ first ∷ (between ++ second ∷ rest))
     → has_any (identities second) first ≡ true → (has_repeated all (marks_of first) ≡ true) × (has_repeated all (marks_of second) ≡ true)
@@ -319,7 +319,7 @@ both_kept before between rest first second all is shares =
       any_passes (is_repeated all) s.mark (listed (marks_of second)) s.of_other repeated,
     )
 
--- of entries before another each that shares an identity with it is kept, and so is that other
+-- whether both entries have a mark that occurs more than once, if they share an identity
 abbrev Covers : List ℕ → EntryReading → EntryReading → Type 0
 Covers all said one =
     has_any (identities said) one ≡ true
@@ -336,7 +336,7 @@ covered before (one ∷ earlier) rest said all is =
     (covered (before ++ one ∷ []) earlier rest said all
     (is ∙ ap listed_all (sym (append_assoc before (one ∷ []) (earlier ++ said ∷ rest)))))
 
--- the first that shares an identity, of those that are kept
+-- the first item that passes a test is the same among the kept items, if all items that pass are kept
 find_kept : (test keep : EntryReading → Bool) (items : List EntryReading)
     → All (λ one. test one ≡ true → keep one ≡ true) items → find test (filter keep items) ≡ find test items
 find_kept test keep [] kept = refl
@@ -384,7 +384,7 @@ filter_append keep (item ∷ items) more =
     ≡ cond b (item ∷ filter keep items) (filter keep items) ++ filter keep more)
     [ true ↦ refl | false ↦ refl ]
 
--- the findings of those that are kept are the findings of all
+-- the findings of the entries with a mark that occurs more than once are the findings of all entries
 kept_duplicates : (all : List ℕ) (earlier rest : List EntryReading) → all ≡ listed_all (earlier ++ rest)
     → duplicates_after (filter (λ said. has_repeated all (marks_of said)) earlier)
     (filter (λ said. has_repeated all (marks_of said)) rest) ≡ duplicates_after earlier rest
@@ -445,16 +445,16 @@ kept_duplicates all earlier (said ∷ rest) is =
         (weaken {P = Covers all said} {Q = λ one. has_any (identities said) one ≡ true → true ≡ false}
         (λ one c shares. sym (c shares).1 ∙ left) earlier cover)))
 
--- the findings of the entries that may share an identity are those of all
+-- the findings of the entries that may share an identity are those of all entries
 pub alike : (entries : List EntryReading) → duplicates (may_share entries) ≡ duplicates entries
 alike entries = kept_duplicates (listed_all entries) [] entries refl
 
--- the marks of entries, one after another
+-- the marks of each entry, listed, are all marks of the entries
 pub listed_marks : (entries : List EntryReading) → flat_map listed (map marks_of entries) ≡ listed_all entries
 listed_marks [] = refl
 listed_marks (said ∷ entries) = ap (λ l. listed (marks_of said) ++ l) (listed_marks entries)
 
--- one more index
+-- the selection of one more index appends this index if its entry has a mark that occurs more than once
 pub chosen_more : (all : List ℕ) (marks : List Marks) (indices : List ℕ) (one : Marks) (index : ℕ) → length marks ≡ length indices
     → chosen all (marks ++ one ∷ []) (indices ++ index ∷ []) ≡ chosen all marks indices ++ cond (has_repeated all one) (index ∷ []) []
 chosen_more all [] [] one index same = refl
@@ -475,7 +475,7 @@ one_there [] index within = absurd (omega (arith, within))
 one_there (item ∷ items) zero within = (item, refl)
 one_there (item ∷ items) (suc index) within = one_there items index (omega (arith, within))
 
--- the entries at the indices that are chosen are those that may share an identity
+-- the entries at the selected indices are the selected entries
 pub chosen_entries : (all : List ℕ) (said : List EntryReading) (indices : List ℕ) → All (λ index. index < length said) indices
     → entries_at said (chosen all (map marks_of (entries_at said indices)) indices)
     ≡ filter (λ one. has_repeated all (marks_of one)) (entries_at said indices)
@@ -495,7 +495,7 @@ chosen_entries all said (index ∷ indices) there =
     ]
     ∙ sym (ap (λ o. filter keep (cons_option o rest)) one.1)
 
--- indices that are chosen are in range
+-- selected indices are in range
 pub chosen_within : (all : List ℕ) (marks : List Marks) (count : ℕ) (indices : List ℕ)
     → All (λ index. index < count) indices → All (λ index. index < count) (chosen all marks indices)
 chosen_within all [] count indices there = All-nil (λ i. i < count)
@@ -518,7 +518,7 @@ count_none test (one ∷ all) none = count_next test one all ∙ by (test one) n
     by true is rest = absurd (let clash : true ≡ false = is in cc)
     by false is rest = omega (arith, rest is)
 
--- a mark is noted once more
+-- an appended mark occurs more than once exactly if it occurred before
 repeated_more : (all : List ℕ) (one : ℕ) → is_repeated (all ++ one ∷ []) one ≡ list_any (nat_eq one) all
 repeated_more all one =
     let counts : count_by (nat_eq one) (all ++ one ∷ []) ≡ count_by (nat_eq one) all + cond (nat_eq one one) 1 0 =
@@ -573,7 +573,7 @@ times_other all one other differs =
     ap (λ b. cond b (Some (is_repeated (all ++ one ∷ []) other)) None) there
     ∙ ap (λ n. cond (list_any (nat_eq other) all) (Some (nat_lt 1 n)) None) counts
 
--- a mark that is noted once more, where the others stay
+-- if only the value of one mark changes, to whether the mark occurred before, the map contains the marks with this one appended
 noted_by : (met new : BTreeMap ℕ Bool) (all : List ℕ) (one : ℕ) (is_there : Bool) → AreMetMarks met all
     → is_there ≡ is_some (get nat_cmp met one) → get nat_cmp new one ≡ Some is_there
     → ((other : ℕ) → nat_eq other one ≡ false → get nat_cmp new other ≡ get nat_cmp met other) → AreMetMarks new (all ++ one ∷ [])
@@ -588,7 +588,7 @@ noted_by met new all one is_there noted is here others other = by (nat_eq other 
 apart : (one other : ℕ) → nat_eq other one ≡ false → is_at (nat_cmp one) other ≡ false
 apart one other differs = grind (arith, nat_tests, differs)
 
--- a mark is noted that wasn't there
+-- if a mark is new and gets the value `false`, the map contains the marks with this one appended
 pub noted_once : (met new : BTreeMap ℕ Bool) (all : List ℕ) (one : ℕ) → AreMetMarks met all
     → is_some (get nat_cmp met one) ≡ false → Updates nat_cmp met new one (Some false)
     → AreMetMarks new (all ++ one ∷ [])
@@ -596,7 +596,7 @@ noted_once met new all one noted absent updates =
     noted_by met new all one false noted (sym absent) updates.1
     (λ other differs. updates.2 other (apart one other differs))
 
--- a mark is noted that was there
+-- if a mark occurred before and gets the value `true`, the map contains the marks with this one appended
 pub noted_again : (met mid new : BTreeMap ℕ Bool) (all : List ℕ) (one : ℕ) → AreMetMarks met all
     → is_some (get nat_cmp met one) ≡ true → Updates nat_cmp met mid one (Some false)
     → Updates nat_cmp mid new one (Some true) → AreMetMarks new (all ++ one ∷ [])
@@ -604,11 +604,11 @@ noted_again met mid new all one noted there first second =
     noted_by met new all one true noted (sym there) second.1
     (λ other differs. second.2 other (apart one other differs) ∙ first.2 other (apart one other differs))
 
--- no mark is noted before the first
+-- an empty map contains the marks of an empty list
 pub none_noted : (met : BTreeMap ℕ Bool) → IsEmpty met → AreMetMarks met []
 none_noted met empty one = rw empty refl
 
--- a mark that is looked up
+-- looking up a mark returns whether it occurs more than once
 pub looked_up : (met : BTreeMap ℕ Bool) (all : List ℕ) (one : ℕ) → AreMetMarks met all
     → unwrap_or (get nat_cmp met one) false ≡ (is_repeated all one || false)
 looked_up met all one noted = ap (λ o. unwrap_or o false) (noted one) ∙ by (list_any (nat_eq one) all) refl (count_none (nat_eq one) all)
@@ -622,7 +622,7 @@ looked_up met all one noted = ap (λ o. unwrap_or o false) (noted one) ∙ by (l
     by true is none = or_false (is_repeated all one)
     by false is none = (let no : is_repeated all one ≡ false = ap (nat_lt 1) (none is) in ap (λ b. b || false) (sym no))
 
--- three lists of marks are noted, one after another
+-- storing three lists of marks in turn stores all of them
 pub noted_all : {U E : Type 0} (r : Result U E) (met first second third : BTreeMap ℕ Bool) (a b c : List ℕ)
     → ((all : List ℕ) → AreMetMarks met all → AreMetMarks first (all ++ a))
     → ((all : List ℕ) → AreMetMarks first all → AreMetMarks second (all ++ b))
@@ -633,7 +633,7 @@ noted_all (Ok u) met first second third a b c one two three = λ all noted.
     subst (AreMetMarks third) (append_assoc (all ++ a) b c ∙ append_assoc all a (b ++ c))
     (three ((all ++ a) ++ b) (two (all ++ a) (one all noted)))
 
--- the marks of one more entry
+-- storing the marks of the next entry stores the marks of the entries up to it
 pub noted_next : (met new : BTreeMap ℕ Bool) (all : List Marks) (index : ℕ) (other : Marks) → index < length all
     → ((marks : List ℕ) → AreMetMarks met marks → AreMetMarks new (marks ++ listed (get_or all index other)))
     → AreMetMarks met (flat_map listed (take index all)) → AreMetMarks new (flat_map listed (take (index + 1) all))
@@ -643,7 +643,7 @@ noted_next met new all index other within adds noted =
     ∙ ap (λ l. flat_map listed (take index all) ++ l) (append-nil (listed (get_or all index other)))))
     (adds (flat_map listed (take index all)) noted)
 
--- as many entries as indices
+-- there are as many entries as indices
 pub as_many_entries : (said : List EntryReading) (indices : List ℕ) → All (λ index. index < length said) indices
     → length (entries_at said indices) ≡ length indices
 as_many_entries said [] there = refl
@@ -652,17 +652,17 @@ as_many_entries said (index ∷ indices) there =
     ap (λ o. length (cons_option o (entries_at said indices))) one.1
     ∙ ap suc (as_many_entries said indices (All-tail (λ i. i < length said) index indices there))
 
--- what holds of a result, of which more follows
+-- if the value of an Ok satisfies `P`, it satisfies each `Q` that follows from `P`
 pub on_result : {A E : Type 0} {P Q : A → Type 0} (r : Result A E) → ((a : A) → P a → Q a) → IfOk r P → IfOk r Q
 on_result (Ok a) more holds = more a holds
 on_result (Err e) more holds = tt
 
--- indices in range of readings
+-- indices in range of raw entries are in range of their readings
 pub in_range : (said : List (Spanned RawEntry)) (indices : List ℕ) → All (λ index. index < length said) indices
     → All (λ index. index < length (map entry_reading_of said)) indices
 in_range said indices there = subst (λ n. All (λ index. index < n) indices) (sym (length-map said entry_reading_of)) there
 
--- one more index, whether it is chosen or not
+-- the selection of the first indices and the next one appends that index if its entry has a shared mark
 pub chosen_next : (met : BTreeMap ℕ Bool) (all : List Marks) (indices found new : List ℕ) (index : ℕ) (other : Marks)
     (d : ℕ) (shared : Bool) → length all ≡ length indices → index < length indices
     → ((listed : List ℕ) → AreMetMarks met listed → shared ≡ has_repeated listed (get_or all index other))

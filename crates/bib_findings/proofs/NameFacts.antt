@@ -1,4 +1,4 @@
--- Facts on names that are near to others, and on the findings of fields whose names aren't known.
+-- The nearest of the known names, and the findings of unknown fields.
 use Rattle.std.proofs.Common.{◌≡◌, ℕ, Bool, true, false, not, List, [], ◌∷◌, ◌++◌, ◌+◌, ◌<◌, ◌≤◌, length, get_or, take, map, Option, Some, None, refl, sym, ap, ◌∙◌, append_assoc, append-nil, subst, arith, cond}
 use Rattle.std.specs.List.{AllZip}
 use Rattle.std.proofs.lemmas.List.{map_more}
@@ -16,12 +16,12 @@ use Rattle.bib_findings.specs.Names.{AreUnknownOf, IsNearest, IsOfUnknown, dista
 use Rattle.bib_findings.specs.declared.names.FieldName.{FieldName}
 use Rattle.bib_findings.specs.declared.finding.Finding.{Finding}
 
--- the edits from a name to the nearest one so far, below which another is nearer
+-- the distance of the nearest name so far, or the least distance that is too great if there is none
 abbrev pub least_edits : List ℕ → Option (List ℕ) → ℕ
 least_edits name None = most_edits + 1
 least_edits name (Some known) = distance name known
 
--- a name that is nearer than the nearest so far
+-- a name that is nearer than the nearest one so far is the nearest one
 pub nearer_next : (seen : Names) (name known : List ℕ) (nearest : Option (List ℕ)) (least : ℕ)
     → IsNearest seen name nearest → least ≡ least_edits name nearest
     → distance name known < least → IsNearest (seen ++ known ∷ []) name (Some known)
@@ -52,7 +52,7 @@ nearer_next seen name known (Some best) least first is nearer =
       as_far = All-nil _;
     }
 
--- a name that isn't nearer than the nearest so far
+-- the nearest name so far stays the nearest one if the next name isn't nearer
 pub nearest_stays : (seen : Names) (name known : List ℕ) (nearest : Option (List ℕ)) (least : ℕ)
     → IsNearest seen name nearest → least ≡ least_edits name nearest
     → least ≤ distance name known → IsNearest (seen ++ known ∷ []) name nearest
@@ -66,12 +66,12 @@ nearest_stays seen name known (Some best) least first is far = record {
   as_far = All-push (λ other. distance name best ≤ distance name other) first.after known first.as_far (omega arith);
 }
 
--- what is left of one field among those whose names aren't known
+-- the list of a single field contains an unknown field exactly if BibLaTeX doesn't know its name
 of_one : (field : FieldReading) (known : Bool) → is_known_field field.name.text ≡ known
     → unknown_among (field ∷ []) ≡ cond (not known) (field ∷ []) []
 of_one field known is = ap (λ known. cond (not known) (field ∷ []) []) is
 
--- a finding is added for a field whose name isn't known
+-- appending the finding of an unknown field adds the findings of this field
 pub unknown_alone : (key : List ℕ) (field : FieldReading) (old new : List Finding) (finding : Finding)
     → is_known_field field.name.text ≡ false → new ≡ old ++ finding ∷ [] → IsOfUnknown key field finding
     → Adds (AreUnknownOf key (field ∷ [])) old new
@@ -81,7 +81,7 @@ unknown_alone key field old new finding unknown more found = record {
   new_is = more;
 }
 
--- nothing is added for a field whose name is known
+-- a known field adds no finding
 pub known_alone : (key : List ℕ) (field : FieldReading) (old : List Finding) → is_known_field field.name.text ≡ true
     → Adds (AreUnknownOf key (field ∷ [])) old old
 known_alone key field old known = record {
@@ -97,7 +97,7 @@ zip_append P [] more (y ∷ ys) others first second = absurd first
 zip_append P (x ∷ xs) more [] others first second = absurd first
 zip_append P (x ∷ xs) more (y ∷ ys) others first second = (first.0, zip_append P xs more ys others first.1 second)
 
--- what is added for one more field
+-- the findings of the first fields and of the next one are those of all these fields
 pub fields_next : (key : List ℕ) (fields : List Pair) (index : ℕ) (field : Pair) (old mid new : List Finding)
     → index < length fields → field ≡ get_or fields index field
     → Adds (AreUnknownOf key (map field_of (take index fields))) old mid → Adds (AreUnknownOf key (field_of field ∷ [])) mid new
@@ -116,7 +116,7 @@ fields_next key fields index field old mid new within is before more =
       new_is = more.new_is ∙ ap (λ l. l ++ more.added) before.new_is ∙ append_assoc old before.added more.added;
     }
 
--- one more name that was met is what was noted of it
+-- adding a name with its classification to the cache keeps it correct
 pub names_more : (old new : List ℕ → Option FieldName) (name : List ℕ) (is : FieldName) → AreFieldNames old
     → IsFieldName name is → ((other : List ℕ) → new other ≡ update bytes_eq old name (Some is) other)
     → AreFieldNames new
@@ -134,6 +134,6 @@ names_more old new name is before this updates other found_is found =
         subst (λ n. IsFieldName n found_is) names (subst (IsFieldName name) value this)
     of_test false differs at = before other found_is (sym (ap (λ b. cond b (Some is) (old other)) differs) ∙ at)
 
--- no name was met
+-- an empty cache is correct
 pub names_none : (noted : List ℕ → Option FieldName) → ((name : List ℕ) → noted name ≡ None) → AreFieldNames noted
 names_none noted none name is found = absurd (let clash : None ≡ Some is = sym (none name) ∙ found in cc)

@@ -1,4 +1,4 @@
--- Facts on what is kept of a file that is recovered.
+-- The entries that recovery keeps, and their indices.
 use Rattle.std.proofs.Common.{◌≡◌, ℕ, ◌<◌, suc, List, [], ◌∷◌, length, refl, sym, ap, ◌∙◌, subst, Result, Ok, Err, IfOk}
 use Rattle.std.specs.List.{All, AllZip}
 use Rattle.std.specs.declared.ops.Range.{Range}
@@ -16,7 +16,7 @@ use Rattle.bib_syntax.specs.declared.raw.recovery.SkippedBlock.{SkippedBlock}
 use Rattle.bib_findings.specs.Findings.{AreBetween, AreFindingsIn}
 use Rattle.bib_findings.specs.declared.finding.Finding.{Finding}
 
--- as many entries are kept as what is kept of the file says
+-- as many raw entries are kept as entries
 kept_count : {d : Definitions} {claimed : List (List ℕ)} {said kept : List EntryReading} {entries : List Entry}
     {errors : List ParseError} → EntriesKept d claimed said kept entries errors → length kept ≡ length entries
 kept_count EntriesKept.none = refl
@@ -37,7 +37,7 @@ indices_within said (index ∷ origins) (one ∷ kept) all =
     All-cons (λ index. index < length said) index origins (slice_get_within said index all.0.one all.0.there)
     (indices_within said origins kept all.1)
 
--- of what is kept: as many places and indices as entries, and each index is below the number of the file's entries
+-- there are as many places as kept entries
 pub places_count : {d : Definitions} {said : List EntryReading} {own : List Entry} {names : ByText ℕ}
     {places : List (Range ℕ)} {origins : List ℕ} {errors : List ParseError}
     → IsKeptSoFar d said own names places origins errors → length places ≡ length own
@@ -53,14 +53,14 @@ pub origins_within : {d : Definitions} {said : List EntryReading} {own : List En
     → IsKeptSoFar d said own names places origins errors → All (λ index. index < length said) origins
 origins_within {said = said} {origins = origins} is = indices_within said origins is.kept is.origin
 
--- indices below a number
+-- if indices are below the length of a list, equal indices are below a number that equals this length
 pub within_of : (said : List EntryReading) (origins indices : List ℕ) (n : ℕ)
     → All (λ index. index < length said) origins → indices ≡ origins → length said ≡ n
     → All (λ index. index < n) indices
 within_of said origins indices n within are count =
     subst (λ m. All (λ index. index < m) indices) count (subst (λ l. All (λ index. index < length said) l) (sym are) within)
 
--- findings of equal lists
+-- the findings of a recovered file are those for equal lists
 pub findings_of : (skipped skipped' : List SkippedBlock) (errors errors' : List ParseError)
     (said said' : List EntryReading) (origins origins' : List ℕ) (entries entries' : List Entry)
     (between found : List Finding)
@@ -74,7 +74,7 @@ findings_of skipped skipped' errors errors' said said' origins origins' entries 
     (subst (λ x. AreFindingsIn skipped' x said origins entries between found) b
     (subst (λ x. AreFindingsIn x errors said origins entries between found) a are))))
 
--- what is wrong between entries of equal lists
+-- the findings between entries are those for equal lists
 pub between_of : (names : ByText ℕ) (said said' : List EntryReading) (origins origins' : List ℕ) (own own' : List Entry)
     (found : List Finding) → said ≡ said' → origins ≡ origins' → own ≡ own'
     → AreBetween names said origins own found → AreBetween names said' origins' own' found
@@ -82,7 +82,7 @@ between_of names said said' origins origins' own own' found a b c are =
     subst (λ x. AreBetween names said' origins' x found) c
     (subst (λ x. AreBetween names said' x own found) b (subst (λ x. AreBetween names x origins own found) a are))
 
--- a fact of an Ok that follows from another one
+-- if the value of an Ok satisfies `P`, it satisfies each `Q` that follows from `P`
 pub if_ok_more : {A E : Type 0} (P Q : A → Type 0) (r : Result A E) → ((a : A) → P a → Q a) → IfOk r P → IfOk r Q
 if_ok_more P Q (Ok a) more is = more a is
 if_ok_more P Q (Err e) more is = tt

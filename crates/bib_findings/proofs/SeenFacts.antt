@@ -1,4 +1,4 @@
--- Facts on the identities of the entries so far, and on the first entry that has one of some identities.
+-- The identities of the entries so far, and the first entry that has one of some identities.
 use Rattle.std.proofs.Common.{◌≡◌, ℕ, Bool, true, false, List, [], ◌∷◌, ◌++◌, ◌+◌, ◌<◌, ◌≤◌, ◌||◌, length, get_or, take, map, suc, zero, Option, Some, None, Result, Ok, Err, OnOk, refl, sym, ap, ◌∙◌, append_assoc, append-nil, subst, arith, cond}
 use Rattle.std.specs.Prelude.{IfSome, String, bytes_eq, find, is_some, min, slice_get}
 use Rattle.std.specs.Global.{Global}
@@ -34,14 +34,14 @@ lesser_assoc (Some a) None third = refl
 lesser_assoc (Some a) (Some b) None = refl
 lesser_assoc (Some a) (Some b) (Some c) = ap Some (min_assoc a b c)
 
--- the least index of identities, and of one more
+-- the least index of identities and one more is the lesser of the least index before and the index of that one
 pub least_more : (index_of : List ℕ → Option ℕ) (ids : Names) (id : List ℕ)
     → least_of index_of (ids ++ id ∷ []) ≡ lesser (least_of index_of ids) (index_of id)
 least_more index_of [] id = lesser_none (index_of id)
 least_more index_of (first ∷ ids) id =
     ap (lesser (index_of first)) (least_more index_of ids id) ∙ sym (lesser_assoc (index_of first) (least_of index_of ids) (index_of id))
 
--- an index is at least this
+-- whether an index, if there is one, is at least `start`
 abbrev pub IsFrom : ℕ → Option ℕ → Type 0
 IsFrom start None = Unit {0}
 IsFrom start (Some index) = start ≤ index
@@ -71,7 +71,7 @@ either_here true false start one other from more = lesser_here start other more
 either_here false true start one other from more = lesser_there start one from
 either_here false false start one other from more = refl
 
--- the first that passes one of two tests is the first that passes the one or the first that passes the other
+-- the first position at which one of two tests passes is the lesser of the first positions of the two tests
 position_either : {A : Type 0} (p r : A → Bool) (start : ℕ) (items : List A)
     → lesser (position_from p start items) (position_from r start items) ≡ position_from (λ item. p item || r item) start items
 position_either p r start [] = refl
@@ -85,8 +85,8 @@ position_none : {A : Type 0} (start : ℕ) (items : List A) → position_from (�
 position_none start [] = refl
 position_none start (item ∷ items) = position_none (start + 1) items
 
--- where each identity has the index of the first entry that has it, the least index of some is that of the first entry that
--- has one of these
+-- if each identity has the index of the first entry that has it, the least index of some identities is that of the first entry that
+-- has one of them
 pub least_is_first : (index_of : List ℕ → Option ℕ) (entries : List EntryReading) (ids : Names) → HasFirst index_of entries
     → least_of index_of ids ≡ position_from (has_any ids) 0 entries
 least_is_first index_of entries [] first = sym (position_none 0 entries)
@@ -95,7 +95,7 @@ least_is_first index_of entries (id ∷ ids) first =
     ∙ ap (lesser (position_from (has_identity id) 0 entries)) (least_is_first index_of entries ids first)
     ∙ position_either (has_identity id) (has_any ids) 0 entries
 
--- the first of some items that passes is that at the index of the first that passes
+-- whether `index` is in range and contains the first item that passes the test
 pub record IsFoundAt {A : Type 0} (test : A → Bool) (items : List A) (index : ℕ) : Type 0 where
   pub within : index < length items
   pub found : find test items ≡ slice_get items index
@@ -133,11 +133,11 @@ position_finds test start (item ∷ items) =
     found_step test item items start (test item) (position_from test (start + 1) items) refl
     (position_finds test (start + 1) items)
 
--- where none is found
+-- if no position passes, no item is found
 pub none_found : {A : Type 0} (test : A → Bool) (items : List A) → position_from test 0 items ≡ None → find test items ≡ None
 none_found test items none = subst (FoundFrom test items 0) none (position_finds test 0 items)
 
--- where one is found
+-- if a position passes first, the item at it is the one that is found
 pub one_found : {A : Type 0} (test : A → Bool) (items : List A) (index : ℕ) → position_from test 0 items ≡ Some index
     → IsFoundAt test items index
 one_found test items index some =
@@ -145,7 +145,7 @@ one_found test items index some =
     let same : at.0 ≡ index = omega (arith, at.1) in
     subst (IsFoundAt test items) same at.2
 
--- the first that passes of items and one more
+-- the first position that passes in a list with one more item: the first one before, or else the last one if that item passes
 position_more_from : {A : Type 0} (test : A → Bool) (start : ℕ) (items : List A) (item : A)
     → position_from test start (items ++ item ∷ [])
     ≡ option_or (position_from test start items) (cond (test item) (Some (start + length items)) None)
@@ -163,7 +163,7 @@ position_more_from test start (first ∷ items) item =
     (cond (test item) (Some (start + suc (length items))) None))
     [ true ↦ refl | false ↦ refl ]
 
--- the identities of one more entry are remembered with its index
+-- if the identities of one more entry are stored with its index, each identity still has the index of the first entry that has it
 pub first_more : (old new : List ℕ → Option ℕ) (entries : List EntryReading) (entry : EntryReading) (index : ℕ)
     → HasFirst old entries → index ≡ length entries
     → ((id : List ℕ) → new id ≡ remembered (identities entry) index id (old id)) → HasFirst new (entries ++ entry ∷ [])
@@ -173,7 +173,7 @@ first_more old new entries entry index first is more id =
     (is ∙ (let same : length entries ≡ 0 + length entries = omega arith in same))
     ∙ sym (position_more_from (has_identity id) 0 entries entry)
 
--- the findings of entries and one more
+-- the findings of a list with one more entry are those of the list, followed by that of this entry
 pub duplicates_more : (earlier entries : List EntryReading) (entry : EntryReading)
     → duplicates_after earlier (entries ++ entry ∷ []) ≡ duplicates_after earlier entries ++ duplicate_after (earlier ++ entries) entry
 duplicates_more earlier [] entry =
@@ -186,7 +186,7 @@ duplicates_more earlier (first ∷ entries) entry =
     (append_assoc (duplicate_after earlier first) (duplicates_after (earlier ++ first ∷ []) entries)
     (duplicate_after (earlier ++ first ∷ entries) entry))
 
--- the least index of the identities so far, and of one more
+-- after one more identity, the least index is the lesser of the one before and the index of this identity
 pub least_next : (index_of : List ℕ → Option ℕ) (ids : List (String Global)) (index : ℕ) (id : String Global)
     (least found new : Option ℕ) → index < length ids → id ≡ get_or ids index id
     → least ≡ least_of index_of (map string_bytes (take index ids)) → new ≡ lesser least found → found ≡ index_of (string_bytes id)
@@ -212,7 +212,7 @@ remembered_by None index false false seen new is next none = next ∙ is
 remembered_by (Some i) index before true seen new is next none = absurd (let clash : Some i ≡ None = sym is ∙ none refl in cc)
 remembered_by (Some i) index before false seen new is next none = next ∙ is
 
--- an identity that had no index is remembered
+-- storing an identity that had no index stores one more of the identities
 pub remembered_new : (old seen new : List ℕ → Option ℕ) (done : List (String Global)) (name : String Global) (index : ℕ)
     → ((id : List ℕ) → seen id ≡ remembered (map string_bytes done) index id (old id)) → seen (string_bytes name) ≡ None
     → ((id : List ℕ) → new id ≡ update bytes_eq seen (string_bytes name) (Some index) id)
@@ -235,7 +235,7 @@ had_by None index false true seen is some = absurd (let clash : true ≡ false =
 had_by None index false false seen is some = is
 had_by (Some i) index before here seen is some = is
 
--- an identity that has an index keeps it
+-- an identity that already has an index can be left as it is
 pub remembered_same : (old seen : List ℕ → Option ℕ) (done : List (String Global)) (name : String Global) (index : ℕ)
     → ((id : List ℕ) → seen id ≡ remembered (map string_bytes done) index id (old id)) → is_some (seen (string_bytes name)) ≡ true
     → (id : List ℕ) → seen id ≡ remembered (map string_bytes (done ++ name ∷ [])) index id (old id)
@@ -248,7 +248,7 @@ remembered_same old seen done name index before some id =
     (ap (list_any (bytes_eq id)) (map-append string_bytes done (name ∷ []))
     ∙ list_any-append (bytes_eq id) ids (string_bytes name ∷ [])))
 
--- one of the entries at some indices
+-- the entry at a position of the selected ones is the one at the index at this position
 pub entry_there : (said : List (Spanned RawEntry)) (indices : List ℕ) (at : ℕ) (other : Spanned RawEntry)
     → All (λ index. index < length said) indices → at < length indices
     → slice_get (entries_at (map entry_reading_of said) indices) at ≡ Some (entry_reading_of (get_or said (get_or indices at 0) other))
@@ -261,7 +261,7 @@ entry_there said (index ∷ indices) (suc at) other there within =
     (get_mapped entry_reading_of said index other (All-head (λ i. i < length said) index indices there))
     ∙ entry_there said indices at other (All-tail (λ i. i < length said) index indices there) (omega arith)
 
--- as many entries as indices
+-- there are as many entries as indices
 pub as_many : (said : List (Spanned RawEntry)) (other : Spanned RawEntry) (indices : List ℕ) → All (λ index. index < length said) indices
     → length (entries_at (map entry_reading_of said) indices) ≡ length indices
 as_many said other [] there = refl
@@ -270,7 +270,7 @@ as_many said other (index ∷ indices) there =
     (get_mapped entry_reading_of said index other (All-head (λ i. i < length said) index indices there))
     ∙ ap suc (as_many said other indices (All-tail (λ i. i < length said) index indices there))
 
--- the entries at some indices and one more
+-- the entries at indices and one more are the entries at the indices and the entry at that one
 pub entries_more : (said : List (Spanned RawEntry)) (indices : List ℕ) (index : ℕ) (other : Spanned RawEntry) → index < length said
     → entries_at (map entry_reading_of said) (indices ++ index ∷ [])
     ≡ entries_at (map entry_reading_of said) indices ++ entry_reading_of (get_or said index other) ∷ []
@@ -278,7 +278,7 @@ entries_more said indices index other within =
     given_more (slice_get (map entry_reading_of said)) indices index (entry_reading_of (get_or said index other))
     (get_mapped entry_reading_of said index other within)
 
--- where the index of the first entry is known that has one of some identities, it is in range
+-- the least index of the identities, if there is one, is that of an earlier entry
 pub first_within : (index_of : List ℕ → Option ℕ) (earlier : List EntryReading) (ids : Names) (first : Option ℕ)
     → HasFirst index_of earlier → first ≡ least_of index_of ids
     → IfSome first (λ index. index < length earlier)
@@ -286,7 +286,7 @@ first_within index_of earlier ids None has is = tt
 first_within index_of earlier ids (Some index) has is =
     (one_found (has_any ids) earlier index (sym (is ∙ least_is_first index_of earlier ids has))).within
 
--- and the finding is that of the first
+-- the finding for the entry at the least index is that for the first earlier entry that shares an identity
 pub finds_first : (index_of : List ℕ → Option ℕ) (earlier : List EntryReading) (said : EntryReading) (first : Option ℕ)
     → HasFirst index_of earlier → first ≡ least_of index_of (identities said)
     → duplicate_at earlier said first ≡ duplicate_after earlier said
@@ -304,7 +304,7 @@ pub not_some : (contains : Bool) (had : Option ℕ) → contains ≡ is_some had
 not_some contains None is none = refl
 not_some contains (Some index) is none = absurd (let clash : true ≡ false = sym is ∙ none in cc)
 
--- the finding of an entry that is likely the same as the one at an index of earlier ones
+-- the finding for an index is that for the entry at this index
 pub at_first : (said : List (Spanned RawEntry)) (earlier : List ℕ) (one : EntryReading) (first : Option ℕ) (index : ℕ)
     (item : Spanned RawEntry) → first ≡ Some index
     → All (λ i. i < length said) earlier → IfSome first (λ i. i < length earlier) → item ≡ get_or said (get_or earlier index 0) item
@@ -319,7 +319,7 @@ pub on_ok : {U E : Type 0} {P : Type 0} (r : Result U E) → P → OnOk r P
 on_ok (Ok u) p = p
 on_ok (Err e) p = tt
 
--- the entries at the indices so far, and one more
+-- the entries at the first indices and the next one are those at the first indices and the entry at the next one
 pub entries_next : (said : List (Spanned RawEntry)) (indices : List ℕ) (index : ℕ) (item : Spanned RawEntry)
     → All (λ i. i < length said) indices → index < length indices
     → item ≡ get_or said (get_or indices index 0) item

@@ -1,4 +1,4 @@
--- Facts on the words of characters, as they are written one after another.
+-- The words of a list of characters, written one after another.
 use Rattle.std.proofs.Common.{◌≡◌, ℕ, Bool, true, false, not, List, [], ◌∷◌, ◌++◌, ◌+◌, ◌<◌, ◌≤◌, ◌==◌, ◌&&◌, length, get_or, drop, refl, sym, ap, ◌∙◌, append_assoc, append-nil, length-append, arith, cond, suc}
 use Rattle.std.specs.Prelude.{IsUtf8, bytes_eq, codes, encode_utf8, encode_utf8_all}
 use Rattle.std.specs.Bool.{one_answer}
@@ -15,16 +15,16 @@ use Rattle.bib_text.proofs.TextFacts.{chars_whole}
 use Rattle.bib_findings.specs.Identities.{is_brace, spaced_words}
 use Rattle.bib_findings.specs.Words.{ends_before, spaced_word, words_text}
 
--- characters but for braces
+-- the characters without braces
 abbrev pub kept : List ℕ → List ℕ
 kept = filter (λ c. not (is_brace c))
 
--- words of which the first goes on after these characters
+-- the parts, with these characters put before the first part
 abbrev pub after_word : List ℕ → List (List ℕ) → List (List ℕ)
 after_word word [] = word ∷ []
 after_word word (part ∷ parts) = (word ++ part) ∷ parts
 
--- parts of a text that are words
+-- the parts that aren't empty, which are the words
 abbrev pub words_among : List (List ℕ) → List (List ℕ)
 words_among = filter (λ word. not (length word == 0))
 
@@ -32,7 +32,7 @@ words_among = filter (λ word. not (length word == 0))
 abbrev pub words_before : Bool → List (List ℕ) → List (List ℕ)
 words_before is_first = take_while (λ word. not (ends_before is_first word))
 
--- what is written of the characters that are left, where these of a word stand before them
+-- the text of the words in the remaining characters; `word` contains the characters that the first word already has
 abbrev pub left_text : Bool → List ℕ → List ℕ → List ℕ
 left_text is_first word rest = spaced_words (words_before is_first (words_among (after_word word (slice_split is_whitespace rest))))
 
@@ -59,27 +59,27 @@ split_some (c ∷ rest) =
     onto_some c [] = (c ∷ [], [], refl)
     onto_some c (part ∷ parts) = (c ∷ part, parts, refl)
 
--- before the first character, no word is begun
+-- if no word is begun, the text of the remaining characters is that of their words
 pub none_begun : (is_first : Bool) (characters : List ℕ) → left_text is_first [] characters ≡ words_text is_first characters
 none_begun is_first characters =
     let some = split_some characters in
     ap (λ parts. spaced_words (words_before is_first (words_among parts)))
     (after_none (slice_split is_whitespace characters) some.0 some.1 some.2)
 
--- a character that is no white space goes on with the word
+-- a character that isn't white space is appended to the current word
 pub goes_on : (is_first : Bool) (word : List ℕ) (c : ℕ) (rest : List ℕ) → is_whitespace c ≡ false
     → left_text is_first word (c ∷ rest) ≡ left_text is_first (word ++ c ∷ []) rest
 goes_on is_first word c rest isnt =
     ap (λ parts. spaced_words (words_before is_first (words_among (after_word word parts)))) (slice_split-cons_no is_whitespace c rest isnt)
     ∙ ap (λ parts. spaced_words (words_before is_first (words_among parts))) (after_more word c (slice_split is_whitespace rest))
 
--- white space, or the end, after no word
+-- an empty part adds nothing to the text
 no_word : (is_first : Bool) (parts : List (List ℕ))
     → spaced_words (words_before is_first (words_among ([] ∷ parts)))
     ≡ spaced_words (words_before is_first (words_among parts))
 no_word is_first parts = refl
 
--- what is left to write of characters, of which so many are passed, follows a text and a word that is begun
+-- the state after `count` characters: the result is `text`, followed by the text of the remaining characters after `word`
 pub record AreWordsLeft (is_first : Bool) (characters : List ℕ) (count : ℕ) (text word : List ℕ) : Type 0 where
   pub begun : List ℕ
   pub spelt : word ≡ encode_utf8_all begun
@@ -92,7 +92,7 @@ words_begin is_first characters = record {
   left = sym (none_begun is_first (kept characters));
 }
 
--- the rest, before and after one more character
+-- the characters from `count` on are the next character and those after it
 drop_next : (characters : List ℕ) (count c : ℕ) → count < length characters → c ≡ get_or characters count c
     → drop count characters ≡ c ∷ drop (count + 1) characters
 drop_next characters count c within is =
@@ -105,7 +105,7 @@ kept_next : (characters : List ℕ) (count c : ℕ) → count < length character
     → kept (drop count characters) ≡ cond (not (is_brace c)) (c ∷ kept (drop (count + 1) characters)) (kept (drop (count + 1) characters))
 kept_next characters count c within is = ap kept (drop_next characters count c within is)
 
--- a word of people, as its bytes and as its characters
+-- the words end before a word, given by its bytes, exactly if they end before it, given by its characters
 ends_same : (is_first : Bool) (word begun : List ℕ) → IsUtf8 word → word ≡ encode_utf8_all begun
     → ends_before is_first word ≡ ends_before is_first begun
 unfolding lib.Utf8.encode
@@ -115,7 +115,7 @@ ends_same is_first word begun utf8 spelt =
       (λ is. (bytes_eq-Decides begun (codes "and")).1 (sym (chars_whole begun word utf8 spelt) ∙ chars_whole (codes "and") word utf8 is)),
     ))
 
--- a brace is passed over
+-- a brace changes neither the text nor the current word
 pub words_brace : (is_first : Bool) (characters : List ℕ) (count c : ℕ) (text word : List ℕ)
     → AreWordsLeft is_first characters count text word → count < length characters → c ≡ get_or characters count c
     → is_brace c ≡ true → AreWordsLeft is_first characters (count + 1) text word
@@ -169,7 +169,7 @@ not_empty word c begun spelt =
     ap length spelt ∙ length-append (encode_utf8 c) (encode_utf8_all begun) in
     grind (arith, nat_tests, long, length-encode c, len_utf8_bounds c)
 
--- a word, and what is written of the parts after it
+-- the text of a word and the parts after it is that of the word, followed by that of the parts
 word_written : (is_first : Bool) (word begun : List ℕ) (parts : List (List ℕ)) → word ≡ encode_utf8_all begun
     → ends_before is_first begun ≡ false
     → spaced_words (words_before is_first (words_among (begun ∷ parts)))
@@ -185,7 +185,7 @@ word_written is_first word (c ∷ begun) parts spelt goes =
     ∙ ap (λ w. (w ++ codes " ") ++ spaced_words (words_before is_first (words_among parts))) (sym spelt)
     ∙ ap (λ b. cond b [] (word ++ codes " ") ++ spaced_words (words_before is_first (words_among parts))) (sym some)
 
--- words end before this one
+-- if the words end before this one, it and the parts after it have no text
 words_stopped : (is_first : Bool) (begun : List ℕ) (parts : List (List ℕ)) → ends_before is_first begun ≡ true
     → spaced_words (words_before is_first (words_among (begun ∷ parts))) ≡ []
 words_stopped false begun parts stops = absurd (let clash : false ≡ true = stops in cc)
@@ -196,7 +196,7 @@ words_stopped true (c ∷ begun) parts stops =
     (take_while-cons (λ w. not (ends_before true w)) (c ∷ begun) (words_among parts)
     ∙ ap (λ b. cond (not b) ((c ∷ begun) ∷ words_before true (words_among parts)) []) stops)
 
--- white space after a word, or after none
+-- at white space, the current word is appended to the text, if it isn't empty
 pub words_space : (is_first : Bool) (characters : List ℕ) (count c : ℕ) (text word after : List ℕ)
     → AreWordsLeft is_first characters count text word → count < length characters → c ≡ get_or characters count c
     → is_brace c ≡ false → is_whitespace c ≡ true → IsUtf8 word → ends_before is_first word ≡ false
@@ -221,7 +221,7 @@ words_space is_first characters count c text word after before within is none sp
           ∙ ap (λ l. after ++ spaced_words (words_before is_first (words_among l))) (sym (after_none parts some.0 some.1 some.2));
     }
 
--- white space after the word at which words end
+-- at white space, if the words end before the current word, the text is complete
 pub words_stop : (is_first : Bool) (characters : List ℕ) (count c : ℕ) (text word : List ℕ)
     → AreWordsLeft is_first characters count text word → count < length characters → c ≡ get_or characters count c
     → is_brace c ≡ false → is_whitespace c ≡ true → IsUtf8 word → ends_before is_first word ≡ true
@@ -246,7 +246,7 @@ at_end is_first characters count text word before all =
     (drop_all count characters (let le : length characters ≤ count = omega (arith, all) in le))
     ∙ ap (λ w. text ++ spaced_words (words_before is_first (words_among (w ∷ [])))) (append-nil before.begun)
 
--- the last word, or none
+-- at the end of the characters, the text with the current word is complete
 pub words_last : (is_first : Bool) (characters : List ℕ) (count : ℕ) (text word after : List ℕ)
     → AreWordsLeft is_first characters count text word → count ≡ length characters
     → IsUtf8 word → ends_before is_first word ≡ false → after ≡ text ++ spaced_word word → after ≡ words_text is_first (kept characters)
@@ -256,7 +256,7 @@ words_last is_first characters count text word after before all utf8 goes next =
     (word_written is_first word before.begun [] before.spelt
     (sym (ends_same is_first word before.begun utf8 before.spelt) ∙ goes) ∙ append-nil (spaced_word word)))
 
--- the word at which words end is the last
+-- at the end of the characters, if the words end before the current word, the text is complete without it
 pub words_stop_last : (is_first : Bool) (characters : List ℕ) (count : ℕ) (text word : List ℕ)
     → AreWordsLeft is_first characters count text word → count ≡ length characters
     → IsUtf8 word → ends_before is_first word ≡ true → text ≡ words_text is_first (kept characters)
@@ -266,12 +266,12 @@ words_stop_last is_first characters count text word before all utf8 stops =
     (words_stopped is_first before.begun [] (sym (ends_same is_first word before.begun utf8 before.spelt) ∙ stops))
     ∙ append-nil text)
 
--- words that don't end before any are all of them
+-- if the words of all people are wanted, no word ends them
 pub all_words : (words : List (List ℕ)) → words_before false words ≡ words
 all_words [] = refl
 all_words (word ∷ words) = take_while-cons (λ w. not (ends_before false w)) word words ∙ ap (λ l. word ∷ l) (all_words words)
 
--- the items that pass two tests, one after the other
+-- filtering by two tests together is filtering by one and then by the other
 pub filter_both : {A : Type 0} (p q : A → Bool) (items : List A) → filter (λ a. p a && q a) items ≡ filter q (filter p items)
 filter_both p q [] = refl
 filter_both p q (item ∷ items) =

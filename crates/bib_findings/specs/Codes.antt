@@ -1,17 +1,17 @@
 -- Meaning: words of public contracts.
--- Codes of findings: their names, and how severe they are.
+-- Codes of findings: their names and severities.
 use Rattle.std.specs.Prelude.{ℕ, List, [], ◌∷◌, Option, bytes_eq, codes, find}
 use Rattle.bib_findings.specs.declared.codes.Code.{Code}
 use Rattle.bib_findings.specs.declared.codes.Code.TheVariants.{UnreadBytes, Syntax, UnreadField, UnknownAbbreviation, CircularAbbreviation, DuplicateKey, CircularReference, UnreadDate, MissingField, SuperfluousField, MalformedField, UnknownField, UnknownReference, LikelyDuplicate, MissingEntry, UnusedEntry}
 use Rattle.bib_findings.specs.declared.codes.Severity.{Severity}
 use Rattle.bib_findings.specs.declared.codes.Severity.TheVariants.{Error, Warning}
 
--- the word by which a severity is printed
+-- the word that is printed for a severity
 abbrev pub severity_name : Severity → List ℕ
 severity_name Error = codes "error"
 severity_name Warning = codes "warning"
 
--- the name by which a code is printed and asked for
+-- the name of a code, in output and in options
 abbrev pub code_name : Code → List ℕ
 code_name UnreadBytes = codes "unread-bytes"
 code_name Syntax = codes "syntax"
@@ -30,18 +30,18 @@ code_name LikelyDuplicate = codes "likely-duplicate"
 code_name MissingEntry = codes "missing-entry"
 code_name UnusedEntry = codes "unused-entry"
 
--- the codes, in the order in which they are listed
+-- all codes, in the order in which they are listed
 abbrev pub all_codes : List Code
 all_codes =
     UnreadBytes ∷ Syntax ∷ UnreadField ∷ UnknownAbbreviation ∷ CircularAbbreviation ∷ DuplicateKey ∷ CircularReference ∷ UnreadDate
     ∷ MissingField ∷ SuperfluousField ∷ MalformedField ∷ UnknownField ∷ UnknownReference ∷ LikelyDuplicate ∷ MissingEntry
     ∷ UnusedEntry ∷ []
 
--- the code that has this name
+-- the code that has this name, if there is one
 abbrev pub code_named : List ℕ → Option Code
 code_named name = find (λ code. bytes_eq (code_name code) name) all_codes
 
--- a code is an error where something isn't read as it stands, or is missing, and else a warning
+-- the severity of a code: an error if part of the file isn't read as written or a cited entry is missing, and a warning otherwise
 abbrev pub severity_of : Code → Severity
 severity_of UnreadBytes = Error
 severity_of Syntax = Error

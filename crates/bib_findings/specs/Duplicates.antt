@@ -14,19 +14,19 @@ use Rattle.bib_findings.specs.declared.finding.Finding.{Finding}
 abbrev pub entries_at : List EntryReading → List ℕ → List EntryReading
 entries_at said indices = filter_map (slice_get said) indices
 
--- what is said of an entry with this key that is likely the same as another
+-- the message for an entry with this key that is likely the same work as the entry with the key `first`
 abbrev pub duplicate_message : List ℕ → List ℕ → List ℕ
 duplicate_message key first = key ++ (codes ": likely the same as \"" ++ (first ++ codes "\""))
 
--- the finding of an entry that is likely the same as an earlier one, at its key
+-- the finding of an entry that is likely the same work as the entry `first`; its place is the key of the later entry
 abbrev pub duplicate_finding : EntryReading → EntryReading → Finding
 duplicate_finding said first = finding_at LikelyDuplicate (part_range said.key) (duplicate_message said.key.text first.key.text)
 
--- the finding of an entry after others, if one of these has an identity of it: the first that has one is named
+-- the finding of an entry that shares an identity with an earlier one, if there is one: it names the first such entry
 abbrev pub duplicate_after : List EntryReading → EntryReading → List Finding
 duplicate_after earlier said = option_map_or (λ first. duplicate_finding said first ∷ []) (find (has_any (identities said)) earlier) []
 
--- the findings of entries, one after another, after earlier ones
+-- the findings of the entries of a list, each compared with the earlier ones and with those before it in the list
 abbrev pub duplicates_after : List EntryReading → List EntryReading → List Finding
 duplicates_after earlier [] = []
 duplicates_after earlier (said ∷ rest) = duplicate_after earlier said ++ duplicates_after (earlier ++ said ∷ []) rest

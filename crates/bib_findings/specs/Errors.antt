@@ -1,5 +1,5 @@
 -- Meaning: words of public contracts.
--- The findings of what recovery reports: of the blocks that are passed over, and of errors.
+-- The findings of what recovery reports: skipped blocks and errors.
 use Rattle.std.specs.Prelude.{ℕ, List, ◌++◌, codes}
 use Rattle.std.specs.declared.ops.Range.{Range}
 use Rattle.bib_tables.specs.TypeError.{type_kind_text}
@@ -12,15 +12,15 @@ use Rattle.bib_findings.specs.declared.codes.Code.{Code}
 use Rattle.bib_findings.specs.declared.codes.Code.TheVariants as code
 use Rattle.bib_findings.specs.declared.finding.Finding.{Finding}
 
--- a finding with this code, at these bytes of the file, that says this
+-- the finding with this code, byte range and message
 abbrev pub finding_at : Code → Range ℕ → List ℕ → Finding
 finding_at c span message = record { code = c; span = span; message = message }
 
--- words, and a name between quotes, as it stands in the file
+-- the words, followed by a name in quotes, exactly as the file writes it
 abbrev pub with_name : List ℕ → List ℕ → List ℕ
 with_name words name = words ++ (codes " \"" ++ (name ++ codes "\""))
 
--- what an error says
+-- the message of an error; the last case is out of memory
 abbrev pub error_message : ParseErrorKind → List ℕ
 error_message UnexpectedEof = codes "unexpected end of file"
 error_message (Unexpected token) = codes "unexpected " ++ token_text token
@@ -33,7 +33,7 @@ error_message (AbbreviationCycle name) = with_name (codes "circular abbreviation
 error_message (ReferenceCycle key) = with_name (codes "circular reference") key
 error_message _ = codes "out of memory"
 
--- the code of an error of an abbreviation, an entry, a reference or a date; any other is one of a field that can't be read
+-- the code of an error; the last case is an error of a field that can't be parsed
 abbrev pub error_code : ParseErrorKind → Code
 error_code (UnknownAbbreviation name) = code.UnknownAbbreviation
 error_code (AbbreviationCycle name) = code.CircularAbbreviation
@@ -46,6 +46,6 @@ error_code _ = code.UnreadField
 abbrev pub error_finding : ParseError → Finding
 error_finding e = finding_at (error_code e.kind) e.span (error_message e.kind)
 
--- the finding of a block that is passed over, at its error
+-- the finding of a skipped block, at the place of its error
 abbrev pub block_finding : SkippedBlock → Finding
 block_finding block = finding_at code.Syntax block.error.span (error_message block.error.kind)

@@ -1,5 +1,5 @@
 -- Meaning: words of public contracts.
--- All that is wrong in a file: the findings of what recovery reports, and those of each entry that it keeps.
+-- All findings of a file: those of what recovery reports, and those of each entry that it keeps.
 use Rattle.std.specs.Prelude.{◌≡◌, ℕ, List, ◌++◌, map}
 use Rattle.std.specs.declared.ops.Range.{Range}
 use Rattle.std.specs.List.Sorted.{IsPermutation, IsSortedByKey, IsStableByKey}
@@ -23,11 +23,11 @@ use Rattle.bib_findings.specs.Names.{AreOfUnknown}
 use Rattle.bib_findings.specs.References.{AreReferences}
 use Rattle.bib_findings.specs.declared.finding.Finding.{Finding}
 
--- what entries of a file say, in order
+-- the raw entries of a file, in order
 abbrev pub entries_said : List (Spanned RawEntry) → List EntryReading
 entries_said = map entry_reading_of
 
--- the findings of an entry, which the file says so: those of the report on it, and those of fields whose names aren't known
+-- whether these are the findings of an entry, with its raw form `said`: those of its report, then those of unknown field names
 pub record AreOfEntry (said : EntryReading) (entry : Entry) (found : List Finding) : Type 0 where
   pub of_report : List Finding
   pub report : AreOfReport said entry of_report
@@ -35,29 +35,29 @@ pub record AreOfEntry (said : EntryReading) (entry : Entry) (found : List Findin
   pub unknown : AreOfUnknown said of_unknown
   pub are : found ≡ of_report ++ of_unknown
 
--- findings in the order in which they start in the file; those that start at one place stay in the order that they had
+-- whether `found` is `all`, sorted by the start of the span; findings with the same start keep their order
 pub record AreSortedByPlace (all found : List Finding) : Type 0 where
   pub same : IsPermutation all found
   pub sorted : IsSortedByKey (λ f. f.span.start) nat_cmp found
   pub stable : IsStableByKey (λ f. f.span.start) nat_cmp all found
 
--- findings between entries: of the keys that they name and that none has, and then of those that are likely the same work
+-- whether these are the findings between entries: first of keys that no entry has, then of entries that are likely the same work
 pub record AreBetween (names : ByText ℕ) (said : List EntryReading) (origins : List ℕ) (own : List Entry)
     (found : List Finding) : Type 0 where
   pub of_keys : List Finding
   pub keys : AreOfEach (AreReferences names) said origins own of_keys
   pub are : found ≡ of_keys ++ duplicates (entries_at said origins)
 
--- all that is wrong in a file, in the order in which it starts: that of the blocks that are passed over, of the errors, of each
--- entry that is kept, and between entries
+-- whether these are the findings of a recovered file, sorted by where they start: those of skipped blocks, of errors, of each kept
+-- entry, and those between entries
 pub record AreFindingsIn (skipped : List SkippedBlock) (errors : List ParseError) (said : List EntryReading)
     (origins : List ℕ) (entries : List Entry) (between found : List Finding) : Type 0 where
   pub of_entries : List Finding
   pub reports : AreOfEach AreOfEntry said origins entries of_entries
   pub sorted : AreSortedByPlace (map block_finding skipped ++ (map error_finding errors ++ (of_entries ++ between))) found
 
--- all that is wrong in a file with this text: in what can be read of it, in the entries of that which are kept, each with what
--- it inherits, and between these entries with their own fields
+-- whether these are all findings of a file with this text. Each kept entry is reported with the fields that it inherits. The findings
+-- between entries use only the fields that each entry has itself.
 pub record AreFindings (text : List ℕ) (found : List Finding) : Type 0 where
   pub says : FileReading
   pub skipped : List SkippedBlock

@@ -1,6 +1,6 @@
 -- Meaning: words of public contracts.
--- By what entries are likely the same work: the same DOI, the same ISBN, or the same title, first person and year, each
--- as it stands in the file, but for the case of letters, braces and white space.
+-- What makes two entries likely the same work: the same DOI, the same ISBN, or the same title, first person and year. Case, braces
+-- and white space don't count, nor do the hyphens of an ISBN and the address before a DOI.
 use Rattle.std.specs.Prelude.{ℕ, Bool, not, ◌==◌, ◌||◌, List, [], ◌∷◌, ◌++◌, codes, chars, length, take, drop, filter, bytes_eq, nat_eq, encode_utf8_all, Option, Some, None, if◌then◌else◌}
 use Rattle.std.specs.Char.{is_whitespace}
 use Rattle.std.specs.List.{flat_map, list_any, slice_split, starts_with, take_while}
@@ -11,21 +11,21 @@ use Rattle.bib_syntax.specs.Reading.{EntryReading, FieldReading, Piece}
 use Rattle.bib_syntax.specs.Reading.Piece.{literal}
 use Rattle.bib_findings.specs.Entries.{last_named}
 
--- the text of a value that is one text in braces, in quotes, or a number; else no text
+-- the text of a value that is one literal (in braces, in quotes, or a number); any other value gives the empty text
 abbrev pub literal_text : List Piece → List ℕ
 literal_text (literal p ∷ []) = p.text
 literal_text _ = []
 
--- the text of a field, if there is one
+-- the text of a field, or the empty text if there is no field
 abbrev pub field_literal : Option FieldReading → List ℕ
 field_literal None = []
 field_literal (Some f) = literal_text f.value.pieces
 
--- the text of the field of this name of an entry: of two fields with one name the last
+-- the text of the last field of this name of an entry, or the empty text
 abbrev pub own_literal : EntryReading → List ℕ → List ℕ
 own_literal said name = field_literal (last_named said.fields name)
 
--- of two texts the first, unless it is empty
+-- the first text, or the other one if the first is empty
 abbrev pub or_else : List ℕ → List ℕ → List ℕ
 or_else text other = if length text == 0 then other else text
 
@@ -33,27 +33,27 @@ or_else text other = if length text == 0 then other else text
 abbrev pub is_brace : ℕ → Bool
 is_brace c = c == char.open_brace || c == char.close_brace
 
--- the characters of a text in lowercase, but for braces
+-- the characters of a text in lowercase, without braces
 abbrev pub folded : List ℕ → List ℕ
 folded text = filter (λ c. not (is_brace c)) (chars (str_to_lowercase text))
 
--- the words among characters: what stands between white space
+-- the words of some characters, which white space separates
 abbrev pub folded_words : List ℕ → List (List ℕ)
 folded_words characters = filter (λ word. not (length word == 0)) (slice_split is_whitespace characters)
 
--- words, a space after each
+-- the words, each followed by a space
 abbrev pub spaced_words : List (List ℕ) → List ℕ
 spaced_words = flat_map (λ word. encode_utf8_all word ++ codes " ")
 
--- the words of a text, a space after each
+-- the words of a text in lowercase and without braces, each followed by a space
 abbrev pub plain_words : List ℕ → List ℕ
 plain_words text = spaced_words (folded_words (folded text))
 
--- whether a word stands between people
+-- whether a word is `and`, which separates people
 abbrev pub is_between_people : List ℕ → Bool
 is_between_people word = bytes_eq word (codes "and")
 
--- the words of the first of some people, a space after each
+-- the words of the first of some people, each followed by a space
 abbrev pub first_person : List ℕ → List ℕ
 first_person people = spaced_words (take_while (λ word. not (is_between_people word)) (folded_words (folded people)))
 
@@ -61,25 +61,25 @@ first_person people = spaced_words (take_while (λ word. not (is_between_people 
 abbrev pub first_four : List ℕ → List ℕ
 first_four text = encode_utf8_all (take 4 (chars text))
 
--- the characters of a text in lowercase, but for braces and white space
+-- the characters of a text in lowercase, without braces and white space
 abbrev pub squeezed : List ℕ → List ℕ
 squeezed text = encode_utf8_all (filter (λ c. not (is_whitespace c)) (folded text))
 
--- how a DOI may begin that is written as a link
+-- the ways in which a DOI that is written as a link or with a scheme begins
 abbrev pub doi_prefixes : Names
 doi_prefixes = fields "https://doi.org/ http://doi.org/ https://dx.doi.org/ http://dx.doi.org/ doi:"
 
--- a text without the first of these prefixes that it begins with
+-- a text without the first prefix of the list that it begins with
 abbrev pub without_prefixes : List ℕ → Names → List ℕ
 without_prefixes text [] = text
 without_prefixes text (prefix ∷ prefixes) =
     if starts_with nat_eq text prefix then drop (length prefix) text else without_prefixes text prefixes
 
--- the DOI of an entry
+-- the DOI of an entry in lowercase, without braces, white space and the link before it; the empty text if it has none
 abbrev pub doi_of : EntryReading → List ℕ
 doi_of said = without_prefixes (squeezed (own_literal said (codes "doi"))) doi_prefixes
 
--- the ISBN of an entry, without hyphens
+-- the ISBN of an entry, without hyphens, braces and white space; the empty text if it has none
 abbrev pub isbn_of : EntryReading → List ℕ
 isbn_of said = encode_utf8_all (filter (λ c. not (c == char.hyphen)) (chars (squeezed (own_literal said (codes "isbn")))))
 
@@ -87,28 +87,28 @@ isbn_of said = encode_utf8_all (filter (λ c. not (c == char.hyphen)) (chars (sq
 abbrev pub year_of : EntryReading → List ℕ
 year_of said = plain_words (or_else (own_literal said (codes "year")) (first_four (own_literal said (codes "date"))))
 
--- the words of the title of an entry, a space after each
+-- the words of the title of an entry, each followed by a space
 abbrev pub title_of : EntryReading → List ℕ
 title_of said = plain_words (own_literal said (codes "title"))
 
--- a title, a first person and a year as one text, if none is empty; they hold no braces, so these stand between them
+-- a title, a first person and a year, joined by `{`, which none of them contains; the empty text if one of them is empty
 abbrev pub work_text : List ℕ → List ℕ → List ℕ → List ℕ
 work_text title person year =
     if length title == 0 || length person == 0 || length year == 0 then [] else title ++ (codes "{" ++ (person ++ (codes "{" ++ year)))
 
--- the words of the first person of an entry, an author or else an editor, a space after each
+-- the words of the first author of an entry, or else of its first editor, each followed by a space
 abbrev pub first_person_of : EntryReading → List ℕ
 first_person_of said = first_person (or_else (own_literal said (codes "author")) (own_literal said (codes "editor")))
 
--- the title, the first person and the year of an entry
+-- the title, the first person and the year of an entry, or the empty text if it lacks one of them
 abbrev pub work_of : EntryReading → List ℕ
 work_of said = work_text (title_of said) (first_person_of said) (year_of said)
 
--- the identity of this kind, where there is a text
+-- the identity of this kind, if the text isn't empty
 abbrev pub identity : List ℕ → List ℕ → Names
 identity kind text = if length text == 0 then [] else (kind ++ text) ∷ []
 
--- the identities of an entry
+-- the identities of an entry: at most a DOI, an ISBN, and a title with a person and a year
 abbrev pub identities : EntryReading → Names
 identities said =
     identity (codes "doi ") (doi_of said)

@@ -1,5 +1,5 @@
 -- Meaning: words of public contracts.
--- The names of fields that BibLaTeX knows, and the findings of the fields that have another name.
+-- The field names that BibLaTeX knows, and the findings of fields with any other name.
 use Rattle.std.specs.Prelude.{◌≡◌, ℕ, ◌<◌, ◌≤◌, Bool, not, List, ◌∷◌, ◌++◌, codes, length, nat_eq, Option, Some, None}
 use Rattle.std.specs.List.{All, AllZip, filter, list_any}
 use Rattle.std.specs.Str.{chars, str_eq_ignore_ascii_case, str_to_ascii_lowercase}
@@ -11,8 +11,7 @@ use Rattle.bib_findings.specs.Errors.{finding_at}
 use Rattle.bib_findings.specs.declared.codes.Code.TheVariants.{UnknownField}
 use Rattle.bib_findings.specs.declared.finding.Finding.{Finding}
 
--- the fields of BibLaTeX's default data model (manual, 2.2), the names that it takes over from BibTeX (2.2.5), and the parts
--- of dates
+-- the fields of BibLaTeX's default data model (manual, 2.2), the names that it accepts from BibTeX (2.2.5), and the parts of dates
 abbrev pub known_fields : Names
 known_fields = fields "abstract addendum address afterword annotation annotator annote archiveprefix author authortype bookauthor"
     ++ (fields "bookpagination booksubtitle booktitle booktitleaddon chapter commentator crossref date day doi edition editor"
@@ -33,15 +32,15 @@ known_fields = fields "abstract addendum address afterword annotation annotator 
 abbrev pub is_known_field : List ℕ → Bool
 is_known_field name = list_any (λ known. str_eq_ignore_ascii_case known name) known_fields
 
--- how many edits lead from one name to another: characters that are put in, taken out or exchanged (Levenshtein's distance)
+-- the Levenshtein distance of two names: the least number of characters to insert, remove or replace
 abbrev pub distance : List ℕ → List ℕ → ℕ
 distance name other = levenshtein_row nat_eq (chars name) (chars other) (length (chars other))
 
--- the most edits by which a name may differ from the one that is meant
+-- the greatest distance at which a known name is suggested
 abbrev pub most_edits : ℕ
 most_edits = 2
 
--- one of some names is the first of the nearest to a name: those before it are farther, and none after it is nearer
+-- whether `known` is the first of the names in `all` that are nearest to `name`, at a distance of at most `most_edits`
 pub record IsFirstNearest (all : Names) (name known : List ℕ) : Type 0 where
   pub before : Names
   pub after : Names
@@ -50,17 +49,17 @@ pub record IsFirstNearest (all : Names) (name known : List ℕ) : Type 0 where
   pub farther : All (λ other. distance name known < distance name other) before
   pub as_far : All (λ other. distance name known ≤ distance name other) after
 
--- of some names the first of the nearest to a name, where that isn't too many edits away
+-- whether this is the first of the nearest names at a distance of at most `most_edits`, or none if all names are farther away
 abbrev pub IsNearest : Names → List ℕ → Option (List ℕ) → Type 0
 IsNearest all name (Some known) = IsFirstNearest all name known
 IsNearest all name None = All (λ known. most_edits < distance name known) all
 
--- what is said of a field whose name isn't known, of the entry with this key, where this name may be meant
+-- the message about an unknown field of the entry with this key, with a suggestion if there is one
 abbrev pub unknown_message : List ℕ → List ℕ → Option (List ℕ) → List ℕ
 unknown_message key name None = key ++ (codes ": unknown field " ++ name)
 unknown_message key name (Some known) = key ++ (codes ": unknown field " ++ (name ++ (codes "; is " ++ (known ++ codes " meant?"))))
 
--- the finding of a field whose name isn't known, at the name: the nearest of the known fields, if there is one, may be meant
+-- whether this is the finding of an unknown field, at its name, with the nearest known name as the suggestion, if one is near enough
 pub record IsOfUnknown (key : List ℕ) (field : FieldReading) (found : Finding) : Type 0 where
   pub meant : Option (List ℕ)
   pub nearest : IsNearest known_fields (str_to_ascii_lowercase field.name.text) meant
@@ -70,10 +69,10 @@ pub record IsOfUnknown (key : List ℕ) (field : FieldReading) (found : Finding)
 abbrev pub unknown_among : List FieldReading → List FieldReading
 unknown_among all = filter (λ f. not (is_known_field f.name.text)) all
 
--- these are the findings of those fields, of the entry with this key, whose names aren't known, one for each in their order
+-- whether these are the findings of the unknown fields in `all`, one for each, in order, for the entry with this key
 abbrev pub AreUnknownOf : List ℕ → List FieldReading → List Finding → Type 0
 AreUnknownOf key all found = AllZip (IsOfUnknown key) (unknown_among all) found
 
--- these are the findings of an entry's fields whose names aren't known
+-- whether these are the findings of the unknown fields of an entry
 abbrev pub AreOfUnknown : EntryReading → List Finding → Type 0
 AreOfUnknown said found = AreUnknownOf said.key.text said.fields found

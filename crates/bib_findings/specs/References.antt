@@ -16,38 +16,38 @@ use Rattle.bib_findings.specs.Errors.{finding_at}
 use Rattle.bib_findings.specs.declared.codes.Code.TheVariants.{UnknownReference}
 use Rattle.bib_findings.specs.declared.finding.Finding.{Finding}
 
--- the fields by which an entry names others
+-- the fields that refer to other entries
 abbrev pub reference_fields : Names
 reference_fields = fields "crossref xdata xref related entryset"
 
--- the keys that a field with this styled text names: `crossref` one, its text as it stands, and any other a comma list
+-- the keys in a field with this styled text: the whole text of `crossref`, and the parts of the comma list of any other field
 abbrev pub keys_of : List ℕ → List Atom → List (List ℕ)
 keys_of field atoms = if bytes_eq field (codes "crossref") then plain atoms ∷ [] else comma_texts atoms
 
--- the keys that the field of this name of an entry names
+-- the keys in this field of an entry
 abbrev pub keys_in : Entry → List ℕ → List (List ℕ)
 keys_in entry field = option_map_or (λ chunks. keys_of field (styled chunks)) (by_name.get entry.fields field) []
 
--- whether a text is a key, and no entry has it, nor names it in its field `ids`
+-- whether a key isn't empty, and no entry has it as its key or in its field `ids`
 abbrev pub is_unknown : ByText ℕ → List ℕ → Bool
 is_unknown names key = not (length key == 0) && is_none (by_name.get names key)
 
--- what is said of a key that a field of the entry with this key names
+-- the message for a key that no entry has and that this field of the entry with the key `key` refers to
 abbrev pub reference_message : List ℕ → List ℕ → List ℕ → List ℕ
 reference_message key field named = key ++ (codes ": no entry \"" ++ (named ++ (codes "\" (" ++ (field ++ codes ")"))))
 
--- the finding of a key that a field names, at the name of the field
+-- the finding of a key that a field refers to, at the name of the field
 abbrev pub reference_finding : EntryReading → List ℕ → List ℕ → Finding
 reference_finding said field named = finding_at UnknownReference (field_place said field) (reference_message said.key.text field named)
 
--- the findings of the keys that a field of an entry names, and that no entry has
+-- the findings of the keys that this field of an entry refers to and that no entry has
 abbrev pub field_references : ByText ℕ → EntryReading → Entry → List ℕ → List Finding
 field_references names said entry field = map (reference_finding said field) (filter (is_unknown names) (keys_in entry field))
 
--- the findings of the keys that an entry names, and that no entry has
+-- the findings of the keys that an entry refers to and that no entry has
 abbrev pub entry_references : ByText ℕ → EntryReading → Entry → List Finding
 entry_references names said entry = flat_map (field_references names said entry) reference_fields
 
--- these are the findings of the keys that an entry names
+-- whether these are the findings of the keys that an entry refers to and that no entry has
 abbrev pub AreReferences : ByText ℕ → EntryReading → Entry → List Finding → Type 0
 AreReferences names said entry found = found ≡ entry_references names said entry

@@ -1,4 +1,4 @@
-//! Codes of findings, each with how severe it is and what to do.
+//! Codes of findings, each with a severity and an explanation.
 
 ghost use Rattle.std.specs.Prelude.{◌≡◌, bytes_eq, find};
 ghost use Rattle.bib_findings.specs.Codes.{all_codes, code_name, code_named, severity_of, severity_name};
@@ -6,14 +6,14 @@ ghost use Rattle.bib_findings.specs.Codes.{all_codes, code_name, code_named, sev
 /// How severe a finding is.
 #[derive(Debug, Clone, Copy, PartialEq, Eq)]
 pub enum Severity {
-    /// Something of the file is not read as it stands.
+    /// Part of the file isn't read as written, or a cited entry is missing.
     Error,
-    /// All is read, and something may be wrong.
+    /// Everything is kept, but something may be wrong.
     Warning,
 }
 
 impl Severity {
-    /// The word by which it is printed.
+    /// Returns the word that is printed for it.
     pub fn name(self) -> &'static str
         ensures { result.now ≡ severity_name self }
     {
@@ -24,44 +24,45 @@ impl Severity {
     }
 }
 
-/// What a finding is.
+/// What a finding is about.
 #[derive(Debug, Clone, Copy, PartialEq, Eq)]
 pub enum Code {
-    /// A byte from which on the file isn't UTF-8, so that it was read as Windows-1252.
+    /// The first byte that isn't UTF-8; the whole file was read as Windows-1252.
     UnreadBytes,
-    /// A block that can't be read, and is passed over.
+    /// A block that can't be parsed. It is skipped.
     Syntax,
-    /// A field whose contents can't be read, and which is left out.
+    /// A field whose value can't be parsed. It is removed.
     UnreadField,
-    /// A name that is neither an abbreviation of the file nor a month, and is read as text.
+    /// A name that is neither an abbreviation of the file nor a month. It is read as text.
     UnknownAbbreviation,
-    /// An abbreviation that reaches itself; the field is left out.
+    /// An abbreviation whose definition uses itself, directly or through others. Fields that use it are removed.
     CircularAbbreviation,
-    /// An entry whose key an earlier entry claimed, and which is left out.
+    /// An entry whose key belongs to an earlier entry, as its key or in its field `ids`. The later entry is removed.
     DuplicateKey,
-    /// An entry that refers to itself, by others or at once, and loses its references.
+    /// An entry that refers to itself, directly or through others. It loses its references.
     CircularReference,
-    /// A date that can't be read, where an entry would inherit it.
+    /// A date that an entry would inherit, but that can't be parsed.
     UnreadDate,
-    /// A field that the entry's type requires, and that it lacks.
+    /// A field that the entry's type requires and the entry lacks.
     MissingField,
     /// A field that the entry's type forbids.
     SuperfluousField,
-    /// A field that can't be read as a value of its type.
+    /// A field that can't be parsed as a value of its type.
     MalformedField,
     /// A field whose name BibLaTeX doesn't know.
     UnknownField,
-    /// A key that an entry refers to, and that no entry has.
+    /// A key that an entry refers to and no entry has.
     UnknownReference,
     /// An entry that is likely the same work as an earlier one.
     LikelyDuplicate,
-    /// A key that is cited, and that no file has.
+    /// A key that a document cites and no file has.
     MissingEntry,
-    /// An entry that is never cited.
+    /// An entry that no document cites.
     UnusedEntry,
 }
 
-// The codes, in the order in which they are listed: as the parts of a file are read, and then what is between its entries.
+// The codes, in the order in which they are listed: as the parts of a file are read, then between entries, then of
+// documents.
 static CODES: [Code; 16] = [
     Code::UnreadBytes,
     Code::Syntax,
@@ -82,14 +83,14 @@ static CODES: [Code; 16] = [
 ];
 
 impl Code {
-    /// All codes, each once, in the order in which they are listed.
+    /// Returns all codes, each once, in the order in which they are listed.
     pub fn all() -> &'static [Self]
         ensures { result.now ≡ all_codes }
     {
         &CODES
     }
 
-    /// The name by which it is printed and asked for: words in lowercase, with hyphens.
+    /// Returns its name in output and in options: lowercase words, separated by hyphens.
     pub fn name(self) -> &'static str
         ensures { result.now ≡ code_name self }
     {
@@ -120,7 +121,7 @@ impl Code {
         first_named(&CODES, name)
     }
 
-    /// How severe it is: an error where something isn't read as it stands, or is missing.
+    /// Returns its severity: an error if part of the file isn't read as written or a cited entry is missing.
     pub fn severity(self) -> Severity
         ensures { result ≡ severity_of self }
     {
@@ -144,7 +145,7 @@ impl Code {
         }
     }
 
-    /// What it means and what to do, in some lines.
+    /// Returns an explanation of what it means and what to do.
     pub fn explanation(self) -> &'static str {
         match self {
             Self::UnreadBytes =>
@@ -183,7 +184,7 @@ impl Code {
     }
 }
 
-// The first of some codes that has this name.
+// Returns the first of these codes that has this name.
 fn first_named(codes: &[Code], name: &str) -> Option<Code>
     ensures { result ≡ find (λ code. bytes_eq (code_name code) name.now) codes.now }
 {

@@ -18,7 +18,7 @@ use bib_text::text::Text;
 use std::alloc::{AllocError, Global};
 use std::collections::BTreeMap;
 
-// The lesser of two indices, where there are two.
+// Returns the lesser of two indices; if only one is present, returns that one.
 fn lesser(one: Option<usize>, other: Option<usize>) -> Option<usize>
     ensures { result ≡ lesser one other }
 {
@@ -29,7 +29,7 @@ fn lesser(one: Option<usize>, other: Option<usize>) -> Option<usize>
     }
 }
 
-// The least of the indices that these identities have.
+// Returns the least index that one of these identities has.
 fn least_of(seen: &BTreeMap<String, usize>, identities: &[String]) -> Option<usize>
     ensures { result ≡ least_of (get_by_text seen.now) (map string_bytes identities.now) }
 {
@@ -40,7 +40,7 @@ fn least_of(seen: &BTreeMap<String, usize>, identities: &[String]) -> Option<usi
     least
 }
 
-// Gives each of these identities this index, where it has none.
+// Stores these identities with this index, except those that already have one.
 fn remember(
     seen: &mut BTreeMap<String, usize>,
     identities: Vec<String>,
@@ -57,14 +57,14 @@ fn remember(
     Ok(())
 }
 
-// What is said of an entry that is likely the same as another.
+// Returns the message for an entry that is likely the same work as another.
 fn duplicate_message(alloc: Global, key: &str, first: &str) -> Result<String, AllocError>
     ensures { IfOk result (λ text. string_bytes text ≡ duplicate_message key.now first.now) }
 {
     format!(in alloc; "{key}: likely the same as \"{first}\"")
 }
 
-// The finding of an entry that is likely the same as an earlier one.
+// Returns the finding of an entry that is likely the same work as `first`, an earlier one.
 fn duplicate_finding(
     alloc: Global,
     said: &Spanned<RawEntry<'_>>,
@@ -81,7 +81,8 @@ fn duplicate_finding(
     })
 }
 
-// Adds a finding where there is an index of an earlier entry: an entry is likely the same as that.
+// Appends a finding if `first` is an index: `one` is likely the same work as the earlier entry at this index of
+// `earlier`.
 fn add_if_first(
     alloc: Global,
     found: &mut Vec<Finding>,
@@ -101,7 +102,7 @@ fn add_if_first(
     Ok(())
 }
 
-// Adds a finding where an entry is likely the same as one of those with these indices, and remembers its identities.
+// Appends a finding if `one` shares an identity with one of the `earlier` entries, and stores the identities of `one`.
 fn add_duplicate(
     alloc: Global,
     found: &mut Vec<Finding>,
@@ -123,8 +124,8 @@ fn add_duplicate(
     add_if_first(alloc, found, said, earlier, one, first)
 }
 
-// Adds a finding for each of these entries that is likely the same as one before it. Each has its index among the entries of
-// the file.
+// Appends a finding for each of these entries that is likely the same work as one before it. `origins` contains the
+// index of each in `said`.
 fn add_duplicates_among(
     alloc: Global,
     found: &mut Vec<Finding>,
@@ -143,7 +144,8 @@ fn add_duplicates_among(
     Ok(())
 }
 
-/// Adds a finding for each entry that is likely the same as one before it. Each has its index among the entries of the file.
+/// Appends a finding for each of these entries that is likely the same work as one before it. `origins` contains the
+/// index of each in `said`.
 pub(crate) fn add_duplicates(
     alloc: Global,
     found: &mut Vec<Finding>,

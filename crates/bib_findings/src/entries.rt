@@ -17,14 +17,14 @@ use bib_text::spanned::Spanned;
 use bib_text::text::Text;
 use std::alloc::{AllocError, Global};
 
-// What is said of a field of the entry with this key: what is wrong, and the field's name.
+// Returns the message about a field of the entry with this key: the key, what is wrong, and the field's name.
 fn field_message(alloc: Global, key: &str, wrong: &str, name: &str) -> Result<String, AllocError>
     ensures { IfOk result (λ text. string_bytes text ≡ field_message key.now wrong.now name.now) }
 {
     format!(in alloc; "{key}: {wrong} {name}")
 }
 
-// The finding of a field of an entry that is wrong in this way.
+// Returns the finding of a field of an entry, with `wrong`, the word for what is wrong.
 fn field_finding(
     alloc: Global,
     said: &Spanned<RawEntry<'_>>,
@@ -43,7 +43,7 @@ fn field_finding(
     })
 }
 
-// Adds a finding for each name of a field that is wrong in this way.
+// Appends a finding for each of these field names, all with the same code and the same word.
 fn add_names(
     alloc: Global,
     found: &mut Vec<Finding>,
@@ -61,7 +61,7 @@ fn add_names(
     Ok(())
 }
 
-// The finding of a field that isn't read as a value of its type.
+// Returns the finding of a field that can't be parsed as a value of its type.
 fn malformed_finding(
     alloc: Global,
     said: &Spanned<RawEntry<'_>>,
@@ -80,7 +80,7 @@ fn malformed_finding(
     })
 }
 
-// Adds a finding for each field that isn't read.
+// Appends a finding for each malformed field.
 fn add_malformed(
     alloc: Global,
     found: &mut Vec<Finding>,
@@ -96,7 +96,7 @@ fn add_malformed(
     Ok(())
 }
 
-// Adds the findings of the report on an entry.
+// Appends the findings of the report on an entry.
 pub(crate) fn add_report(
     alloc: Global,
     found: &mut Vec<Finding>,

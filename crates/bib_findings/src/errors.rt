@@ -1,4 +1,4 @@
-//! Findings of errors.
+//! Findings of errors and of skipped blocks.
 
 ghost use Rattle.std.specs.Prelude.{◌≡◌, ◌++◌, map, IfOk, OnOk};
 ghost use Rattle.std.specs.String.{string_bytes};
@@ -10,7 +10,7 @@ use bib_syntax::raw::{ParseError, ParseErrorKind, SkippedBlock};
 use bib_text::text::Text;
 use std::alloc::{AllocError, Global};
 
-// The code of an error that is left by recovery.
+// Returns the code of an error that recovery reports.
 fn error_code(kind: &ParseErrorKind) -> Code
     ensures { result ≡ error_code kind.now }
 {
@@ -24,14 +24,14 @@ fn error_code(kind: &ParseErrorKind) -> Code
     }
 }
 
-// Words, and a name between quotes, as it stands in the file.
+// Returns the words, followed by a name in quotes, exactly as the file writes it.
 fn with_name(alloc: Global, words: &str, name: &str) -> Result<String, AllocError>
     ensures { IfOk result (λ text. string_bytes text ≡ with_name words.now name.now) }
 {
     format!(in alloc; "{words} \"{name}\"")
 }
 
-// What an error says, names as they are.
+// Returns the message of an error, with names unchanged.
 fn error_message(alloc: Global, kind: &ParseErrorKind) -> Result<String, AllocError>
     ensures { IfOk result (λ text. string_bytes text ≡ error_message kind.now) }
 {
@@ -55,7 +55,7 @@ fn error_message(alloc: Global, kind: &ParseErrorKind) -> Result<String, AllocEr
     }
 }
 
-// The finding of an error.
+// Returns the finding of an error.
 fn error_finding(alloc: Global, error: &ParseError) -> Result<Finding, AllocError>
     ensures { IfOk result (λ finding. finding ≡ error_finding error.now) }
 {
@@ -67,7 +67,7 @@ fn error_finding(alloc: Global, error: &ParseError) -> Result<Finding, AllocErro
     })
 }
 
-// The finding of a block that is passed over: at its error.
+// Returns the finding of a skipped block, at the place of its error.
 fn block_finding(alloc: Global, block: &SkippedBlock) -> Result<Finding, AllocError>
     ensures { IfOk result (λ finding. finding ≡ block_finding block.now) }
 {
@@ -79,7 +79,7 @@ fn block_finding(alloc: Global, block: &SkippedBlock) -> Result<Finding, AllocEr
     })
 }
 
-// Adds the findings of blocks that are passed over.
+// Appends the findings of skipped blocks.
 pub(crate) fn add_blocks(
     alloc: Global,
     found: &mut Vec<Finding>,
@@ -93,7 +93,7 @@ pub(crate) fn add_blocks(
     Ok(())
 }
 
-// Adds the findings of errors.
+// Appends the findings of errors.
 pub(crate) fn add_errors(
     alloc: Global,
     found: &mut Vec<Finding>,

@@ -4,13 +4,13 @@ use crate::codes::Code;
 use bib_text::spanned::Span;
 use bib_text::text::Text;
 
-/// Something that is wrong in a file, or may be.
+/// An error or a likely mistake in a file.
 #[derive(Debug, Clone, PartialEq, Eq, Drop)]
 pub struct Finding {
-    /// What it is.
+    /// What it is about.
     pub code: Code,
-    /// Where it stands, in bytes of the file.
+    /// Its place, in bytes of the file.
     pub span: Span,
-    /// What is wrong, in a line.
+    /// What is wrong, in one line.
     pub message: Text,
 }

@@ -1,4 +1,4 @@
-//! All that is wrong in a file.
+//! All findings of a file.
 
 ghost use Rattle.std.specs.Prelude.{◌≡◌, ◌<◌, All, length, map, IfOk, OnOk};
 ghost use Rattle.std.specs.BTreeMap.{get_by_text};
@@ -23,7 +23,7 @@ use bib_text::spanned::Spanned;
 use std::alloc::{AllocError, Global};
 use std::collections::BTreeMap;
 
-// Adds what is wrong with an entry, which the file says so, by the names of fields that were met.
+// Appends the findings of an entry, with its raw form `said`. `met` caches the field names.
 fn add_entry(
     alloc: Global,
     found: &mut Vec<Finding>,
@@ -40,7 +40,7 @@ fn add_entry(
     add_unknown_fields(alloc, found, met, said)
 }
 
-// Adds what is wrong with entries, each with its index among the entries of the file.
+// Appends the findings of entries. `origins` contains the index of each in `said`.
 fn add_entries(
     alloc: Global,
     found: &mut Vec<Finding>,
@@ -62,8 +62,9 @@ fn add_entries(
     Ok(())
 }
 
-/// What is wrong between entries: the keys that they refer to and that none has, by the fields that they have of their own,
-/// and those that are likely the same work as an earlier one. Each has its index among the entries of the file.
+/// Returns the findings between entries, with only the fields that each entry has itself. They are keys that an entry
+/// refers to and no entry has, and entries that are likely the same work as an earlier one. `origins` contains the
+/// index of each entry in `said`, the raw entries of the file. Fails only if out of memory.
 pub fn between(
     alloc: Global,
     said: &[Spanned<RawEntry<'_>>],
@@ -81,7 +82,7 @@ pub fn between(
     Ok(found)
 }
 
-// Findings in the order in which they start in the file.
+// Sorts findings by where they start.
 fn sorted_by_place(found: Vec<Finding>) -> Result<Vec<Finding>, AllocError>
     ensures { IfOk result (λ sorted. AreSortedByPlace found.items sorted.items) }
 {
@@ -90,9 +91,9 @@ fn sorted_by_place(found: Vec<Finding>) -> Result<Vec<Finding>, AllocError>
     Ok(found)
 }
 
-/// All that is wrong in a file, or may be, in the order of where it starts, where the file was recovered: these blocks were
-/// passed over, these are the errors of what was read, these entries are kept, each with its index among the entries of the
-/// file, and this is wrong between them. Refused only when out of memory.
+/// Returns all findings of a recovered file, sorted by where they start. `skipped` contains its skipped blocks,
+/// `errors` the errors, `entries` the kept entries, and `between` the findings between them. `origins` contains the
+/// index of each kept entry in `said`, the raw entries of the file. Fails only if out of memory.
 pub fn findings_in(
     alloc: Global,
     skipped: &[SkippedBlock],
@@ -116,8 +117,8 @@ pub fn findings_in(
     sorted_by_place(found)
 }
 
-/// All that is wrong in a bibliography file, or may be, in the order of where it starts: the file is recovered, as
-/// `Bibliography::recover` does it. Spans are in bytes of the text. Refused only when out of memory.
+/// Returns all findings of a bibliography file, sorted by where they start. It recovers the file as
+/// `Bibliography::recover` does. Spans are in bytes of the text. Fails only if out of memory.
 pub fn findings(alloc: Global, text: &str) -> Result<Vec<Finding>, AllocError>
     ensures { IfOk result (λ found. AreFindings text.now found.items) }
 {

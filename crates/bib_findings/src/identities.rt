@@ -1,4 +1,4 @@
-//! By what entries are likely the same work: a DOI, an ISBN, or a title with its first person and its year.
+//! What makes entries likely the same work: a DOI, an ISBN, or a title with its first person and its year.
 
 ghost use Rattle.std.specs.Prelude.{◌≡◌, ◌++◌, map, IfOk, OnOk, [], encode_utf8_all};
 ghost use Rattle.std.specs.String.{string_bytes};
@@ -11,7 +11,7 @@ use bib_syntax::raw::{RawChunk, RawEntry};
 use bib_text::spanned::Spanned;
 use std::alloc::{AllocError, Global};
 
-// How a DOI may begin that is written as a link.
+// The ways in which a DOI that is written as a link or with a scheme begins.
 static DOI_PREFIXES: [&str; 5] = [
     "https://doi.org/",
     "http://doi.org/",
@@ -20,7 +20,8 @@ static DOI_PREFIXES: [&str; 5] = [
     "doi:",
 ];
 
-// The text of a value that is one text in braces, in quotes, or a number; else no text.
+// Returns the text of a value that is one literal (in braces, in quotes, or a number); for any other value, the empty
+// text.
 fn literal_text<'s>(pieces: &[Spanned<RawChunk<'s>>]) -> &'s str
     ensures { result.now ≡ literal_text (map piece_of pieces.now) }
 {
@@ -33,7 +34,7 @@ fn literal_text<'s>(pieces: &[Spanned<RawChunk<'s>>]) -> &'s str
     }
 }
 
-// The text of the field of this name of an entry.
+// Returns the text of the last field of this name of an entry, or the empty text.
 fn own_literal<'s>(said: &Spanned<RawEntry<'s>>, name: &str) -> &'s str
     ensures { result.now ≡ own_literal (entry_reading_of said.now) name.now }
 {
@@ -43,21 +44,21 @@ fn own_literal<'s>(said: &Spanned<RawEntry<'s>>, name: &str) -> &'s str
     }
 }
 
-// Of two texts the first, unless it is empty.
+// Returns `text`, or `other` if it is empty.
 fn or_else<'s>(text: &'s str, other: &'s str) -> &'s str
     ensures { result.now ≡ or_else text.now other.now }
 {
     if text.is_empty() { other } else { text }
 }
 
-// Whether a character is a brace.
+// Returns whether a character is a brace.
 fn is_brace(c: char) -> bool
     ensures { result ≡ is_brace c }
 {
     c == '{' || c == '}'
 }
 
-// Appends a word and a space after it, where there is one, which is none then.
+// If `word` isn't empty, appends it and a space to `text` and clears it.
 fn end_word(text: &mut String, word: &mut String) -> Result<(), AllocError>
     ensures text { OnOk result (string_bytes text.new ≡ string_bytes text.old ++ spaced_word (string_bytes word.old)) }
     ensures none { OnOk result (string_bytes word.new ≡ []) }
@@ -71,14 +72,15 @@ fn end_word(text: &mut String, word: &mut String) -> Result<(), AllocError>
     Ok(())
 }
 
-// Whether the words end before this one: where people are told apart, it stands between them.
+// Returns whether the words end before this one: only if the first person is wanted and the word is `and`.
 fn ends_before(is_first: bool, word: &str) -> bool
     ensures { result ≡ ends_before is_first word.now }
 {
     is_first && word == "and"
 }
 
-// The words of a text that is in lowercase, without braces, a space after each: all of them, or those of the first person.
+// Returns the words of a lowercase text without braces, each followed by a space: all of them, or only those of the
+// first person.
 fn words(alloc: Global, lowercase: &str, is_first: bool) -> Result<String, AllocError>
     ensures { IfOk result (λ text. string_bytes text ≡ words_text is_first (without_braces lowercase.now)) }
 {
@@ -103,7 +105,7 @@ fn words(alloc: Global, lowercase: &str, is_first: bool) -> Result<String, Alloc
     Ok(text)
 }
 
-// The words of a text, a space after each.
+// Returns the words of a text in lowercase and without braces, each followed by a space.
 fn plain_words(alloc: Global, text: &str) -> Result<String, AllocError>
     ensures { IfOk result (λ plain. string_bytes plain ≡ plain_words text.now) }
 {
@@ -111,7 +113,7 @@ fn plain_words(alloc: Global, text: &str) -> Result<String, AllocError>
     words(alloc, &lowercase, false)
 }
 
-// The words of the first person, a space after each.
+// Returns the words of the first of some people, each followed by a space.
 fn first_person(alloc: Global, people: &str) -> Result<String, AllocError>
     ensures { IfOk result (λ person. string_bytes person ≡ first_person people.now) }
 {
@@ -119,14 +121,14 @@ fn first_person(alloc: Global, people: &str) -> Result<String, AllocError>
     words(alloc, &lowercase, true)
 }
 
-// The first four characters of a text.
+// Returns the first four characters of a text.
 fn first_four(alloc: Global, text: &str) -> Result<String, AllocError>
     ensures { IfOk result (λ four. string_bytes four ≡ first_four text.now) }
 {
     text.chars().take(4).collect(alloc)
 }
 
-// The characters of a text in lowercase, but for braces and white space.
+// Returns a text in lowercase, without braces and white space.
 fn squeezed(alloc: Global, text: &str) -> Result<String, AllocError>
     ensures { IfOk result (λ found. string_bytes found ≡ squeezed text.now) }
 {
@@ -135,7 +137,7 @@ fn squeezed(alloc: Global, text: &str) -> Result<String, AllocError>
     Ok(text)
 }
 
-// A text without the first of these prefixes that it begins with.
+// Returns a text without the first prefix of the list that it begins with.
 fn without_prefixes<'t>(text: &'t str, prefixes: &[&'static str]) -> &'t str
     ensures { result.now ≡ without_prefixes text.now (map (λ p. p.now) prefixes.now) }
 {
@@ -147,7 +149,7 @@ fn without_prefixes<'t>(text: &'t str, prefixes: &[&'static str]) -> &'t str
     text
 }
 
-/// The DOI of an entry.
+/// Returns the DOI of an entry in lowercase, without the link before it; the empty text if it has none.
 pub(crate) fn doi(alloc: Global, said: &Spanned<RawEntry<'_>>) -> Result<String, AllocError>
     ensures { IfOk result (λ text. string_bytes text ≡ doi_of (entry_reading_of said.now)) }
 {
@@ -155,7 +157,7 @@ pub(crate) fn doi(alloc: Global, said: &Spanned<RawEntry<'_>>) -> Result<String,
     String::from_str(alloc, without_prefixes(text.as_str(), &DOI_PREFIXES))
 }
 
-/// The ISBN of an entry.
+/// Returns the ISBN of an entry without hyphens; the empty text if it has none.
 pub(crate) fn isbn(alloc: Global, said: &Spanned<RawEntry<'_>>) -> Result<String, AllocError>
     ensures { IfOk result (λ text. string_bytes text ≡ isbn_of (entry_reading_of said.now)) }
 {
@@ -163,8 +165,8 @@ pub(crate) fn isbn(alloc: Global, said: &Spanned<RawEntry<'_>>) -> Result<String
     text.as_str().chars().filter(|c| *c != '-').collect(alloc)
 }
 
-/// The year of an entry, its field `year` or else the first four characters of its date, as its words in lowercase with a space after
-/// each; braces are passed over. Nothing where it has none.
+/// Returns the year of an entry: its field `year`, or else the first four characters of its date. The words are in
+/// lowercase and without braces, each followed by a space. The text is empty if the entry has no year.
 pub fn year(alloc: Global, said: &Spanned<RawEntry<'_>>) -> Result<String, AllocError>
     ensures { IfOk result (λ text. string_bytes text ≡ year_of (entry_reading_of said.now)) }
 {
@@ -172,7 +174,7 @@ pub fn year(alloc: Global, said: &Spanned<RawEntry<'_>>) -> Result<String, Alloc
     plain_words(alloc, or_else(own_literal(said, "year"), of_date.as_str()))
 }
 
-// A title, a first person and a year as one text, if none is empty.
+// Returns a title, a first person and a year as one text, joined by `{`; the empty text if one of them is empty.
 fn work_text(alloc: Global, title: &str, person: &str, year: &str) -> Result<String, AllocError>
     ensures { IfOk result (λ text. string_bytes text ≡ work_text title.now person.now year.now) }
 {
@@ -182,15 +184,15 @@ fn work_text(alloc: Global, title: &str, person: &str, year: &str) -> Result<Str
     format!(in alloc; "{title}{{{person}{{{year}")
 }
 
-/// The words of the title of an entry, a space after each.
+/// Returns the words of the title of an entry, each followed by a space.
 pub(crate) fn title(alloc: Global, said: &Spanned<RawEntry<'_>>) -> Result<String, AllocError>
     ensures { IfOk result (λ text. string_bytes text ≡ title_of (entry_reading_of said.now)) }
 {
     plain_words(alloc, own_literal(said, "title"))
 }
 
-/// The words of the first person of an entry's authors, or else of its editors, in lowercase with a space after each; braces are
-/// passed over. Nothing where it has none.
+/// Returns the first author of an entry, or else its first editor. The words are in lowercase and without braces, each
+/// followed by a space. The text is empty if the entry has neither.
 pub fn person(alloc: Global, said: &Spanned<RawEntry<'_>>) -> Result<String, AllocError>
     ensures { IfOk result (λ text. string_bytes text ≡ first_person_of (entry_reading_of said.now)) }
 {
@@ -198,7 +200,7 @@ pub fn person(alloc: Global, said: &Spanned<RawEntry<'_>>) -> Result<String, All
     first_person(alloc, people)
 }
 
-// The title, the first person and the year of an entry.
+// Returns the title, the first person and the year of an entry, or the empty text if it lacks one of them.
 fn work(alloc: Global, said: &Spanned<RawEntry<'_>>) -> Result<String, AllocError>
     ensures { IfOk result (λ text. string_bytes text ≡ work_of (entry_reading_of said.now)) }
 {
@@ -208,7 +210,7 @@ fn work(alloc: Global, said: &Spanned<RawEntry<'_>>) -> Result<String, AllocErro
     work_text(alloc, title.as_str(), person.as_str(), year.as_str())
 }
 
-// Adds an identity of this kind, where there is a text.
+// Appends an identity of this kind, if the text isn't empty.
 fn push_identity(
     alloc: Global,
     all: &mut Vec<String>,
@@ -225,7 +227,7 @@ fn push_identity(
     Ok(())
 }
 
-// The identities of an entry: two that share one are likely the same work.
+// Returns the identities of an entry. Two entries that share one are likely the same work.
 pub(crate) fn identities(
     alloc: Global,
     said: &Spanned<RawEntry<'_>>,

@@ -1,12 +1,12 @@
 //! Finds errors and likely mistakes in a bibliography file, each with a code, a place and a message.
 //!
-//! It is made of what `Bibliography::recover` does, step by step, and of what each step answers: the blocks that are passed
-//! over, the errors of entries and references, and then, entry by entry as it stands in the file, what the report on the entry
-//! says and what its fields are named. `findings::between` finds what is wrong between entries: the keys that they refer to and
-//! that none has, and entries that are likely the same work; `findings::findings_in` puts all in the order of the file. `codes`
-//! has the codes with what they mean, `places` where in an entry something stands, `marks` which entries may be the same
-//! work as another; `errors`, `entries`, `names`, `references` and
-//! `duplicates`, over `identities`, make the findings.
+//! `findings::findings` recovers a file in the steps of `Bibliography::recover` and reports what each step returns.
+//! These are the skipped blocks, the errors of entries and references, and the report and the unknown field names of
+//! each entry. `findings::between` compares entries: it reports keys that no entry has, and entries that are likely the
+//! same work. `findings::findings_in` sorts all findings by where they start. `codes` contains the codes and their
+//! explanations, `places` finds fields in an entry, and `marks` selects the entries that may be the same work as
+//! another. `errors`, `entries`, `names`, `references` and `duplicates` make the findings; `duplicates` uses
+//! `identities`.
 #![tactic(auto)]
 
 pub mod codes;

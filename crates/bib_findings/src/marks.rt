@@ -1,6 +1,6 @@
-//! Which entries may be likely the same work as another, by marks that are quick to compare.
+//! Marks: hashes that show quickly which entries may be the same work as another.
 //!
-//! Entries that share an identity share a mark, so an entry whose marks no other has is not looked at further.
+//! Entries that share an identity share a mark. So an entry that shares no mark with another needs no comparison.
 
 ghost use Rattle.std.specs.Prelude.{◌≡◌, ◌<◌, ◌++◌, ℕ, All, List, length, map, IfOk, OnOk};
 ghost use Rattle.std.specs.List.{flat_map, list_any};
@@ -16,18 +16,18 @@ use std::alloc::{AllocError, Global};
 use std::collections::BTreeMap;
 use std::hash::{FoldHasher, Hasher};
 
-// What entries that share an identity of a kind share, too: a hash.
+// Hashes of the identities of an entry: entries that share an identity share the hash of its kind.
 #[derive(Clone, Copy)]
 struct Marks {
-    // That of the DOI, if there is one.
+    // The hash of the DOI, if there is one.
     doi: Option<u64>,
-    // That of the ISBN, if there is one.
+    // The hash of the ISBN, if there is one.
     isbn: Option<u64>,
-    // That of the title, if there is one.
+    // The hash of the title, if there is one.
     title: Option<u64>,
 }
 
-// What stands before the first opening brace of a text.
+// Returns the text before its first opening brace, or the whole text if it has none.
 fn before_brace(text: &str) -> &str
     ensures { result.now ≡ before_brace text.now }
 {
@@ -37,7 +37,7 @@ fn before_brace(text: &str) -> &str
     }
 }
 
-// The mark of a text of this kind, if there is one.
+// Returns the mark of a text of this kind, or none if the text is empty.
 fn mark(kind: &str, text: &str) -> Option<u64>
     ensures { result ≡ mark kind.now text.now }
 {
@@ -50,7 +50,7 @@ fn mark(kind: &str, text: &str) -> Option<u64>
     Some(hasher.finish())
 }
 
-// The marks of an entry.
+// Returns the marks of an entry.
 fn marks_of(alloc: Global, said: &Spanned<RawEntry<'_>>) -> Result<Marks, AllocError>
     ensures { IfOk result (λ marks. marks ≡ marks_of (entry_reading_of said.now)) }
 {
@@ -64,7 +64,7 @@ fn marks_of(alloc: Global, said: &Spanned<RawEntry<'_>>) -> Result<Marks, AllocE
     })
 }
 
-// The marks of the entries of a file that have these indices.
+// Returns the marks of the entries that have these indices in `said`.
 fn all_marks(
     alloc: Global,
     said: &[Spanned<RawEntry<'_>>],
@@ -81,7 +81,7 @@ fn all_marks(
     Ok(all)
 }
 
-// Notes a mark: that it is there, or that it is there more than once.
+// Stores a mark: with `false` if it is new, and with `true` if it occurred before.
 fn note(met: &mut BTreeMap<u64, bool>, mark: Option<u64>) -> Result<(), AllocError>
     ensures { OnOk result ((all : List ℕ) → AreMetMarks met.old all → AreMetMarks met.new (all ++ option_to_list mark)) }
 {
@@ -94,7 +94,7 @@ fn note(met: &mut BTreeMap<u64, bool>, mark: Option<u64>) -> Result<(), AllocErr
     Ok(())
 }
 
-// Notes the marks of an entry.
+// Stores the marks of an entry.
 fn note_all(met: &mut BTreeMap<u64, bool>, marks: &Marks) -> Result<(), AllocError>
     ensures { OnOk result ((all : List ℕ) → AreMetMarks met.old all → AreMetMarks met.new (all ++ listed marks.now)) }
 {
@@ -103,7 +103,7 @@ fn note_all(met: &mut BTreeMap<u64, bool>, marks: &Marks) -> Result<(), AllocErr
     note(met, marks.title)
 }
 
-// For each mark whether it is there more than once.
+// Returns, for each mark, whether it occurs more than once.
 fn met_marks(alloc: Global, all: &[Marks]) -> Result<BTreeMap<u64, bool>, AllocError>
     ensures { IfOk result (λ met. AreMetMarks met (flat_map listed all.now)) }
 {
@@ -114,7 +114,7 @@ fn met_marks(alloc: Global, all: &[Marks]) -> Result<BTreeMap<u64, bool>, AllocE
     Ok(met)
 }
 
-// Whether a mark is there more than once.
+// Returns whether a mark occurs more than once.
 fn is_shared(met: &BTreeMap<u64, bool>, mark: Option<u64>) -> bool
     ensures { (all : List ℕ) → AreMetMarks met.now all → result ≡ list_any (is_repeated all) (option_to_list mark) }
 {
@@ -124,14 +124,14 @@ fn is_shared(met: &BTreeMap<u64, bool>, mark: Option<u64>) -> bool
     }
 }
 
-// Whether one of these marks is there more than once.
+// Returns whether one of these marks occurs more than once.
 fn has_shared(met: &BTreeMap<u64, bool>, marks: &Marks) -> bool
     ensures { (all : List ℕ) → AreMetMarks met.now all → result ≡ has_repeated all marks.now }
 {
     is_shared(met, marks.doi) || is_shared(met, marks.isbn) || is_shared(met, marks.title)
 }
 
-// Of these indices those whose marks, which stand in the same order, are not all there once.
+// Returns the indices whose marks, at the same position of `all`, include one that occurs more than once.
 fn chosen(
     alloc: Global,
     met: &BTreeMap<u64, bool>,
@@ -150,7 +150,7 @@ fn chosen(
     Ok(found)
 }
 
-/// Of the entries of a file that have these indices those that may share an identity with another.
+/// Returns those of the indices in `origins` whose entries may share an identity with another one.
 pub(crate) fn candidates(
     alloc: Global,
     said: &[Spanned<RawEntry<'_>>],

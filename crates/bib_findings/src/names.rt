@@ -1,4 +1,4 @@
-//! Names of fields that BibLaTeX knows.
+//! Field names that BibLaTeX knows, and findings of fields with any other name.
 
 ghost use Rattle.std.specs.Prelude.{◌≡◌, ◌∷◌, [], IfOk, OnOk, option_copied};
 ghost use Rattle.std.specs.BTreeMap.{get_by_text};
@@ -20,7 +20,8 @@ use std::alloc::{AllocError, Global};
 use std::collections::BTreeMap;
 use strsim::levenshtein;
 
-// The fields of BibLaTeX's default data model (manual, 2.2), the names that it takes over from BibTeX, and the parts of dates.
+// The fields of BibLaTeX's default data model (manual, 2.2), the names that it accepts from BibTeX, and the parts of
+// dates.
 static KNOWN_FIELDS: [&str; 162] = [
     "abstract",
     "addendum",
@@ -186,24 +187,24 @@ static KNOWN_FIELDS: [&str; 162] = [
     "year",
 ];
 
-// Whether a name is among some, in any ASCII case.
+// Returns whether `names` contains a name, in any ASCII case.
 fn is_among(names: &[&'static str], name: &str) -> bool
     ensures { result ≡ list_any (λ known. str_eq_ignore_ascii_case known name.now) (texts names.now) }
 {
     names.iter().any(|known| known.eq_ignore_ascii_case(name))
 }
 
-// Whether BibLaTeX knows a field of this name, in any ASCII case.
+// Returns whether BibLaTeX knows a field of this name, in any ASCII case.
 fn is_known_field(name: &str) -> bool
     ensures { result ≡ is_known_field name.now }
 {
     is_among(&KNOWN_FIELDS, name)
 }
 
-// The most edits by which a name may differ from the one that is meant.
+// The greatest distance at which a known name is suggested.
 const MOST_EDITS: usize = 2;
 
-// Of some names the first of the nearest to a name, where that isn't too many edits away.
+// Returns the first of the nearest names, if it is at most `MOST_EDITS` edits away.
 fn nearest(
     alloc: Global,
     names: &[&'static str],
@@ -223,7 +224,7 @@ fn nearest(
     Ok(nearest)
 }
 
-// What is said of a field whose name isn't known, of the entry with this key, where a known name may be meant.
+// Returns the message about an unknown field of the entry with this key, with a suggestion if there is one.
 fn unknown_message(
     alloc: Global,
     key: &str,
@@ -239,16 +240,16 @@ fn unknown_message(
     }
 }
 
-/// What the name of a field is.
+/// The classification of a field name.
 #[derive(Debug, Clone, Copy, PartialEq, Eq)]
 pub(crate) enum FieldName {
-    /// One that BibLaTeX knows.
+    /// BibLaTeX knows this name.
     Known,
-    /// Another, with the nearest of those that BibLaTeX knows, where one isn't too many edits away.
+    /// BibLaTeX doesn't know this name; with the nearest known name, if one is near enough.
     Unknown(Option<&'static str>),
 }
 
-// What a name is.
+// Classifies a field name.
 fn look_up(alloc: Global, name: &str) -> Result<FieldName, AllocError>
     ensures { IfOk result (IsFieldName name.now) }
 {
@@ -260,7 +261,7 @@ fn look_up(alloc: Global, name: &str) -> Result<FieldName, AllocError>
     Ok(FieldName::Unknown(meant))
 }
 
-// What a name is, by the names that were met, of which it is one then. A file has few names, each many times.
+// Classifies a field name, with a cache: a file has few names, and each occurs often.
 fn meet(
     alloc: Global,
     met: &mut BTreeMap<String, FieldName>,
@@ -278,7 +279,7 @@ fn meet(
     Ok(is)
 }
 
-// The finding of a field whose name isn't known, of the entry with this key, where this name may be meant.
+// Returns the finding of an unknown field of the entry with this key, with `meant` as the suggestion.
 fn unknown_finding(
     alloc: Global,
     key: &str,
@@ -296,7 +297,7 @@ fn unknown_finding(
     })
 }
 
-// Adds a finding for a field of the entry with this key, if its name isn't known.
+// Appends a finding for a field of the entry with this key, if BibLaTeX doesn't know its name.
 fn add_if_unknown(
     alloc: Global,
     found: &mut Vec<Finding>,
@@ -317,7 +318,7 @@ fn add_if_unknown(
     }
 }
 
-// Adds a finding for each field of an entry whose name isn't known, by the names that were met.
+// Appends a finding for each unknown field of an entry. `met` caches the field names.
 pub(crate) fn add_unknown_fields(
     alloc: Global,
     found: &mut Vec<Finding>,

@@ -1,4 +1,4 @@
-//! Where in an entry something stands.
+//! The places of an entry's fields in the file.
 
 ghost use Rattle.std.specs.Prelude.{◌≡◌, map, option_map};
 ghost use Rattle.bib_syntax.specs.Views.{entry_reading_of, field_of};
@@ -7,7 +7,7 @@ ghost use Rattle.bib_findings.specs.Entries.{field_place, last_named, malformed_
 use bib_syntax::raw::{Pair, RawEntry};
 use bib_text::spanned::{Span, Spanned};
 
-// The last field of this name, in any ASCII case.
+// Returns the last field of this name, in any ASCII case.
 pub(crate) fn last_named<'f, 's>(fields: &'f [Pair<'s>], name: &str) -> Option<&'f Pair<'s>>
     ensures { option_map (λ f. field_of f.now) result ≡ last_named (map field_of fields.now) name.now }
 {
@@ -17,7 +17,7 @@ pub(crate) fn last_named<'f, 's>(fields: &'f [Pair<'s>], name: &str) -> Option<&
         .find(|field| field.key.v.eq_ignore_ascii_case(name))
 }
 
-// Where the name of a field stands in an entry that has a field of this name, and else this.
+// Returns the place of the name of the last field of this name, or `other` if the entry has none.
 fn place_or(said: &Spanned<RawEntry<'_>>, name: &str, other: Span) -> Span
     ensures { result ≡ range_or other (last_named (entry_reading_of said.now).fields name.now) }
 {
@@ -27,14 +27,15 @@ fn place_or(said: &Spanned<RawEntry<'_>>, name: &str, other: Span) -> Span
     }
 }
 
-/// Where the field of this name stands in an entry, or its key where it has none.
+/// Returns the place of the name of this field in an entry, or of the entry's key if it has no such field.
 pub(crate) fn field_place(said: &Spanned<RawEntry<'_>>, name: &str) -> Span
     ensures { result ≡ field_place (entry_reading_of said.now) name.now }
 {
     place_or(said, name, said.v.key.span.start..said.v.key.span.end)
 }
 
-// The field that gives the year of the date of this name, by its parts.
+// Returns the field that contains the year of this date, if the date is given by its parts; any other name is
+// unchanged.
 fn year_name(name: &str) -> &str
     ensures { result.now ≡ year_name name.now }
 {
@@ -47,7 +48,8 @@ fn year_name(name: &str) -> &str
     }
 }
 
-/// Where a field of an entry stands that isn't read: where it is given by its parts, its year.
+/// Returns the place of a malformed field: its name, or its year if a date is given by its parts, or else the entry's
+/// key.
 pub(crate) fn malformed_place(said: &Spanned<RawEntry<'_>>, name: &str) -> Span
     ensures { result ≡ malformed_place (entry_reading_of said.now) name.now }
 {

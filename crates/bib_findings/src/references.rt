@@ -1,4 +1,4 @@
-//! Findings of keys that entries refer to, and that no entry has.
+//! Findings of keys that entries refer to and no entry has.
 
 ghost use Rattle.std.specs.Prelude.{◌≡◌, ◌++◌, ◌<◌, All, length, map, IfOk, OnOk, filter};
 ghost use Rattle.std.specs.List.{flat_map};
@@ -22,13 +22,13 @@ use bib_text::spanned::Spanned;
 use bib_text::text::Text;
 use std::alloc::{AllocError, Global};
 
-// The field that names one entry, by its whole text.
+// The field that contains one key, its whole text.
 const CROSSREF: &str = "crossref";
 
-// The fields by which an entry names others: each but the first by a comma list.
+// The fields that refer to other entries: each except the first contains a comma list of keys.
 static REFERENCE_FIELDS: [&str; 5] = [CROSSREF, "xdata", "xref", "related", "entryset"];
 
-// The keys that these chunks name, as what the field of this name holds.
+// Returns the keys in these chunks, as the value of the field of this name.
 fn keys_of(alloc: Global, field: &str, chunks: ChunksRef<'_>) -> Result<Vec<Text>, AllocError>
     ensures { IfOk result (λ keys. keys.items ≡ keys_of field.now (styled chunks.now)) }
 {
@@ -40,7 +40,7 @@ fn keys_of(alloc: Global, field: &str, chunks: ChunksRef<'_>) -> Result<Vec<Text
     Ok(keys)
 }
 
-// The keys that the field of this name of an entry names.
+// Returns the keys in this field of an entry, or none if the entry lacks the field.
 fn keys_in(alloc: Global, entry: &Entry, field: &str) -> Result<Vec<Text>, AllocError>
     ensures { IfOk result (λ keys. keys.items ≡ keys_in entry.now field.now) }
 {
@@ -50,14 +50,14 @@ fn keys_in(alloc: Global, entry: &Entry, field: &str) -> Result<Vec<Text>, Alloc
     }
 }
 
-// Whether a text is a key, and no entry has it.
+// Returns whether a key isn't empty, and no entry has it as its key or in its field `ids`.
 fn is_unknown(names: &Names, key: &str) -> bool
     ensures { result ≡ is_unknown names.now key.now }
 {
     !key.is_empty() && names.get(key).is_none()
 }
 
-// What is said of a key that a field of the entry with this key names.
+// Returns the message for `named`, a key that no entry has and that a field of the entry with the key `key` refers to.
 fn reference_message(
     alloc: Global,
     key: &str,
@@ -69,7 +69,7 @@ fn reference_message(
     format!(in alloc; "{key}: no entry \"{named}\" ({field})")
 }
 
-// The finding of a key that a field names, and that no entry has.
+// Returns the finding of a key that a field refers to and no entry has.
 fn reference_finding(
     alloc: Global,
     said: &Spanned<RawEntry<'_>>,
@@ -87,7 +87,7 @@ fn reference_finding(
     })
 }
 
-// Adds a finding for each of these keys, which a field names, that no entry has.
+// Appends a finding for each of these keys of a field that no entry has.
 fn add_unknown(
     alloc: Global,
     found: &mut Vec<Finding>,
@@ -107,7 +107,7 @@ fn add_unknown(
     Ok(())
 }
 
-// Adds a finding for each key that a field of an entry names, and that no entry has.
+// Appends a finding for each key that this field of an entry refers to and no entry has.
 fn add_field_references(
     alloc: Global,
     found: &mut Vec<Finding>,
@@ -123,7 +123,7 @@ fn add_field_references(
     add_unknown(alloc, found, names, said, field, &keys)
 }
 
-// Adds a finding for each key that an entry names, in one of these fields, and that no entry has.
+// Appends a finding for each key that these fields of an entry refer to and no entry has.
 fn add_entry_references(
     alloc: Global,
     found: &mut Vec<Finding>,
@@ -141,8 +141,8 @@ fn add_entry_references(
     Ok(())
 }
 
-// Adds a finding for each key that entries name and that none has, by the fields that they have of their own. Each entry
-// has its index among the entries of the file.
+// Appends a finding for each key that an entry refers to and no entry has. `own` contains the entries with only the
+// fields that each has itself, and `origins` the index of each in `said`.
 pub(crate) fn add_references(
     alloc: Global,
     found: &mut Vec<Finding>,

@@ -53,7 +53,7 @@ or_assoc : (a b c : Bool) → (a || b) || c ≡ a || (b || c)
 or_assoc true b c = refl
 or_assoc false b c = refl
 
--- collecting citations and then further ones collects both
+-- collecting citations and then further ones collects both lists in turn
 pub collected_then : (old mid new : Collected) (xs ys : List Citation) → IsCollected old xs mid → IsCollected mid ys new
     → IsCollected old (xs ++ ys) new
 collected_then old mid new xs ys first second = record {
@@ -64,28 +64,28 @@ collected_then old mid new xs ys first second = record {
   seen = second.seen;
 }
 
--- nothing is collected at first
+-- collecting no citations changes nothing
 pub nothing_collected : (c : Collected) → IsSeen c → IsCollected c [] c
 nothing_collected c seen = record { keys = refl; all = of c.all; seen = seen } where
   of : (b : Bool) → b ≡ b || false
   of true = refl
   of false = refl
 
--- a lookup after an insertion finds the inserted key and all earlier ones
+-- after an insertion, a lookup finds the inserted key and each earlier one
 pub some_of : (b : Bool) {A : Type 0} (v : A) (o : Option A) → is_some (cond b (Some v) o) ≡ cond b true (is_some o)
 some_of true v o = refl
 some_of false v o = refl
 
 -- ---- names of sets
 
--- a name is among names before or among further ones
+-- the order of two alternatives doesn't matter
 or_then : (a b : Bool) → a || b ≡ b || a
 or_then true true = refl
 or_then true false = refl
 or_then false true = refl
 or_then false false = refl
 
--- the sets of one more element; `some` is whether the name was known before, and `more` whether it is known now
+-- a name is a set's among elements and one more exactly if it is that of the last element, or a set's among the other elements
 pub listed_more : (pieces : List (Bor (List ℕ))) (piece : Bor (List ℕ)) (key : List ℕ) (some more : Bool)
     → more ≡ (is_listed (set_name piece.now) key || some)
     → some ≡ is_listed (flat_map set_name (map (λ p. p.now) pieces)) key
@@ -100,7 +100,7 @@ listed_more pieces piece key some more new old =
     (flat_map-append set_name (map (λ p. p.now) pieces) (piece.now ∷ []) ∙ ap (λ l. names ++ l) (append-nil last))
     ∙ list_any-append (λ one. bytes_eq one key) names last)
 
--- one name, or further ones
+-- a name is among one name and further ones exactly if it is this one or among the further ones
 pub one_listed : (name key : List ℕ) (more : Bool) → (is_listed (name ∷ []) key || more) ≡ cond (bytes_eq name key) true more
 one_listed name key more = of (bytes_eq name key) where
   of : (b : Bool) → (b || false) || more ≡ cond b true more
@@ -160,12 +160,12 @@ past_take [] (suc n) = omega arith
 past_take (x ∷ xs) zero = omega arith
 past_take (x ∷ xs) (suc n) = omega (arith, past_take xs n)
 
--- the end of a piece is within the text
+-- each piece ends within the text
 pub past_below : (p : ℕ → Bool) (text : List ℕ) (xs : List (List ℕ)) (x : List ℕ) (n : ℕ)
     → xs ++ x ∷ [] ≡ take n (slice_split p text) → past xs + length x ≤ length text
 past_below p text xs x n is = omega (arith, past_push xs x, ap past is, past_take (slice_split p text) n, past_split p text)
 
--- collecting the citations of one more piece
+-- collecting the citations of the first pieces and then those of the next one collects the citations of all of them
 pub collected_next : (cited : List ℕ → List (List ℕ)) (old mid new : Collected) (xs : List (List ℕ)) (x : List ℕ)
     (at : ℕ) → at ≡ past xs → IsCollected old (cites_from cited 0 xs) mid
     → IsCollected mid (cites_at at (cited x)) new

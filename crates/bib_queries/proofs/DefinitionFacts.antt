@@ -22,11 +22,9 @@ use Rattle.bib_queries.specs.Standing.{IsFieldIn}
 use Rattle.bib_text.proofs.ListFacts.{all_append}
 use Rattle.bib_text.proofs.BoundaryFacts.{char_boundary}
 
--- ---- a text may be cut where a character stands
+-- ---- a text may be cut before and after a character, and after a part of a field
 
--- ---- and after what stands there
-
--- a place of a text at which it may be cut
+-- whether a text may be cut at a place of it
 abbrev Cut : List ℕ → Place → Type 0
 Cut text u = (u.text ≡ text) × IsCharBoundary text u.at
 
@@ -63,13 +61,13 @@ cut_elements text utf8 same (elements.last e w ends) = cut_run text utf8 (cut_el
 cut_elements text utf8 same (elements.more e w s w' rest) =
     cut_elements text utf8 ((ahead_run w'.run).text ∙ (s.same ∙ (cut_run text utf8 (cut_element text utf8 same e) w.run).0)) rest
 
--- the source text of a definition may be cut out of its text
+-- whether the source text of a definition may be cut out of its text
 pub record IsCutOut (text : List ℕ) (f : FieldReading) : Type 0 where
   pub ordered : f.name.start ≤ f.value.end
   pub start : IsCharBoundary text f.name.start
   pub end : IsCharBoundary text f.value.end
 
--- a field that is at its offset in a UTF-8 text may be cut out of it
+-- if a field is at its offset in a UTF-8 text, its source text may be cut out
 pub cut_out : (text : List ℕ) (f : FieldReading) → IsUtf8 text → IsFieldIn text f → IsCutOut text f
 cut_out text f utf8 stands =
     let field = stands.1 in

@@ -6,14 +6,14 @@ use Rattle.std.specs.Str.Pattern.{FindsText, LacksTextAt}
 use Rattle.bib_queries.specs.Elements.{text_after_part}
 use Rattle.bib_text.proofs.ListFacts.{begins, begins_not}
 
--- a text without the part
+-- if a text has the part at no offset, no text after it is found
 part_lacks : (part text : List ℕ) → ((at : ℕ) → at ≤ length text → LacksTextAt part text at) → text_after_part part text ≡ None
 part_lacks part [] lacks = ap (λ b. cond b (Some (drop {A = ℕ} (length part) [])) None) (begins_not part [] (lacks 0 (omega arith)))
 part_lacks part (b ∷ text) lacks =
     ap (λ d. cond d (Some (drop (length part) (b ∷ text))) (text_after_part part text)) (begins_not part (b ∷ text) (lacks 0 (omega arith)))
     ∙ part_lacks part text (λ at within. lacks (suc at) (omega (arith, within)))
 
--- a text with the part at an offset, and at none before it
+-- if a text has the part at an offset and at none before it, the text after the part at this offset is found
 part_stands : (part text : List ℕ) (at n : ℕ) → n ≡ at + length part → ((k : ℕ) → k < at → LacksTextAt part text k)
     → drop at text ≡ part ++ drop n text → text_after_part part text ≡ Some (drop n text)
 part_stands part [] zero n ends before split =

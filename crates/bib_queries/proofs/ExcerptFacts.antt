@@ -18,7 +18,7 @@ pub any_mapped : {A B : Type 0} (f : A → B) (test : B → Bool) (xs : List A) 
 any_mapped f test [] = refl
 any_mapped f test (x ∷ xs) = ap (λ rest. test (f x) || rest) (any_mapped f test xs)
 
--- the closing brace of an entry whose body begins here
+-- the place of the closing brace of an entry, with `u` as the start of its body
 record ClosesAt (u : Place) (e : EntryReading) : Type 0 where
   brace : Place
   after : Place
@@ -48,7 +48,7 @@ closes (entry v key white comma gap fields sign) is = record {
       (ahead_then (ahead_char comma) (ahead_then (ahead_gap gap) (ahead_fields fields))));
 }
 
--- the byte at which a character of ASCII stands
+-- if an ASCII character is at a place, the byte at the place's offset is this character
 byte_here : {u v : Place} (c : ℕ) → c < 128 → CharAt u c v → (u.at < length u.text) × (get_or u.text u.at 0 ≡ c)
 byte_here {u} {v} c small char =
     let width : 1 ≤ len_utf8 c = (len_utf8_bounds c).0 in (
@@ -57,14 +57,14 @@ byte_here {u} {v} c small char =
           ∙ ap (λ t. get_or t 0 0) (char.here ∙ ap (λ t. t ++ drop v.at u.text) (encode_ascii c small)),
     )
 
--- the source text of an entry may be cut out of its text
+-- whether the source text of an entry may be cut out of its text
 pub record CanBeCut (text : List ℕ) (e : EntryReading) : Type 0 where
   pub ordered : e.start ≤ e.end
   pub within : e.end < length text
   pub start : IsCharBoundary text e.start
   pub end : IsCharBoundary text (e.end + 1)
 
--- an entry that is a block of a UTF-8 text may be cut out of it
+-- if an entry is a block of a UTF-8 text, its source text may be cut out
 pub can_be_cut : (text : List ℕ) (e : EntryReading) → IsUtf8 text → IsBlockOf text e → CanBeCut text e
 can_be_cut text e utf8 block =
     let sign = block.1.head.sign in

@@ -63,7 +63,7 @@ all_at P v [] n x short is all = absurd (omega (arith, short))
 all_at P v (y ∷ xs) zero x short is all = subst (λ z. P (v z)) is all.0
 all_at P v (y ∷ xs) (suc n) x short is all = all_at P v xs n x (omega (arith, short)) is all.1
 
--- a test of a list with one more element
+-- a list with one more element has one that passes a test exactly if this element passes or the list has one that passes
 pub any_push : {X : Type 0} (test : X → Bool) (xs : List X) (x : X) → list_any test (xs ++ x ∷ []) ≡ cond (test x) true (list_any test xs)
 any_push test [] x = of (test x) where
   of : (b : Bool) → b || false ≡ cond b true false
@@ -76,7 +76,8 @@ any_push test (y ∷ xs) x = ap (λ b. test y || b) (any_push test xs x) ∙ of 
   of false true c = refl
   of false false c = refl
 
--- a test of the images of the first elements and one more
+-- the images of the first elements and the next one have one that passes a test exactly if the next one's passes or an earlier one's
+-- does
 pub any_more : {X Y : Type 0} (v : X → Y) (test : Y → Bool) (xs : List X) (i : ℕ) (d : X) → i < length xs
     → list_any test (map v (take (i + 1) xs)) ≡ cond (test (v (get_or xs i d))) true (list_any test (map v (take i xs)))
 any_more v test xs i d within =
@@ -84,7 +85,7 @@ any_more v test xs i d within =
     ∙ ap (list_any test) (map-append v (take i xs) (get_or xs i d ∷ []))
     ∙ any_push test (map v (take i xs)) (v (get_or xs i d))
 
--- if the image of one element passes a test, the images of a list have one that passes
+-- if the image of an element of a list passes a test, the images of the list have one that passes
 pub any_at : {X Y : Type 0} (v : X → Y) (test : Y → Bool) (xs : List X) (i : ℕ) (d : X) → i < length xs
     → test (v (get_or xs i d)) ≡ true → list_any test (map v xs) ≡ true
 any_at v test [] i d within passes = absurd (omega (arith, within))
@@ -92,7 +93,7 @@ any_at v test (x ∷ xs) zero d within passes = ap (λ b. b || list_any test (ma
 any_at v test (x ∷ xs) (suc i) d within passes =
     ap (λ b. test (v x) || b) (any_at v test xs i d (omega (arith, within)) passes) ∙ or-true (test (v x))
 
--- the output for the first elements and one more
+-- the output for the first elements and the next one is that for the first elements, followed by that for the next one
 pub made_of_more : {X Y A : Type 0} (v : X → Y) (f : Y → List A) (xs : List X) (i : ℕ) (x : X) → i < length xs
     → get_or xs i x ≡ x → flat_map f (map v (take (i + 1) xs)) ≡ flat_map f (map v (take i xs)) ++ f (v x)
 made_of_more v f xs i x within is =
@@ -100,7 +101,7 @@ made_of_more v f xs i x within is =
     ∙ ap (flat_map f) (map-append v (take i xs) (x ∷ []))
     ∙ flat_map-append f (map v (take i xs)) (v x ∷ []) ∙ ap (λ l. flat_map f (map v (take i xs)) ++ l) (append-nil (f (v x)))
 
--- the same, with the element at the index
+-- the output for the first `i + 1` elements is that for the first `i`, followed by that for the element at `i`
 pub made_at : {X Y A : Type 0} (v : X → Y) (f : Y → List A) (xs : List X) (i : ℕ) (d : X) → i < length xs
     → flat_map f (map v (take (i + 1) xs)) ≡ flat_map f (map v (take i xs)) ++ f (v (get_or xs i d))
 made_at v f xs i d within =
@@ -111,13 +112,13 @@ made_at v f xs i d within =
 
 -- ---- marks
 
--- a mark on an index without one leaves one index less without a mark
+-- if an index without a mark gets one, one index less has no mark
 pub unmarked_less : (marks : List Bool) (r : ℕ) → r < length marks → get_or marks r false ≡ false
     → unmarked_count (set marks r true) + 1 ≡ unmarked_count marks
 unmarked_less marks r within h =
     let e = sum_by-set (λ b. cond (not b) 1 0) marks r true false within in omega (arith, e, ap (λ (b : Bool). cond {A = ℕ} (not b) 1 0) h)
 
--- after a mark on an index, this index has a mark, and every other index is unchanged
+-- after an index gets a mark, it has a mark, and every other index is unchanged
 pub set_decides : (marks : List Bool) (index p : ℕ) → index < length marks
     → ((p ≡ index) × IsMarked (set marks index true) p)
     ⊎ ((p ≢ index) × (get_or (set marks index true) p false ≡ get_or marks p false))
@@ -127,7 +128,7 @@ set_decides marks index p within =
       | inr t ↦ inr (t.1, get_or-set_other marks index p true false t.1)
     ]
 
--- a mark on an index removes no other mark
+-- if an index gets a mark, no other index loses its mark
 pub mark_kept : (marks : List Bool) (index r : ℕ) → index < length marks → IsMarked marks r → IsMarked (set marks index true) r
 mark_kept marks index r within h = elim (set_decides marks index r within) [ inl t ↦ t.1 | inr t ↦ t.1 ∙ h ]
 

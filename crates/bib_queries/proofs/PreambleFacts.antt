@@ -56,7 +56,7 @@ other_sign b bs no_slash no_quote =
     ap (λ x. cond x (are_quotes_hidden true bs) (not (b == 34) && are_quotes_hidden false bs)) (ne_eqb b 92 no_slash)
     ∙ ap (λ x. not x && are_quotes_hidden false bs) (ne_eqb b 34 no_quote)
 
--- neither do several
+-- bytes that are neither a quote nor a backslash change nothing
 other_signs : (bs rest : List ℕ) → ((k : ℕ) → k < length bs → get_or bs k 0 ≡ 92 → ⊥)
     → ((k : ℕ) → k < length bs → get_or bs k 0 ≡ 34 → ⊥)
     → are_quotes_hidden false (bs ++ rest) ≡ are_quotes_hidden false rest
@@ -65,7 +65,7 @@ other_signs (b ∷ bs) rest no_slash no_quote =
     other_sign b (bs ++ rest) (no_slash 0 (omega arith)) (no_quote 0 (omega arith))
     ∙ other_signs bs rest (λ k below. no_slash (suc k) (omega (arith, below))) (λ k below. no_quote (suc k) (omega (arith, below)))
 
--- an ASCII byte of a character is the character
+-- if a byte of an encoded character is an ASCII byte, the character is this byte
 sole : (c d k : ℕ) → d < 128 → k < length (encode_utf8 c) → get_or (encode_utf8 c) k 0 ≡ d → c ≡ d
 sole c d k small below is =
     inside_one c [] (encode_utf8 c) k (sym (append-nil (encode_utf8 c))) below (omega (arith, is, small)) ∙ is
@@ -76,7 +76,7 @@ past_other c rest no_slash no_quote =
     other_signs (encode_utf8 c) rest (λ k below is. no_slash (sole c 92 k (omega arith) below is))
     (λ k below is. no_quote (sole c 34 k (omega arith) below is))
 
--- a byte of a character after its first byte is not ASCII
+-- no byte of an encoded character after its first byte is ASCII
 not_first : (c d k : ℕ) → d < 128 → suc k < length (encode_utf8 c) → get_or (encode_utf8 c) (suc k) 0 ≡ d → ⊥
 not_first c d k small below is =
     let same : c ≡ d = sole c d (suc k) small below is in
@@ -96,7 +96,7 @@ past_hidden c rest = by (encode_utf8 c) (length-encode c) (λ k below. not_first
 past_slash : (rest : List ℕ) → are_quotes_hidden false (encode_utf8 92 ++ rest) ≡ are_quotes_hidden true rest
 past_slash rest = ap (λ t. are_quotes_hidden false (t ++ rest)) (encode_ascii 92 (omega arith))
 
--- a character of quoted parts is neither a quote nor a backslash
+-- whether a character is neither a quote nor a backslash
 abbrev is_unquoted : ℕ → Bool
 is_unquoted c = not (c == 34) && not (c == 92)
 
@@ -141,7 +141,7 @@ quoted_preamble q =
 none_joined : ArePreambles [] []
 none_joined = record { each = _; is = refl }
 
--- one more preamble before others
+-- joining one more preamble before others puts its text before theirs
 joined_more : (first rest : List ℕ) (inside : List ℕ) (insides : List (List ℕ)) → first ≡ quoted_text inside → CanBeQuoted inside
     → ArePreambles rest insides → ArePreambles (joined_preambles first rest) (inside ∷ insides)
 joined_more first rest inside [] is hidden others = record {
@@ -162,7 +162,7 @@ joined_more first rest inside (next ∷ (other ∷ more)) is hidden others = rec
       ∙ append_assoc (quoted_text inside) (codes " # ") (joined_quotes (next ∷ (other ∷ more)));
 }
 
--- the preambles of a block and of what follows it
+-- the preambles of a block and of the blocks after it are texts in quotes
 block_preambles : {start u v : Place} {p : Part} {k : BlockKind} {first : FileReading} (rest : List ℕ) → Body longest start p k u first v
     → (insides : List (List ℕ)) × ArePreambles rest insides
     → (insides : List (List ℕ)) × ArePreambles (joined_preambles first.preamble rest) insides
@@ -194,7 +194,7 @@ closes_here (b ∷ inside) rest zero within hidden is = absurd (test_clash (are_
 closes_here (b ∷ inside) rest (suc at) within hidden is =
     let here : at ≡ length inside = closes_here inside rest at (omega (arith, within)) hidden is in omega (arith, here)
 
--- the byte after which the next one is hidden
+-- whether a byte hides the next one
 abbrev hides : Bool → ℕ → Bool
 hides is_hidden b = not is_hidden && b == 92
 
@@ -228,18 +228,18 @@ goes_on (b ∷ inside) rest is_hidden (suc at) within hidden other =
           (λ n. are_quotes_hidden (hides is_hidden (get_or (inside ++ 34 ∷ rest) at 0)) (drop n (b ∷ inside)) ≡ true) one next.1,
     )
 
--- the place in the text of a preamble
+-- whether `at` is an offset in the text of a preamble or its end, and all quotes from there on are hidden
 abbrev pub IsAt : List ℕ → Bool → ℕ → Type 0
 IsAt inside is_hidden at = (at ≤ length inside) × (are_quotes_hidden is_hidden (drop at inside) ≡ true)
 
--- a byte that is the closing quote by the test
+-- if the test finds the closing quote at an offset, the text of the preamble ends there
 pub closed_at : (text inside rest : List ℕ) (is_hidden : Bool) (at : ℕ) → text ≡ inside ++ 34 ∷ rest
     → (not is_hidden && get_or text at 0 == 34) ≡ true → IsAt inside is_hidden at → at ≡ length inside
 closed_at text inside rest true at is closes here = absurd (test_clash false closes refl)
 closed_at text inside rest false at is closes here =
     closes_here inside rest at here.0 here.1 (sym (ap (λ t. get_or t at 0) is) ∙ eqb-true (get_or text at 0) 34 closes)
 
--- a byte that isn't the closing quote by the test
+-- if the test doesn't find the closing quote at an offset, the next offset is in the text of the preamble
 pub open_at : (text inside rest : List ℕ) (is_hidden hides_next : Bool) (at : ℕ) → text ≡ inside ++ 34 ∷ rest
     → (not is_hidden && get_or text at 0 == 34) ≡ false → hides_next ≡ (not is_hidden && get_or text at 0 == 92)
     → IsAt inside is_hidden at → IsAt inside hides_next (at + 1)
@@ -262,13 +262,13 @@ past_end text inside rest at is long within =
 
 -- ---- one preamble after another
 
--- the text after a prefix that a text has
+-- if a text begins with a prefix, the text after the prefix is found
 after_begins : (prefix rest : List ℕ) → text_after_prefix prefix (prefix ++ rest) ≡ Some rest
 after_begins prefix rest =
     ap (λ b. cond b (Some (drop (length prefix) (prefix ++ rest))) None) (begins prefix (prefix ++ rest) rest refl)
     ∙ ap Some (drop_at prefix rest (length prefix) refl)
 
--- a text with a text after a prefix is the prefix and this text
+-- if the text after a prefix is found, the text is the prefix and that text
 after_is : (prefix text rest : List ℕ) → text_after_prefix prefix text ≡ Some rest → text ≡ prefix ++ rest
 after_is prefix text rest is = by (starts_with eqb text prefix) refl where
   by : (b : Bool) → starts_with eqb text prefix ≡ b → text ≡ prefix ++ rest
@@ -280,7 +280,7 @@ after_is prefix text rest is = by (starts_with eqb text prefix) refl where
       let none : None ≡ Some rest = sym (ap (λ b. cond b (Some (drop (length prefix) text)) None) begun) ∙ is in
       absurd (false≢true (ap is_some none))
 
--- the text after a closing quote and ` # `, or no text
+-- the text after a closing quote and ` # `, or the empty text if these are missing
 abbrev joint : List ℕ → List ℕ
 joint text = option_map_or (λ rest. rest) (text_after_prefix (codes "\" # ") text) []
 
@@ -295,7 +295,7 @@ joint_shorter text = by (text_after_prefix (codes "\" # ") text) refl where
         ap length (after_is (codes "\" # ") text rest is),
       )
 
--- fewer bytes are left after one more preamble
+-- after one more preamble, the remaining text is shorter
 pub joint_smaller : (rest opened closed rest' : List ℕ) (n : ℕ) → text_after_prefix (codes "\"") rest ≡ Some opened
     → closed ≡ drop n opened → rest' ≡ joint closed → length rest' < length rest
 joint_smaller rest opened closed rest' n is cut next =
@@ -308,18 +308,18 @@ joint_smaller rest opened closed rest' n is cut next =
       joint_shorter closed,
     )
 
--- the preambles that are still to be printed
+-- the preambles that are still to be printed: after them, the output is `whole`
 pub record IsLeft (rest printed whole : List ℕ) : Type 0 where
   pub left : List (List ℕ)
   pub are : ArePreambles rest left
   pub same : printed ++ flat_map preamble_line left ≡ whole
 
--- at first, all of them
+-- at first, all preambles are still to be printed
 pub left_first : (joined printed : List ℕ) (insides : List (List ℕ)) → ArePreambles joined insides
     → IsLeft joined printed (printed ++ flat_map preamble_line insides)
 left_first joined printed insides are = record { left = insides; are = are; same = refl }
 
--- the text of the first preamble, and what follows its closing quote
+-- the text of the first preamble, and the text from its closing quote on
 record FirstPreamble (opened : List ℕ) (insides : List (List ℕ)) : Type 0 where
   inside : List ℕ
   tail : List ℕ
@@ -353,7 +353,7 @@ first_preamble rest opened (inside ∷ (next ∷ more)) is each joined =
       are = record { each = each.1; is = ap (λ o. option_map_or (λ (t : List ℕ). t) o []) (after_begins (codes "\" # ") others) };
     }
 
--- after one more preamble, the others
+-- after one more preamble is printed, the other ones are still to be printed
 pub left_next : (rest opened inside' closed rest' printed printed' whole : List ℕ) (n : ℕ)
     → text_after_prefix (codes "\"") rest ≡ Some opened
     → ((inside tail : List ℕ) → CanBeQuoted inside → opened ≡ inside ++ 34 ∷ tail → n ≡ length inside)
@@ -375,12 +375,12 @@ left_next rest opened inside' closed rest' printed printed' whole n is at front 
           ∙ ap (λ l. printed ++ flat_map preamble_line l) (sym first.parts) ∙ before.same;
     }
 
--- a text that begins with a quote has a text after it
+-- if no text after a quote is found, the text doesn't begin with a quote
 begun : (rest more : List ℕ) → text_after_prefix (codes "\"") rest ≡ None → rest ≡ 34 ∷ more → ⊥
 begun rest more none is =
     false≢true (ap is_some (sym none ∙ ap (text_after_prefix (codes "\"")) is ∙ after_begins (codes "\"") more))
 
--- at the end, none
+-- if the remaining text doesn't begin with a quote, the output is complete
 pub left_last : (rest printed whole : List ℕ) → text_after_prefix (codes "\"") rest ≡ None → IsLeft rest printed whole → printed ≡ whole
 left_last rest printed whole none before = by before.left before.are.is before.same where
   by : (left : List (List ℕ)) → rest ≡ joined_quotes left → printed ++ flat_map preamble_line left ≡ whole → printed ≡ whole

@@ -27,14 +27,14 @@ pub empty : (l : List ℕ) → length l ≡ 0 → l ≡ []
 empty [] is = refl
 empty (x ∷ l) is = absurd (omega (arith, is))
 
--- ---- one more name, one more thing
+-- ---- one more name, one more node
 
 -- a name is among names and one more if it is this one or among the others
 pub among_push : (names : List (List ℕ)) (one name : List ℕ)
     → is_listed (names ++ one ∷ []) name ≡ cond (bytes_eq one name) true (is_listed names name)
 among_push names one name = any_push (λ n. bytes_eq n name) names one
 
--- the indices of a name after one more index, which is added if `b`
+-- if the indices of a name are right for the names so far, they are right after one more name, with the index appended if `b`
 pub holder_more : (b : Bool) (old now after : List ℕ) (index one : ℕ) (among among' : Bool)
     → after ≡ cond b (now ++ index ∷ []) now → among' ≡ cond b true among
     → Contains now one ↔ (Contains old one ⊎ ((one ≡ index) × (among ≡ true)))
@@ -122,7 +122,7 @@ node_push (first ∷ nodes) node (suc index) name =
       λ h. so.1 (⊎_elim (λ x. inl x) (λ x. inr (omega (arith, x.0), x.1)) h),
     )
 
--- a map of the nodes with each name, extended by one more node
+-- a map of the nodes with each name stays one if a node is appended and its index is added to its names
 pub holders_push : (nodes : List Node) (node : Node) (m m' : Map) → AreHolders nodes m
     →
     ((name : List ℕ) (one : ℕ)
@@ -171,7 +171,7 @@ named_below nodes index name h = elim (cases_lt index (length nodes)) [
 
 -- ---- marks on indices, one after another
 
--- no new marks and no new pending indices
+-- unchanged marks and pending indices are an extension
 pub nothing_marked : (is_new : ℕ → Type 0) (marks : List Bool) (pending : List ℕ) → Marks is_new marks pending marks pending
 nothing_marked is_new marks pending = record {
   kept = λ i h. h;
@@ -181,7 +181,7 @@ nothing_marked is_new marks pending = record {
   as_many = refl;
 }
 
--- marks on indices for which `P` holds are marks on indices for which `Q` holds, if `P` implies it
+-- if `P` implies `Q`, an extension by indices with `P` is an extension by indices with `Q`
 pub marks_weaker : (P Q : ℕ → Type 0) → ((i : ℕ) → P i → Q i)
     → (old : List Bool) (before : List ℕ) (new : List Bool) (after : List ℕ) → Marks P old before new after
     → Marks Q old before new after
@@ -193,7 +193,7 @@ marks_weaker P Q weaker old before new after h = record {
   as_many = h.as_many;
 }
 
--- an index without a mark gets one, and is pending
+-- if an index without a mark gets one and becomes pending, the marks are extended by this index
 pub one_marked : (marks : List Bool) (pending : List ℕ) (index : ℕ) → index < length marks
     → get_or marks index false ≡ false
     → Marks (λ i. i ≡ index) marks pending (set marks index true) (pending ++ index ∷ [])
@@ -214,7 +214,7 @@ one_marked marks pending index within none = record {
   as_many = omega (arith, unmarked_less marks index within none, length_push pending index);
 }
 
--- two extensions of marks in turn are one
+-- an extension of an extension is an extension of the first state
 pub marks_then : (P : ℕ → Type 0) (old : List Bool) (before : List ℕ) (mid : List Bool) (between : List ℕ)
     (new : List Bool) (after : List ℕ) → Marks P old before mid between → Marks P mid between new after
     → Marks P old before new after
@@ -226,7 +226,7 @@ marks_then P old before mid between new after first second = record {
   as_many = omega (arith, first.as_many, second.as_many);
 }
 
--- the next of some indices gets a mark, if it has none
+-- giving a mark to the next index, which has none, and making it pending extends the marks by one of the indices
 pub mark_next : (indices : List ℕ) (k : ℕ) (old : List Bool) (before : List ℕ) (marks marks' : List Bool)
     (pending pending' : List ℕ) → k < length indices → get_or indices k 0 < length marks
     → get_or marks (get_or indices k 0) false ≡ false
@@ -254,7 +254,7 @@ all_next indices k marks marks' below kept here all =
 pub nothing_looked_up : (m : Map) (marks : List Bool) → LooksUp m [] marks m
 nothing_looked_up m marks = record { looked_up = λ name no. absurd (false≢true no); left = λ name. inl refl }
 
--- one more name is looked up
+-- after one more name is looked up, it and the names before it are looked up
 pub one_looked_up : (m mid new : Map) (names : List (List ℕ)) (one : List ℕ) (marks marks' : List Bool)
     → LooksUp m names marks mid → ((i : ℕ) → IsMarked marks i → IsMarked marks' i)
     → All (IsMarked marks') (holders_in mid one)
@@ -314,7 +314,7 @@ left_below m mid names marks n h below other =
 
 -- ---- the search
 
--- all nodes with a name have marks
+-- whether all nodes with a name have marks
 abbrev pub IsTaken : List Node → List Bool → List ℕ → Type 0
 IsTaken nodes marks name = (index : ℕ) → HasName nodes index name → IsMarked marks index
 
@@ -354,7 +354,7 @@ module _ (names : List (List ℕ)) (nodes : List Node) where
             (h.held name _ (Contains-get_or (holders_in m name) k 0 below)),
       ))
 
-  -- further names are looked up
+  -- the state after further names are looked up
   module _ (m m' : Map) (marks marks' : List Bool) (pending pending' : List ℕ) (asked_for : List (List ℕ))
       (len : length marks' ≡ length marks) (marked : Marks (AreHoldersIn m asked_for) marks pending marks' pending')
       (expands : LooksUp m asked_for marks' m') (h : IsBegun m marks) where
@@ -386,7 +386,7 @@ module _ (names : List (List ℕ)) (nodes : List Node) where
     pub kept_taken : (name : List ℕ) → IsTaken nodes marks name → IsTaken nodes marks' name
     kept_taken name t i named = marked.kept i (t i named)
 
-  -- the search begins with the requested names
+  -- looking up the requested names begins the search
   pub search_first : (m m' : Map) (marks marks' : List Bool) (pending' : List ℕ) → length marks' ≡ length marks
       → ((i : ℕ) → IsMarked marks i → ⊥) → Marks (AreHoldersIn m names) marks [] marks' pending'
       → LooksUp m names marks' m' → IsBegun m marks → IsSearch m' marks' pending'
@@ -397,7 +397,7 @@ module _ (names : List (List ℕ)) (nodes : List Node) where
     closed = λ i now. ⊎_elim (λ was. absurd (none i was)) (λ x. inl x.1) (marked.only i now);
   }
 
-  -- the names that the last pending node refers to are looked up
+  -- looking up the names that the last pending node refers to continues the search
   pub search_more : (m m' : Map) (marks marks' : List Bool) (before pending pending' : List ℕ) (index : ℕ)
       → before ≡ pending ++ index ∷ [] → length marks' ≡ length marks
       → Marks (AreHoldersIn m (node_at nodes index).references) marks pending marks' pending'
@@ -438,7 +438,7 @@ module _ (names : List (List ℕ)) (nodes : List Node) where
     each = λ i below. (λ now. h.begun.sound i now, λ needed. complete m marks i h needed);
   }
 
-  -- the search begins with no marks
+  -- looking up the requested names without any marks begins the search
   pub search_start : (m m' : Map) (old marks' : List Bool) (before pending' : List ℕ)
       → old ≡ replicate (length nodes) false → before ≡ [] → length marks' ≡ length old
       → Marks (AreHoldersIn m names) old before marks' pending' → LooksUp m names marks' m'
@@ -470,7 +470,7 @@ node_of_at [] index link within is = absurd (omega (arith, within))
 node_of_at (l ∷ links) zero link within is = ap node_of (sym is)
 node_of_at (l ∷ links) (suc index) link within is = node_of_at links index link (omega (arith, within)) is
 
--- a step of the search
+-- looking up the references of the last pending node is a step of the search
 pub search_step : (names : List (List ℕ)) (links : List Links) (m m' : Map) (marks old marks' : List Bool)
     (before pending pending' : List ℕ) (index : ℕ) (link : Links) (refs : List (Bor (List ℕ))) → old ≡ marks
     → before ≡ pending ++ index ∷ []

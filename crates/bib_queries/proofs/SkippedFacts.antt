@@ -17,7 +17,7 @@ use Rattle.std.proofs.Math.Bool.{or-true}
 use Rattle.bib_queries.specs.Standing.{IsSkippedIn}
 use Rattle.bib_queries.proofs.MarkFacts.{any_push}
 
--- a text may be cut where recovery continues
+-- a text may be cut at each place where recovery continues
 cut_on : {u w : Place} (text : List ℕ) → w.text ≡ text → GoesOnAt u w → IsCharBoundary text w.at
 cut_on {u} {w} text same on =
     subst (λ t. IsCharBoundary t w.at) same
@@ -40,7 +40,7 @@ skipped_stand {u} text same (recovered.unread {w = w} sign none on x) =
       skipped_stand text there x,
     )
 
--- the output for the first elements and one more
+-- the output for the first elements and the next one is that for the first elements, followed by that for the next one
 pub lines_more : {X : Type 0} (f : X → List ℕ) (xs : List X) (i : ℕ) (x : X) → i < length xs → get_or xs i x ≡ x
     → flat_map f (take (i + 1) xs) ≡ flat_map f (take i xs) ++ f x
 lines_more f xs i x within is =
@@ -54,7 +54,7 @@ each_at P [] i x within is all = absurd (omega (arith, within))
 each_at P (y ∷ xs) zero x within is all = subst P is all.0
 each_at P (y ∷ xs) (suc i) x within is all = each_at P xs i x (omega (arith, within)) is all.1
 
--- if one element passes a test, a list has one that passes
+-- if an element of a list passes a test, the list has one that passes
 pub any_here : {X : Type 0} (test : X → Bool) (xs : List X) (i : ℕ) (x : X) → i < length xs → get_or xs i x ≡ x
     → test x ≡ true → list_any test xs ≡ true
 any_here test [] i x within is passes = absurd (omega (arith, within))
@@ -62,7 +62,7 @@ any_here test (y ∷ xs) zero x within is passes = ap (λ b. b || list_any test 
 any_here test (y ∷ xs) (suc i) x within is passes =
     ap (λ b. test y || b) (any_here test xs i x (omega (arith, within)) is passes) ∙ or-true (test y)
 
--- if no element passes and one more fails, none of them passes
+-- if no element so far passes and the next one fails, none of them passes
 pub none_more : {X : Type 0} (test : X → Bool) (xs : List X) (i : ℕ) (x : X) → i < length xs → get_or xs i x ≡ x
     → test x ≡ false → list_any test (take i xs) ≡ false → list_any test (take (i + 1) xs) ≡ false
 none_more test xs i x within is fails none =

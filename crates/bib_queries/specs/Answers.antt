@@ -42,7 +42,7 @@ has_key keys e = is_listed keys e.key.text
 abbrev pub is_found_in : List ℕ → List ℕ → EntryReading → Bool
 is_found_in name part e = list_any (is_found name part) e.fields
 
--- the output for a request on the parsed and the skipped blocks of a text, and whether it has an entry or a key
+-- whether `printed` is the output for a request on the parsed and the skipped blocks of a text; `has_entry`: it has an entry or a key
 abbrev pub IsPrinted : Request → List ℕ → FileReading → List SkippedBlock → List ℕ → Bool → Type 0
 IsPrinted Keys text says skipped printed has_entry = (printed ≡ lines_of_keys says.entries) × (has_entry ≡ not (length printed == 0))
 IsPrinted (Get keys) text says skipped printed has_entry =
@@ -52,7 +52,7 @@ IsPrinted (Grep search) text says skipped printed has_entry =
 IsPrinted (Cited cited) text says skipped printed has_entry =
     IsExcerpt (map (λ key. key.now) cited.keys.items) cited.all text says skipped printed has_entry
 
--- the output for a request on the blocks of a text, and whether it has an entry or a key
+-- whether `printed` is the output for a request on a text; `has_entry`: it has an entry or a key
 pub record IsTextAnswer (request : Request) (text printed : List ℕ) (has_entry : Bool) : Type 0 where
   pub says : FileReading
   pub skipped : List SkippedBlock

@@ -17,7 +17,7 @@ unlisted_key names key = if is_listed names key then [] else key ∷ []
 abbrev pub unlisted_keys : List (List ℕ) → List (List ℕ) → List (List ℕ)
 unlisted_keys names keys = flat_map (unlisted_key names) keys
 
--- the keys that an element of a control file cites, if the file defines these sets: Biber makes the entry of a set itself
+-- the keys that an element of a control file cites, except the names of these sets, because Biber makes the entry of a set itself
 abbrev pub bcf_cited : List (List ℕ) → List ℕ → List (List ℕ)
 bcf_cited sets piece = unlisted_keys sets (element_keys piece)
 
@@ -34,7 +34,7 @@ cites_from cited at (piece ∷ rest) = cites_at at (cited piece) ++ cites_from c
 abbrev pub cites_all : List Citation → Bool
 cites_all cites = list_any (λ c. bytes_eq c.key (codes "*")) cites
 
--- citations and one more, unless its key is cited already or is `*`
+-- the citations with one more, unless its key is cited already or is `*`
 abbrev pub add_citation : List Citation → Citation → List Citation
 add_citation keys c = if bytes_eq c.key (codes "*") || list_any (λ k. bytes_eq k.key c.key) keys then keys else keys ++ c ∷ []
 
@@ -42,15 +42,15 @@ add_citation keys c = if bytes_eq c.key (codes "*") || list_any (λ k. bytes_eq 
 abbrev pub first_citations : List Citation → List Citation
 first_citations cites = fold add_citation [] cites
 
--- `found` are the citations of `text`, whose pieces are separated by a byte; `cited` says which keys a piece cites
+-- whether `found` are the citations of `text`, whose pieces are separated by one byte each; `cited` returns the keys of a piece
 pub record AreCitations (cited : List ℕ → List (List ℕ)) (separates : ℕ → Bool) (text : List ℕ) (found : Citations) : Type 0 where
   pub keys : found.keys.items ≡ first_citations (cites_from cited 0 (slice_split separates text))
   pub all : found.all ≡ cites_all (cites_from cited 0 (slice_split separates text))
 
--- `found` are the citations of an .aux file with this text
+-- whether `found` are the citations of an .aux file with this text
 abbrev pub AreAuxCitations : List ℕ → Citations → Type 0
 AreAuxCitations text found = AreCitations aux_cited (λ b. b == char.line_feed) text found
 
--- `found` are the citations of a control file with this text
+-- whether `found` are the citations of a control file with this text
 abbrev pub AreBcfCitations : List ℕ → Citations → Type 0
 AreBcfCitations text found = AreCitations (bcf_cited (set_names text)) (λ b. b == char.less) text found

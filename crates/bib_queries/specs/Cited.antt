@@ -39,14 +39,14 @@ used_in_entry e = used_in_fields e.fields
 abbrev pub used_in_entries : List EntryReading → List (List ℕ)
 used_in_entries entries = flat_map used_in_entry entries
 
--- the entry at an index is cited, or a cited entry refers to it, transitively
+-- whether the entry at an index is cited, or a cited entry refers to it, transitively
 pub data IsCited (names : List (List ℕ)) (all : Bool) (nodes : List Node) : ℕ → Type 0 where
   any : {index : ℕ} → all ≡ true → IsCited names all nodes index
   needed : {index : ℕ} → IsNeeded names nodes index → IsCited names all nodes index
 
--- `printed` is the output for these citations (`all`: of all entries): the definitions with marks, the preambles of the file, those of
--- its skipped blocks and the entries with marks; `has_entry` says whether an entry has a mark. A preamble that is read uses no
--- definition. One that is skipped may use any, so all definitions have marks if there is one.
+-- whether `printed` is the output for these citations (`all`: of all entries): the definitions with marks, the preambles of the file,
+-- those of its skipped blocks, and the entries with marks. `has_entry` says whether an entry has a mark. A parsed preamble uses no
+-- definition. A skipped one may use any, so if there is one, all definitions have marks.
 pub record IsExcerpt (names : List (List ℕ)) (all : Bool) (text : List ℕ) (says : FileReading) (skipped : List SkippedBlock)
     (printed : List ℕ) (has_entry : Bool) : Type 0 where
   pub entry_marks : List Bool

@@ -8,7 +8,7 @@ use Rattle.bib_text.specs.Characters as char
 use Rattle.bib_queries.specs.Lines.{text_after_prefix}
 use Rattle.bib_queries.specs.Names.{comma_parts, name_if_filled}
 
--- an XML escape: the text after its ampersand, and the character that it stands for
+-- an XML escape: the text after its ampersand, and its character
 pub record Escape : Type 0 where
   pub name : List ℕ
   pub character : List ℕ
@@ -28,7 +28,7 @@ unescaped_by [] text = codes "&" ++ text
 unescaped_by (escape ∷ others) text =
     option_map_or (λ rest. escape.character ++ rest) (text_after_prefix escape.name text) (unescaped_by others text)
 
--- the same for the five escapes
+-- a text that follows an ampersand, with one of the five escapes at its start replaced by its character
 abbrev pub unescaped_piece : List ℕ → List ℕ
 unescaped_piece text = unescaped_by escapes text
 
@@ -103,15 +103,15 @@ is_set piece = option_map_or defines_set (citekey_tag piece) false
 abbrev pub member_list : List ℕ → Option (List ℕ)
 member_list piece = option_and_then (attribute (codes " members=\"")) (citekey_tag piece)
 
--- the text in which an element `bcf:citekey` has its keys: the members of a set, or its text
+-- the text with the keys of an element `bcf:citekey`: the members of a set, or the element's text
 abbrev pub key_list : List ℕ → Option (List ℕ)
 key_list piece = if is_set piece then member_list piece else citekey_text piece
 
--- the keys in such a text: those of a comma-separated list, or one key
+-- the keys in a text: those of a comma-separated list if `has_commas` is true, or one key otherwise
 abbrev pub listed_keys : Bool → List ℕ → List (List ℕ)
 listed_keys has_commas list = if has_commas then comma_parts list else name_if_filled (trim list)
 
--- the keys of an element: the members of a set, or the key that its text is
+-- the keys of an element: the members of a set, or the one key in its text
 abbrev pub element_keys : List ℕ → List (List ℕ)
 element_keys piece = option_map_or (λ list. listed_keys (is_set piece) (unescaped_text list)) (key_list piece) []
 

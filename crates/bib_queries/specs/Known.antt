@@ -12,7 +12,7 @@ use Rattle.bib_queries.specs.Needed.{is_listed}
 abbrev pub all_names : List EntryReading → List (List ℕ)
 all_names entries = flat_map entry_names entries
 
--- a mark for each key: whether it is a name of an entry that can be parsed of the text
+-- whether the marks say, for each key, whether it is a name of an entry that can be parsed in the text
 pub record IsKnownIn (text : List ℕ) (keys : List (List ℕ)) (marks : List Bool) : Type 0 where
   pub says : FileReading
   pub skipped : List SkippedBlock
@@ -31,7 +31,7 @@ uncited_key keys e = if has_name_among keys (entry_names e) then [] else e.key �
 abbrev pub uncited_keys : List (List ℕ) → List EntryReading → List Part
 uncited_keys keys entries = flat_map (uncited_key keys) entries
 
--- `found` are the keys, with their spans, of the entries that can be parsed of a text and have no name among `keys`
+-- whether `found` are the keys, with their spans, of the entries that can be parsed in a text and have no name among `keys`
 pub record IsUncited (text : List ℕ) (keys : List (List ℕ)) (found : List Part) : Type 0 where
   pub says : FileReading
   pub skipped : List SkippedBlock

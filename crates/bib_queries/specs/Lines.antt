@@ -32,7 +32,7 @@ last_argument text =
     if has_close text then option_map_or argument (text_after_prefix (codes "{") (after_close text)) (Some (before_close text))
     else None
 
--- the text after the citation command at the start of a line: that of LaTeX, or that of BibLaTeX
+-- the text after the command of LaTeX or of BibLaTeX for a citation, at the start of a line, or `None` without one
 abbrev pub after_command : List ℕ → Option (List ℕ)
 after_command line = option_or (text_after_prefix (codes "\\citation{") line) (text_after_prefix (codes "\\abx@aux@cite{") line)
 
@@ -48,10 +48,10 @@ aux_cited line = option_map_or comma_parts (aux_list line) []
 abbrev pub aux_name : List ℕ → Option (List ℕ)
 aux_name name = if ends_with eqb name (codes ".aux") then Some name else None
 
--- the name of the .aux file that a line inputs, as the line of `\include` does
+-- the name of the .aux file that a line inputs, or `None` if it inputs none; LaTeX writes such a line for `\include`
 abbrev pub aux_input : List ℕ → Option (List ℕ)
 aux_input line = option_and_then aux_name (option_and_then argument (text_after_prefix (codes "\\@input{") line))
 
--- the comma-separated names of .bib files in a line
+-- the comma-separated names of .bib files in a line, or `None` if it names none
 abbrev pub aux_data : List ℕ → Option (List ℕ)
 aux_data line = option_and_then argument (text_after_prefix (codes "\\bibdata{") line)

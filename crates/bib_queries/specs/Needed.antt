@@ -17,21 +17,21 @@ is_listed names name = list_any (λ one. bytes_eq one name) names
 abbrev pub node_at : List Node → ℕ → Node
 node_at nodes index = slice_index_or nodes index (record { names = []; references = [] })
 
--- the node at an index has a name
+-- whether the node at an index has a name
 abbrev pub HasName : List Node → ℕ → List ℕ → Type 0
 HasName nodes index name = is_listed (node_at nodes index).names name ≡ true
 
--- the node at an index refers to a name
+-- whether the node at an index refers to a name
 abbrev pub RefersTo : List Node → ℕ → List ℕ → Type 0
 RefersTo nodes index name = is_listed (node_at nodes index).references name ≡ true
 
--- the node at an index has a requested name, or a name that a needed node refers to
+-- whether the node at an index has a requested name, or a name that a needed node refers to
 pub data IsNeeded (names : List (List ℕ)) (nodes : List Node) : ℕ → Type 0 where
   asked : {index : ℕ} (name : List ℕ) → is_listed names name ≡ true → HasName nodes index name → IsNeeded names nodes index
   reached : {first second : ℕ} (name : List ℕ) → IsNeeded names nodes first → RefersTo nodes first name
       → HasName nodes second name → IsNeeded names nodes second
 
--- a mark for each index below `count`: whether the fact holds for it
+-- whether the marks say, for each index below `count`, whether the fact holds for it
 pub record AreMarks (fact : ℕ → Type 0) (count : ℕ) (marks : List Bool) : Type 0 where
   pub same_length : length marks ≡ count
   pub each : (index : ℕ) → index < count → IsTrue (slice_index_or marks index false) ↔ fact index

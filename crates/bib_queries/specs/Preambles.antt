@@ -4,8 +4,8 @@ use Rattle.std.specs.Prelude.{◌≡◌, ℕ, Bool, true, false, not, ◌&&◌, 
 use Rattle.std.specs.List.{AllByRecursion}
 use Rattle.bib_text.specs.Characters as char
 
--- whether each quote of a text is hidden by a backslash before it, and no backslash at its end hides what follows; `is_hidden`: a
--- backslash hides its first byte
+-- whether a backslash hides each quote of a text, and no backslash hides the byte after the text; `is_hidden`: a backslash hides its
+-- first byte
 abbrev pub are_quotes_hidden : Bool → List ℕ → Bool
 are_quotes_hidden is_hidden [] = not is_hidden
 are_quotes_hidden true (b ∷ bs) = are_quotes_hidden false bs
@@ -22,11 +22,11 @@ joined_quotes [] = []
 joined_quotes (inside ∷ []) = quoted_text inside
 joined_quotes (inside ∷ (next ∷ rest)) = quoted_text inside ++ (codes " # " ++ joined_quotes (next ∷ rest))
 
--- a text can be between quotes
+-- whether a text can be between quotes
 abbrev pub CanBeQuoted : List ℕ → Type 0
 CanBeQuoted inside = are_quotes_hidden false inside ≡ true
 
--- the preambles of a reading are these texts, in the order of the file, without their quotes
+-- whether `joined` consists of these texts, in order, each in quotes and joined by ` # `; each text can be between quotes
 pub record ArePreambles (joined : List ℕ) (insides : List (List ℕ)) : Type 0 where
   pub each : AllByRecursion CanBeQuoted insides
   pub is : joined ≡ joined_quotes insides

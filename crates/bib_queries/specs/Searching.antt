@@ -10,19 +10,19 @@ use Rattle.std.specs.Cmp.Lexicographic.{slice_cmp}
 use Rattle.std.specs.Ordering.{nat_cmp}
 use Rattle.bib_queries.specs.Needed.{Node, HasName, is_listed}
 
--- the indices of the nodes with a name in a map
+-- the indices of the nodes with this name, in the map
 abbrev pub holders_in : BTreeMap (Bor (List ℕ)) (Vec ℕ) → List ℕ → List ℕ
 holders_in m name = option_map_or (λ indices. indices.items) (get_by (λ k. slice_cmp nat_cmp name k.now) m) []
 
--- a map contains for each name the indices of the nodes that have it
+-- whether a map contains, for each name, the indices of the nodes that have it
 abbrev pub AreHolders : List Node → BTreeMap (Bor (List ℕ)) (Vec ℕ) → Type 0
 AreHolders nodes m = (name : List ℕ) (index : ℕ) → Contains (holders_in m name) index ↔ HasName nodes index name
 
--- an index belongs to a node with one of these names
+-- whether the map contains the index for one of these names
 abbrev pub AreHoldersIn : BTreeMap (Bor (List ℕ)) (Vec ℕ) → List (List ℕ) → ℕ → Type 0
 AreHoldersIn m names index = (name : List ℕ) × (is_listed names name ≡ true) × Contains (holders_in m name) index
 
--- an index has a mark
+-- whether an index has a mark
 abbrev pub IsMarked : List Bool → ℕ → Type 0
 IsMarked marks index = slice_index_or marks index false ≡ true
 
@@ -30,7 +30,8 @@ IsMarked marks index = slice_index_or marks index false ≡ true
 abbrev pub unmarked_count : List Bool → ℕ
 unmarked_count marks = count_by not marks
 
--- marks and pending indices are extended: no mark is lost, only indices with `is_new` get a mark, and each of them is then pending
+-- whether marks and pending indices are extended: none is lost, only indices with `is_new` get a mark, and each of these is then
+-- pending
 pub record Marks (is_new : ℕ → Type 0) (old : List Bool) (before : List ℕ) (new : List Bool) (after : List ℕ) : Type 0 where
   pub kept : (index : ℕ) → IsMarked old index → IsMarked new index
   pub only : (index : ℕ) → IsMarked new index → IsMarked old index ⊎ (is_new index × Contains after index)
@@ -38,8 +39,7 @@ pub record Marks (is_new : ℕ → Type 0) (old : List Bool) (before : List ℕ)
   pub waits : (index : ℕ) → Contains after index → Contains before index ⊎ IsMarked new index
   pub as_many : unmarked_count new + length after ≡ unmarked_count old + length before
 
--- these names are looked up: all their nodes have marks, and each name of the map is kept, or is removed and all its nodes have
--- marks
+-- whether these names were looked up: all their nodes have marks, and a name is removed from the map only if all its nodes have marks
 pub record LooksUp (old : BTreeMap (Bor (List ℕ)) (Vec ℕ)) (names : List (List ℕ)) (marks : List Bool)
     (new : BTreeMap (Bor (List ℕ)) (Vec ℕ)) : Type 0 where
   pub looked_up : (name : List ℕ) → is_listed names name ≡ true → All (IsMarked marks) (holders_in old name)

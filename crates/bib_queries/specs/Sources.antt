@@ -8,7 +8,7 @@ use Rattle.bib_queries.specs.Elements.{source_name}
 use Rattle.bib_queries.specs.Lines.{aux_data}
 use Rattle.bib_queries.specs.Names.{comma_parts}
 
--- the name of the file that `\bibdata` names: with `.bib`, unless it ends with it
+-- the file name for a name in `\bibdata`: the name with `.bib` at its end, which is added if it is missing
 abbrev pub file_name : List ℕ → List ℕ
 file_name name = if ends_with eqb name (codes ".bib") then name else name ++ codes ".bib"
 

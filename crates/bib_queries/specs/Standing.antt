@@ -7,11 +7,11 @@ use Rattle.bib_syntax.specs.Grammar.{Field, longest}
 use Rattle.bib_syntax.specs.Reading.{FieldReading}
 use Rattle.bib_syntax.specs.declared.raw.recovery.SkippedBlock.{SkippedBlock}
 
--- `f` is a field of the file grammar at the offset of its name in `text`
+-- whether `f` is a field of the file grammar in `text`, at the offset of its name
 abbrev pub IsFieldIn : List ℕ → FieldReading → Type 0
 IsFieldIn text f = (v : Place) × Field longest (place text f.name.start) f v
 
--- the span of a skipped block can be cut out of `text`
+-- whether the span of a skipped block is a slice of `text`
 pub record IsSkippedIn (text : List ℕ) (block : SkippedBlock) : Type 0 where
   pub ordered : block.span.start ≤ block.span.end
   pub start : IsCharBoundary text block.span.start

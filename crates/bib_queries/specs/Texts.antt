@@ -1,5 +1,5 @@
 -- Machinery: words of private contracts.
--- The names in values of the code.
+-- The names in the vectors of the code.
 use Rattle.std.specs.Prelude.{ℕ, List, map}
 use Rattle.std.specs.Borrow.{Bor}
 use Rattle.std.specs.Global.{Vec}

@@ -12,7 +12,7 @@ use Rattle.bib_syntax.specs.declared.raw.recovery.SkippedBlock.{SkippedBlock}
 abbrev pub skipped_source : List ℕ → SkippedBlock → List ℕ
 skipped_source text block = trim_end (slice_range text block.span.start block.span.end)
 
--- whether a block begins with `@preamble` in any ASCII case and an opening brace, maybe with white space between them
+-- whether a block begins with `@preamble` in any ASCII case, white space if any, and an opening brace
 abbrev pub is_preamble : List ℕ → Bool
 is_preamble source =
     if nat_lt (position_or_len (λ b. b == char.open_brace) source) (length source)
@@ -22,7 +22,7 @@ is_preamble source =
 abbrev pub is_unread_preamble : List ℕ → SkippedBlock → Bool
 is_unread_preamble text block = is_preamble (skipped_source text block)
 
--- whether one of skipped blocks is a preamble
+-- whether one of these skipped blocks is a preamble
 abbrev pub has_unread_preamble : List ℕ → List SkippedBlock → Bool
 has_unread_preamble text skipped = list_any (is_unread_preamble text) skipped
 

@@ -43,7 +43,7 @@ struct Collected {
 }
 
 impl Collected {
-    // Returns no citations.
+    // Creates an empty collection.
     fn new(alloc: Global) -> Self
         ensures keys { result.keys.items ≡ [] }
         ensures all { result.all ≡ false }

@@ -168,7 +168,7 @@ fn member_list(piece: &str) -> Option<&str>
     attribute(tag, " members=\"")
 }
 
-// Returns the text in which an element `bcf:citekey` has its keys: the members of a set, or its text.
+// Returns the text with the keys of an element `bcf:citekey`: the members of a set, or the element's text.
 pub(crate) fn key_list(piece: &str) -> Option<&str>
     ensures { option_map (λ list. list.now) result ≡ spec.key_list piece.now }
 {
@@ -179,7 +179,7 @@ pub(crate) fn key_list(piece: &str) -> Option<&str>
     }
 }
 
-// Appends the keys in such a text: those of a comma-separated list, or one key.
+// Appends the keys in `list`: those of a comma-separated list if `has_commas` is true, or one key otherwise.
 pub(crate) fn push_listed_keys<'s>(
     keys: &mut Vec<&'s str>,
     list: &'s str,

@@ -42,8 +42,8 @@ fn marks_among(alloc: Global, names: &[&str], keys: &[&str]) -> Result<Vec<bool>
     Ok(marks)
 }
 
-/// Returns a mark for each key: whether it is a name of an entry that can be parsed of a text. The names of an entry are its key and
-/// the names in its field `ids`.
+/// Returns a mark for each key: whether it is a name of an entry in `text`. The names of an entry are its key and the
+/// names in its field `ids`. Blocks that can't be parsed are skipped.
 pub fn mark_known(alloc: Global, text: &str, keys: &[&str]) -> Result<Vec<bool>, AllocError>
     ensures { IfOk result (λ marks. IsKnownIn text.now (map (λ k. k.now) keys.now) marks.items) }
 {
@@ -100,7 +100,8 @@ fn uncited_among<'s>(
     Ok(found)
 }
 
-/// Returns the keys, with their spans, of the entries that can be parsed of a text and have no name among `keys`.
+/// Returns the keys, with their spans, of the entries in `text` that have no name among `keys`. Blocks that can't be
+/// parsed are skipped.
 pub fn find_uncited<'s>(
     alloc: Global,
     text: &'s str,

@@ -1,11 +1,12 @@
 //! Finds entries by key, by field or by the citations of a document, and returns their source text.
 //!
-//! A file is parsed by `RawBibliography::recover`, so a file with errors has excerpts too. They are slices of its text: an entry is
-//! a block of the file grammar at its offset, and a definition is a field (`DefinitionFacts`).
+//! It parses a file with `RawBibliography::recover`, so a file with errors has excerpts too. Excerpts are slices of its
+//! text: an entry is a block of the file grammar at its offset, and a definition is a field at its offset
+//! (`DefinitionFacts`).
 //!
-//! Entries and abbreviations are nodes: they have names and refer to names. `needed` marks the needed nodes. Its map contains the
-//! nodes with each name, and its stack the marked nodes whose references are not looked up yet. Looking up a name removes it from
-//! the map, so that no name is looked up twice.
+//! Entries and abbreviations are nodes: they have names and refer to names. `needed` marks the needed nodes. Its map
+//! contains the indices of the nodes with each name. Its stack contains the marked nodes whose references are not
+//! looked up yet. Looking up a name removes it from the map, so that no name is looked up twice.
 #![tactic(auto)]
 
 pub mod citations;

@@ -64,7 +64,7 @@ fn print_preamble(printed: &mut String, inside: &str) -> Result<(), AllocError>
     Ok(())
 }
 
-// Appends a block for each preamble. `joined` are the preambles of a reading, which it joins by ` # `.
+// Appends a block for each preamble. `joined` contains the quoted texts of all preambles, joined by ` # `.
 pub(crate) fn print_preambles(printed: &mut String, joined: &str) -> Result<(), AllocError>
     ensures { OnOk result ((insides : List (List ℕ)) → ArePreambles joined.now insides →
         string_bytes printed.new ≡ string_bytes printed.old ++ flat_map preamble_line insides) }

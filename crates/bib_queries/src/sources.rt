@@ -20,7 +20,7 @@ fn ends_with_bib(name: &str) -> bool
     name.ends_with(".bib")
 }
 
-// Returns the name of the file that `\bibdata` names: with `.bib`, unless it ends with it.
+// Returns the file name for a name in `\bibdata`: the name with `.bib` at its end, which is added if it is missing.
 fn file_name(alloc: Global, name: &str) -> Result<String, AllocError>
     ensures { IfOk result (λ file. string_bytes file ≡ spec.file_name name.now) }
 {
@@ -46,7 +46,7 @@ fn first_data(alloc: Global, text: &str) -> Result<Vec<&str>, AllocError>
     Ok(names)
 }
 
-// Returns the names of the files that `\bibdata` names.
+// Returns the file names for the names in `\bibdata`.
 fn file_names(alloc: Global, names: &[&str]) -> Result<Vec<String>, AllocError>
     ensures { IfOk result (λ files. map string_bytes files.items ≡ map spec.file_name (map (λ n. n.now) names.now)) }
 {
@@ -69,8 +69,8 @@ fn push_source(alloc: Global, files: &mut Vec<String>, piece: &str) -> Result<()
     Ok(())
 }
 
-/// Returns the names of the .bib files that an .aux file names: those of its first `\bibdata`, each with `.bib` at its end. BibTeX
-/// reads no further `\bibdata`.
+/// Returns the names of the .bib files that an .aux file names: those of its first `\bibdata`, each with `.bib` at its
+/// end. BibTeX skips any further `\bibdata`.
 pub fn sources_in_aux(alloc: Global, text: &str) -> Result<Vec<String>, AllocError>
     ensures { IfOk result (λ files. map string_bytes files.items ≡ spec.aux_sources text.now) }
 {
@@ -79,8 +79,8 @@ pub fn sources_in_aux(alloc: Global, text: &str) -> Result<Vec<String>, AllocErr
     Ok(files)
 }
 
-/// Returns the names of the files that a control file of Biber names: the texts of its elements `bcf:datasource`. A file that several
-/// sections use is named by each.
+/// Returns the names of the files that a control file of Biber names: the texts of its elements `bcf:datasource`. A
+/// file that several sections use occurs once for each of them.
 pub fn sources_in_bcf(alloc: Global, text: &str) -> Result<Vec<String>, AllocError>
     ensures { IfOk result (λ files. map string_bytes files.items ≡ spec.bcf_sources text.now) }
 {

@@ -19,7 +19,7 @@ fn skipped_source<'s>(text: &'s str, block: &SkippedBlock) -> &'s str
     text[block.span.start..block.span.end].trim_end()
 }
 
-// Returns whether a block begins with `@preamble` in any ASCII case and an opening brace.
+// Returns whether a block begins with `@preamble` in any ASCII case, white space if any, and an opening brace.
 fn is_preamble(source: &str) -> bool
     ensures { result ≡ spec.is_preamble source.now }
 {
@@ -37,7 +37,7 @@ fn is_unread(text: &str, block: &SkippedBlock) -> bool
     is_preamble(skipped_source(text, block))
 }
 
-// Returns whether one of skipped blocks is a preamble.
+// Returns whether one of these skipped blocks is a preamble.
 pub(crate) fn has_unread(text: &str, skipped: &[SkippedBlock]) -> bool
     requires { AllByRecursion (IsSkippedIn text.now) skipped.now }
     ensures { result ≡ has_unread_preamble text.now skipped.now }

@@ -4,7 +4,7 @@ use Rattle.std.specs.String.{string_bytes}
 use Rattle.bib_findings.specs.Seen.{remembered}
 use Rattle.bib_findings.proofs.duplicates.remember.Given as goal
 
--- each of the identities so far has an index
+-- the first identities are stored with `index`, except those that already had one
 abbrev pub invariant-identities : goal.invariant-identities
 invariant-identities l =
     (id : List ℕ)

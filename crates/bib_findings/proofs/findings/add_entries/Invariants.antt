@@ -7,7 +7,7 @@ use Rattle.bib_findings.specs.Findings.{AreOfEntry}
 use Rattle.bib_findings.specs.Met.{AreFieldNames}
 use Rattle.bib_findings.proofs.findings.add_entries.Given as goal
 
--- the findings of the entries so far were added
+-- the cache is correct, and the findings of the first entries were appended
 abbrev pub invariant-entries : goal.invariant-entries
 invariant-entries l = record {
   met : AreFieldNames (get_by_text l.met);

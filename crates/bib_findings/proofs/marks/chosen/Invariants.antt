@@ -2,7 +2,7 @@ use Rattle.std.proofs.Common.{◌≡◌, ℕ, List, take}
 use Rattle.bib_findings.specs.Marks.{AreMetMarks, chosen}
 use Rattle.bib_findings.proofs.marks.chosen.Given as goal
 
--- the indices so far that are chosen
+-- `found` contains the selected ones of the first indices
 abbrev pub invariant-origins : goal.invariant-origins
 invariant-origins l =
     (listed : List ℕ) → AreMetMarks l.met listed

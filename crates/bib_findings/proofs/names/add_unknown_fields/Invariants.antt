@@ -6,7 +6,7 @@ use Rattle.bib_findings.specs.Met.{AreFieldNames}
 use Rattle.bib_findings.specs.Names.{AreUnknownOf}
 use Rattle.bib_findings.proofs.names.add_unknown_fields.Given as goal
 
--- a finding was added for each of the fields so far whose name isn't known
+-- the cache is correct, and a finding was appended for each unknown field of the first fields
 abbrev pub invariant-fields : goal.invariant-fields
 invariant-fields l = record {
   met : AreFieldNames (get_by_text l.met);

@@ -5,7 +5,7 @@ use Rattle.bib_syntax.specs.Views.{entry_reading_of}
 use Rattle.bib_findings.specs.References.{field_references}
 use Rattle.bib_findings.proofs.references.add_entry_references.Given as goal
 
--- the findings of the fields so far were added
+-- the findings of the first fields were appended
 abbrev pub invariant-fields : goal.invariant-fields
 invariant-fields l =
     l.found.items

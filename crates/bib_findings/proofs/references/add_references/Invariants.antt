@@ -5,7 +5,7 @@ use Rattle.bib_findings.specs.Entries.{AreOfEach}
 use Rattle.bib_findings.specs.References.{AreReferences}
 use Rattle.bib_findings.proofs.references.add_references.Given as goal
 
--- the findings of the entries so far were added
+-- the findings of the first entries were appended
 abbrev pub invariant-entries : goal.invariant-entries
 invariant-entries l =
     Adds (AreOfEach (AreReferences l.names) (map entry_reading_of l.said) (take l.index l.origins) (take l.index l.own))
