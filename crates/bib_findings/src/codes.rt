@@ -151,17 +151,17 @@ impl Code {
             Self::UnreadBytes =>
                 "From this byte on the file isn't UTF-8, so all of it was read as Windows-1252. Save the file as UTF-8.",
             Self::Syntax =>
-                "A block can't be read as an entry, a preamble, abbreviations or a comment. It is passed over, up to the next at sign that begins a line. Most often a comma, a brace or a quote is missing at the place that is reported, or before it.",
+                "A block can't be read as an entry, a preamble, abbreviations or a comment. It is skipped, up to the next at sign that begins a line. Most often a comma, a brace or a quote is missing at the place that is reported, or before it.",
             Self::UnreadField =>
                 "The text of a field can't be read: a brace closes what isn't open, math has one dollar sign, or a command's argument isn't closed. The field is left out. Close what is open, or write \\$ for a dollar sign.",
             Self::UnknownAbbreviation =>
                 "A name stands without braces or quotes, and is neither defined by @string nor a month (jan to dec). It is read as text. BibTeX and Biber put nothing in its place. Write it in braces, or define it.",
             Self::CircularAbbreviation =>
-                "The definition of an abbreviation uses the abbreviation itself, by others or at once. Fields that use it are left out. Write the text itself in one of the definitions.",
+                "The definition of an abbreviation refers to the abbreviation itself, directly or through others. Fields that use it are left out. Write the text itself in one of the definitions.",
             Self::DuplicateKey =>
                 "An earlier entry has this key, or names it in its field ids. This entry is left out. Give one of the two another key, or remove one.",
             Self::CircularReference =>
-                "An entry refers to itself by crossref or xdata, by others or at once. It loses its references. Remove one of them.",
+                "An entry refers to itself by crossref or xdata, directly or through others. It loses its references. Remove one of them.",
             Self::UnreadDate =>
                 "An entry would inherit a date that can't be read. It inherits none. Write the date as YYYY-MM-DD, YYYY-MM or YYYY in the entry that is referred to.",
             Self::MissingField =>
