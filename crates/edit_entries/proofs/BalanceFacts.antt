@@ -33,53 +33,53 @@ one_more text i before this n within = by_place (at_or_before n i within)
 
 module _ (text : List ℕ) (i depth byte : ℕ) (within : i < length text) (is : byte ≡ get_or text i byte) (counted : IsCounted text i depth)
   where
-  more : (c : ℕ) (b : Bool) → (byte == c) ≡ b → byte_count c (take (i + 1) text) ≡ byte_count c (take i text) + cond b 1 0
-  more c b test =
-      length-filter_more (λ x. x == c) text i byte within
-      ∙ ap (λ x. byte_count c (take i text) + cond (x == c) 1 0) (sym is) ∙ ap (λ t. byte_count c (take i text) + cond t 1 0) test
+    more : (c : ℕ) (b : Bool) → (byte == c) ≡ b → byte_count c (take (i + 1) text) ≡ byte_count c (take i text) + cond b 1 0
+    more c b test =
+        length-filter_more (λ x. x == c) text i byte within
+        ∙ ap (λ x. byte_count c (take i text) + cond (x == c) 1 0) (sym is) ∙ ap (λ t. byte_count c (take i text) + cond t 1 0) test
 
-  pub opening_brace : (byte == 123) ≡ true → IsCounted text (i + 1) (depth + 1)
-  opening_brace opens =
-      let closing : (byte == 125) ≡ false = grind (arith, nat_tests) in
-      let now : depth + 1 + byte_count 125 (take (i + 1) text) ≡ byte_count 123 (take (i + 1) text) =
-      omega (arith, counted.open_braces, more 123 true opens, more 125 false closing) in
-      record {
-        open_braces = now;
-        closes = one_more text i counted.closes (omega (arith, now));
-        small = omega (arith, counted.small);
-      }
+    pub opening_brace : (byte == 123) ≡ true → IsCounted text (i + 1) (depth + 1)
+    opening_brace opens =
+        let closing : (byte == 125) ≡ false = grind (arith, nat_tests) in
+        let now : depth + 1 + byte_count 125 (take (i + 1) text) ≡ byte_count 123 (take (i + 1) text) =
+        omega (arith, counted.open_braces, more 123 true opens, more 125 false closing) in
+        record {
+          open_braces = now;
+          closes = one_more text i counted.closes (omega (arith, now));
+          small = omega (arith, counted.small);
+        }
 
-  pub closing_brace : (byte == 123) ≡ false → (byte == 125) ≡ true → 0 < depth → IsCounted text (i + 1) (depth - 1)
-  closing_brace opens closing some =
-      let now : depth - 1 + byte_count 125 (take (i + 1) text) ≡ byte_count 123 (take (i + 1) text) =
-      omega (arith, some, counted.open_braces, more 123 false opens, more 125 true closing) in
-      record {
-        open_braces = now;
-        closes = one_more text i counted.closes (omega (arith, now));
-        small = omega (arith, counted.small);
-      }
+    pub closing_brace : (byte == 123) ≡ false → (byte == 125) ≡ true → 0 < depth → IsCounted text (i + 1) (depth - 1)
+    closing_brace opens closing some =
+        let now : depth - 1 + byte_count 125 (take (i + 1) text) ≡ byte_count 123 (take (i + 1) text) =
+        omega (arith, some, counted.open_braces, more 123 false opens, more 125 true closing) in
+        record {
+          open_braces = now;
+          closes = one_more text i counted.closes (omega (arith, now));
+          small = omega (arith, counted.small);
+        }
 
-  pub other_byte : (byte == 123) ≡ false → (byte == 125) ≡ false → IsCounted text (i + 1) depth
-  other_byte opens closing =
-      let now : depth + byte_count 125 (take (i + 1) text) ≡ byte_count 123 (take (i + 1) text) =
-      omega (arith, counted.open_braces, more 123 false opens, more 125 false closing) in
-      record {
-        open_braces = now;
-        closes = one_more text i counted.closes (omega (arith, now));
-        small = omega (arith, counted.small);
-      }
+    pub other_byte : (byte == 123) ≡ false → (byte == 125) ≡ false → IsCounted text (i + 1) depth
+    other_byte opens closing =
+        let now : depth + byte_count 125 (take (i + 1) text) ≡ byte_count 123 (take (i + 1) text) =
+        omega (arith, counted.open_braces, more 123 false opens, more 125 false closing) in
+        record {
+          open_braces = now;
+          closes = one_more text i counted.closes (omega (arith, now));
+          small = omega (arith, counted.small);
+        }
 
-  -- a brace that closes none
-  pub closes_none : (byte == 123) ≡ false → (byte == 125) ≡ true → depth ≡ 0 → IsBalanced text → ⊥
-  closes_none opens closing none balanced =
-      omega (
-        arith,
-        none,
-        counted.open_braces,
-        more 123 false opens,
-        more 125 true closing,
-        balanced.closes (i + 1),
-      )
+    -- a brace that closes none
+    pub closes_none : (byte == 123) ≡ false → (byte == 125) ≡ true → depth ≡ 0 → IsBalanced text → ⊥
+    closes_none opens closing none balanced =
+        omega (
+          arith,
+          none,
+          counted.open_braces,
+          more 123 false opens,
+          more 125 true closing,
+          balanced.closes (i + 1),
+        )
 
 pub counted_start : (text : List ℕ) → IsCounted text 0 0
 counted_start text = record { open_braces = refl; closes = λ n within. start n within; small = omega arith }

@@ -11,11 +11,10 @@ use Rattle.std.proofs.lemmas.List.Concat.{flat_map-append}
 use Rattle.std.proofs.lemmas.List.Elements.{Contains-append_left, Contains-append_right}
 use Rattle.std.proofs.lemmas.Slice.Eq.{bytes_eq-Decides}
 use Rattle.edit_entries.specs.Documents.{Document, IsDocument}
-use Rattle.edit_entries.specs.Keys.{is_key_in}
 use Rattle.edit_entries.specs.Placed.{IsPlaced}
 use Rattle.edit_entries.proofs.AllFacts.{all_placed}
 use Rattle.bib_syntax.specs.Reading.{EntryReading}
-use Rattle.edit_resolve.specs.ValueSets.{HasOnly}
+use Rattle.edit_resolve.specs.ValueSets.{HasOnly, is_text_in}
 
 pub true_is : (b : Bool) → IsTrue b → b ≡ true
 true_is b is = is
@@ -55,7 +54,7 @@ module _ {X A : Type 0} (view : X → A) (xs : List X) (i : ℕ) (x : X) (within
 
   -- after one more value, each member of the set is one of the values so far
   pub only_more : (value : A → List ℕ) (values : List (List ℕ)) (old new : Set') (own : List ℕ) → own ≡ value (view x)
-      → ((key : List ℕ) → is_key_in new key ≡ cond (bytes_eq own key) true (is_key_in old key))
+      → ((key : List ℕ) → is_text_in new key ≡ cond (bytes_eq own key) true (is_text_in old key))
       → HasOnly (values ++ map value (map view (take i xs))) old → HasOnly (values ++ map value (map view (take (i + 1) xs))) new
   only_more value values old new own same added only text there =
       let so_far = values ++ map value (map view (take i xs)) in
@@ -63,12 +62,12 @@ module _ {X A : Type 0} (view : X → A) (xs : List X) (i : ℕ) (x : X) (within
       append_assoc values (map value (map view (take i xs))) (value (view x) ∷ [])
       ∙ ap (λ l. values ++ l) (sym (ap (map value) taken ∙ map-append value (map view (take i xs)) (view x ∷ [])))
       in
-      let by : (b : Bool) → bytes_eq own text ≡ b → cond b true (is_key_in old text) ≡ true
+      let by : (b : Bool) → bytes_eq own text ≡ b → cond b true (is_text_in old text) ≡ true
       → Contains (so_far ++ value (view x) ∷ []) text =
       λ b.
       elim b as
       (λ b.
-      bytes_eq own text ≡ b → cond b true (is_key_in old text) ≡ true
+      bytes_eq own text ≡ b → cond b true (is_text_in old text) ≡ true
       → Contains (so_far ++ value (view x) ∷ []) text) [
         | true ↦ λ equal kept.
             let it : value (view x) ≡ text = sym same ∙ (bytes_eq-Decides own text).0 equal in

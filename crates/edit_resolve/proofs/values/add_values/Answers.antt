@@ -2,8 +2,8 @@ use Rattle.std.proofs.Common.{◌∙◌, ◌++◌, List, ℕ, true, cond, map, a
 use Rattle.std.specs.Borrow.{Bor}
 use Rattle.std.specs.List.{Contains}
 use Rattle.std.proofs.lemmas.Map.Text.{is_eq-slice_cmp}
-use Rattle.edit_entries.specs.Keys.{is_key_in}
 use Rattle.edit_entries.specs.Placed.{IsPlaced}
+use Rattle.edit_resolve.specs.ValueSets.{is_text_in}
 use Rattle.edit_resolve.specs.Resolutions.{value_as_it_stands}
 use Rattle.edit_resolve.proofs.RestFacts.{next_holds}
 use Rattle.edit_resolve.proofs.ValueFacts.{all_taken, only_more}
@@ -21,7 +21,7 @@ fields-preserved c =
           (value_as_it_stands c.args.text.now) values c.fields.set c.insert.new.self own c.value_of.ensures
           (λ key.
           let one : Bor (List ℕ) = record { ref_ptr = (0, 0); now = key } in
-          c.in_ok-insert.ensures.updates.0 one ∙ ap (λ b. cond b true (is_key_in c.fields.set key)) (is_eq-slice_cmp own key))
+          c.in_ok-insert.ensures.updates.0 one ∙ ap (λ b. cond b true (is_text_in c.fields.set key)) (is_eq-slice_cmp own key))
           (c.fields.invariant.only values has);
       placed =
           (next_holds field_of (IsPlaced c.args.text.now) fields at c.field-item.result c.fields-test.true
