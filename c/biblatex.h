@@ -28,9 +28,9 @@ enum biblatex_status {
     BIBLATEX_KEY_IS_THERE = 6,
     BIBLATEX_NOT_A_KEY = 7,
     BIBLATEX_NOT_A_NAME = 8,
-    BIBLATEX_NOT_IN_BRACES = 9, /* the braces of the value or of the new key don't match, or a backslash escapes the last one */
+    BIBLATEX_NOT_IN_BRACES = 9, /* the value, or a changed reference, can't be written in braces */
     BIBLATEX_DEFINITION_IS_THERE = 10,  /* an added abbreviation is defined already with another text */
-    BIBLATEX_NO_FIELD_LEFT = 11 /* the entry would have no field left, and bibtool doesn't read such an entry */
+    BIBLATEX_NO_FIELD_LEFT = 11 /* all fields of the entry would be removed, and bibtool doesn't read such an entry */
 };
 
 /* The formats that biblatex_recover writes. */
@@ -84,7 +84,7 @@ uint32_t biblatex_set(const uint8_t *text, size_t length, const uint8_t *key, si
     *name, size_t name_length, const uint8_t *value, size_t value_length, uint8_t *out, size_t capacity,
     size_t *size);
 
-/* Writes the text without a field of an entry. Returns BIBLATEX_NO_FIELD_LEFT if the entry has no other field. */
+/* Writes the text without a field of an entry. Returns BIBLATEX_NO_FIELD_LEFT if this would remove all its fields. */
 uint32_t biblatex_unset(const uint8_t *text, size_t length, const uint8_t *key, size_t key_length, const
     uint8_t *name, size_t name_length, uint8_t *out, size_t capacity, size_t *size);
 

@@ -162,8 +162,8 @@ static void check_buffers(void)
     check(biblatex_biblatex(bytes("@a{b,}@a{b,}"), 12, out, 8, &size) == BIBLATEX_REFUSED && size == 77, "two entries of one key");
     uint8_t words[64];
     static const char *const said[] = {"done", "the buffer is too short", "not UTF-8", "refused", "out of memory", "no entry has the key",
-        "an entry has the name already, as its key or in its field `ids`", "not a key for BibTeX, Biber and bibtool", "the text can't be the name of a field",
-        "the braces of the value don't balance", "an abbreviation is defined already with another text",
+        "an entry has the name already, as its key or in its field `ids`", "the text can't be a new key", "the text can't be the name of a field",
+        "the value can't be written in braces", "an abbreviation is defined already with another text",
         "the entry would have no field left", "no status"};
     for (uint32_t status = 0; status < 13; status++) {
         check(biblatex_message(status, words, sizeof words, &size) == BIBLATEX_DONE && size == strlen(said[status])

@@ -393,16 +393,16 @@ refuses 'no such key' 1 $'bibkit: two.bib: `z`: `title`: no entry has the key\n'
 refuses 'no such key, after an edit that is made' 1 $'bibkit: two.bib: `z`: no entry has the key\n' remove a z -f two.bib
 is_there=': an entry has the name already, as its key or in its field `ids`'
 refuses 'a key that is there' 1 "bibkit: two.bib: \`a\` to \`b\`$is_there"$'\n' rename a b -f two.bib
-no_key=$': a key for BibTeX, Biber and bibtool isn\'t empty or `*`, and has no white space, comma, quote, brace, parenthesis, `--` or any of # $ % = \\ ~\n'
+no_key=$': a new key isn\'t empty or `*`, and has no white space, control character, comma, quote, brace, parenthesis, `--` or any of # $ % = \\ ~\n'
 refuses 'no key' 1 "bibkit: two.bib: \`a\` to \`b c\`$no_key" rename a 'b c' -f two.bib
 refuses 'a key that Biber cuts' 1 "bibkit: two.bib: \`a\` to \`o'hara\`$no_key" rename a "o'hara" -f two.bib
 refuses 'a key that cites all entries' 1 "bibkit: two.bib: \`a\` to \`*\`$no_key" rename a '*' -f two.bib
 refuses 'a key of another entry in another case' 1 "bibkit: two.bib: \`a\` to \`B\`$is_there"$'\n' rename a B -f two.bib
 refuses 'no name of a field' 1 $'bibkit: two.bib: `a`: `a b`: the text can\'t be the name of a field\n' set a 'a b=c' -f two.bib
 refuses 'no field left' 1 $'bibkit: two.bib: `a`: `author`: the entry would have no field left\n' unset a title author -f two.bib
-refuses 'no value' 1 $'bibkit: two.bib: `a`: `title`: the braces of the value don\'t balance\n' set a 'title=}' -f two.bib
-refuses 'a value that is not closed' 1 $'bibkit: two.bib: `a`: `title`: the braces of the value don\'t balance\n' set a 'title=a\' -f two.bib
-refuses 'a brace that only TeX passes over' 1 $'bibkit: two.bib: `a`: `title`: the braces of the value don\'t balance\n' set a 'title=a \}' -f two.bib
+refuses 'no value' 1 $'bibkit: two.bib: `a`: `title`: the value can\'t be written in braces\n' set a 'title=}' -f two.bib
+refuses 'a value that is not closed' 1 $'bibkit: two.bib: `a`: `title`: the value can\'t be written in braces\n' set a 'title=a\' -f two.bib
+refuses 'a brace that only TeX passes over' 1 $'bibkit: two.bib: `a`: `title`: the value can\'t be written in braces\n' set a 'title=a \}' -f two.bib
 refuses 'entries that are there' 1 "bibkit: two.bib$is_there"$'\n' add -f two.bib
 printf '@misc{c, ids={B}}\n' >input
 refuses 'an entry whose ids are there' 1 "bibkit: two.bib$is_there"$'\n' add -f two.bib

@@ -50,7 +50,7 @@ def set_field(text: Text, key: str, name: str, value: str) -> Text:
     why = {
         **_unknown_key(key),
         Status.NOT_A_NAME: f"{name!r} can't be the name of a field",
-        Status.NOT_IN_BRACES: f"the braces of the value don't balance: {value!r}",
+        Status.NOT_IN_BRACES: f"the value can't be written in braces: {value!r}",
     }
     return _edit(text, "biblatex_set", key, name, value, why=why)
 

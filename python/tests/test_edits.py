@@ -85,7 +85,7 @@ class Refusals(unittest.TestCase):
 
     def test_what_can_be_no_name_and_no_value(self) -> None:
         self.refuses(biblatex.set_field, BOTH, "a", "my note", "N", why="'my note' can't be the name of a field")
-        self.refuses(biblatex.set_field, BOTH, "a", "note", "N}", why="the braces of the value don't balance: 'N}'")
+        self.refuses(biblatex.set_field, BOTH, "a", "note", "N}", why="the value can't be written in braces: 'N}'")
 
     def test_keys_that_are_there_or_can_be_none(self) -> None:
         self.refuses(biblatex.rename_key, BOTH, "a", "b", why="an entry has the name 'b' already")

@@ -83,7 +83,8 @@ fn unset_in(alloc: Global, text: &[u8], key: &[u8], name: &[u8]) -> Result<Strin
 }
 
 /// Writes the text without the field `name` of the first entry `key`. If the field occurs several times, each occurrence is removed. If
-/// the entry has no such field, the text is unchanged. The status is `NoFieldLeft` if the entry has no other field.
+/// the entry has no such field, the text is unchanged. The status is `NoFieldLeft` if all fields of the entry would be
+/// removed.
 #[unsafe(no_mangle)]
 pub extern "C" fn biblatex_unset(
     alloc: Global,

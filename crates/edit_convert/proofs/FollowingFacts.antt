@@ -38,7 +38,7 @@ module _ {A : Type 0} (view : A → FieldReading) (xs : List A) (i : ℕ) (x : A
       (sym (first_change text (view x) pending rest (replacement (view x)) (field_changes text replacement rest)))
       ∙ ap (λ l. old ++ edits_from replacement pending text l) (sym left) ∙ so_far
 
-  -- joining keeps the comment after one more field, or doesn't
+  -- joining keeps the comments from a field on exactly if it keeps those after this field and those from the next field on
   pub goes_step : (text : List ℕ) (following : List A) (can all : Bool) → following ≡ drop (i + 1) xs
       → can ≡ keeps_comments text (view x) (map view following) → all ≡ keep_comments text (map view (drop i xs))
       → all ≡ can && keep_comments text (map view (drop (i + 1) xs))

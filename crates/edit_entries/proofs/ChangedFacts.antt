@@ -1,4 +1,4 @@
--- A document with several pieces changed, from the last to the first.
+-- A document with several keys and values changed, from the last change to the first.
 use Rattle.std.proofs.Common.{◌≡◌, ℕ, ◌+◌, ◌-◌, ◌<◌, ◌≤◌, List, [], ◌∷◌, length, map, refl, sym, ap, ◌∙◌, subst, arith, Some}
 use Rattle.std.specs.Prelude.{slice_get, slice_set}
 use Rattle.std.specs.Char.{is_whitespace}

@@ -95,7 +95,7 @@ char_parted {u} {w} {v} {c} char ahead within =
     parted (ahead_char char) ahead within
     ∙ ap (λ t. t ++ between w v) (between_stands (encode_utf8 c) (stands_char char))
 
--- the text before a place after a character of ASCII
+-- the text up to the end of an ASCII character is the text before the character, and then the character
 pub before_char : {u v : Place} (c : ℕ) → c < 128 → CharAt u c v → before v ≡ before u ++ c ∷ []
 before_char {u} {v} c small char =
     let within : v.at ≤ length u.text = omega (arith, char_within char, ap length char.same) in

@@ -27,7 +27,7 @@ element_until {f} {u} {v} z iu iv ending (element.named none i) =
 element_until z iu iv ending (element.braced b) = element.braced (braced_there z iu iv b)
 element_until z iu iv ending (element.quoted q) = element.quoted (quoted_there z iu iv q)
 
--- an element whose bytes stand in another text
+-- a piece whose bytes also occur in another text is parsed there, with a moved span, if the next character can't continue it
 pub element_stands : {a b u v : Place} {e : Piece} → Element longest a e b → b.at ≤ length a.text
     → Stands u (between a b) v → Ending v → Element longest u (moved_piece (λ n. n - a.at + u.at) e) v
 element_stands {a} {b} {u} {v} {e} x within s ending =

@@ -1,4 +1,4 @@
--- An entry with another name of its type.
+-- An entry with the name of its entry type replaced.
 use Rattle.std.proofs.Common.{◌≡◌, inr, ℕ, ◌+◌, ◌<◌, ◌≤◌, List, length, drop, sym, ap, ◌∙◌, subst, arith, Some}
 use Rattle.std.specs.Prelude.{slice_get}
 use Rattle.std.proofs.lemmas.Str.{len_utf8_bounds}

@@ -12,12 +12,12 @@ use Rattle.bib_syntax.specs.Grammar.{Element, IsRawReading}
 use Rattle.bib_syntax.specs.Reading.{EntryReading, FieldReading}
 use Rattle.bib_syntax.proofs.FileFacts.{ahead_head}
 use Rattle.edit_entries.specs.Changes.{FieldChange, braced_field, braced_value, edits_of_entry, edits_of_field, edits_of_fields, field_before, name_edit}
-use Rattle.edit_entries.specs.Documents.{CanBeName, CanStandInBraces, Document, HasEntry, IsEdited, IsDocument, first_position, has_name, in_braces, is_keyed}
+use Rattle.edit_entries.specs.Documents.{CanStandInBraces, Document, HasEntry, IsEdited, IsDocument, first_position, has_name, in_braces, is_keyed}
 use Rattle.edit_entries.specs.EditList.{AreEditsInOrder}
 use Rattle.edit_entries.specs.Edits.{edited, edited_all}
 use Rattle.edit_entries.specs.Placed.{HasComma, IsNamePlaced, IsPlaced}
 use Rattle.edit_entries.specs.SetTexts.{CanBeSetIn, IsSetText, SetTextIsRefused}
-use Rattle.edit_entries.specs.Setting.{CanBeValue, FieldSet, IsAfterComma, IsEntryChanged, IsSet, SetIsRefused, field_put, has_other_value, only_field_added, only_field_text, set_change, values_set, white_before}
+use Rattle.edit_entries.specs.Setting.{CanBeNewName, CanBeValue, FieldSet, IsAfterComma, IsEntryChanged, IsSet, SetIsRefused, field_put, has_other_value, only_field_added, only_field_text, set_change, values_set, white_before}
 use Rattle.edit_entries.specs.declared.errors.EditError.{EditError}
 use Rattle.edit_entries.specs.declared.errors.EditError.TheVariants.{UnknownKey, KeyIsThere, NotAKey, NotAName, NotInBraces, DefinitionIsThere, NoFieldLeft, OutOfMemory}
 use Rattle.edit_entries.proofs.AddedFacts.{only_field_read}
@@ -119,13 +119,13 @@ set_can : (name value : List ℕ) (e : EntryReading) → (list_any (has_other_va
 set_can name value e can = record { kind = λ n is. absurd (cc); fields = values_can name value e.fields can }
 
 put_can : (text name value : List ℕ) (e : EntryReading) (first : FieldReading) (others : List FieldReading)
-    → e.fields ≡ first ∷ others → CanBeName name → CanBeValue value → first.name.start ≤ length text
+    → e.fields ≡ first ∷ others → CanBeNewName name → CanBeValue value → first.name.start ≤ length text
     → CanEntryChange e (field_put text name value first)
 put_can text name value e first others are can_name can_value within = record {
   kind = λ n is. absurd (cc);
   fields =
       subst (λ fs. CanFieldsChange fs (field_put text name value first).fields) (sym are) (
-        (record { name = can_name; value = braced_read value can_value.braced }, before_white text first.name.start within),
+        (record { name = can_name.name; value = braced_read value can_value.braced }, before_white text first.name.start within),
         can_be_kept others,
       );
 }
@@ -160,7 +160,7 @@ pub only_made : {S : Type 0} (bytes : S → List ℕ) (r : Result S EditError) (
     (λ new.
     (at : ℕ) × IsAfterComma text e at
     × (bytes new ≡ edited (record { start = at; end = at; bytes = only_field_text name value }) text))
-    → OnOk r (CanBeName name) → OnOk r (CanBeValue value) → IfOk r (λ new. IsSetText text e name value (bytes new))
+    → OnOk r (CanBeNewName name) → OnOk r (CanBeValue value) → IfOk r (λ new. IsSetText text e name value (bytes new))
 only_made bytes (Err error) text e name value none is can_name can_value = _
 only_made bytes (Ok new) text e name value none is can_name can_value = IsSetText.only none is.1 can_name can_value is.2
 
@@ -170,7 +170,7 @@ pub put_made : {S : Type 0} (bytes : S → List ℕ) (r : Result S EditError) (t
     → IfOk r
     (λ new.
     bytes new ≡ edited (name_edit first (field_before (braced_field name value) (white_before text first.name.start))) text)
-    → OnOk r (CanBeName name) → OnOk r (CanBeValue value) → IfOk r (λ new. IsSetText text e name value (bytes new))
+    → OnOk r (CanBeNewName name) → OnOk r (CanBeValue value) → IfOk r (λ new. IsSetText text e name value (bytes new))
 put_made bytes (Err error) text e name value first others none are is can_name can_value = _
 put_made bytes (Ok new) text e name value first others none are is can_name can_value =
     let lead : List ℕ = field_before (braced_field name value) (white_before text first.name.start) in
@@ -213,7 +213,7 @@ text_set d key name value new k e read utf8 entry (IsSetText.only {at = at} none
   document = only_field_added d k e at name value;
   outcome = FieldSet.only entry none comma;
   is = is;
-  read = only_field_read d k e at name value read entry.here comma can_name can_value.braced;
+  read = only_field_read d k e at name value read entry.here comma can_name.name can_value.braced;
 }
 
 -- the entry that was looked up

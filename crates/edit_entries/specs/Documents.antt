@@ -177,7 +177,7 @@ pub data FieldsRemoved (d : Document) (k : ℕ) : List ℕ → Document → Type
 abbrev pub have_only : List ℕ → List FieldReading → Bool
 have_only name fields = list_any (has_name name) fields && list_all (has_name name) fields
 
--- the outcome of unsetting a field of an entry: each field with the name is removed, and another field is left
+-- the outcome of unsetting a field of an entry: each field with the name is removed, unless the entry has only such fields
 pub data FieldUnset (d : Document) (key name : List ℕ) : Document → Type 0 where
   unset : {k : ℕ} {e : EntryReading} {after : Document} → HasEntry d key k e → have_only name e.fields ≡ false
       → FieldsRemoved d k (positions (has_name name) 0 e.fields) after → FieldUnset d key name after

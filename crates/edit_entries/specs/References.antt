@@ -88,7 +88,7 @@ renamed_text refers new (abbreviation p ∷ rest) = None
 renamed_text refers new (literal p ∷ []) = renamed_where_listed refers new p.text
 renamed_text refers new (literal p ∷ other ∷ rest) = None
 
--- the new text of a field's value, if the field holds references and one of them refers to the old key
+-- the new text of the value of a reference field, if it is one literal with a name that refers to the old key
 abbrev pub renamed_value : (List ℕ → Bool) → List ℕ → FieldReading → Option (List ℕ)
 renamed_value refers new f = if is_reference_field f.name.text then renamed_text refers new f.value.pieces else None
 

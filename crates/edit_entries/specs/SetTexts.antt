@@ -4,11 +4,11 @@ use Rattle.std.specs.Prelude.{◌≡◌, ℕ, Bool, true, false, List, [], ◌�
 use Rattle.std.specs.List.{AllByRecursion, list_any}
 use Rattle.bib_syntax.specs.Reading.{EntryReading, FieldReading}
 use Rattle.edit_entries.specs.Changes.{edits_of_entry, edits_of_fields}
-use Rattle.edit_entries.specs.Documents.{CanBeName, has_name}
+use Rattle.edit_entries.specs.Documents.{has_name}
 use Rattle.edit_entries.specs.EditList.{AreEditsInOrder}
 use Rattle.edit_entries.specs.Edits.{edited, edited_all}
 use Rattle.edit_entries.specs.Placed.{HasComma, IsNamePlaced, IsPlaced}
-use Rattle.edit_entries.specs.Setting.{CanBeValue, IsAfterComma, field_put, has_other_value, only_field_text, set_change, values_set}
+use Rattle.edit_entries.specs.Setting.{CanBeNewName, CanBeValue, IsAfterComma, field_put, has_other_value, only_field_text, set_change, values_set}
 use Rattle.edit_entries.specs.declared.errors.EditError.{EditError}
 use Rattle.edit_entries.specs.declared.errors.EditError.TheVariants.{UnknownKey, KeyIsThere, NotAKey, NotAName, NotInBraces, DefinitionIsThere, NoFieldLeft, OutOfMemory}
 
@@ -25,9 +25,9 @@ pub data IsSetText (text : List ℕ) (e : EntryReading) (name value new : List �
       → (list_any (has_other_value name value) e.fields ≡ true → CanBeValue value)
       → new ≡ edited_all (edits_of_entry text e (values_set name value e)) text → IsSetText text e name value new
   added : {first : FieldReading} {others : List FieldReading} → list_any (has_name name) e.fields ≡ false
-      → e.fields ≡ first ∷ others → CanBeName name → CanBeValue value
+      → e.fields ≡ first ∷ others → CanBeNewName name → CanBeValue value
       → new ≡ edited_all (edits_of_entry text e (field_put text name value first)) text → IsSetText text e name value new
-  only : {at : ℕ} → e.fields ≡ [] → IsAfterComma text e at → CanBeName name → CanBeValue value
+  only : {at : ℕ} → e.fields ≡ [] → IsAfterComma text e at → CanBeNewName name → CanBeValue value
       → new ≡ edited (record { start = at; end = at; bytes = only_field_text name value }) text → IsSetText text e name value new
 
 -- the conditions under which a new field is refused
@@ -35,7 +35,7 @@ abbrev pub AddIsRefused : List ℕ → List ℕ → EditError → Type 0
 AddIsRefused name value UnknownKey = ⊥
 AddIsRefused name value KeyIsThere = ⊥
 AddIsRefused name value NotAKey = ⊥
-AddIsRefused name value NotAName = CanBeName name → ⊥
+AddIsRefused name value NotAName = CanBeNewName name → ⊥
 AddIsRefused name value NotInBraces = CanBeValue value → ⊥
 AddIsRefused name value DefinitionIsThere = ⊥
 AddIsRefused name value NoFieldLeft = ⊥
@@ -51,7 +51,7 @@ abbrev pub SetTextIsRefused : EntryReading → List ℕ → List ℕ → EditErr
 SetTextIsRefused e name value UnknownKey = ⊥
 SetTextIsRefused e name value KeyIsThere = ⊥
 SetTextIsRefused e name value NotAKey = ⊥
-SetTextIsRefused e name value NotAName = CanBeName name → ⊥
+SetTextIsRefused e name value NotAName = CanBeNewName name → ⊥
 SetTextIsRefused e name value NotInBraces = CantBeSetIn e name value
 SetTextIsRefused e name value DefinitionIsThere = ⊥
 SetTextIsRefused e name value NoFieldLeft = ⊥

@@ -1,7 +1,7 @@
 -- Meaning: words of public contracts.
 -- Setting a field of an entry: each field with the name gets the value, or else a new field comes first.
 use Rattle.std.specs.Prelude.{◌≡◌, ℕ, suc, ◌+◌, ◌-◌, Bool, true, false, ◌&&◌, not, if◌then◌else◌, List, [], ◌∷◌, ◌++◌, length, map, take, drop, codes, Some, None, ⊤, slice_get, slice_set}
-use Rattle.std.specs.Char.{is_ascii_whitespace, is_whitespace}
+use Rattle.std.specs.Char.{is_ascii_digit, is_ascii_whitespace, is_whitespace}
 use Rattle.std.specs.List.{list_any, suffix_len}
 use Rattle.bib_text.specs.Characters as char
 use Rattle.bib_text.specs.Places.{CharAt, Longest, Place, place}
@@ -16,11 +16,21 @@ use Rattle.edit_entries.specs.declared.errors.EditError.TheVariants.{UnknownKey,
 
 -- ---- values
 
--- a text can be a value in braces: for the file grammar, in which a backslash hides the character after it, and for BibTeX, Biber and
--- bibtool, in which it hides nothing
+-- a text can be a value in braces for the file grammar, in which a backslash hides the next character. It also can for BibTeX, Biber and
+-- bibtool, in which a backslash hides nothing.
 pub record CanBeValue (text : List ℕ) : Type 0 where
   pub braced : CanStandInBraces text
   pub balanced : IsBalanced text
+
+-- whether a text begins with an ASCII digit
+abbrev pub begins_with_digit : List ℕ → Bool
+begins_with_digit [] = false
+begins_with_digit (b ∷ bs) = is_ascii_digit b
+
+-- a text can be the name of a new field: for the file grammar, and for BibTeX and Biber, which read no name that begins with a digit
+pub record CanBeNewName (text : List ℕ) : Type 0 where
+  pub name : CanBeName text
+  pub no_digit : begins_with_digit text ≡ false
 
 -- whether a field has a name, in any ASCII case, and another value than a text
 abbrev pub has_other_value : List ℕ → List ℕ → FieldReading → Bool
@@ -117,7 +127,7 @@ pub record IsSet (d : Document) (key name value : List ℕ) : Type 0 where
   pub named : list_any (has_name name) entry.fields ≡ true
   pub same : list_any (has_other_value name value) entry.fields ≡ false
 
--- a value that isn't there yet can't be written
+-- the value can't be written in braces, and the entry doesn't have it yet
 pub record CantBeSet (d : Document) (key name value : List ℕ) : Type 0 where
   pub unfit : CanBeValue value → ⊥
   pub new : IsSet d key name value → ⊥
@@ -127,7 +137,7 @@ abbrev pub SetIsRefused : Document → List ℕ → List ℕ → List ℕ → Ed
 SetIsRefused d key name value UnknownKey = first_position (is_keyed key) d.says.entries ≡ None
 SetIsRefused d key name value KeyIsThere = ⊥
 SetIsRefused d key name value NotAKey = ⊥
-SetIsRefused d key name value NotAName = CanBeName name → ⊥
+SetIsRefused d key name value NotAName = CanBeNewName name → ⊥
 SetIsRefused d key name value NotInBraces = CantBeSet d key name value
 SetIsRefused d key name value DefinitionIsThere = ⊥
 SetIsRefused d key name value NoFieldLeft = ⊥

@@ -98,8 +98,8 @@ impl<'s> RawDocument<'s> {
     }
 
     /// Returns the text without a field of an entry: each field with the name, of the first entry with the key, is removed up to the
-    /// next field or the closing brace. Returns the same text if the entry lacks the field. The edit is refused if no other field is
-    /// left: bibtool doesn't read an entry without fields.
+    /// next field or the closing brace. Returns the same text if the entry lacks the field. The edit is refused if it would
+    /// remove all fields of the entry: bibtool doesn't read an entry without fields.
     pub fn unset_field(&self, alloc: Global, key: &str, name: &str) -> Result<String, EditError>
         ensures unset { IfOk result (λ new. IsEdited (FieldUnset self.now key.now name.now) (string_bytes new)) }
         ensures refused { IfErr result (UnsetIsRefused self.now key.now name.now) }
@@ -130,7 +130,7 @@ impl<'s> RawDocument<'s> {
     /// BibTeX finds the first key that is the element in any ASCII case. Biber finds the key that is exactly the element, or else the
     /// first entry with the element in its field `ids`. A value that changes is written in braces. Joined values, abbreviations, and
     /// keys that are written with TeX stay. The text stays if `new` is `old`. The edit is refused if no entry has the key `old`, if
-    /// `new` isn't a key for BibTeX, Biber and bibtool or is `*`, if it is a name of another entry or an alias of this one in any ASCII
+    /// `new` can't be a new key, if it is a name of another entry or an alias of this one in any ASCII
     /// case, if `old` is empty, or if a value that changes can't be written in braces.
     pub fn rename_key(&self, alloc: Global, old: &str, new: &str) -> Result<String, EditError>
         ensures renamed { IfOk result (λ text. IsEdited (KeyRenamed self.now old.now new.now) (string_bytes text)) }

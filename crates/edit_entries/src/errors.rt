@@ -16,16 +16,16 @@ pub enum EditError {
     /// `ids`.
     #[error("an entry has the name already, as its key or in its field `ids`")]
     KeyIsThere,
-    /// The text can't be a new key: BibTeX, Biber or bibtool wouldn't read it as one, a reference wouldn't find it, or a citation of it
-    /// would name all entries; or such a text is the key of an added entry.
-    #[error("a key for BibTeX, Biber and bibtool isn't empty or `*`, and has no white space, comma, quote, brace, parenthesis, `--` or any of # $ % = \\ ~")]
+    /// The text can't be a new key, or is the key of an added entry and couldn't be one: BibTeX, Biber or bibtool misreads it, a reference
+    /// to it is parsed as another text, or its citation means all entries.
+    #[error("a new key isn't empty or `*`, and has no white space, control character, comma, quote, brace, parenthesis, `--` or any of # $ % = \\ ~")]
     NotAKey,
-    /// The text can't be the name of a field.
+    /// The text can't be the name of a new field. BibTeX and Biber read no name that begins with a digit.
     #[error("the text can't be the name of a field")]
     NotAName,
     /// The value can't be written in braces: a brace isn't closed or closes nothing, for this library or for BibTeX, which also counts a
     /// brace after a backslash; or a backslash hides the last brace.
-    #[error("the braces of the value don't balance")]
+    #[error("the value can't be written in braces")]
     NotInBraces,
     /// An abbreviation is defined already, in any ASCII case, with another text: every use of it would get another value.
     #[error("an abbreviation is defined already with another text")]

@@ -111,7 +111,7 @@ fn renamed_text(
     }
 }
 
-// Returns the new text of a field's value, if the field holds references and one of them is a name of the target.
+// Returns the new text of the value of a reference field, if it is one literal with a name of the target.
 pub(crate) fn renamed_value(
     alloc: Global,
     field: &Pair<'_>,

@@ -1,6 +1,6 @@
 //! Sets a field of an entry.
 
-ghost use Rattle.std.specs.Prelude.{◌≡◌, ◌⊎◌, ◌++◌, ◌∷◌, ℕ, IfErr, IfOk, List, OnOk, codes, map, true};
+ghost use Rattle.std.specs.Prelude.{◌≡◌, ◌⊎◌, ◌++◌, ◌∷◌, ℕ, IfErr, IfOk, List, MatchBool, OnOk, codes, map, true};
 ghost use Rattle.std.specs.List.{AllByRecursion, list_any};
 ghost use Rattle.std.specs.Str.{IsCharBoundary};
 ghost use Rattle.std.specs.String.{string_bytes};
@@ -9,13 +9,12 @@ ghost use Rattle.bib_syntax.specs.Reading.{FieldReading};
 ghost use Rattle.bib_syntax.specs.Views.{entry_reading_of, field_of, piece_of};
 ghost use Rattle.edit_entries.specs.Changes.{braced_field, edits_of_field, edits_of_fields, field_before, name_edit};
 ghost use Rattle.edit_entries.specs.Documents as documents;
-ghost use Rattle.edit_entries.specs.Documents.{CanBeName};
 ghost use Rattle.edit_entries.specs.EditList.{AreEditsInOrder, edit_of};
 ghost use Rattle.edit_entries.specs.Edits as edits;
 ghost use Rattle.edit_entries.specs.Placed.{HasComma, IsNamePlaced, IsPlaced};
 ghost use Rattle.edit_entries.specs.SetTexts.{AddIsRefused, CanBeSetIn, IsSetText, SetTextIsRefused};
 ghost use Rattle.edit_entries.specs.Setting as spec;
-ghost use Rattle.edit_entries.specs.Setting.{CanBeValue, IsAfterComma};
+ghost use Rattle.edit_entries.specs.Setting.{CanBeNewName, CanBeValue, IsAfterComma};
 ghost use Rattle.edit_entries.specs.declared.errors.EditError.TheVariants.{NotInBraces, OutOfMemory};
 
 use crate::adding::{after_comma, only_field_text};
@@ -71,6 +70,26 @@ fn has_field_to_set(fields: &[Pair<'_>], name: &str, value: &str) -> bool
         }
     }
     false
+}
+
+// Returns whether a text begins with an ASCII digit.
+fn begins_with_digit(text: &str) -> bool
+    ensures { result ≡ spec.begins_with_digit text.now }
+{
+    match text.as_bytes() {
+        [first, ..] => first.is_ascii_digit(),
+        [] => false,
+    }
+}
+
+// Returns whether a text can be the name of a new field.
+fn can_be_new_name(text: &str) -> bool
+    ensures { MatchBool result (CanBeNewName text.now) (CanBeNewName text.now → ⊥) }
+{
+    if begins_with_digit(text) {
+        return false;
+    }
+    can_be_name(text)
 }
 
 // Returns a text between two braces, if it can be a value.
@@ -191,11 +210,11 @@ fn text_before(
 // Returns the value of a new field in braces.
 fn new_value(alloc: Global, name: &str, value: &str) -> Result<String, EditError>
     ensures found { IfOk result (λ braced. string_bytes braced ≡ documents.in_braces value.now) }
-    ensures name { OnOk result (CanBeName name.now) }
+    ensures name { OnOk result (CanBeNewName name.now) }
     ensures value { OnOk result (CanBeValue value.now) }
     ensures refused { IfErr result (AddIsRefused name.now value.now) }
 {
-    if !can_be_name(name) {
+    if !can_be_new_name(name) {
         return Err(EditError::NotAName);
     }
     value_in_braces(alloc, value)
@@ -212,7 +231,7 @@ fn with_field_before(
     requires { IsNamePlaced text.now (field_of first.now) }
     ensures text { IfOk result (λ new. string_bytes new ≡ edits.edited (name_edit (field_of first.now)
         (field_before (braced_field name.now value.now) (spec.white_before text.now (field_of first.now).name.start))) text.now) }
-    ensures name { OnOk result (CanBeName name.now) }
+    ensures name { OnOk result (CanBeNewName name.now) }
     ensures value { OnOk result (CanBeValue value.now) }
     ensures refused { IfErr result (AddIsRefused name.now value.now) }
 {
@@ -234,7 +253,7 @@ fn with_only_field(
     requires { HasComma text.now (entry_reading_of entry.now) }
     ensures text { IfOk result (λ new. (at : ℕ) × IsAfterComma text.now (entry_reading_of entry.now) at ×
         (string_bytes new ≡ edits.edited (record { start = at; end = at; bytes = spec.only_field_text name.now value.now }) text.now)) }
-    ensures name { OnOk result (CanBeName name.now) }
+    ensures name { OnOk result (CanBeNewName name.now) }
     ensures value { OnOk result (CanBeValue value.now) }
     ensures refused { IfErr result (AddIsRefused name.now value.now) }
 {

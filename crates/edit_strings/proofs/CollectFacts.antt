@@ -1,4 +1,4 @@
--- Names as new values, and documents with collected texts.
+-- Abbreviations as new values, and documents whose repeated texts are replaced by abbreviations.
 use Rattle.std.proofs.Common.{◌≡◌, ℕ, zero, suc, ◌+◌, ◌-◌, ◌<◌, Bool, true, false, List, [], ◌∷◌, ◌++◌, length, take, get_or, refl, sym, ap, ◌∙◌, subst, arith, append-nil, Option, Some, None, Result, Ok, Err}
 use Rattle.std.specs.Prelude.{IfOk, IfSome, bytes_eq, max}
 use Rattle.std.specs.List.{AllByRecursion}

@@ -86,11 +86,11 @@ fn says_why_edits_are_refused(rt: HostRuntime) {
     let status = message(10, &mut out, &mut size);
     agrees(&rt, answer(status, &out, size), "an abbreviation is defined already with another text");
     let status = message(7, &mut out, &mut size);
-    agrees(&rt, answer(status, &out, size), "not a key for BibTeX, Biber and bibtool");
+    agrees(&rt, answer(status, &out, size), "the text can't be a new key");
     let status = message(6, &mut out, &mut size);
     agrees(&rt, answer(status, &out, size), "an entry has the name already, as its key or in its field `ids`");
     let status = message(9, &mut out, &mut size);
-    agrees(&rt, answer(status, &out, size), "the braces of the value don't balance");
+    agrees(&rt, answer(status, &out, size), "the value can't be written in braces");
 }
 
 #[test]
