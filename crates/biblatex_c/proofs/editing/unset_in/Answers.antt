@@ -18,7 +18,7 @@ returns-in_err-unset_field-clause-fails c =
     rw (p.1, p.2) (edit_fails (λ d why. UnsetIsRefused d c.args.key.now c.args.name.now why) c.args.text.now
     (c.args.key.now ∷ c.args.name.now ∷ []) c.in_ok-document.document c.in_err-unset_field.field-0.0
     (c.in_ok-document.ensures.same ∙ c.in_ok-text_of.ensures.text) c.in_ok-document.ensures.read
-    (rw (sym c.in_ok-key.ensures.text) c.in_err-unset_field.ensures.refused))
+    (rw (sym c.in_ok-key.ensures.text, sym c.in_ok-name.ensures.text) c.in_err-unset_field.ensures.refused))
 
 pub returns-clause-made : goal.returns-clause-made
 returns-clause-made c = record {
