@@ -23,17 +23,17 @@ one_follows (g ∷ gs) any = (g, gs, refl)
 
 joined_can : (following : List FieldReading) (date : List ℕ) (more : Bool) → list_any is_date_part following ≡ more
     → CanBePut (date_field date)
-    → CanChange following (cond more FieldChange.removed (FieldChange.replaced (date_field date) []))
+    → CanChange following (cond more FieldChange.removed (FieldChange.replaced (date_field date) [] []))
 joined_can following date true any can = one_follows following any
-joined_can following date false any can = (can, tt)
+joined_can following date false any can = (can, tt, tt)
 
 -- a field follows a `type` that is removed
 typed_can : (text : List ℕ) (f : FieldReading) (following : List FieldReading) (printed : List ℕ) (goes : Bool)
     → can_be_removed text f following ≡ goes → CanBePut (type_field printed)
-    → CanChange following (cond goes FieldChange.removed (FieldChange.replaced (type_field printed) []))
+    → CanChange following (cond goes FieldChange.removed (FieldChange.replaced (type_field printed) [] []))
 typed_can text f [] printed true is can = absurd (cc)
 typed_can text f (g ∷ gs) printed true is can = (g, gs, refl)
-typed_can text f following printed false is can = (can, tt)
+typed_can text f following printed false is can = (can, tt, tt)
 
 field_can : (text : List ℕ) (f : FieldReading) (following : List FieldReading) (o : Option Replacement) → CanBeMade o
     → CanChange following (field_change text f following o)
@@ -41,7 +41,7 @@ field_can text f following None can = tt
 field_can text f following (Some (Replacement.with_name name)) can = can
 field_can text f following (Some (Replacement.with_type printed)) can =
     typed_can text f following printed (can_be_removed text f following) refl can
-field_can text f following (Some (Replacement.with_parts defines sides)) can = can
+field_can text f following (Some (Replacement.with_parts defines sides)) can = (can.0, can.1, ((omega arith, refl), tt))
 field_can text f following (Some (Replacement.with_date date)) can =
     joined_can following date (list_any is_date_part following) refl can
 

@@ -11,8 +11,8 @@ use Rattle.edit_convert.specs.Types.{type_field}
 
 -- a field that is removed or replaced isn't kept, so the new field comes later
 removed_or_replaced : (removes : Bool) (by new : NewField) (changes : List FieldChange)
-    → with_field_before_kept new (cond removes FieldChange.removed (FieldChange.replaced by []) ∷ changes)
-    ≡ cond removes FieldChange.removed (FieldChange.replaced by []) ∷ with_field_before_kept new changes
+    → with_field_before_kept new (cond removes FieldChange.removed (FieldChange.replaced by [] []) ∷ changes)
+    ≡ cond removes FieldChange.removed (FieldChange.replaced by [] []) ∷ with_field_before_kept new changes
 removed_or_replaced true by new changes = refl
 removed_or_replaced false by new changes = refl
 

@@ -214,11 +214,12 @@ abbrev pub field_change : List ℕ → FieldReading → List FieldReading → Op
 field_change text f following None = FieldChange.kept
 field_change text f following (Some (Replacement.with_name name)) = FieldChange.renamed name
 field_change text f following (Some (Replacement.with_type printed)) =
-    if can_be_removed text f following then FieldChange.removed else FieldChange.replaced (type_field printed) []
+    if can_be_removed text f following then FieldChange.removed else FieldChange.replaced (type_field printed) [] []
 field_change text f following (Some (Replacement.with_parts defines sides)) =
     FieldChange.replaced (side_year from_names sides.from) (more_fields defines from_names sides.from ++ to_fields defines sides.to)
+    (codes " ")
 field_change text f following (Some (Replacement.with_date date)) =
-    if list_any is_date_part following then FieldChange.removed else FieldChange.replaced (date_field date) []
+    if list_any is_date_part following then FieldChange.removed else FieldChange.replaced (date_field date) [] []
 
 -- the changes of fields, by what replaces each
 abbrev pub field_changes : List ℕ → (FieldReading → Option Replacement) → List FieldReading → List FieldChange

@@ -133,4 +133,4 @@ to_fields defines (Some side) = side_year to_names side ∷ more_fields defines 
 abbrev pub written_sides : Bool → Sides → List ℕ
 written_sides defines sides =
     new_field_text (side_year from_names sides.from)
-    ++ more_field_texts (more_fields defines from_names sides.from ++ to_fields defines sides.to)
+    ++ more_field_texts (codes " ") (more_fields defines from_names sides.from ++ to_fields defines sides.to)

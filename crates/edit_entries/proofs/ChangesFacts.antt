@@ -60,13 +60,13 @@ name_put d f name can is = record {
 -- ---- what can be made
 
 -- a field before others can have this change: each new name is a valid name, and each new value parses to its pieces at any place. The
--- text after the comma of a new field is white space. A removed field has another field after it.
+-- text between a comma and a new field is white space. A removed field has another field after it.
 abbrev pub CanChange : List FieldReading → FieldChange → Type 0
 CanChange following FieldChange.kept = Unit {0}
 CanChange following (FieldChange.preceded n white) = CanBePut n × AreWhite white
 CanChange following (FieldChange.renamed name) = CanBeName name
 CanChange following (FieldChange.valued new) = CanBeRead new
-CanChange following (FieldChange.replaced n ns) = CanBePut n × AllByRecursion CanBePut ns
+CanChange following (FieldChange.replaced n ns white) = CanBePut n × AllByRecursion CanBePut ns × AreWhite white
 CanChange following FieldChange.removed = (g : FieldReading) × (gs : List FieldReading) × (following ≡ g ∷ gs)
 
 -- fields can have these changes
@@ -136,9 +136,9 @@ module _ (d : Document) (changes : EntryReading → EntryChange) (read : IsDocum
   field_case before rest others later e fb f fs now at (FieldChange.valued new) can whole cut less is trimmed from =
       put_case before rest others later e fb f fs now at (value_stretch_edit d.text f new.bytes) _
       (value_put d f new can is trimmed) whole cut less from
-  field_case before rest others later e fb f fs now at (FieldChange.replaced n ns) can whole cut less is trimmed from =
-      put_case before rest others later e fb f fs now at (field_stretch d.text f (new_field_text n ++ more_field_texts ns)) _
-      (divided_put d f n ns trimmed (omega (arith, is.name.some, is.ordered)) can.0 can.1 is.value) whole cut less from
+  field_case before rest others later e fb f fs now at (FieldChange.replaced n ns white) can whole cut less is trimmed from =
+      put_case before rest others later e fb f fs now at (field_stretch d.text f (new_field_text n ++ more_field_texts white ns)) _
+      (divided_put d f n ns white trimmed (omega (arith, is.name.some, is.ordered)) can.0 can.1 can.2 is.value) whole cut less from
   field_case before rest others later e fb f fs now at FieldChange.removed can whole cut less is trimmed from =
       less_made_from d _ _ f.name.start at _ _ _ less (gone_case before rest others later e fb f fs now can whole cut from)
 

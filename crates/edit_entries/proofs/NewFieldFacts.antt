@@ -1,5 +1,5 @@
 -- Fields that are put in the place of one, as they are written with commas between them.
-use Rattle.std.proofs.Common.{◌≡◌, ℕ, ◌+◌, ◌-◌, ◌<◌, ◌≤◌, List, [], ◌∷◌, ◌++◌, length, drop, map, codes, refl, sym, ap, ◌∙◌, subst, arith, append-nil, Some}
+use Rattle.std.proofs.Common.{◌≡◌, ℕ, ◌+◌, ◌-◌, ◌<◌, ◌≤◌, List, [], ◌∷◌, ◌++◌, length, drop, map, codes, refl, sym, ap, ◌∙◌, subst, arith, append_assoc, append-nil, Some}
 use Rattle.std.specs.Prelude.{◌==◌, ◌&&◌, not, slice_get}
 use Rattle.std.specs.Char.{is_control, is_whitespace}
 use Rattle.std.proofs.lemmas.Bool.{and_right}
@@ -27,7 +27,7 @@ use Rattle.edit_entries.proofs.SplitFacts.{FieldsBefore, ahead_fields_before, ah
 use Rattle.edit_entries.proofs.ValueFacts.{elements_opens}
 use Rattle.edit_entries.proofs.ZoneFacts.{Inside, char_there, inside, run_there, stops_there, there}
 use Rattle.edit_entries.proofs.ElementFacts.{Ending}
-use Rattle.edit_entries.proofs.StandsFacts.{Stands, ascii, first_part, last_part, past}
+use Rattle.edit_entries.proofs.StandsFacts.{AreWhite, Stands, ascii, first_part, last_part, past, run_white}
 use Rattle.edit_entries.specs.Changes.{IsTrimmed, field_stretch, NewField, field_reading, new_field_text, more_field_texts}
 use Rattle.edit_entries.proofs.NewValueFacts.{CanBeRead, after_ending, run_ending}
 use Rattle.edit_entries.proofs.ElementStandsFacts.{element_stands}
@@ -113,10 +113,10 @@ pub record AreFieldsRead (fields : List NewField) (u w : Place) : Type 0 where
   pub begins : Begins readings u.at
   pub alike : map (moved_field (λ n. 0)) readings ≡ map (moved_field (λ n. 0)) (map field_reading fields)
 
-pub fields_read : {u v w : Place} (n : NewField) (ns : List NewField) → CanBePut n → AllByRecursion CanBePut ns
-    → Stands u (new_field_text n ++ more_field_texts ns) v → Ending v → Longest is_whitespace v w
+pub fields_read : {u v w : Place} (n : NewField) (ns : List NewField) (space : List ℕ) → CanBePut n → AllByRecursion CanBePut ns
+    → AreWhite space → Stands u (new_field_text n ++ more_field_texts space ns) v → Ending v → Longest is_whitespace v w
     → Stops (λ c. c == 35) w → AreFieldsRead (n ∷ ns) u w
-fields_read {u} {v} {w} n [] can all s ending over no_hash =
+fields_read {u} {v} {w} n [] space can all white s ending over no_hash =
     let x = field_read n can (subst (λ t. Stands u t v) (append-nil (new_field_text n)) s) ending over no_hash in
     record {
       readings = x.reading ∷ [];
@@ -124,30 +124,34 @@ fields_read {u} {v} {w} n [] can all s ending over no_hash =
       begins = record { first = x.reading; others = []; are = refl; start = x.start };
       alike = ap (λ r. r ∷ []) x.alike;
     }
-fields_read {u} {v} {w} n (m ∷ ms) can all s ending over no_hash =
+fields_read {u} {v} {w} n (m ∷ ms) space can all white s ending over no_hash =
     let written : List ℕ = new_field_text n in
-    let rest : List ℕ = new_field_text m ++ more_field_texts ms in
-    let first = first_part written (44 ∷ 32 ∷ rest) s in
-    let s1 = last_part written (44 ∷ 32 ∷ rest) s in
-    let comma = ascii 44 (omega arith) (first_part (44 ∷ []) (32 ∷ rest) s1) in
-    let s2 = last_part (44 ∷ []) (32 ∷ rest) s1 in
-    let space = ascii 32 (omega arith) (first_part (32 ∷ []) rest s2) in
-    let s3 = last_part (32 ∷ []) rest s2 in
+    let next : List ℕ = new_field_text m in
+    let more : List ℕ = more_field_texts space ms in
+    let rest : List ℕ = next ++ more in
+    let joined : (space ++ next) ++ more ≡ space ++ rest = append_assoc space next more in
+    let first = first_part written (44 ∷ ((space ++ next) ++ more)) s in
+    let s1 = last_part written (44 ∷ ((space ++ next) ++ more)) s in
+    let comma = ascii 44 (omega arith) (first_part (44 ∷ []) ((space ++ next) ++ more) s1) in
+    let s2 = last_part (44 ∷ []) ((space ++ next) ++ more) s1 in
+    let s3 = subst (λ t. Stands (past (past u written) (44 ∷ [])) t v) joined s2 in
+    let blank = first_part space rest s3 in
+    let s4 = last_part space rest s3 in
     let others =
-    fields_read {u = past (past (past u written) (44 ∷ [])) (32 ∷ [])} {v = v} {w = w} m ms all.0 all.1 s3 ending
+    fields_read {u = past (past (past u written) (44 ∷ [])) space} {v = v} {w = w} m ms space all.0 all.1 white s4 ending
     over no_hash in
-    let white : Longest is_whitespace (past u written) (past u written) =
+    let none : Longest is_whitespace (past u written) (past u written) =
     record { run = stop; stops = stops_at is_whitespace comma refl } in
     let x =
     field_read n can first
-    (record { char = 44; next = _; here = comma; no_name = refl; no_digit = refl; no_point = refl }) white
+    (record { char = 44; next = _; here = comma; no_name = refl; no_digit = refl; no_point = refl }) none
     (stops_at (λ c. c == 35) comma refl) in
     let opens = new_opens others.news.before others.news.field in
-    let gap1 = gap.white white (stops_at (λ c. c == 37) comma refl) in
+    let gap1 = gap.white none (stops_at (λ c. c == 37) comma refl) in
     let gap2 =
     gap.white
     (record {
-      run = step space refl stop;
+      run = run_white space white blank;
       stops = stops_at is_whitespace opens.here (start_not_white opens.char opens.starts);
     }) (stops_at (λ c. c == 37) opens.here (start_plain opens.char opens.starts)) in
     record {
@@ -168,10 +172,10 @@ fields_read {u} {v} {w} n (m ∷ ms) can all s ending over no_hash =
 
 -- ---- in the place of a field
 
-module _ (d : Document) (f : FieldReading) (n : NewField) (ns : List NewField) (trimmed : IsTrimmed d.text f)
-    (ordered : f.name.start < f.value.start) (can : CanBePut n) (all : AllByRecursion CanBePut ns) where
+module _ (d : Document) (f : FieldReading) (n : NewField) (ns : List NewField) (space : List ℕ) (trimmed : IsTrimmed d.text f)
+    (ordered : f.name.start < f.value.start) (can : CanBePut n) (all : AllByRecursion CanBePut ns) (blank_between : AreWhite space) where
   abbrev edit : Edit
-  edit = field_stretch d.text f (new_field_text n ++ more_field_texts ns)
+  edit = field_stretch d.text f (new_field_text n ++ more_field_texts space ns)
 
   divided_read : (at k : ℕ) (after : Document) (entry : EntryReading) (j : ℕ) → f.value.end ≤ at → Agrees at d after
       → IsDocument after → slice_get after.says.entries k ≡ Some entry → slice_get entry.fields j ≡ Some f
@@ -242,7 +246,7 @@ module _ (d : Document) (f : FieldReading) (n : NewField) (ns : List NewField) (
       let below : g.end.at < frame.end = omega arith in
       let over : Longest is_whitespace to (goes edit text g.end) =
       record { run = run_there z here' last blank; stops = stops_there is_whitespace z last below stops.0 } in
-      let x = fields_read n ns can all stands ending' over (stops_there (λ c. c == 35) z last below stops.1) in
+      let x = fields_read n ns space can all blank_between stands ending' over (stops_there (λ c. c == 35) z last below stops.1) in
       let start_goes : moved_place edit g.start.at ≡ edit.start =
       moved_before edit g.start.at (omega (arith, start_is, some)) ∙ sym start_is in
       let news = subst (λ m. NewFields (place (edited edit text) m) x.readings (goes edit text g.end)) (sym start_goes) x.news in (

@@ -195,8 +195,8 @@ field_in_order text at end f fs (FieldChange.valued new) more before is placed f
     placed.placed.start placed
     (edits_earlier text (first_place f.value.end fs) f.value.end more (first_in text f.value.end end fs fields).0
     order)
-field_in_order text at end f fs (FieldChange.replaced n ns) more before is placed fields order =
-    stretch_in_order text at f.name.start f (new_field_text n ++ more_field_texts ns) more before
+field_in_order text at end f fs (FieldChange.replaced n ns white) more before is placed fields order =
+    stretch_in_order text at f.name.start f (new_field_text n ++ more_field_texts white ns) more before
     (omega (arith, is.name.some, is.ordered)) is.name.start placed
     (edits_earlier text (first_place f.value.end fs) f.value.end more (first_in text f.value.end end fs fields).0
     order)

@@ -39,14 +39,14 @@ braced_value text = record { bytes = in_braces text; pieces = literal (text_at 1
 abbrev pub braced_field : List ℕ → List ℕ → NewField
 braced_field name text = record { name = name; value = braced_value text }
 
--- the change of a field: it is kept, is preceded by a new field (with a comma and this white space between them), has a new name or a new
--- value, is replaced by one or more fields, or is removed
+-- the change of a field: it is kept, is preceded by a new field, has a new name or a new value, is replaced by one or more fields, or is
+-- removed. A comma and this white space follow each new field that another field follows.
 pub data FieldChange : Type 0 where
   kept : FieldChange
   preceded : NewField → List ℕ → FieldChange
   renamed : List ℕ → FieldChange
   valued : NewValue → FieldChange
-  replaced : NewField → List NewField → FieldChange
+  replaced : NewField → List NewField → List ℕ → FieldChange
   removed : FieldChange
 
 -- the change of an entry: the new name of its type, if that changes, and the changes of its fields, in order; fields after the last
@@ -69,9 +69,9 @@ IsTrimmed text f = Run is_whitespace (place text (value_end text f)) (place text
 abbrev pub new_field_text : NewField → List ℕ
 new_field_text n = n.name ++ (codes " = " ++ n.value.bytes)
 
--- the text of new fields after another one
-abbrev pub more_field_texts : List NewField → List ℕ
-more_field_texts fields = flat_map (λ n. codes ", " ++ new_field_text n) fields
+-- the text of new fields after another one, with a comma and white space before each
+abbrev pub more_field_texts : List ℕ → List NewField → List ℕ
+more_field_texts white fields = flat_map (λ n. char.comma ∷ (white ++ new_field_text n)) fields
 
 -- the text of a new field before another one, with a comma and white space after it
 abbrev pub field_before : NewField → List ℕ → List ℕ
@@ -105,7 +105,8 @@ edits_of_field text f following FieldChange.kept = []
 edits_of_field text f following (FieldChange.preceded n white) = name_edit f (field_before n white) ∷ []
 edits_of_field text f following (FieldChange.renamed name) = record { start = f.name.start; end = f.name.end; bytes = name } ∷ []
 edits_of_field text f following (FieldChange.valued new) = value_stretch_edit text f new.bytes ∷ []
-edits_of_field text f following (FieldChange.replaced n ns) = field_stretch text f (new_field_text n ++ more_field_texts ns) ∷ []
+edits_of_field text f following (FieldChange.replaced n ns white) =
+    field_stretch text f (new_field_text n ++ more_field_texts white ns) ∷ []
 edits_of_field text f following FieldChange.removed = removal_edits f following
 
 -- the edits of fields, by their changes
@@ -143,7 +144,7 @@ field_changed f FieldChange.kept = f ∷ []
 field_changed f (FieldChange.preceded n white) = field_reading n ∷ f ∷ []
 field_changed f (FieldChange.renamed name) = (record f { name = record f.name { text = name } }) ∷ []
 field_changed f (FieldChange.valued new) = (record f { value = record f.value { pieces = new.pieces } }) ∷ []
-field_changed f (FieldChange.replaced n ns) = map field_reading (n ∷ ns)
+field_changed f (FieldChange.replaced n ns white) = map field_reading (n ∷ ns)
 field_changed f FieldChange.removed = []
 
 -- the fields that fields become, by their changes
