@@ -23,6 +23,15 @@ fn refusal(error: EditError) -> &'static str {
     }
 }
 
+// The text with new keys of the entries in order, in which `-` stands for an entry that gets none.
+fn with_keys(alloc: Global, words: &str, document: &RawDocument<'_>) -> Result<String, EditError> {
+    let mut keys = Vec::new(alloc);
+    for word in words.split(',') {
+        keys.push(if word == "-" { None } else { Some(word) })?;
+    }
+    document.rename_keys(alloc, &keys)
+}
+
 // The text that comes of an edit, if the call is one.
 fn edited(alloc: Global, call: &str, document: &RawDocument<'_>) -> Option<Result<String, EditError>> {
     if let Some(words) = call.strip_prefix("set ") {
@@ -37,6 +46,9 @@ fn edited(alloc: Global, call: &str, document: &RawDocument<'_>) -> Option<Resul
     if let Some(words) = call.strip_prefix("rename ") {
         let (old, new) = words.split_once(' ')?;
         return Some(document.rename_key(alloc, old, new));
+    }
+    if let Some(words) = call.strip_prefix("keys ") {
+        return Some(with_keys(alloc, words, document));
     }
     if let Some(more) = call.strip_prefix("add ") {
         let Ok(more) = RawDocument::parse(alloc, more) else {

@@ -7,15 +7,14 @@ use Rattle.bib_text.specs.Places.{Place, place, CharAt, Longest, between}
 use Rattle.bib_text.specs.Places.Run.{stop}
 use Rattle.bib_text.proofs.PlaceFacts.{ahead_char, ahead_run, ahead_then, stops_at}
 use Rattle.bib_syntax.specs.Reading.{EntryReading, FieldReading, FileReading, Part, part}
-use Rattle.bib_syntax.specs.Grammar.{Field, Gap, Identifier, longest}
+use Rattle.bib_syntax.specs.Grammar.{Field, Identifier, longest}
 use Rattle.bib_syntax.specs.Grammar.{Gap as gap}
 use Rattle.bib_syntax.proofs.FieldFacts.{ahead_elements, ahead_field, ahead_gap, ahead_identifier}
 use Rattle.bib_syntax.proofs.FileFacts.{ahead_head}
 use Rattle.bib_syntax.proofs.LawFacts.{start_not_white, start_plain}
 use Rattle.edit_entries.specs.Changes.{NewField, field_before, field_reading, name_edit, new_field_text}
 use Rattle.edit_entries.specs.Documents.{Document, IsDocument, text_at}
-use Rattle.edit_entries.specs.Edits.{Edit, edited, moved_field, moved_part, moved_place}
-use Rattle.edit_entries.proofs.AgreementFacts.{Agrees}
+use Rattle.edit_entries.specs.Edits.{Edit, edited, moved_field, moved_place}
 use Rattle.edit_entries.proofs.EditFacts.{after_frame, moved_after, moved_before, new_bytes, text_stands, zone_after}
 use Rattle.edit_entries.proofs.ElementFacts.{Ending, identifier_until}
 use Rattle.edit_entries.proofs.EntryFacts.{goes}

@@ -1,6 +1,5 @@
 -- Changes of entries and fields, as lists of these are gone through.
-use Rattle.std.proofs.Common.{◌≡◌, ◌⊎◌, inl, inr, ℕ, zero, suc, ◌+◌, ◌<◌, ◌≤◌, Bool, true, false, List, [], ◌∷◌, ◌++◌, map, take, drop, length, get_or, sym, ap, ◌∙◌, subst, arith, append_assoc, append-nil}
-use Rattle.std.specs.Prelude.{◌==◌}
+use Rattle.std.proofs.Common.{◌≡◌, ◌⊎◌, inl, inr, ℕ, zero, suc, ◌+◌, ◌<◌, ◌≤◌, List, [], ◌∷◌, ◌++◌, Option, Some, None, map, take, drop, length, get_or, refl, sym, ap, ◌∙◌, subst, arith, append_assoc, append-nil}
 use Rattle.std.specs.List.{AllByRecursion, flat_map}
 use Rattle.std.proofs.lemmas.List.{map-append, take_more, take-append-drop, length-map, length-take-le}
 use Rattle.bib_text.proofs.PlaceFacts.{ahead_run}
@@ -37,60 +36,55 @@ refused_more P Q e part (inr braces) = inr (braces.0, λ all. braces.1 (part all
 
 -- ---- entries one after another
 
-pub renaming-append : (refers : List ℕ → Bool) (new : List ℕ) (renamed index : ℕ) (xs ys : List EntryReading)
-    → renaming refers new renamed index (xs ++ ys)
-    ≡ renaming refers new renamed index xs ++ renaming refers new renamed (index + length xs) ys
-renaming-append refers new renamed index [] ys =
+pub renaming-append : (names : List ℕ → List ℕ → Option (List ℕ)) (keys : ℕ → Option (List ℕ)) (index : ℕ) (xs ys : List EntryReading)
+    → renaming names keys index (xs ++ ys) ≡ renaming names keys index xs ++ renaming names keys (index + length xs) ys
+renaming-append names keys index [] ys =
     let same : index ≡ index + 0 = omega arith in
-    ap (λ i. renaming refers new renamed i ys) same
-renaming-append refers new renamed index (x ∷ xs) ys =
+    ap (λ i. renaming names keys i ys) same
+renaming-append names keys index (x ∷ xs) ys =
     let same : suc index + length xs ≡ index + suc (length xs) = omega arith in
-    let here : List Change = key_change (index == renamed) x new ++ reference_changes refers new x.fields in
+    let here : List Change = key_change (keys index) x ++ reference_changes names x.fields in
     ap (λ l. here ++ l)
-    (renaming-append refers new renamed (suc index) xs ys
-    ∙ ap (λ i. renaming refers new renamed (suc index) xs ++ renaming refers new renamed i ys) same)
-    ∙ sym (append_assoc here (renaming refers new renamed (suc index) xs) (renaming refers new renamed (index + suc (length xs)) ys))
+    (renaming-append names keys (suc index) xs ys
+    ∙ ap (λ i. renaming names keys (suc index) xs ++ renaming names keys i ys) same)
+    ∙ sym (append_assoc here (renaming names keys (suc index) xs) (renaming names keys (index + suc (length xs)) ys))
 
-module _ {A : Type 0} (view : A → EntryReading) (refers : List ℕ → Bool) (new : List ℕ) (renamed : ℕ) (xs : List A) (i : ℕ) (x : A)
-    (within : i < length xs) (is : x ≡ get_or xs i x) where
+module _ {A : Type 0} (view : A → EntryReading) (names : List ℕ → List ℕ → Option (List ℕ)) (keys : ℕ → Option (List ℕ)) (xs : List A)
+    (i : ℕ) (x : A) (within : i < length xs) (is : x ≡ get_or xs i x) where
   size : length (map view (take i xs)) ≡ i
   size = length-map (take i xs) view ∙ length-take-le i xs (omega arith)
 
-  here : List Change
-  here = key_change (i == renamed) (view x) new ++ reference_changes refers new (view x).fields
-
   -- those of some entries and one more
-  pub renaming_more : renaming refers new renamed 0 (map view (take (i + 1) xs))
-      ≡ renaming refers new renamed 0 (map view (take i xs))
-      ++ (key_change (i == renamed) (view x) new ++ reference_changes refers new (view x).fields)
+  pub renaming_more : renaming names keys 0 (map view (take (i + 1) xs))
+      ≡ renaming names keys 0 (map view (take i xs)) ++ (key_change (keys i) (view x) ++ reference_changes names (view x).fields)
   renaming_more =
       let index : 0 + length (map view (take i xs)) ≡ i = omega (arith, size) in
-      ap (renaming refers new renamed 0)
+      ap (renaming names keys 0)
       (ap (map view) (take_more xs i x within ∙ ap (λ y. take i xs ++ y ∷ []) (sym is))
       ∙ map-append view (take i xs) (x ∷ []))
-      ∙ renaming-append refers new renamed 0 (map view (take i xs)) (view x ∷ [])
-      ∙ ap (λ n. renaming refers new renamed 0 (map view (take i xs)) ++ renaming refers new renamed n (view x ∷ [])) index
-      ∙ ap (λ l. renaming refers new renamed 0 (map view (take i xs)) ++ l)
-      (append-nil (key_change (i == renamed) (view x) new ++ reference_changes refers new (view x).fields))
+      ∙ renaming-append names keys 0 (map view (take i xs)) (view x ∷ [])
+      ∙ ap (λ n. renaming names keys 0 (map view (take i xs)) ++ renaming names keys n (view x ∷ [])) index
+      ∙ ap (λ l. renaming names keys 0 (map view (take i xs)) ++ l)
+      (append-nil (key_change (keys i) (view x) ++ reference_changes names (view x).fields))
 
   -- those of one of some entries are among those of all
-  pub renaming_at : (P : Change → Type 0) → AllByRecursion P (renaming refers new renamed 0 (map view xs))
-      → AllByRecursion P (reference_changes refers new (view x).fields)
+  pub renaming_at : (P : Change → Type 0) → AllByRecursion P (renaming names keys 0 (map view xs))
+      → AllByRecursion P (reference_changes names (view x).fields)
   renaming_at P all =
       let whole : map view xs ≡ map view (take (i + 1) xs) ++ map view (drop (i + 1) xs) =
       ap (map view) (sym (take-append-drop (i + 1) xs)) ∙ map-append view (take (i + 1) xs) (drop (i + 1) xs) in
       let cut =
-      ap (renaming refers new renamed 0) whole
-      ∙ renaming-append refers new renamed 0 (map view (take (i + 1) xs)) (map view (drop (i + 1) xs)) in
+      ap (renaming names keys 0) whole
+      ∙ renaming-append names keys 0 (map view (take (i + 1) xs)) (map view (drop (i + 1) xs)) in
       let upto =
-      all_left P (renaming refers new renamed 0 (map view (take (i + 1) xs)))
-      (renaming refers new renamed (0 + length (map view (take (i + 1) xs))) (map view (drop (i + 1) xs)))
+      all_left P (renaming names keys 0 (map view (take (i + 1) xs)))
+      (renaming names keys (0 + length (map view (take (i + 1) xs))) (map view (drop (i + 1) xs)))
       (subst (AllByRecursion P) cut all) in
       let last =
-      all_right P (renaming refers new renamed 0 (map view (take i xs)))
-      (key_change (i == renamed) (view x) new ++ reference_changes refers new (view x).fields)
+      all_right P (renaming names keys 0 (map view (take i xs)))
+      (key_change (keys i) (view x) ++ reference_changes names (view x).fields)
       (subst (AllByRecursion P) renaming_more upto) in
-      all_right P (key_change (i == renamed) (view x) new) (reference_changes refers new (view x).fields) last
+      all_right P (key_change (keys i) (view x)) (reference_changes names (view x).fields) last
 
 -- ---- changes as edits
 
@@ -124,7 +118,7 @@ pushed text before key refs a b c first second third =
     ∙ sym (map-append (change_edit text) before (key ++ refs))
 
 -- what holds of the change of a key
-pub key_all : (P : Change → Type 0) (is : Bool) (e : EntryReading) (new : List ℕ) → P (Change.key e.key new)
-    → AllByRecursion P (key_change is e new)
-key_all P true e new holds = (holds, tt)
-key_all P false e new holds = tt
+pub key_all : (P : Change → Type 0) (o : Option (List ℕ)) (e : EntryReading) → ((new : List ℕ) → o ≡ Some new → P (Change.key e.key new))
+    → AllByRecursion P (key_change o e)
+key_all P None e holds = tt
+key_all P (Some new) e holds = (holds new refl, tt)

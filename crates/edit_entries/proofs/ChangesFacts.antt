@@ -1,17 +1,17 @@
 -- A document with changes of its entries: what it is read as.
-use Rattle.std.proofs.Common.{◌≡◌, ℕ, suc, ◌≤◌, List, [], ◌∷◌, ◌++◌, length, map, refl, sym, ap, ◌∙◌, subst, arith, append_assoc, append-nil, length-append, Option, Some, None, Result, Ok, Err}
+use Rattle.std.proofs.Common.{◌≡◌, ℕ, suc, ◌≤◌, List, [], ◌∷◌, ◌++◌, length, map, refl, sym, ap, ◌∙◌, subst, arith, append_assoc, length-append, Option, Some, None, Result, Ok, Err}
 use Rattle.std.specs.Prelude.{IfOk, slice_get}
 use Rattle.std.specs.List.{AllByRecursion}
 use Rattle.std.specs.Str.{IsUtf8}
 use Rattle.bib_syntax.specs.Reading.{FieldReading, EntryReading, FileReading}
 use Rattle.bib_syntax.specs.Grammar.{BlockKind, IsRawReading, block_kind}
 use Rattle.bib_text.proofs.ListFacts.{get_here}
-use Rattle.edit_entries.specs.Changes.{EntryChange, FieldChange, IsChanged, IsReadPlaceless, IsTrimmed, NewValue, edits_of_entries, edits_of_field, edits_of_fields, entry_changed, field_before, field_changed, field_stretch, fields_changed, file_changed, more_field_texts, name_edit, new_field_text, part_edits, text_changed, value_stretch_edit, with_other_text}
+use Rattle.edit_entries.specs.Changes.{EntryChange, FieldChange, IsChanged, IsReadPlaceless, IsTrimmed, edits_of_entries, edits_of_field, edits_of_fields, entry_changed, field_before, field_changed, field_stretch, fields_changed, file_changed, more_field_texts, name_edit, new_field_text, part_edits, text_changed, value_stretch_edit, with_other_text}
 use Rattle.edit_entries.specs.Documents.{CanBeName, Document, IsDocument}
-use Rattle.edit_entries.specs.Edits.{Edit, moved_field, moved_piece, moved_place, placeless}
+use Rattle.edit_entries.specs.Edits.{Edit, moved_field, moved_place, placeless}
 use Rattle.edit_entries.specs.Placed.{IsPlaced}
 use Rattle.edit_entries.specs.EditList.{AreEditsInOrder}
-use Rattle.edit_entries.proofs.AgreementFacts.{Agrees, agrees_before, agrees_self, same_run}
+use Rattle.edit_entries.proofs.AgreementFacts.{agrees_self}
 use Rattle.edit_entries.proofs.AllFacts.{OfFields, all_placed, fields_weaker}
 use Rattle.edit_entries.proofs.BeforeFacts.{preceded_put}
 use Rattle.edit_entries.proofs.EditFacts.{moved_before}

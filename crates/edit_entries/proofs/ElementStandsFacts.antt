@@ -1,5 +1,5 @@
 -- An element that stands in another text.
-use Rattle.std.proofs.Common.{◌≡◌, ℕ, ◌+◌, ◌-◌, ◌≤◌, length, sym, subst}
+use Rattle.std.proofs.Common.{ℕ, ◌+◌, ◌-◌, ◌≤◌, length, sym, subst}
 use Rattle.bib_text.specs.Places.{Place, between}
 use Rattle.bib_text.proofs.PlaceFacts.{ahead_char, ahead_run}
 use Rattle.bib_syntax.specs.Reading.{Piece}

@@ -1,11 +1,11 @@
 -- The change of one entry of a document: its edits, and the reading of the new text.
-use Rattle.std.proofs.Common.{◌≡◌, ℕ, zero, suc, ◌<◌, ◌≤◌, Bool, true, false, cond, List, [], ◌∷◌, ◌++◌, length, map, refl, sym, ap, ◌∙◌, subst, arith, append-nil, Some, None}
+use Rattle.std.proofs.Common.{◌≡◌, ℕ, zero, suc, ◌<◌, ◌≤◌, Bool, true, false, cond, List, [], ◌∷◌, ◌++◌, map, refl, sym, ap, ◌∙◌, subst, arith, append-nil, Some, None}
 use Rattle.std.specs.Prelude.{◌==◌, slice_get, slice_set}
 use Rattle.std.proofs.lemmas.Bool.Decides.{nat_tests}
 use Rattle.std.specs.List.{AllByRecursion}
 use Rattle.std.specs.Str.{IsUtf8}
 use Rattle.bib_syntax.specs.Reading.{EntryReading, FieldReading}
-use Rattle.edit_entries.specs.Changes.{EntryChange, IsReadPlaceless, edits_of_entries, edits_of_entry, edits_of_fields, entry_changed, fields_changed, file_changed, text_changed}
+use Rattle.edit_entries.specs.Changes.{EntryChange, IsReadPlaceless, edits_of_entries, edits_of_entry, edits_of_fields, entry_changed, fields_changed, file_changed}
 use Rattle.edit_entries.specs.Documents.{Document, IsDocument}
 use Rattle.edit_entries.specs.EditList.{AreEditsInOrder}
 use Rattle.edit_entries.specs.Edits.{edited_all}

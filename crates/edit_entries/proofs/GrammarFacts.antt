@@ -1,5 +1,5 @@
 -- What the rules of the file grammar read in a zone that two texts share, in the one and in the other.
-use Rattle.std.proofs.Common.{◌≡◌, ℕ, ◌<◌, ◌≤◌, false, List, [], ◌∷◌, ◌++◌, map, sym, ap, ◌∙◌, subst, arith, inl, inr}
+use Rattle.std.proofs.Common.{◌≡◌, ℕ, ◌<◌, ◌≤◌, false, List, [], ◌++◌, map, sym, ap, ◌∙◌, subst, arith, inl, inr}
 use Rattle.std.specs.Prelude.{◌==◌, not}
 use Rattle.std.specs.Char.{is_whitespace, len_utf8}
 use Rattle.std.proofs.lemmas.Bool.{cases_lt, not_from_false}

@@ -14,7 +14,7 @@ pub mod ElementStandsFacts
 pub mod EntryChangeFacts
 pub mod EntryFacts
 pub mod FieldNameFacts
-mod FoundKeyFacts
+mod IndexFacts
 pub mod GrammarFacts
 pub mod JoinedFacts
 mod KeyFacts
@@ -41,7 +41,7 @@ pub mod StandsFacts
 pub mod StretchFacts
 mod BalanceFacts
 mod TakenFacts
-mod TargetFacts
+mod NameFacts
 pub mod TrimFacts
 pub mod TrimmedFacts
 pub mod UnsetFacts

@@ -11,11 +11,15 @@ use Rattle.bib_queries.specs.Names.{entry_names}
 use Rattle.edit_entries.specs.NameSets.{AreNamesOf, holds_name}
 use Rattle.edit_entries.specs.NewNames.{has_word, shares_name}
 
+pub or_cond : (b x : Bool) → cond b true x ≡ (b || x)
+or_cond true x = refl
+or_cond false x = refl
+
 pub or_after : (b x y : Bool) → cond b true (x || y) ≡ (cond b true x || y)
 or_after true x y = refl
 or_after false x y = refl
 
-or_turned : (x y : Bool) → (x || y) ≡ (y || x)
+pub or_turned : (x y : Bool) → (x || y) ≡ (y || x)
 or_turned true true = refl
 or_turned true false = refl
 or_turned false true = refl

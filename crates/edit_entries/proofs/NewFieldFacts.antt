@@ -1,17 +1,14 @@
 -- Fields that are put in the place of one, as they are written with commas between them.
 use Rattle.std.proofs.Common.{◌≡◌, ℕ, ◌+◌, ◌-◌, ◌<◌, ◌≤◌, List, [], ◌∷◌, ◌++◌, length, drop, map, codes, refl, sym, ap, ◌∙◌, subst, arith, append_assoc, append-nil, Some}
-use Rattle.std.specs.Prelude.{◌==◌, ◌&&◌, not, slice_get}
-use Rattle.std.specs.Char.{is_control, is_whitespace}
-use Rattle.std.proofs.lemmas.Bool.{and_right}
-use Rattle.std.proofs.lemmas.Bool.Decides.{nat_tests}
-use Rattle.bib_syntax.specs.Characters.{is_delimiter}
+use Rattle.std.specs.Prelude.{◌==◌, slice_get}
+use Rattle.std.specs.Char.{is_whitespace}
 use Rattle.std.specs.List.{AllByRecursion}
 use Rattle.bib_text.specs.Places.{Place, place, Longest, Run, Stops, between}
 use Rattle.bib_text.specs.Places.Run.{stop, step}
 use Rattle.bib_text.proofs.PlaceFacts.{ahead_char, ahead_run, ahead_then, same_place, stops_at}
 use Rattle.bib_syntax.specs.Reading.{Piece, EntryReading, FieldReading}
 use Rattle.bib_syntax.specs.Reading.Piece.{abbreviation, literal}
-use Rattle.bib_syntax.specs.Grammar.{Element, Elements, Field, longest}
+use Rattle.bib_syntax.specs.Grammar.{Element, Field, longest}
 use Rattle.bib_syntax.specs.Grammar.{Elements as elements}
 use Rattle.bib_syntax.specs.Grammar.{Gap as gap}
 use Rattle.bib_syntax.proofs.FieldFacts.{ahead_field, ahead_gap, elements_stop}

@@ -11,7 +11,6 @@ use Rattle.bib_text.proofs.PlaceFacts.{ahead_then, ahead_char, ahead_run, same_p
 use Rattle.bib_syntax.specs.Characters.{is_delimiter}
 use Rattle.bib_syntax.specs.Reading.{Piece, FieldReading, EntryReading}
 use Rattle.bib_syntax.specs.Grammar.{Elements, Field, Gap, longest}
-use Rattle.bib_syntax.specs.Grammar.{Elements as elements}
 use Rattle.bib_syntax.specs.Grammar.{Gap as gap}
 use Rattle.bib_syntax.proofs.FieldFacts.{ahead_identifier, ahead_field, ahead_gap, elements_stop}
 use Rattle.bib_syntax.proofs.FileFacts.{ahead_head}

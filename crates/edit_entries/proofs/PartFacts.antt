@@ -1,11 +1,10 @@
 -- Where the names of types and the fields of a file stand: one after another, and where each may be cut out.
-use Rattle.std.proofs.Common.{inl, inr, ◌≡◌, ℕ, ◌+◌, Bool, true, false, cond, length, ◌<◌, ◌≤◌, List, [], ◌∷◌, ◌++◌, sym, ap, ◌∙◌, subst, arith, append_assoc, Option, Some, None}
+use Rattle.std.proofs.Common.{inl, inr, ◌≡◌, ℕ, ◌<◌, ◌≤◌, List, [], ◌∷◌, ◌++◌, sym, ap, ◌∙◌, subst, arith, append_assoc, Option, Some, None}
 use Rattle.std.specs.Str.{IsCharBoundary}
 use Rattle.std.specs.List.{AllByRecursion}
 use Rattle.std.proofs.lemmas.Str.{len_utf8_bounds}
 use Rattle.std.specs.Char.{is_whitespace}
 use Rattle.bib_text.specs.Places.{Place, place, CharAt, Run}
-use Rattle.bib_text.specs.Places.Run.{stop, step}
 use Rattle.bib_text.proofs.PlaceFacts.{ahead_char, ahead_run, ahead_then}
 use Rattle.bib_syntax.specs.Reading.{FieldReading, EntryReading, FileReading, Part}
 use Rattle.bib_syntax.specs.Grammar.{Field, Fields, File, Identifier, longest}
@@ -17,7 +16,7 @@ use Rattle.edit_entries.specs.Edits.{Edit}
 use Rattle.edit_entries.specs.EditList.{AreEditsInOrder}
 use Rattle.edit_entries.proofs.SplitFacts.{EntryBlock, entry_block, one_entry}
 use Rattle.edit_entries.proofs.ValueFacts.{elements_opens, run_stands}
-use Rattle.edit_entries.specs.Changes.{EntryChange, FieldChange, edits_of_entries, edits_of_field, edits_of_fields, field_stretch, removal_edits, more_field_texts, new_field_text, part_edits, value_end}
+use Rattle.edit_entries.specs.Changes.{EntryChange, FieldChange, edits_of_entries, edits_of_field, edits_of_fields, more_field_texts, new_field_text, part_edits, value_end}
 use Rattle.edit_entries.proofs.TrimmedFacts.{IsFieldPlaced, edits_earlier}
 use Rattle.bib_text.proofs.BoundaryFacts.{run_boundary, char_boundary}
 

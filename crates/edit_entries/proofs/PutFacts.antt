@@ -2,10 +2,9 @@
 use Rattle.std.proofs.Common.{◌≡◌, inr, ℕ, zero, suc, ◌+◌, ◌<◌, ◌≤◌, true, false, List, [], ◌∷◌, ◌++◌, length, map, refl, sym, ap, ◌∙◌, subst, arith, append_assoc}
 use Rattle.std.specs.Prelude.{◌==◌}
 use Rattle.std.specs.Char.{is_whitespace}
-use Rattle.std.proofs.lemmas.Bool.{ne_eqb}
 use Rattle.std.proofs.lemmas.Str.{len_utf8_bounds}
 use Rattle.bib_text.specs.Places.{Place, place, CharAt, Stops}
-use Rattle.bib_text.proofs.PlaceFacts.{ahead_char, ahead_run, ahead_then, stops_at, test_clash}
+use Rattle.bib_text.proofs.PlaceFacts.{ahead_char, ahead_run, ahead_then, stops_at}
 use Rattle.bib_syntax.specs.Characters.{is_id_start}
 use Rattle.bib_syntax.specs.Reading.{EntryReading, FieldReading}
 use Rattle.bib_syntax.specs.Grammar.{Field, Fields, Gap, longest}

@@ -1,9 +1,8 @@
 -- An entry with another key.
 use Rattle.std.proofs.Common.{◌≡◌, inr, ℕ, suc, ◌+◌, ◌-◌, ◌<◌, ◌≤◌, Bool, true, false, cond, Option, None, List, [], ◌∷◌, ◌++◌, length, take, drop, refl, sym, ap, ◌∙◌, subst, arith, Some, length-take}
-use Rattle.std.specs.Prelude.{not, ◌||◌, ◌&&◌, ◌==◌, slice_get}
-use Rattle.std.specs.Char.{is_control, is_whitespace}
+use Rattle.std.specs.Prelude.{slice_get}
+use Rattle.std.specs.Char.{is_whitespace}
 use Rattle.std.specs.Str.{IsCharBoundary}
-use Rattle.std.proofs.lemmas.Bool.{and_parts, not-true}
 use Rattle.std.proofs.lemmas.List.{take_at}
 use Rattle.std.proofs.lemmas.Str.{len_utf8_bounds}
 use Rattle.bib_text.specs.Places.{Place, place, CharAt, Run, between}

@@ -1,6 +1,6 @@
 -- The outcome of setting a field.
-use Rattle.std.proofs.Common.{◌≡◌, inl, ℕ, zero, suc, ◌+◌, ◌-◌, ◌<◌, ◌≤◌, Bool, true, false, cond, List, [], ◌∷◌, ◌++◌, length, take, map, refl, sym, ap, ◌∙◌, subst, arith, append-nil, Option, Some, None, Result, Ok, Err}
-use Rattle.std.specs.Prelude.{IfErr, IfOk, OnOk, slice_get, slice_set, ◌||◌}
+use Rattle.std.proofs.Common.{◌≡◌, inl, ℕ, zero, suc, ◌+◌, ◌-◌, ◌<◌, ◌≤◌, Bool, true, false, cond, List, [], ◌∷◌, ◌++◌, length, take, map, refl, sym, ap, ◌∙◌, subst, arith, append-nil, Some, Result, Ok, Err}
+use Rattle.std.specs.Prelude.{IfErr, IfOk, OnOk, slice_get, ◌||◌}
 use Rattle.std.specs.Char.{is_whitespace}
 use Rattle.std.specs.List.{AllByRecursion, list_any}
 use Rattle.std.specs.Str.{IsCharBoundary, IsUtf8}
@@ -13,11 +13,10 @@ use Rattle.bib_syntax.specs.Reading.{EntryReading, FieldReading}
 use Rattle.bib_syntax.proofs.FileFacts.{ahead_head}
 use Rattle.edit_entries.specs.Changes.{FieldChange, braced_field, braced_value, edits_of_entry, edits_of_field, edits_of_fields, field_before, name_edit}
 use Rattle.edit_entries.specs.Documents.{CanStandInBraces, Document, HasEntry, IsEdited, IsDocument, first_position, has_name, in_braces, is_keyed}
-use Rattle.edit_entries.specs.EditList.{AreEditsInOrder}
 use Rattle.edit_entries.specs.Edits.{edited, edited_all}
 use Rattle.edit_entries.specs.Placed.{HasComma, IsNamePlaced, IsPlaced}
 use Rattle.edit_entries.specs.SetTexts.{CanBeSetIn, IsSetText, SetTextIsRefused}
-use Rattle.edit_entries.specs.Setting.{CanBeNewName, CanBeValue, FieldSet, IsAfterComma, IsEntryChanged, IsSet, SetIsRefused, field_put, has_other_value, only_field_added, only_field_text, set_change, values_set, white_before}
+use Rattle.edit_entries.specs.Setting.{CanBeNewName, CanBeValue, FieldSet, IsAfterComma, IsSet, SetIsRefused, field_put, has_other_value, only_field_added, only_field_text, set_change, values_set, white_before}
 use Rattle.edit_entries.specs.declared.errors.EditError.{EditError}
 use Rattle.edit_entries.specs.declared.errors.EditError.TheVariants.{UnknownKey, KeyIsThere, NotAKey, NotAName, NotInBraces, DefinitionIsThere, NoFieldLeft, OutOfMemory}
 use Rattle.edit_entries.proofs.AddedFacts.{only_field_read}

@@ -8,7 +8,7 @@ use Rattle.bib_syntax.specs.Reading.{EntryReading, FieldReading, Piece}
 use Rattle.bib_syntax.specs.Reading.Piece.{abbreviation, literal}
 use Rattle.bib_syntax.specs.Grammar.{is_word}
 use Rattle.edit_entries.specs.Changes.{EntryChange, FieldChange, braced_field, braced_value, entry_changed, field_changed, field_reading, fields_changed}
-use Rattle.edit_entries.specs.Documents.{Document, HasEntry, HasField, first_position, has_name, is_keyed, is_value, last_position, next_index, or_first}
+use Rattle.edit_entries.specs.Documents.{Document, HasEntry, first_position, has_name, is_keyed, is_value, last_position, next_index, or_first}
 use Rattle.edit_entries.specs.Edits.{Edit, moved_entry, moved_field, moved_piece, moved_place}
 use Rattle.edit_entries.specs.Setting.{FieldSet, HasValue, IsEntryChanged, field_put, has_other_value, only_field, only_field_text, set_change, values_set}
 use Rattle.edit_entries.proofs.EntryChangeFacts.{fields_kept}

@@ -6,7 +6,7 @@ use Rattle.std.proofs.lemmas.Bool.Decides.{nat_tests}
 use Rattle.std.proofs.lemmas.Bool.{cases_lt}
 use Rattle.std.proofs.lemmas.List.{take_at}
 use Rattle.std.proofs.lemmas.Str.{len_utf8_bounds}
-use Rattle.bib_text.specs.Places.{Place, place, CharAt, Run, Stops, Longest, between}
+use Rattle.bib_text.specs.Places.{Place, place, CharAt, Run, Longest, between}
 use Rattle.bib_text.specs.Places.Run.{stop, step}
 use Rattle.bib_text.proofs.PlaceFacts.{Ahead, ahead_then, ahead_char, ahead_run, same_place, stops_at, same_char, test_clash}
 use Rattle.bib_syntax.specs.Reading.{Part, part, Piece, FieldReading, EntryReading}

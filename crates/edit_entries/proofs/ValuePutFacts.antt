@@ -1,22 +1,19 @@
 -- Another value in the place of a field's, as fields that are put in its place.
-use Rattle.std.proofs.Common.{◌≡◌, ℕ, zero, suc, ◌≤◌, List, [], ◌∷◌, ◌++◌, map, refl, sym, ap, ◌∙◌, subst, arith, Some}
+use Rattle.std.proofs.Common.{◌≡◌, ℕ, zero, suc, List, [], ◌∷◌, map, refl, ap, ◌∙◌, subst, arith, Some}
 use Rattle.std.specs.Prelude.{option_map, slice_get, slice_set}
 use Rattle.std.specs.Char.{is_whitespace}
 use Rattle.std.proofs.lemmas.Option.{slice_get-map}
 use Rattle.bib_text.specs.Places.{Run, place}
-use Rattle.bib_text.proofs.PlaceFacts.{ahead_run}
-use Rattle.bib_syntax.specs.Reading.{Piece, FieldReading, EntryReading, FileReading}
+use Rattle.bib_syntax.specs.Reading.{Piece, FieldReading}
 use Rattle.edit_entries.specs.Changes.{IsTrimmed, NewValue, value_stretch_edit}
 use Rattle.edit_entries.specs.Documents.{Document, IsDocument, entry_edited}
 use Rattle.edit_entries.specs.Edits.{Edit, moved_entry, moved_field, moved_piece, moved_place}
-use Rattle.edit_entries.proofs.AgreementFacts.{Agrees, agrees_before, same_run}
+use Rattle.edit_entries.proofs.AgreementFacts.{agrees_before, same_run}
 use Rattle.edit_entries.proofs.EditFacts.{moved_before}
-use Rattle.edit_entries.proofs.KindFacts.{IsWithin}
 use Rattle.edit_entries.proofs.MadeFacts.{IsPut}
 use Rattle.edit_entries.proofs.NewValueFacts.{CanBeRead, value_exchanged, with_pieces}
 use Rattle.edit_entries.proofs.PartFacts.{IsIn}
-use Rattle.edit_entries.proofs.PlacelessFacts.{file_placeless}
-use Rattle.edit_entries.proofs.PutFacts.{Begins, fields_put, put_at}
+use Rattle.edit_entries.proofs.PutFacts.{put_at}
 
 -- one in the place of the element with an index
 set_put : {A : Type 0} (xs : List A) (j : ℕ) (x y : A) → slice_get xs j ≡ Some x → slice_set xs j y ≡ put_at j (y ∷ []) xs

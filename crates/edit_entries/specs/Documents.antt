@@ -1,11 +1,11 @@
 -- Meaning: words of public contracts.
 -- The text of a file with its reading, and the outcomes of edits.
-use Rattle.std.specs.Prelude.{◌≡◌, ℕ, suc, ◌+◌, ◌<◌, ◌&&◌, Bool, true, false, if◌then◌else◌, List, [], ◌∷◌, ◌++◌, length, map, Option, Some, None, bytes_eq, slice_get, slice_set, take, codes, ⊤}
+use Rattle.std.specs.Prelude.{◌≡◌, ℕ, suc, ◌+◌, ◌<◌, ◌&&◌, Bool, true, false, if◌then◌else◌, List, [], ◌∷◌, ◌++◌, length, map, Option, Some, None, bytes_eq, slice_get, slice_set, take, ⊤}
 use Rattle.std.specs.Char.{is_whitespace}
 use Rattle.std.specs.List.{list_all, list_any, remove}
 use Rattle.std.specs.Option.{option_map_or}
 use Rattle.std.specs.Str.{trim_end}
-use Rattle.bib_text.specs.Places.{CharAt, Longest, Place, Run, between, place}
+use Rattle.bib_text.specs.Places.{Longest, Run, between, place}
 use Rattle.bib_syntax.specs.Characters.{is_key}
 use Rattle.bib_text.specs.Characters as char
 use Rattle.bib_syntax.specs.Grammar.{Braced, Identifier, IsRawReading, is_word, longest}

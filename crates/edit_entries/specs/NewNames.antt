@@ -1,6 +1,6 @@
 -- Meaning: words of public contracts.
 -- New keys of entries: what they may contain, and the names that entries have already.
-use Rattle.std.specs.Prelude.{◌≡◌, ℕ, ◌<◌, Bool, true, false, not, ◌&&◌, ◌||◌, ◌==◌, if◌then◌else◌, List, length, codes, Some, bytes_eq, slice_get}
+use Rattle.std.specs.Prelude.{◌≡◌, ℕ, suc, ◌<◌, Bool, true, false, not, ◌&&◌, ◌||◌, ◌==◌, if◌then◌else◌, List, [], ◌∷◌, ◌++◌, length, codes, take, Option, Some, bytes_eq, is_some, option_to_list, slice_get}
 use Rattle.std.specs.List.{list_any}
 use Rattle.std.specs.Str.Iter.{HasSubslice}
 use Rattle.bib_text.specs.Characters as char
@@ -51,12 +51,25 @@ has_word names name = list_any (λ own. is_word own name) names
 abbrev pub kept_names : Bool → EntryReading → List (List ℕ)
 kept_names is_replaced e = if is_replaced then aliases_of e.fields else entry_names e
 
--- a new key of the entry at the index `replaced` is a name of another entry, or one in the fields `ids` of this entry
-pub record IsNameTaken (entries : List EntryReading) (replaced : ℕ) (name : List ℕ) : Type 0 where
+-- the names that stay if entries get new keys by their indices: those in `ids`, and the keys of the entries that get none; the first
+-- entry has the given index
+abbrev pub staying_names : (ℕ → Option (List ℕ)) → ℕ → List EntryReading → List (List ℕ)
+staying_names keys index [] = []
+staying_names keys index (e ∷ es) = kept_names (is_some (keys index)) e ++ staying_names keys (suc index) es
+
+-- the new keys that entries get; the first entry has the given index
+abbrev pub new_keys : (ℕ → Option (List ℕ)) → ℕ → List EntryReading → List (List ℕ)
+new_keys keys index [] = []
+new_keys keys index (e ∷ es) = option_to_list (keys index) ++ new_keys keys (suc index) es
+
+-- a new key of an entry is, in any ASCII case, a name that stays or the new key of an earlier entry
+pub record IsNewKeyTaken (entries : List EntryReading) (keys : ℕ → Option (List ℕ)) : Type 0 where
   pub index : ℕ
   pub entry : EntryReading
+  pub new : List ℕ
   pub here : slice_get entries index ≡ Some entry
-  pub has : has_word (kept_names (index == replaced) entry) name ≡ true
+  pub gets : keys index ≡ Some new
+  pub taken : has_word (staying_names keys 0 entries ++ new_keys keys 0 (take index entries)) new ≡ true
 
 -- whether an entry has a name of one of these entries, in any ASCII case
 abbrev pub shares_name : List EntryReading → EntryReading → Bool

@@ -1,7 +1,10 @@
 -- Meaning: words of public contracts.
--- References to the keys of entries, and the outcome of renaming a key: the entry and each reference to it have the new key.
-use Rattle.std.specs.Prelude.{◌≡◌, ℕ, suc, ◌-◌, ◌<◌, ◌==◌, Bool, true, false, if◌then◌else◌, List, [], ◌∷◌, ◌++◌, length, take, drop, Option, Some, None, bytes_eq, not, ◌&&◌, ◌||◌, slice_get, ⊤}
+-- The entries that names in references mean, and the outcome of giving entries new keys: the entries and each reference to them have the
+-- new keys.
+use Rattle.std.specs.Prelude.{◌≡◌, ℕ, suc, ◌-◌, ◌<◌, ◌==◌, Bool, true, false, if◌then◌else◌, List, [], ◌∷◌, ◌++◌, codes, length, take, drop, Option, Some, None, bytes_eq, is_some, option_and_then, option_map, slice_get, ⊤}
+use Rattle.std.specs.Borrow.{Bor}
 use Rattle.std.specs.List.{AllByRecursion, flat_map, join_by, list_any, slice_split}
+use Rattle.std.specs.Option.{option_map_or}
 use Rattle.std.specs.Str.{trim, trim_end, trim_start}
 use Rattle.bib_text.specs.Characters as char
 use Rattle.bib_syntax.specs.Grammar.{is_word}
@@ -12,85 +15,86 @@ use Rattle.bib_queries.specs.Names.{aliases_of}
 use Rattle.bib_queries.specs.Needed.{is_listed}
 use Rattle.edit_entries.specs.Documents.{CanBeKey, CanStandInBraces, Document, HasEntry, entry_renamed, first_position, is_keyed, value_changed, value_edit}
 use Rattle.edit_entries.specs.Edits.{Edit}
-use Rattle.edit_entries.specs.NewNames.{CanBeNewKey, IsNameTaken}
+use Rattle.edit_entries.specs.NewNames.{CanBeNewKey, IsNewKeyTaken}
 use Rattle.edit_entries.specs.declared.errors.EditError.{EditError}
 use Rattle.edit_entries.specs.declared.errors.EditError.TheVariants.{UnknownKey, KeyIsThere, NotAKey, NotAName, NotInBraces, DefinitionIsThere, NoFieldLeft, OutOfMemory}
 
--- the elements of a comma list, with the white space around them
-abbrev pub elements_of : List ℕ → List (List ℕ)
-elements_of list = slice_split (λ c. c == char.comma) list
+-- ---- which entry a name means
 
--- the key of the first entry that passes a test, if there is one
-abbrev pub first_key : (EntryReading → Bool) → List EntryReading → Option (List ℕ)
-first_key test [] = None
-first_key test (e ∷ es) = if test e then Some e.key.text else first_key test es
-
--- the first of two keys that is found, if there is one
-abbrev pub first_found : Option (List ℕ) → Option (List ℕ) → Option (List ℕ)
-first_found (Some key) other = Some key
+-- the first of two indices that is found, if there is one
+abbrev pub first_found : Option ℕ → Option ℕ → Option ℕ
+first_found (Some i) other = Some i
 first_found None other = other
+
+-- an index, unless another one is found too
+abbrev pub unless_other : Option ℕ → Option ℕ → Option ℕ
+unless_other None other = None
+unless_other (Some i) None = Some i
+unless_other (Some i) (Some j) = if i == j then Some i else None
 
 -- whether an entry has a name in its fields `ids`
 abbrev pub has_alias : List ℕ → EntryReading → Bool
 has_alias name e = is_listed (aliases_of e.fields) name
 
--- the key that BibTeX finds by a name: the first key that is the name in any ASCII case
-abbrev pub bibtex_key : List EntryReading → List ℕ → Option (List ℕ)
-bibtex_key entries name = first_key (λ e. is_word e.key.text name) entries
+-- whether an entry has a name as its key, in any ASCII case
+abbrev pub has_key_word : List ℕ → EntryReading → Bool
+has_key_word name e = is_word e.key.text name
 
--- the key that Biber finds by a name: the key that is the name, or else the key of the first entry with the name in its fields `ids`
-abbrev pub biber_key : List EntryReading → List ℕ → Option (List ℕ)
-biber_key entries name = first_found (first_key (is_keyed name) entries) (first_key (has_alias name) entries)
+-- the index of the entry that BibTeX finds by a name, unless Biber finds another one by its field `ids`. BibTeX finds the first key that
+-- is the name in any ASCII case.
+abbrev pub index_in_any_case : List EntryReading → List ℕ → Option ℕ
+index_in_any_case entries name =
+    unless_other (first_position (has_key_word name) entries) (first_position (has_alias name) entries)
 
--- whether a key is found, and is this one
-abbrev pub finds : List ℕ → Option (List ℕ) → Bool
-finds key None = false
-finds key (Some found) = bytes_eq found key
+-- the index of the entry that a name in a field means: the first one with exactly this key. A name in `crossref`, the only one of these
+-- fields that BibTeX reads, can also mean an entry by a key in another ASCII case.
+abbrev pub meant_index : List EntryReading → List ℕ → List ℕ → Option ℕ
+meant_index entries field name =
+    first_found (first_position (is_keyed name) entries)
+    (if is_word field (codes "crossref") then index_in_any_case entries name else None)
 
--- whether a key is found, and is another one
-abbrev pub finds_another : List ℕ → Option (List ℕ) → Bool
-finds_another key None = false
-finds_another key (Some found) = not (bytes_eq found key)
+-- the new key of the entry that a name in a field means, if the entry gets one
+abbrev pub new_name : List EntryReading → (ℕ → Option (List ℕ)) → List ℕ → List ℕ → Option (List ℕ)
+new_name entries keys field name = option_and_then keys (meant_index entries field name)
 
--- whether a name refers to a key among entries: the name is the key; or BibTeX finds the key by the name, and Biber finds no other
--- key. Then a program that found the entry by the name finds it by a new key. If the programs find different keys, no rule serves
--- both: a changed name is wrong for one of them, and an unchanged name for the other. The key that Biber finds counts then, since the
--- name is that key, or is in the field `ids` of its entry, letter for letter.
-abbrev pub refers_to_key : List EntryReading → List ℕ → List ℕ → Bool
-refers_to_key entries key name =
-    bytes_eq name key || (finds key (bibtex_key entries name) && not (finds_another key (biber_key entries name)))
+-- ---- references with new names
 
--- whether an element of a comma list is a name that refers to the key, except for the white space around it
-abbrev pub is_element : (List ℕ → Bool) → List ℕ → Bool
-is_element refers element = refers (trim element)
+-- the elements of a comma list, with the white space around them
+abbrev pub elements_of : List ℕ → List (List ℕ)
+elements_of list = slice_split (λ c. c == char.comma) list
+
+-- whether an element of a comma list gets a new name
+abbrev pub is_renamed : (List ℕ → Option (List ℕ)) → List ℕ → Bool
+is_renamed names element = is_some (names (trim element))
 
 -- a text with the white space at the ends of an element
 abbrev pub between_white : List ℕ → List ℕ → List ℕ
 between_white new element = take (length element - length (trim_start element)) element ++ new ++ drop (length (trim_end element)) element
 
--- an element, with a new key if it refers to the old one
-abbrev pub renamed_element : (List ℕ → Bool) → List ℕ → List ℕ → List ℕ
-renamed_element refers new element = if is_element refers element then between_white new element else element
+-- an element, with a new name if it gets one
+abbrev pub renamed_element : (List ℕ → Option (List ℕ)) → List ℕ → List ℕ
+renamed_element names element = option_map_or (λ new. between_white new element) (names (trim element)) element
 
--- a comma list with a new key for each name that refers to the old one
-abbrev pub renamed_list : (List ℕ → Bool) → List ℕ → List ℕ → List ℕ
-renamed_list refers new list = join_by (renamed_element refers new) (char.comma ∷ []) (elements_of list)
+-- a comma list with the new names of its elements
+abbrev pub renamed_list : (List ℕ → Option (List ℕ)) → List ℕ → List ℕ
+renamed_list names list = join_by (renamed_element names) (char.comma ∷ []) (elements_of list)
 
--- the same, or `None` if no name refers to the old key
-abbrev pub renamed_where_listed : (List ℕ → Bool) → List ℕ → List ℕ → Option (List ℕ)
-renamed_where_listed refers new list =
-    if list_any (is_element refers) (elements_of list) then Some (renamed_list refers new list) else None
+-- the same, or `None` if no element gets a new name
+abbrev pub renamed_where_listed : (List ℕ → Option (List ℕ)) → List ℕ → Option (List ℕ)
+renamed_where_listed names list = if list_any (is_renamed names) (elements_of list) then Some (renamed_list names list) else None
 
--- the new text of a value, if it is one literal with a name that refers to the old key
-abbrev pub renamed_text : (List ℕ → Bool) → List ℕ → List Piece → Option (List ℕ)
-renamed_text refers new [] = None
-renamed_text refers new (abbreviation p ∷ rest) = None
-renamed_text refers new (literal p ∷ []) = renamed_where_listed refers new p.text
-renamed_text refers new (literal p ∷ other ∷ rest) = None
+-- the new text of a value, if it is one literal with an element that gets a new name
+abbrev pub renamed_text : (List ℕ → Option (List ℕ)) → List Piece → Option (List ℕ)
+renamed_text names [] = None
+renamed_text names (abbreviation p ∷ rest) = None
+renamed_text names (literal p ∷ []) = renamed_where_listed names p.text
+renamed_text names (literal p ∷ other ∷ rest) = None
 
--- the new text of the value of a reference field, if it is one literal with a name that refers to the old key
-abbrev pub renamed_value : (List ℕ → Bool) → List ℕ → FieldReading → Option (List ℕ)
-renamed_value refers new f = if is_reference_field f.name.text then renamed_text refers new f.value.pieces else None
+-- the new text of the value of a reference field, if it is one literal with an element that gets a new name
+abbrev pub renamed_value : (List ℕ → List ℕ → Option (List ℕ)) → FieldReading → Option (List ℕ)
+renamed_value names f = if is_reference_field f.name.text then renamed_text (names f.name.text) f.value.pieces else None
+
+-- ---- the changes
 
 -- a change of one part of a document: a new key, or a new value of a field
 pub data Change : Type 0 where
@@ -112,25 +116,25 @@ abbrev pub value_change : FieldReading → Option (List ℕ) → List Change
 value_change f None = []
 value_change f (Some new) = Change.value f new ∷ []
 
--- the change of each field that refers to a key
-abbrev pub reference_changes : (List ℕ → Bool) → List ℕ → List FieldReading → List Change
-reference_changes refers new fields = flat_map (λ f. value_change f (renamed_value refers new f)) fields
+-- the change of each reference field with an element that gets a new name
+abbrev pub reference_changes : (List ℕ → List ℕ → Option (List ℕ)) → List FieldReading → List Change
+reference_changes names fields = flat_map (λ f. value_change f (renamed_value names f)) fields
 
--- the change of an entry's key, if it is renamed
-abbrev pub key_change : Bool → EntryReading → List ℕ → List Change
-key_change true e new = Change.key e.key new ∷ []
-key_change false e new = []
+-- the change of an entry's key to a new one, if there is one
+abbrev pub key_change : Option (List ℕ) → EntryReading → List Change
+key_change None e = []
+key_change (Some new) e = Change.key e.key new ∷ []
 
--- the changes of entries if the key of one of them is renamed; the first entry has the given index
-abbrev pub renaming : (List ℕ → Bool) → List ℕ → ℕ → ℕ → List EntryReading → List Change
-renaming refers new renamed index [] = []
-renaming refers new renamed index (e ∷ rest) =
-    (key_change (index == renamed) e new ++ reference_changes refers new e.fields)
-    ++ renaming refers new renamed (suc index) rest
+-- the changes of entries that give them new keys by their indices, and new names to the elements of their references; the first entry has
+-- the given index
+abbrev pub renaming : (List ℕ → List ℕ → Option (List ℕ)) → (ℕ → Option (List ℕ)) → ℕ → List EntryReading → List Change
+renaming names keys index [] = []
+renaming names keys index (e ∷ rest) =
+    (key_change (keys index) e ++ reference_changes names e.fields) ++ renaming names keys (suc index) rest
 
--- the changes that rename the key of the entry at an index, and each reference to it
-abbrev pub key_renaming : List ℕ → List ℕ → ℕ → List EntryReading → List Change
-key_renaming old new renamed entries = renaming (refers_to_key entries old) new renamed 0 entries
+-- the changes that give entries new keys, also in each reference to them
+abbrev pub key_renaming : (ℕ → Option (List ℕ)) → List EntryReading → List Change
+key_renaming keys entries = renaming (new_name entries keys) keys 0 entries
 
 -- the document after changes, made from the last to the first, so that the others keep their byte offsets
 pub data Changed (d : Document) : List Change → Document → Type 0 where
@@ -142,46 +146,84 @@ pub data Changed (d : Document) : List Change → Document → Type 0 where
       → Changed d changes after → slice_get after.says.entries k ≡ Some e → slice_get e.fields j ≡ Some f
       → Changed d (Change.value f new ∷ changes) (value_changed after k e j f new)
 
--- the outcome of renaming a key: nothing changes if the new key is the old one. Otherwise the new key can be a key and isn't a name of
--- another entry, and the entry and each reference to it have the new key.
+-- ---- new keys of entries
+
+-- an entry may get a new key: it has a key, and the new one is allowed
+pub record MayGetKey (e : EntryReading) (new : List ℕ) : Type 0 where
+  pub filled : 0 < length e.key.text
+  pub allowed : CanBeNewKey new
+
+-- each entry that gets a new key may get it
+abbrev pub MayGetNewKeys : List EntryReading → (ℕ → Option (List ℕ)) → Type 0
+MayGetNewKeys entries keys =
+    (k : ℕ) (e : EntryReading) (new : List ℕ) → slice_get entries k ≡ Some e → keys k ≡ Some new → MayGetKey e new
+
+-- an entry gets a new key that it may not get
+pub record IsNoNewKey (entries : List EntryReading) (keys : ℕ → Option (List ℕ)) : Type 0 where
+  pub index : ℕ
+  pub entry : EntryReading
+  pub new : List ℕ
+  pub here : slice_get entries index ≡ Some entry
+  pub gets : keys index ≡ Some new
+  pub cant : MayGetKey entry new → ⊥
+
+-- entries may get new keys, and none of these is taken
+pub record CanGetKeys (entries : List EntryReading) (keys : ℕ → Option (List ℕ)) : Type 0 where
+  pub may : MayGetNewKeys entries keys
+  pub free : IsNewKeyTaken entries keys → ⊥
+
+-- the outcome of giving entries new keys by their indices
+pub data KeysRenamed (d : Document) (keys : ℕ → Option (List ℕ)) : Document → Type 0 where
+  renamed : {after : Document} → CanGetKeys d.says.entries keys → Changed d (key_renaming keys d.says.entries) after
+      → KeysRenamed d keys after
+
+-- entries can get new keys, but a reference to one of these can't be written in braces
+pub record CantBeWritten (d : Document) (keys : ℕ → Option (List ℕ)) : Type 0 where
+  pub can : CanGetKeys d.says.entries keys
+  pub cant : AllByRecursion CanBeMade (key_renaming keys d.says.entries) → ⊥
+
+-- the conditions under which giving entries new keys is refused
+abbrev pub KeysAreRefused : Document → (ℕ → Option (List ℕ)) → EditError → Type 0
+KeysAreRefused d keys UnknownKey = ⊥
+KeysAreRefused d keys KeyIsThere = IsNewKeyTaken d.says.entries keys
+KeysAreRefused d keys NotAKey = IsNoNewKey d.says.entries keys
+KeysAreRefused d keys NotAName = ⊥
+KeysAreRefused d keys NotInBraces = CantBeWritten d keys
+KeysAreRefused d keys DefinitionIsThere = ⊥
+KeysAreRefused d keys NoFieldLeft = ⊥
+KeysAreRefused d keys OutOfMemory = ⊤
+
+-- the new keys of a list, by the indices of the entries that get them
+abbrev pub given_keys : List (Option (Bor (List ℕ))) → ℕ → Option (List ℕ)
+given_keys keys index = option_and_then (option_map (λ k. k.now)) (slice_get keys index)
+
+-- ---- one new key
+
+-- only the entry at one index gets a new key
+abbrev pub only : ℕ → List ℕ → ℕ → Option (List ℕ)
+only one new index = if index == one then Some new else None
+
+-- the outcome of renaming a key: nothing changes if the new key is the old one; otherwise the first entry with the key gets the new one
 pub data KeyRenamed (d : Document) (old new : List ℕ) : Document → Type 0 where
   same : {k : ℕ} {e : EntryReading} → HasEntry d old k e → bytes_eq old new ≡ true → KeyRenamed d old new d
-  renamed : {k : ℕ} {e : EntryReading} {after : Document} → HasEntry d old k e → bytes_eq old new ≡ false → CanBeNewKey new
-      → (IsNameTaken d.says.entries k new → ⊥) → Changed d (key_renaming old new k d.says.entries) after
-      → KeyRenamed d old new after
+  renamed : {k : ℕ} {e : EntryReading} {after : Document} → HasEntry d old k e → bytes_eq old new ≡ false
+      → KeysRenamed d (only k new) after → KeyRenamed d old new after
 
--- a key is to be renamed to another text, which is a name of another entry or an alias of this one
-pub record IsNewNameTaken (d : Document) (old new : List ℕ) : Type 0 where
+-- the first entry with a key is refused another key
+pub record IsKeyRefused (d : Document) (old new : List ℕ) (error : EditError) : Type 0 where
   pub index : ℕ
   pub entry : EntryReading
   pub has : HasEntry d old index entry
   pub other : bytes_eq old new ≡ false
-  pub taken : IsNameTaken d.says.entries index new
-
--- a key is to be renamed to another text: the key is empty, or the text can't be a new key
-pub record IsNoNewKey (old new : List ℕ) : Type 0 where
-  pub other : bytes_eq old new ≡ false
-  pub cant : 0 < length old → CanBeNewKey new → ⊥
-
--- a key that isn't empty is to be renamed to another text, which can be a new key and is no name of another entry, but a reference to
--- the new key can't be written in braces
-pub record CantBeWritten (d : Document) (old new : List ℕ) : Type 0 where
-  pub index : ℕ
-  pub entry : EntryReading
-  pub has : HasEntry d old index entry
-  pub filled : 0 < length old
-  pub other : bytes_eq old new ≡ false
-  pub can_be_key : CanBeNewKey new
-  pub free : IsNameTaken d.says.entries index new → ⊥
-  pub cant : AllByRecursion CanBeMade (key_renaming old new index d.says.entries) → ⊥
+  pub refused : KeysAreRefused d (only index new) error
 
 -- the conditions under which renaming a key is refused
 abbrev pub RenameIsRefused : Document → List ℕ → List ℕ → EditError → Type 0
 RenameIsRefused d old new UnknownKey = first_position (is_keyed old) d.says.entries ≡ None
-RenameIsRefused d old new KeyIsThere = IsNewNameTaken d old new
-RenameIsRefused d old new NotAKey = IsNoNewKey old new
+RenameIsRefused d old new KeyIsThere = IsKeyRefused d old new KeyIsThere
+RenameIsRefused d old new NotAKey = IsKeyRefused d old new NotAKey
 RenameIsRefused d old new NotAName = ⊥
-RenameIsRefused d old new NotInBraces = CantBeWritten d old new
+RenameIsRefused d old new NotInBraces = IsKeyRefused d old new NotInBraces
 RenameIsRefused d old new DefinitionIsThere = ⊥
 RenameIsRefused d old new NoFieldLeft = ⊥
 RenameIsRefused d old new OutOfMemory = ⊤

@@ -1,6 +1,6 @@
 -- Machinery: words of private contracts.
 -- The text after a field of an entry is set, by the entry's reading.
-use Rattle.std.specs.Prelude.{◌≡◌, ℕ, Bool, true, false, List, [], ◌∷◌, map, ⊤}
+use Rattle.std.specs.Prelude.{◌≡◌, ℕ, true, false, List, [], ◌∷◌, map, ⊤}
 use Rattle.std.specs.List.{AllByRecursion, list_any}
 use Rattle.bib_syntax.specs.Reading.{EntryReading, FieldReading}
 use Rattle.edit_entries.specs.Changes.{edits_of_entry, edits_of_fields}

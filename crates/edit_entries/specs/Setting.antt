@@ -1,6 +1,6 @@
 -- Meaning: words of public contracts.
 -- Setting a field of an entry: each field with the name gets the value, or else a new field comes first.
-use Rattle.std.specs.Prelude.{◌≡◌, ℕ, suc, ◌+◌, ◌-◌, Bool, true, false, ◌&&◌, not, if◌then◌else◌, List, [], ◌∷◌, ◌++◌, length, map, take, drop, codes, Some, None, ⊤, slice_get, slice_set}
+use Rattle.std.specs.Prelude.{◌≡◌, ℕ, ◌+◌, ◌-◌, Bool, true, false, ◌&&◌, not, if◌then◌else◌, List, [], ◌∷◌, ◌++◌, length, map, take, drop, codes, None, ⊤, slice_set}
 use Rattle.std.specs.Char.{is_ascii_digit, is_ascii_whitespace, is_whitespace}
 use Rattle.std.specs.List.{list_any, suffix_len}
 use Rattle.bib_text.specs.Characters as char

@@ -8,18 +8,20 @@ ghost use Rattle.bib_syntax.specs.SyntaxErrors.{IsReported};
 ghost use Rattle.bib_syntax.specs.Views.{file_of};
 ghost use Rattle.edit_entries.specs.Documents.{Document, EntriesAdded, EntriesAreRefused, EntryIsRefused, EntryRemoved, FieldUnset, IsEdited, IsDocument, UnsetIsRefused};
 ghost use Rattle.edit_entries.specs.NewNames.{HaveNewKeys, IsFirstUnsafeKey};
-ghost use Rattle.edit_entries.specs.References.{KeyRenamed, RenameIsRefused};
+ghost use Rattle.edit_entries.specs.NewKeys.{keys_of};
+ghost use Rattle.edit_entries.specs.References.{KeyRenamed, KeysAreRefused, KeysRenamed, RenameIsRefused, given_keys};
 ghost use Rattle.edit_entries.specs.Setting.{FieldSet, SetIsRefused};
 
 use crate::definitions::agree_on_definitions;
 use crate::errors::EditError;
 use crate::joining::{joined, shares_name};
-use crate::keys::{can_be_new_key, first_unsafe_key, have_new_keys};
+use crate::keys::{first_unsafe_key, have_new_keys, may_get_keys};
 use crate::lookup::{entry_index, entry_with};
+use crate::new_keys::NewKeys;
 use crate::removing::{have_only, without_entry, without_fields};
-use crate::renaming::with_key_renamed;
+use crate::renaming::with_new_keys;
 use crate::setting::with_field_set;
-use crate::taken::is_name_taken;
+use crate::taken::is_new_key_taken;
 use bib_syntax::raw::{ParseError, RawBibliography};
 use std::alloc::Global;
 use std::marker::Model;
@@ -124,14 +126,33 @@ impl<'s> RawDocument<'s> {
         }
     }
 
+    // Returns the text with new keys of entries, also in each reference to them.
+    fn with_keys(&self, alloc: Global, keys: NewKeys<'_>) -> Result<String, EditError>
+        ensures renamed { IfOk result (λ text. IsEdited (KeysRenamed self.now (keys_of keys.entry)) (string_bytes text)) }
+        ensures refused { IfErr result (KeysAreRefused self.now (keys_of keys.entry)) }
+    {
+        let entries = &self.raw.entries;
+        if !may_get_keys(entries, &keys) {
+            return Err(EditError::NotAKey);
+        }
+        if is_new_key_taken(alloc, entries, &keys)? {
+            return Err(EditError::KeyIsThere);
+        }
+        with_new_keys(alloc, self.text, entries, keys)
+    }
+
     /// Returns the text with another key of the first entry with the key `old`, also in each reference to it: in the elements of the
     /// comma lists that the fields `crossref`, `xref`, `xdata`, `entryset`, `related` and `set` of all entries are, if the value is one
-    /// text. An element refers to the entry if it is the key, or if BibTeX finds the entry by it and Biber finds no other entry.
-    /// BibTeX finds the first key that is the element in any ASCII case. Biber finds the key that is exactly the element, or else the
-    /// first entry with the element in its field `ids`. A value that changes is written in braces. Joined values, abbreviations, and
-    /// keys that are written with TeX stay. The text stays if `new` is `old`. The edit is refused if no entry has the key `old`, if
-    /// `new` can't be a new key, if it is a name of another entry or an alias of this one in any ASCII
-    /// case, if `old` is empty, or if a value that changes can't be written in braces.
+    /// text. An element refers to the first entry that has exactly this key. An element of `crossref`, the only one of these fields that
+    /// BibTeX reads, can also refer to an entry by its key in another ASCII case: if BibTeX finds the entry by it, and Biber finds no
+    /// other entry by its field `ids`. A value that changes is written in braces. Joined values, abbreviations, and keys that are written
+    /// with TeX stay. The text stays if `new` is `old`.
+    ///
+    /// # Errors
+    ///
+    /// `UnknownKey` if no entry has the key `old`; `NotAKey` if `old` is empty, or `new` can't be a new key; `KeyIsThere` if `new` is, in
+    /// any ASCII case, the key of another entry or a name in the field `ids` of an entry; `NotInBraces` if a value that changes can't be
+    /// written in braces.
     pub fn rename_key(&self, alloc: Global, old: &str, new: &str) -> Result<String, EditError>
         ensures renamed { IfOk result (λ text. IsEdited (KeyRenamed self.now old.now new.now) (string_bytes text)) }
         ensures refused { IfErr result (RenameIsRefused self.now old.now new.now) }
@@ -142,16 +163,22 @@ impl<'s> RawDocument<'s> {
         if old == new {
             return Ok(String::from_str(alloc, self.text)?);
         }
-        if old.is_empty() {
-            return Err(EditError::NotAKey);
-        }
-        if !can_be_new_key(new) {
-            return Err(EditError::NotAKey);
-        }
-        if is_name_taken(alloc, &self.raw.entries, index, new)? {
-            return Err(EditError::KeyIsThere);
-        }
-        with_key_renamed(alloc, self.text, &self.raw.entries, index, old, new)
+        self.with_keys(alloc, NewKeys::One(index, new))
+    }
+
+    /// Returns the text with new keys of entries: each entry gets the key at its index in `keys`, if there is one, and so does each
+    /// reference to the entry (see `rename_key`). All keys change at once, so entries can also exchange their keys.
+    ///
+    /// # Errors
+    ///
+    /// `NotAKey` if an entry that gets a key has an empty one, or the new one can't be a new key; `KeyIsThere` if a new key is, in any
+    /// ASCII case, the key of an entry that gets none, a name in the field `ids` of an entry, or another new key; `NotInBraces` if a value
+    /// that changes can't be written in braces.
+    pub fn rename_keys(&self, alloc: Global, keys: &[Option<&str>]) -> Result<String, EditError>
+        ensures renamed { IfOk result (λ text. IsEdited (KeysRenamed self.now (given_keys keys.now)) (string_bytes text)) }
+        ensures refused { IfErr result (KeysAreRefused self.now (given_keys keys.now)) }
+    {
+        self.with_keys(alloc, NewKeys::Each(keys))
     }
 
     /// Returns the first key of an entry that isn't one for BibTeX, Biber and bibtool, so that `add_entries` refuses the document.

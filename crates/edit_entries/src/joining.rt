@@ -16,7 +16,11 @@ use std::alloc::{AllocError, Global};
 use std::collections::BTreeSet;
 
 // Inserts names into a set, in lowercase.
-fn insert_names(alloc: Global, set: &mut BTreeSet<String>, names: &[&str]) -> Result<(), AllocError>
+pub(crate) fn insert_names(
+    alloc: Global,
+    set: &mut BTreeSet<String>,
+    names: &[&str],
+) -> Result<(), AllocError>
     ensures { OnOk result ((name : List ℕ) → holds_name (contains_text set.new) name ≡
         (has_word (map (λ n. n.now) names.now) name || holds_name (contains_text set.old) name)) }
 {

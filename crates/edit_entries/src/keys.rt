@@ -1,10 +1,13 @@
 //! New keys.
 
-ghost use Rattle.std.specs.Prelude.{◌≡◌, MatchBool, MatchOption, map};
+ghost use Rattle.std.specs.Prelude.{◌≡◌, ℕ, List, MatchBool, MatchOption, Some, map, option_map};
 ghost use Rattle.bib_syntax.specs.Views.{entry_reading_of};
 ghost use Rattle.edit_entries.specs.NewNames as spec;
+ghost use Rattle.edit_entries.specs.NewKeys.{keys_of};
 ghost use Rattle.edit_entries.specs.NewNames.{CanBeNewKey, HaveNewKeys, IsFirstUnsafeKey};
+ghost use Rattle.edit_entries.specs.References.{IsNoNewKey, MayGetKey, MayGetNewKeys};
 
+use crate::new_keys::NewKeys;
 use bib_syntax::raw::{RawEntry, is_key};
 use bib_text::scanner::Scanner;
 use bib_text::spanned::Spanned;
@@ -62,4 +65,31 @@ pub(crate) fn have_new_keys(entries: &[Spanned<RawEntry<'_>>]) -> bool
         Some(_) => false,
         None => true,
     }
+}
+
+// Returns whether an entry may get a new key, if it gets one.
+fn may_get_key(entry: &Spanned<RawEntry<'_>>, new: Option<&str>) -> bool
+    ensures { MatchBool result
+        ((k : List ℕ) → option_map (λ n. n.now) new.entry ≡ Some k → MayGetKey (entry_reading_of entry.now) k)
+        ((k : List ℕ) × (option_map (λ n. n.now) new.entry ≡ Some k) × (MayGetKey (entry_reading_of entry.now) k → ⊥)) }
+{
+    match new {
+        Some(new) => !entry.v.key.v.is_empty() && can_be_new_key(new),
+        None => true,
+    }
+}
+
+// Returns whether each entry that gets a new key may get it.
+pub(crate) fn may_get_keys(entries: &[Spanned<RawEntry<'_>>], keys: &NewKeys<'_>) -> bool
+    ensures { MatchBool result
+        (MayGetNewKeys (map entry_reading_of entries.now) (keys_of keys.now))
+        (IsNoNewKey (map entry_reading_of entries.now) (keys_of keys.now)) }
+{
+    'entries: for (index, entry) in entries.iter().enumerate() {
+        let may = may_get_key(entry, keys.at(index));
+        if !may {
+            return false;
+        }
+    }
+    true
 }

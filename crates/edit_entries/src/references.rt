@@ -1,37 +1,46 @@
 //! References to the keys of entries, in the values of fields.
 
-ghost use Rattle.std.specs.Prelude.{◌≡◌, IfOk, length, map};
+ghost use Rattle.std.specs.Prelude.{◌≡◌, IfOk, map, option_map};
 ghost use Rattle.std.specs.List.{list_any};
-ghost use Rattle.std.specs.Option.{option_map};
 ghost use Rattle.std.specs.String.{string_bytes};
 ghost use Rattle.bib_syntax.specs.Views.{field_of, piece_of};
+ghost use Rattle.edit_entries.specs.NewKeys.{name_for};
 ghost use Rattle.edit_entries.specs.References as references;
 ghost use Rattle.edit_entries.specs.References.{elements_of};
-ghost use Rattle.edit_entries.specs.Targets.{is_name_of};
 
-use crate::targets::Target;
+use crate::new_keys::Names;
 use bib_syntax::raw::{Pair, RawChunk};
 use bib_tables::fields::is_reference_field;
 use bib_text::spanned::Spanned;
 use std::alloc::{AllocError, Global};
 
-// Returns whether an element of a comma list is a name of the target, except for the white space around it.
-fn is_element(element: &str, target: &Target<'_, '_>) -> bool
-    ensures { result ≡ references.is_element (is_name_of target.now) element.now }
+// Returns whether an element of a comma list in a field gets a new name.
+fn is_renamed(
+    alloc: Global,
+    names: &Names<'_, '_>,
+    field: &str,
+    element: &str,
+) -> Result<bool, AllocError>
+    ensures { IfOk result (λ is. is ≡ references.is_renamed (name_for names.now field.now) element.now) }
 {
-    target.is_named(element.trim())
+    Ok(names.name_for(alloc, field, element.trim())?.is_some())
 }
 
-// Returns whether a comma list has a name of the target.
-fn lists_target(list: &str, target: &Target<'_, '_>) -> bool
-    ensures { result ≡ list_any (references.is_element (is_name_of target.now)) (elements_of list.now) }
+// Returns whether an element of a comma list in a field gets a new name.
+fn has_renamed(
+    alloc: Global,
+    names: &Names<'_, '_>,
+    field: &str,
+    list: &str,
+) -> Result<bool, AllocError>
+    ensures { IfOk result (λ has. has ≡ list_any (references.is_renamed (name_for names.now field.now)) (elements_of list.now)) }
 {
     'elements: for element in list.split(',') {
-        if is_element(element, target) {
-            return true;
+        if is_renamed(alloc, names, field, element)? {
+            return Ok(true);
         }
     }
-    false
+    Ok(false)
 }
 
 // Returns a new text with the white space at the ends of another.
@@ -47,81 +56,80 @@ fn between_white(alloc: Global, element: &str, new: &str) -> Result<String, Allo
     Ok(text)
 }
 
-// Returns an element, with a new key if it is a name of the target.
+// Returns an element of a comma list in a field, with a new name if it gets one.
 fn renamed_element(
     alloc: Global,
+    names: &Names<'_, '_>,
+    field: &str,
     element: &str,
-    target: &Target<'_, '_>,
-    new: &str,
 ) -> Result<String, AllocError>
-    ensures { IfOk result (λ text. string_bytes text ≡ references.renamed_element (is_name_of target.now) new.now element.now) }
+    ensures { IfOk result (λ text. string_bytes text ≡ references.renamed_element (name_for names.now field.now) element.now) }
 {
-    if !is_element(element, target) {
-        return String::from_str(alloc, element);
+    match names.name_for(alloc, field, element.trim())? {
+        Some(new) => between_white(alloc, element, new),
+        None => String::from_str(alloc, element),
     }
-    between_white(alloc, element, new)
 }
 
-// Returns a comma list with a new key for each name of the target.
+// Returns a comma list in a field with the new names of its elements.
 fn renamed_list(
     alloc: Global,
+    names: &Names<'_, '_>,
+    field: &str,
     list: &str,
-    target: &Target<'_, '_>,
-    new: &str,
 ) -> Result<String, AllocError>
-    ensures { IfOk result (λ text. string_bytes text ≡ references.renamed_list (is_name_of target.now) new.now list.now) }
+    ensures { IfOk result (λ text. string_bytes text ≡ references.renamed_list (name_for names.now field.now) list.now) }
 {
     let mut parts = Vec::new(alloc);
     'elements: for element in list.split(',') {
-        parts.push(renamed_element(alloc, element, target, new)?)?;
+        parts.push(renamed_element(alloc, names, field, element)?)?;
     }
     parts.join(alloc, ",")
 }
 
-// Returns a comma list with a new key for each name of the target, if it has one.
+// Returns a comma list in a field with the new names of its elements, if one gets a new name.
 fn renamed_if_listed(
     alloc: Global,
+    names: &Names<'_, '_>,
+    field: &str,
     list: &str,
-    target: &Target<'_, '_>,
-    new: &str,
 ) -> Result<Option<String>, AllocError>
-    ensures { IfOk result (λ text. option_map string_bytes text ≡ references.renamed_where_listed (is_name_of target.now) new.now list.now) }
+    ensures { IfOk result (λ text. option_map string_bytes text ≡ references.renamed_where_listed (name_for names.now field.now) list.now) }
 {
-    if !lists_target(list, target) {
+    if !has_renamed(alloc, names, field, list)? {
         return Ok(None);
     }
-    Ok(Some(renamed_list(alloc, list, target, new)?))
+    Ok(Some(renamed_list(alloc, names, field, list)?))
 }
 
-// Returns the new text of a value, if it is one literal with a name of the target.
+// Returns the new text of a field's value, if it is one literal with an element that gets a new name.
 fn renamed_text(
     alloc: Global,
+    names: &Names<'_, '_>,
+    field: &str,
     pieces: &[Spanned<RawChunk<'_>>],
-    target: &Target<'_, '_>,
-    new: &str,
 ) -> Result<Option<String>, AllocError>
-    ensures { IfOk result (λ text. option_map string_bytes text ≡ references.renamed_text (is_name_of target.now) new.now (map piece_of pieces.now)) }
+    ensures { IfOk result (λ text. option_map string_bytes text ≡ references.renamed_text (name_for names.now field.now) (map piece_of pieces.now)) }
 {
     match pieces {
         [piece] => match piece.v {
-            RawChunk::Normal(text) => renamed_if_listed(alloc, text, target, new),
+            RawChunk::Normal(text) => renamed_if_listed(alloc, names, field, text),
             RawChunk::Abbreviation(_) => Ok(None),
         },
         _ => Ok(None),
     }
 }
 
-// Returns the new text of the value of a reference field, if it is one literal with a name of the target.
+// Returns the new text of the value of a reference field, if it is one literal with an element that gets a new name.
 pub(crate) fn renamed_value(
     alloc: Global,
+    names: &Names<'_, '_>,
     field: &Pair<'_>,
-    target: &Target<'_, '_>,
-    new: &str,
 ) -> Result<Option<String>, AllocError>
-    ensures { IfOk result (λ text. option_map string_bytes text ≡ references.renamed_value (is_name_of target.now) new.now (field_of field.now)) }
+    ensures { IfOk result (λ text. option_map string_bytes text ≡ references.renamed_value (name_for names.now) (field_of field.now)) }
 {
     if !is_reference_field(field.key.v) {
         return Ok(None);
     }
-    renamed_text(alloc, &field.value.v, target, new)
+    renamed_text(alloc, names, field.key.v, &field.value.v)
 }

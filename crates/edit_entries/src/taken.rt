@@ -1,65 +1,80 @@
-//! Names that entries have already.
+//! New keys that entries have already.
 
-ghost use Rattle.std.specs.Prelude.{◌≡◌, IfOk, MatchBool, map};
+ghost use Rattle.std.specs.Prelude.{◌≡◌, ◌||◌, ℕ, List, IfOk, MatchBool, OnOk, map, not};
+ghost use Rattle.std.specs.BTreeSet.{contains_text};
 ghost use Rattle.bib_syntax.specs.Grammar.{is_word};
 ghost use Rattle.bib_syntax.specs.Views.{entry_reading_of};
-ghost use Rattle.edit_entries.specs.NewNames as spec;
-ghost use Rattle.edit_entries.specs.NewNames.{IsNameTaken, kept_names};
+ghost use Rattle.edit_entries.specs.NameSets.{holds_name};
+ghost use Rattle.edit_entries.specs.NewKeys.{keys_of};
+ghost use Rattle.edit_entries.specs.NewNames.{IsNewKeyTaken, has_word, kept_names, staying_names};
 
+use crate::joining::insert_names;
+use crate::new_keys::NewKeys;
 use bib_queries::names::entry_names;
-use bib_syntax::raw::{RawEntry, is_word};
+use bib_syntax::raw::RawEntry;
 use bib_text::spanned::Spanned;
 use std::alloc::{AllocError, Global};
+use std::collections::BTreeSet;
 
-// Returns whether two names are the same in any ASCII case.
-fn is_same(own: &str, name: &str) -> bool
-    ensures { result ≡ is_word own.now name.now }
-{
-    is_word(own, name)
-}
-
-// Returns whether one of these names is `name`, in any ASCII case.
-fn has_word(names: &[&str], name: &str) -> bool
-    ensures { result ≡ spec.has_word (map (λ n. n.now) names.now) name.now }
-{
-    'names: for own in names {
-        if is_same(own, name) {
-            return true;
-        }
-    }
-    false
-}
-
-// Returns whether an entry keeps a name, in any ASCII case: each of its names, or those in its fields `ids` if its key is replaced.
-fn keeps_name(
+// Inserts the names of an entry that stay into a set, in lowercase: those in its fields `ids`, and its key if it gets no new one.
+fn insert_staying(
     alloc: Global,
+    set: &mut BTreeSet<String>,
     entry: &Spanned<RawEntry<'_>>,
-    is_replaced: bool,
-    name: &str,
-) -> Result<bool, AllocError>
-    ensures { IfOk result (λ keeps. keeps ≡ spec.has_word (kept_names is_replaced (entry_reading_of entry.now)) name.now) }
+    gets_key: bool,
+) -> Result<(), AllocError>
+    ensures { OnOk result ((name : List ℕ) → holds_name (contains_text set.new) name ≡
+        (has_word (kept_names gets_key (entry_reading_of entry.now)) name || holds_name (contains_text set.old) name)) }
 {
     let names = entry_names(alloc, entry)?;
-    if is_replaced {
-        return Ok(has_word(&names[1..], name));
+    if gets_key {
+        return insert_names(alloc, set, &names[1..]);
     }
-    Ok(has_word(&names, name))
+    insert_names(alloc, set, &names)
 }
 
-// Returns whether a new key of the entry at the index `replaced` is a name of another entry, or one in the fields `ids` of this entry.
-pub(crate) fn is_name_taken(
+// Returns the set of the names that stay if entries get new keys, in lowercase.
+fn staying_set(
     alloc: Global,
     entries: &[Spanned<RawEntry<'_>>],
-    replaced: usize,
-    name: &str,
+    keys: &NewKeys<'_>,
+) -> Result<BTreeSet<String>, AllocError>
+    ensures { IfOk result (λ set. (name : List ℕ) → holds_name (contains_text set) name ≡
+        has_word (staying_names (keys_of keys.now) 0 (map entry_reading_of entries.now)) name) }
+{
+    let mut set = BTreeSet::new(alloc);
+    'entries: for (index, entry) in entries.iter().enumerate() {
+        insert_staying(alloc, &mut set, entry, keys.at(index).is_some())?;
+    }
+    Ok(set)
+}
+
+// Inserts a key into a set, in lowercase. Returns whether the set contained it already.
+fn insert_key(alloc: Global, set: &mut BTreeSet<String>, key: &str) -> Result<bool, AllocError>
+    ensures taken { IfOk result (λ taken. taken ≡ holds_name (contains_text set.old) key.now) }
+    ensures inserted { OnOk result ((name : List ℕ) → holds_name (contains_text set.new) name ≡
+        (is_word key.now name || holds_name (contains_text set.old) name)) }
+{
+    let is_new = set.insert(key.to_ascii_lowercase(alloc)?)?;
+    Ok(!is_new)
+}
+
+// Returns whether a new key of an entry is, in any ASCII case, a name that stays or the new key of an earlier entry.
+pub(crate) fn is_new_key_taken(
+    alloc: Global,
+    entries: &[Spanned<RawEntry<'_>>],
+    keys: &NewKeys<'_>,
 ) -> Result<bool, AllocError>
     ensures { IfOk result (λ taken. MatchBool taken
-        (IsNameTaken (map entry_reading_of entries.now) replaced name.now)
-        (IsNameTaken (map entry_reading_of entries.now) replaced name.now → ⊥)) }
+        (IsNewKeyTaken (map entry_reading_of entries.now) (keys_of keys.now))
+        (IsNewKeyTaken (map entry_reading_of entries.now) (keys_of keys.now) → ⊥)) }
 {
-    'entries: for (index, entry) in entries.iter().enumerate() {
-        if keeps_name(alloc, entry, index == replaced, name)? {
-            return Ok(true);
+    let mut set = staying_set(alloc, entries, keys)?;
+    'entries: for (index, _) in entries.iter().enumerate() {
+        if let Some(key) = keys.at(index) {
+            if insert_key(alloc, &mut set, key)? {
+                return Ok(true);
+            }
         }
     }
     Ok(false)

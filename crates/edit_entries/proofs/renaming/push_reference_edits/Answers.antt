@@ -2,7 +2,7 @@ use Rattle.std.proofs.Common.{map}
 use Rattle.std.specs.List.{AllByRecursion}
 use Rattle.std.proofs.lemmas.Result.{err_from_is_err_and}
 use Rattle.bib_syntax.specs.Views.{field_of}
-use Rattle.edit_entries.specs.Targets.{is_name_of}
+use Rattle.edit_entries.specs.NewKeys.{name_for}
 use Rattle.edit_entries.specs.References.{CanBeMade, reference_changes, renamed_value, value_change}
 use Rattle.edit_entries.proofs.ChangeListFacts.{all_at, refused_more}
 use Rattle.edit_entries.proofs.PositionFacts.{slice_get-map}
@@ -20,8 +20,8 @@ returns-in_err-push_reference_edit-clause-refused c =
     rw (p.1, p.2) (refused_more
     (AllByRecursion CanBeMade
     (value_change (field_of c.field-item.result)
-    (renamed_value (is_name_of c.args.target.now) c.args.new.now (field_of c.field-item.result))))
-    (AllByRecursion CanBeMade (reference_changes (is_name_of c.args.target.now) c.args.new.now (map field_of c.args.fields.now))) _
-    (all_at CanBeMade (λ f. value_change f (renamed_value (is_name_of c.args.target.now) c.args.new.now f)) field_of c.args.fields.now
+    (renamed_value (name_for c.args.names.now) (field_of c.field-item.result))))
+    (AllByRecursion CanBeMade (reference_changes (name_for c.args.names.now) (map field_of c.args.fields.now))) _
+    (all_at CanBeMade (λ f. value_change f (renamed_value (name_for c.args.names.now) f)) field_of c.args.fields.now
     c.fields.field-index c.field-item.result c.fields-test.true c.field-item.is)
     c.in_err-push_reference_edit.ensures.refused)

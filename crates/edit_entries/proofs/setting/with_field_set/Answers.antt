@@ -2,7 +2,6 @@ use Rattle.std.proofs.Common.{◌≡◌, false, List, ◌∷◌, drop, map, sym,
 use Rattle.std.proofs.lemmas.List.{drop_more}
 use Rattle.std.specs.String.{string_bytes}
 use Rattle.std.specs.List.{list_any}
-use Rattle.bib_syntax.specs.Reading.{FieldReading}
 use Rattle.bib_syntax.specs.declared.raw.Pair.{Pair}
 use Rattle.bib_syntax.specs.Views.{entry_reading_of, field_of}
 use Rattle.edit_entries.specs.Documents.{has_name}
