@@ -3,8 +3,10 @@
 
 use edit_entries::document::RawDocument;
 use edit_entries::errors::EditError;
+use edit_entries::field_edits::FieldEdit;
 use bib_syntax::raw::RawChunk;
 use std::alloc::{AllocError, Global};
+use std::collections::BTreeSet;
 use crate::support::rows::Calls;
 
 pub struct Documents;
@@ -32,6 +34,26 @@ fn with_keys(alloc: Global, words: &str, document: &RawDocument<'_>) -> Result<S
     document.rename_keys(alloc, &keys)
 }
 
+// The text that comes of an edit of a field of the entries with some keys, if the call is one.
+fn with_fields(alloc: Global, call: &str, document: &RawDocument<'_>) -> Option<Result<String, EditError>> {
+    let (command, rest) = call.split_once(' ')?;
+    let (keys, rest) = rest.split_once(' ')?;
+    let (name, value) = rest.split_once(' ')?;
+    let edit = match command {
+        "set-in" => FieldEdit::Set { name, value },
+        "add-in" => FieldEdit::Add { name, value },
+        "rename-in" => FieldEdit::Rename { old: name, new: value },
+        _ => return None,
+    };
+    let mut set = BTreeSet::new(alloc);
+    for key in keys.split(',') {
+        if set.insert(key).is_err() {
+            return Some(Err(EditError::OutOfMemory));
+        }
+    }
+    Some(document.edit_fields(alloc, &set, &edit))
+}
+
 // The text that comes of an edit, if the call is one.
 fn edited(alloc: Global, call: &str, document: &RawDocument<'_>) -> Option<Result<String, EditError>> {
     if let Some(words) = call.strip_prefix("set ") {
@@ -46,6 +68,9 @@ fn edited(alloc: Global, call: &str, document: &RawDocument<'_>) -> Option<Resul
     if let Some(words) = call.strip_prefix("rename ") {
         let (old, new) = words.split_once(' ')?;
         return Some(document.rename_key(alloc, old, new));
+    }
+    if let Some(answer) = with_fields(alloc, call, document) {
+        return Some(answer);
     }
     if let Some(words) = call.strip_prefix("keys ") {
         return Some(with_keys(alloc, words, document));

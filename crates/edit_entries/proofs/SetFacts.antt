@@ -55,7 +55,7 @@ comma_known d k e read here =
       };
     }
 
-names_in : (text : List ℕ) (at end : ℕ) (fs : List FieldReading) → AreFieldsIn text at fs end → AllByRecursion (IsNamePlaced text) fs
+pub names_in : (text : List ℕ) (at end : ℕ) (fs : List FieldReading) → AreFieldsIn text at fs end → AllByRecursion (IsNamePlaced text) fs
 names_in text at end [] order = tt
 names_in text at end (f ∷ fs) order = (
   record { ordered = omega (arith, order.1.name.some); start = order.1.name.start; end = order.1.name.end },
@@ -113,11 +113,11 @@ values_can name value (f ∷ fs) can =
       values_can name value fs (λ is. can (or_second here later is)),
     )
 
-set_can : (name value : List ℕ) (e : EntryReading) → (list_any (has_other_value name value) e.fields ≡ true → CanBeValue value)
+pub set_can : (name value : List ℕ) (e : EntryReading) → (list_any (has_other_value name value) e.fields ≡ true → CanBeValue value)
     → CanEntryChange e (values_set name value e)
 set_can name value e can = record { kind = λ n is. absurd (cc); fields = values_can name value e.fields can }
 
-put_can : (text name value : List ℕ) (e : EntryReading) (first : FieldReading) (others : List FieldReading)
+pub put_can : (text name value : List ℕ) (e : EntryReading) (first : FieldReading) (others : List FieldReading)
     → e.fields ≡ first ∷ others → CanBeNewName name → CanBeValue value → first.name.start ≤ length text
     → CanEntryChange e (field_put text name value first)
 put_can text name value e first others are can_name can_value within = record {
@@ -180,7 +180,7 @@ put_made bytes (Ok new) text e name value first others none are is can_name can_
 
 -- ---- the outcome
 
-first_within : (text : List ℕ) (fs : List FieldReading) (first : FieldReading) (others : List FieldReading)
+pub first_within : (text : List ℕ) (fs : List FieldReading) (first : FieldReading) (others : List FieldReading)
     → AllByRecursion (IsNamePlaced text) fs → fs ≡ first ∷ others → first.name.start ≤ length text
 first_within text [] first others all are = absurd (cc)
 first_within text (f ∷ fs) first others all are =

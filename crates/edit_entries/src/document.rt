@@ -8,12 +8,16 @@ ghost use Rattle.bib_syntax.specs.SyntaxErrors.{IsReported};
 ghost use Rattle.bib_syntax.specs.Views.{file_of};
 ghost use Rattle.edit_entries.specs.Documents.{Document, EntriesAdded, EntriesAreRefused, EntryIsRefused, EntryRemoved, FieldUnset, IsEdited, IsDocument, UnsetIsRefused};
 ghost use Rattle.edit_entries.specs.NewNames.{HaveNewKeys, IsFirstUnsafeKey};
+ghost use Rattle.edit_entries.specs.Changes.{IsChanged};
+ghost use Rattle.edit_entries.specs.FieldEdits.{FieldEditIsRefused, selected_edited};
 ghost use Rattle.edit_entries.specs.NewKeys.{keys_of};
 ghost use Rattle.edit_entries.specs.References.{KeyRenamed, KeysAreRefused, KeysRenamed, RenameIsRefused, given_keys};
 ghost use Rattle.edit_entries.specs.Setting.{FieldSet, SetIsRefused};
 
 use crate::definitions::agree_on_definitions;
+use crate::editing::edited_all;
 use crate::errors::EditError;
+use crate::field_edits::{FieldEdit, field_edits, text_in_braces};
 use crate::joining::{joined, shares_name};
 use crate::keys::{first_unsafe_key, have_new_keys, may_get_keys};
 use crate::lookup::{entry_index, entry_with};
@@ -24,6 +28,7 @@ use crate::setting::with_field_set;
 use crate::taken::is_new_key_taken;
 use bib_syntax::raw::{ParseError, RawBibliography};
 use std::alloc::Global;
+use std::collections::BTreeSet;
 use std::marker::Model;
 
 /// A text with its raw reading.
@@ -164,6 +169,28 @@ impl<'s> RawDocument<'s> {
             return Ok(String::from_str(alloc, self.text)?);
         }
         self.with_keys(alloc, NewKeys::One(index, new))
+    }
+
+    /// Returns the text with an edit of a field of each entry with one of these keys. An entry without fields stays. The text stays if no
+    /// entry has one of these keys.
+    ///
+    /// # Errors
+    ///
+    /// `NotAName` if the name that fields get can't be the name of a new field; `NotInBraces` if the value of the edit can't be written in
+    /// braces (see `set_field`).
+    pub fn edit_fields(
+        &self,
+        alloc: Global,
+        keys: &BTreeSet<&str>,
+        edit: &FieldEdit<'_>,
+    ) -> Result<String, EditError>
+        ensures edited { IfOk result (λ text. IsChanged (selected_edited self.now.text keys.now edit.now) self.now (string_bytes text)) }
+        ensures refused { IfErr result (FieldEditIsRefused edit.now) }
+    {
+        let braced = text_in_braces(alloc, edit)?;
+        let text = self.text();
+        let edits = field_edits(alloc, text, &self.raw.entries, keys, edit, &braced)?;
+        Ok(edited_all(alloc, text, &edits)?)
     }
 
     /// Returns the text with new keys of entries: each entry gets the key at its index in `keys`, if there is one, and so does each

@@ -18,6 +18,7 @@ mod definitions;
 pub mod document;
 pub mod editing;
 pub mod errors;
+pub mod field_edits;
 mod joining;
 mod keys;
 pub mod laws;

@@ -83,7 +83,7 @@ fn begins_with_digit(text: &str) -> bool
 }
 
 // Returns whether a text can be the name of a new field.
-fn can_be_new_name(text: &str) -> bool
+pub(crate) fn can_be_new_name(text: &str) -> bool
     ensures { MatchBool result (CanBeNewName text.now) (CanBeNewName text.now → ⊥) }
 {
     if begins_with_digit(text) {
@@ -131,25 +131,25 @@ fn push_new_value(
     Ok(())
 }
 
-// Returns the edits of fields in which those with a name get a value. `braced` is the value in braces.
-fn value_edits(
+// Adds the edits of fields in which those with a name get a value. `braced` is the value in braces.
+pub(crate) fn push_values(
+    edits: &mut Vec<Edit>,
     alloc: Global,
     text: &str,
     fields: &[Pair<'_>],
     name: &str,
     value: &str,
     braced: &str,
-) -> Result<Vec<Edit>, AllocError>
+) -> Result<(), AllocError>
     requires placed { AllByRecursion (IsPlaced text.now) (map field_of fields.now) }
     requires braced { braced.now ≡ documents.in_braces value.now }
-    ensures { IfOk result (λ edits. map edit_of edits.items ≡
+    ensures { OnOk result (map edit_of edits.new.items ≡ map edit_of edits.old.items ++
         edits_of_fields text.now (map field_of fields.now) (map (spec.set_change name.now value.now) (map field_of fields.now))) }
 {
-    let mut edits = Vec::new(alloc);
     'fields: for field in fields {
-        push_new_value(&mut edits, alloc, text, field, name, value, braced)?;
+        push_new_value(edits, alloc, text, field, name, value, braced)?;
     }
-    Ok(edits)
+    Ok(())
 }
 
 // Returns the text with a value for each of these fields with a name. The text is the same if they all have it.
@@ -173,12 +173,13 @@ fn with_values(
         return Ok(String::from_str(alloc, text)?);
     }
     let braced = value_in_braces(alloc, value)?;
-    let edits = value_edits(alloc, text, fields, name, value, &braced)?;
+    let mut edits = Vec::new(alloc);
+    push_values(&mut edits, alloc, text, fields, name, value, &braced)?;
     Ok(edited_all(alloc, text, &edits)?)
 }
 
 // Returns the ASCII white space directly before a byte offset of a text.
-fn white_before(text: &str, at: usize) -> &str
+pub(crate) fn white_before(text: &str, at: usize) -> &str
     requires { IsCharBoundary text.now at }
     ensures { result.now ≡ spec.white_before text.now at }
 {
@@ -188,7 +189,7 @@ fn white_before(text: &str, at: usize) -> &str
 }
 
 // Returns a new field, a comma, white space, and the name of the field that follows.
-fn text_before(
+pub(crate) fn text_before(
     alloc: Global,
     name: &str,
     braced: &str,
@@ -208,7 +209,7 @@ fn text_before(
 }
 
 // Returns the value of a new field in braces.
-fn new_value(alloc: Global, name: &str, value: &str) -> Result<String, EditError>
+pub(crate) fn new_value(alloc: Global, name: &str, value: &str) -> Result<String, EditError>
     ensures found { IfOk result (λ braced. string_bytes braced ≡ documents.in_braces value.now) }
     ensures name { OnOk result (CanBeNewName name.now) }
     ensures value { OnOk result (CanBeValue value.now) }

@@ -5,7 +5,7 @@ use Rattle.edit_entries.specs.Changes.{edits_of_fields}
 use Rattle.edit_entries.specs.EditList.{edit_of}
 use Rattle.edit_entries.specs.Placed.{IsPlaced}
 use Rattle.edit_entries.specs.Setting.{set_change}
-use Rattle.edit_entries.proofs.setting.value_edits.Given as goal
+use Rattle.edit_entries.proofs.setting.push_values.Given as goal
 
 -- the edits of the fields that are left are those that are still to be added
 abbrev pub invariant-fields : goal.invariant-fields
@@ -13,6 +13,7 @@ invariant-fields l = record {
   added : map edit_of l.edits.items
       ++ edits_of_fields l.text (map field_of (drop l.field-index l.fields))
       (map (set_change l.name l.value) (map field_of (drop l.field-index l.fields)))
-      ≡ edits_of_fields l.text (map field_of l.fields) (map (set_change l.name l.value) (map field_of l.fields));
+      ≡ map edit_of l.initial.edits.items
+      ++ edits_of_fields l.text (map field_of l.fields) (map (set_change l.name l.value) (map field_of l.fields));
   placed : AllByRecursion (IsPlaced l.text) (map field_of (drop l.field-index l.fields));
 }

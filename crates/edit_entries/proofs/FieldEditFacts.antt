@@ -1,0 +1,108 @@
+-- Edits of a field of several entries at once can be made.
+use Rattle.std.proofs.Common.{◌≡◌, ℕ, Bool, true, false, cond, List, [], ◌∷◌, ◌++◌, map, refl, sym, ap, ◌∙◌, append-nil}
+use Rattle.std.specs.Borrow.{Bor}
+use Rattle.std.specs.BTreeSet.{BTreeSet}
+use Rattle.std.specs.List.{AllByRecursion}
+use Rattle.bib_queries.specs.Sets.{is_in_set}
+use Rattle.bib_syntax.specs.Reading.{EntryReading, FieldReading}
+use Rattle.edit_entries.specs.Changes.{EntryChange, FieldChange, braced_field, edits_of_entry, edits_of_fields, field_before, name_edit}
+use Rattle.edit_entries.specs.Edits.{Edit}
+use Rattle.edit_entries.specs.Documents.{CanBeName, Document, IsDocument, has_name}
+use Rattle.edit_entries.specs.FieldEdits.{HasFitValue, edit_name, entry_edited_by, has_field, name_change, names_changed, new_field_first, selected_edited, unchanged}
+use Rattle.edit_entries.specs.FieldTexts.{HaveFieldsPlaced}
+use Rattle.edit_entries.specs.Placed.{IsNamePlaced, IsPlaced}
+use Rattle.edit_entries.specs.Setting.{CanBeNewName, CanBeValue, values_set, white_before}
+use Rattle.edit_entries.specs.declared.field_edits.FieldEdit.{FieldEdit}
+use Rattle.edit_entries.specs.declared.field_edits.FieldEdit.TheVariants.{Set, Add, Rename}
+use Rattle.edit_entries.proofs.AllFacts.{all_both, all_placed, all_weaker}
+use Rattle.edit_entries.proofs.ChangesFacts.{CanChange, CanEntryChange, CanFieldsChange}
+use Rattle.edit_entries.proofs.EntryChangeFacts.{can_be_kept, no_edits}
+use Rattle.edit_entries.proofs.PartFacts.{AreEntriesIn, file_in}
+use Rattle.edit_entries.proofs.SetFacts.{first_within, names_in, put_can, set_can}
+
+-- ---- where fields stand
+
+entries_named : (text : List ℕ) (at : ℕ) (es : List EntryReading) → AreEntriesIn text at es
+    → AllByRecursion (λ e. AllByRecursion (IsNamePlaced text) e.fields) es
+entries_named text at [] order = tt
+entries_named text at (e ∷ es) order = (names_in text e.kind.end order.0 e.fields order.3, entries_named text order.0 es order.4)
+
+-- the names and values of a document's fields may be cut out of its text
+pub fields_placed : (d : Document) → IsDocument d → AllByRecursion (HaveFieldsPlaced d.text) d.says.entries
+fields_placed d read =
+    let names = entries_named d.text 0 d.says.entries (file_in d.text refl read) in
+    all_weaker (λ e. AllByRecursion (IsNamePlaced d.text) e.fields × AllByRecursion (IsPlaced d.text) e.fields)
+    (HaveFieldsPlaced d.text) (λ e both. record { names = both.0; values = both.1 }) d.says.entries
+    (all_both (λ e. AllByRecursion (IsNamePlaced d.text) e.fields) (λ e. AllByRecursion (IsPlaced d.text) e.fields) d.says.entries names
+    (all_placed d read))
+
+-- ---- the changes
+
+unchanged_can : (e : EntryReading) → CanEntryChange e unchanged
+unchanged_can e = record { kind = λ name is. absurd (cc); fields = can_be_kept e.fields }
+
+field_first_can : (text name value : List ℕ) (e : EntryReading) (fs : List FieldReading) → e.fields ≡ fs
+    → AllByRecursion (IsNamePlaced text) e.fields → CanBeNewName name → CanBeValue value
+    → CanEntryChange e (new_field_first text name value fs)
+field_first_can text name value e [] are placed can_name can_value = unchanged_can e
+field_first_can text name value e (first ∷ others) are placed can_name can_value =
+    put_can text name value e first others are can_name can_value (first_within text e.fields first others placed are)
+
+name_can : (new : List ℕ) (following : List FieldReading) (b : Bool) → CanBeName new
+    → CanChange following (cond b (FieldChange.renamed new) FieldChange.kept)
+name_can new following true can = can
+name_can new following false can = tt
+
+names_can : (old new : List ℕ) (fs : List FieldReading) → CanBeName new → CanFieldsChange fs (map (name_change old new) fs)
+names_can old new [] can = tt
+names_can old new (f ∷ fs) can = (name_can new fs (has_name old f) can, names_can old new fs can)
+
+either_can : (e : EntryReading) (b : Bool) (x y : EntryChange) → CanEntryChange e x → CanEntryChange e y → CanEntryChange e (cond b x y)
+either_can e true x y first second = first
+either_can e false x y first second = second
+
+edited_can : (text : List ℕ) (edit : FieldEdit) (e : EntryReading) → AllByRecursion (IsNamePlaced text) e.fields
+    → CanBeNewName (edit_name edit) → HasFitValue edit → CanEntryChange e (entry_edited_by text edit e)
+edited_can text (Set name value) e placed can_name can_value =
+    either_can e (has_field name.now e) (values_set name.now value.now e) (new_field_first text name.now value.now e.fields)
+    (set_can name.now value.now e (λ there. can_value))
+    (field_first_can text name.now value.now e e.fields refl placed can_name can_value)
+edited_can text (Add name value) e placed can_name can_value =
+    either_can e (has_field name.now e) unchanged (new_field_first text name.now value.now e.fields) (unchanged_can e)
+    (field_first_can text name.now value.now e e.fields refl placed can_name can_value)
+edited_can text (Rename old new) e placed can_name can_value =
+    either_can e (has_field new.now e) unchanged (names_changed old.now new.now e) (unchanged_can e)
+    (record { kind = λ name is. absurd (cc); fields = names_can old.now new.now e.fields can_name.name })
+
+-- ---- the edits
+
+-- the edit that puts a new field before the first one
+pub field_first_edits : (text name value : List ℕ) (fs : List FieldReading) (first : FieldReading) (others : List FieldReading)
+    → fs ≡ first ∷ others
+    → edits_of_fields text fs (new_field_first text name value fs).fields
+    ≡ name_edit first (field_before (braced_field name value) (white_before text first.name.start)) ∷ []
+field_first_edits text name value fs first others are =
+    let lead : List ℕ = field_before (braced_field name value) (white_before text first.name.start) in
+    ap (λ l. edits_of_fields text l (new_field_first text name value l).fields) are
+    ∙ ap (λ es. name_edit first lead ∷ es) (no_edits text others)
+
+-- an entry that has the new name of a field gets no edits
+pub names_kept : (text old new : List ℕ) (e : EntryReading) (edits : List Edit) → has_field new e ≡ true
+    → edits ≡ edits ++ edits_of_entry text e (cond (has_field new e) unchanged (names_changed old new e))
+names_kept text old new e edits has =
+    sym
+    (ap (λ b. edits ++ edits_of_entry text e (cond b unchanged (names_changed old new e))) has
+    ∙ ap (λ es. edits ++ es) (no_edits text e.fields) ∙ append-nil edits)
+
+-- ---- all changes
+
+-- the changes of entries by an edit of a field of some of them can be made
+pub selected_can : (text : List ℕ) (keys : BTreeSet (Bor (List ℕ))) (edit : FieldEdit) (es : List EntryReading)
+    → AllByRecursion (HaveFieldsPlaced text) es → CanBeNewName (edit_name edit) → HasFitValue edit
+    → AllByRecursion (λ e. CanEntryChange e (selected_edited text keys edit e)) es
+selected_can text keys edit [] placed can_name can_value = tt
+selected_can text keys edit (e ∷ es) placed can_name can_value = (
+  either_can e (is_in_set keys e.key.text) (entry_edited_by text edit e) unchanged
+      (edited_can text edit e placed.0.names can_name can_value) (unchanged_can e),
+  selected_can text keys edit es placed.1 can_name can_value,
+)

@@ -1,0 +1,199 @@
+//! Edits of a field of several entries at once.
+
+ghost use Rattle.std.specs.Prelude.{◌≡◌, ◌⊎◌, ◌++◌, ℕ, List, IfErr, IfOk, OnOk, map};
+ghost use Rattle.std.specs.List.{AllByRecursion};
+ghost use Rattle.std.specs.String.{string_bytes};
+ghost use Rattle.bib_syntax.specs.Views.{entry_reading_of, field_of};
+ghost use Rattle.edit_entries.specs.Changes.{edits_of_entries, edits_of_entry, edits_of_fields};
+ghost use Rattle.edit_entries.specs.Documents as documents;
+ghost use Rattle.edit_entries.specs.EditList.{edit_of};
+ghost use Rattle.edit_entries.specs.FieldEdits.{FieldEditIsRefused, HasFitValue, edit_name, entry_edited_by, name_change, new_field_first, selected_edited};
+ghost use Rattle.edit_entries.specs.FieldTexts.{HaveFieldsPlaced, IsTextInBraces};
+ghost use Rattle.edit_entries.specs.Placed.{IsNamePlaced, IsPlaced};
+ghost use Rattle.edit_entries.specs.Setting.{CanBeNewName};
+
+use crate::editing::Edit;
+use crate::errors::EditError;
+use crate::setting::{
+    can_be_new_name, has_field, new_value, push_values, text_before, white_before,
+};
+use bib_syntax::raw::{Pair, RawEntry, is_word};
+use bib_text::spanned::Spanned;
+use std::alloc::{AllocError, Global};
+use std::collections::BTreeSet;
+
+/// An edit of a field of several entries at once.
+#[derive(Debug, Clone, Copy)]
+pub enum FieldEdit<'a> {
+    /// Each field with the name gets the value. An entry without one gets a new field.
+    Set {
+        /// The name of the field.
+        name: &'a str,
+        /// The value, without its braces.
+        value: &'a str,
+    },
+    /// An entry without a field with the name gets a new one.
+    Add {
+        /// The name of the field.
+        name: &'a str,
+        /// The value, without its braces.
+        value: &'a str,
+    },
+    /// Each field with the old name gets the new one, unless the entry has a field with the new name already.
+    Rename {
+        /// The old name.
+        old: &'a str,
+        /// The new name.
+        new: &'a str,
+    },
+}
+
+// Returns the value of an edit in braces, or an empty text if it has none.
+pub(crate) fn text_in_braces(alloc: Global, edit: &FieldEdit<'_>) -> Result<String, EditError>
+    ensures text { IfOk result (λ braced. IsTextInBraces edit.now (string_bytes braced)) }
+    ensures name { OnOk result (CanBeNewName (edit_name edit.now)) }
+    ensures value { OnOk result (HasFitValue edit.now) }
+    ensures refused { IfErr result (FieldEditIsRefused edit.now) }
+{
+    match *edit {
+        FieldEdit::Set { name, value } | FieldEdit::Add { name, value } => new_value(
+            alloc, name, value,
+        ),
+        FieldEdit::Rename { new, .. } => {
+            if !can_be_new_name(new) {
+                return Err(EditError::NotAName);
+            }
+            Ok(String::new(alloc))
+        }
+    }
+}
+
+// Adds the edit that puts a new field before the first of these fields. `braced` is its value in braces.
+fn push_field_first(
+    edits: &mut Vec<Edit>,
+    alloc: Global,
+    text: &str,
+    fields: &[Pair<'_>],
+    name: &str,
+    value: &str,
+    braced: &str,
+) -> Result<(), AllocError>
+    requires placed { AllByRecursion (IsNamePlaced text.now) (map field_of fields.now) }
+    requires braced { braced.now ≡ documents.in_braces value.now }
+    ensures { OnOk result (map edit_of edits.new.items ≡ map edit_of edits.old.items ++
+        edits_of_fields text.now (map field_of fields.now) (new_field_first text.now name.now value.now (map field_of fields.now)).fields) }
+{
+    let [first, ..] = fields else {
+        return Ok(());
+    };
+    let start = first.key.span.start;
+    let white = white_before(text, start);
+    edits.push(Edit {
+        start,
+        end: first.key.span.end,
+        text: text_before(alloc, name, braced, white, first.key.v)?,
+    })?;
+    Ok(())
+}
+
+// Adds the edits of the fields that get a new name, since they have the old one.
+fn push_names(
+    edits: &mut Vec<Edit>,
+    alloc: Global,
+    fields: &[Pair<'_>],
+    old: &str,
+    new: &str,
+) -> Result<(), AllocError>
+    ensures { (text : List ℕ) → OnOk result (map edit_of edits.new.items ≡ map edit_of edits.old.items ++
+        edits_of_fields text (map field_of fields.now) (map (name_change old.now new.now) (map field_of fields.now))) }
+{
+    'fields: for field in fields {
+        if is_word(field.key.v, old) {
+            edits.push(Edit {
+                start: field.key.span.start,
+                end: field.key.span.end,
+                text: String::from_str(alloc, new)?,
+            })?;
+        }
+    }
+    Ok(())
+}
+
+// Adds the edits of an entry. `braced` is the value of the edit in braces.
+fn push_entry_edits(
+    edits: &mut Vec<Edit>,
+    alloc: Global,
+    text: &str,
+    entry: &Spanned<RawEntry<'_>>,
+    edit: &FieldEdit<'_>,
+    braced: &str,
+) -> Result<(), AllocError>
+    requires placed { HaveFieldsPlaced text.now (entry_reading_of entry.now) }
+    requires braced { IsTextInBraces edit.now braced.now }
+    ensures { OnOk result (map edit_of edits.new.items ≡ map edit_of edits.old.items ++
+        edits_of_entry text.now (entry_reading_of entry.now) (entry_edited_by text.now edit.now (entry_reading_of entry.now))) }
+{
+    let fields = entry.v.fields.as_slice();
+    match *edit {
+        FieldEdit::Set { name, value } => {
+            if has_field(fields, name) {
+                return push_values(edits, alloc, text, fields, name, value, braced);
+            }
+            push_field_first(edits, alloc, text, fields, name, value, braced)
+        }
+        FieldEdit::Add { name, value } => {
+            if has_field(fields, name) {
+                return Ok(());
+            }
+            push_field_first(edits, alloc, text, fields, name, value, braced)
+        }
+        FieldEdit::Rename { old, new } => {
+            if has_field(fields, new) {
+                return Ok(());
+            }
+            push_names(edits, alloc, fields, old, new)
+        }
+    }
+}
+
+// Adds the edits of an entry, if its key is one of these.
+fn push_selected_edits(
+    edits: &mut Vec<Edit>,
+    alloc: Global,
+    text: &str,
+    entry: &Spanned<RawEntry<'_>>,
+    keys: &BTreeSet<&str>,
+    edit: &FieldEdit<'_>,
+    braced: &str,
+) -> Result<(), AllocError>
+    requires placed { HaveFieldsPlaced text.now (entry_reading_of entry.now) }
+    requires braced { IsTextInBraces edit.now braced.now }
+    ensures { OnOk result (map edit_of edits.new.items ≡ map edit_of edits.old.items ++
+        edits_of_entry text.now (entry_reading_of entry.now) (selected_edited text.now keys.now edit.now (entry_reading_of entry.now))) }
+{
+    if !keys.contains(entry.v.key.v) {
+        return Ok(());
+    }
+    push_entry_edits(edits, alloc, text, entry, edit, braced)
+}
+
+// Returns the edits of the entries with these keys.
+pub(crate) fn field_edits(
+    alloc: Global,
+    text: &str,
+    entries: &[Spanned<RawEntry<'_>>],
+    keys: &BTreeSet<&str>,
+    edit: &FieldEdit<'_>,
+    braced: &str,
+) -> Result<Vec<Edit>, AllocError>
+    requires placed { AllByRecursion (HaveFieldsPlaced text.now) (map entry_reading_of entries.now) }
+    requires braced { IsTextInBraces edit.now braced.now }
+    ensures { IfOk result (λ edits. map edit_of edits.items ≡
+        edits_of_entries (selected_edited text.now keys.now edit.now) text.now (map entry_reading_of entries.now)) }
+{
+    let mut edits = Vec::new(alloc);
+    'entries: for entry in entries {
+        push_selected_edits(&mut edits, alloc, text, entry, keys, edit, braced)?;
+    }
+    Ok(edits)
+}
