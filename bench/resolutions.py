@@ -1,161 +1,134 @@
 #!/usr/bin/env python3
-"""Compares what an original reads of made-up files before and after `bibkit resolve`: resolutions.py BIBKIT ORACLE COUNT SEED.
+"""Compares `bibkit resolve` with Biber: resolutions.py FILE.. [--bibkit PROGRAM] [--write FILE | --read FILE] [--most N]
 
-The entries have to be the same in order, with the same fields and chunks, but for `crossref`, `xdata` and `ids`. With `--write FOLDER`
-for BIBKIT the files are written to FOLDER, separated by form feeds, and with `--read FILE` what was made of them is read from a file."""
-import json
-import random
+A FILE may be a folder, of which all .bib files with `crossref` or `xdata` are taken. Biber resolves the file, and also the text that
+`bibkit resolve` makes of it. Both must have the same entries with the same fields. Biber gets the rules of inheritance of biblatex.def,
+and resolves `xdata` first and `crossref` then, as it does for LaTeX. Without a program, --write writes the texts of the files to one
+file, with a form feed after each, and --read reads what was made of them. Differences are printed; status 1 if there are any.
+"""
+import argparse
+import collections
+import pathlib
+import re
 import subprocess
 import sys
-from collections import Counter
+import tempfile
 
-TYPES = ('article book inbook incollection inproceedings conference misc online thesis report manual proceedings collection periodical '
-         'mvbook mvcollection mvproceedings reference xdata xdata unpublished film').split()
-FIELDS = ('title subtitle author editor publisher location address institution school journal journaltitle booktitle series '
-          'volume number pages note url doi isbn issn type organization eventtitle venue keywords language custom').split()
-LINKS = ('crossref', 'xdata', 'ids')
-# what the Rust crate gives an entry otherwise: see docs/DIFFERENCES.md. It lets a reference's date overwrite an own one too, so that here
-# entries with references have none
-OTHERWISE = ('maintitle',)
-TEXTS = ['T', 'The {B}ook', r'\emph{x} y', 'a -- b', r'G\"odel', '12', 'A and B', 'x $y$ z', r'\foo[a]{b}{c}', '', ' a ', r'5\% \& 6', '{A} {B}',
-         'a\n    b', 'é ü', r'\unknown', r'{\bf x}', 'http://x.org/a_b%20c']
+import peers
+
+CONFIG = pathlib.Path("/usr/share/perl5/Biber/biber-tool.conf")
+DECLARATION = re.compile(r"\\DeclareDataInheritance\{([^}]*)\}\s*\{([^}]*)\}\{%\n(.*?)\n\}", re.S)
+REFERENCE = re.compile(rb"(?i)\b(crossref|xdata)\s*=")
+LARGEST = 400_000
 
 
-class Maker:
-    def __init__(self, seed):
-        self.random = random.Random(seed)
-
-    def case(self, word):
-        return self.random.choice([word, word, word, word.upper(), word.capitalize()])
-
-    def quoted(self, text):
-        if self.random.random() < .25 and '"' not in text.replace('\\"', ''):
-            return '"' + text.replace('\\"', "\\'") + '"'
-        return '{' + text + '}'
-
-    def value(self):
-        chance = self.random.random()
-        if chance < .1:
-            return self.random.choice(['foo', 'bar', 'jan', 'dec', 'FOO'][:4])
-        if chance < .2:
-            return ' # '.join(self.random.choice(['foo', 'bar', '{ x }', '"y"', '7']) for _ in range(self.random.randint(2, 3)))
-        if chance < .25:
-            return str(self.random.randint(0, 2000))
-        return self.quoted(self.random.choice(TEXTS))
-
-    def date(self):
-        return self.random.choice(['2020', '2020-05', '2020-05-03', '2020/2021', '2020-05-03T12:00:00', '2020~', '2020?', '199X', '../2020', 'soon', '',
-                                   '2020-02-30', '-0044', r'{2}020', '1984%', r'1984\%'])
-
-    def fields(self, key, keys):
-        rows = [(self.random.choice(FIELDS), self.value()) for _ in range(self.random.randint(0, 4))]
-        if self.random.random() < .2:
-            rows.append(('month', self.random.choice(['jan', '{5}', '{May}', '7'])))
-        if self.random.random() < .1:
-            rows.append(('day', self.random.choice(['{5}', '7'])))
-        later = keys[keys.index(key) + 1:] or ['none']
-        if self.random.random() < .55:
-            rows.append(('crossref', self.quoted(self.random.choice(later + ['nobody']))))
-        if self.random.random() < .3:
-            names = [self.random.choice(later) for _ in range(self.random.randint(1, 3))]
-            rows.append(('xdata', self.quoted(self.random.choice([', ', ',']).join(names))))
-        refers = any(name in LINKS for name, _ in rows)
-        if not refers and self.random.random() < .4:
-            rows.append(('date', self.quoted(self.date())))
-        if not refers and self.random.random() < .4:
-            rows.append(('year', self.random.choice(['1999', '{2001}', '"2002"', '{2004}', '{2003}'])))
-        if self.random.random() < .05:
-            rows.append(('ids', self.quoted('other' + key)))
-        self.random.shuffle(rows)
-        return rows
-
-    def gap(self, style):
-        return '\n  % note' + style if self.random.random() < .02 else style
-
-    def entry(self, key, keys):
-        style = self.random.choice(['\n  ', '\n\t', ' ', '', '\r\n  '])
-        sign = self.random.choice([' = ', '=', '  =  '])
-        text = '@' + self.case(self.random.choice(TYPES)) + self.random.choice(['{', ' {']) + key
-        rows = self.fields(key, keys)
-        for name, value in rows:
-            text += ',' + self.gap(style) + self.case(name) + sign + value + self.random.choice(['', '', '', ' ', ' % why\n'] if '\n' in style else [''])
-        return text + (self.random.choice(['', ',']) if rows else ',') + self.random.choice(['}', '\n}', ' }'])
-
-    def file(self):
-        keys = [f'k{n}' for n in range(self.random.randint(1, 7))]
-        entries = [self.entry(key, keys) for key in keys]
-        self.random.shuffle(entries)
-        parts = ['@string{foo = {Foo}}', '@string{bar = foo # " and " # {B}}', *entries]
-        if self.random.random() < .2:
-            parts.append('@comment{x}')
-        if self.random.random() < .2:
-            parts.append('text % and a comment')
-        self.random.shuffle(parts)
-        return self.random.choice(['\n', '\n\n', ' ']).join(parts) + self.random.choice(['\n', ''])
+def rows(declaration):
+    """The lines of a configuration of Biber for a declaration of biblatex.def."""
+    sources, targets, lines = declaration
+    yield "<inherit>"
+    for source in sources.split(","):
+        yield from (f'<type_pair source="{source}" target="{target}"/>' for target in targets.split(","))
+    for command, names in re.findall(r"\\(inherit|noinherit)((?:\{\w+\})+)", lines):
+        first, *second = re.findall(r"\w+", names)
+        yield f'<field source="{first}" target="{second[0]}"/>' if command == "inherit" else f'<field source="{first}" skip="true"/>'
+    yield "</inherit>"
 
 
-def run(command, text):
-    done = subprocess.run(command, input=text.encode(), capture_output=True)
-    return done.returncode, done.stdout.decode()
+def configuration():
+    """A configuration of Biber with the rules of inheritance of BibLaTeX."""
+    path = subprocess.run(["kpsewhich", "biblatex.def"], capture_output=True, text=True, check=True).stdout.strip()
+    lines = [line for it in DECLARATION.findall(pathlib.Path(path).read_text()) for line in rows(it)]
+    rules = ['<inheritance><defaults inherit_all="true" override_target="false"></defaults>', *lines, "</inheritance>"]
+    return re.sub(r"<inheritance>.*?</inheritance>", lambda _: "\n".join(rules), CONFIG.read_text(), flags=re.S)
 
 
-def content(field):
-    """A field's chunks without their places, neighbours of one kind joined."""
-    joined = []
-    for kind, text, *_ in field:
-        if joined and joined[-1][0] == kind != 'm':
-            joined[-1][1] += text
-        elif text or kind == 'm':
-            joined.append([kind, text])
-    return joined
+def resolved(text, room):
+    """The entries that Biber has of a text, with inherited fields."""
+    for option in ("--output-resolve-xdata", "--output-resolve-crossrefs"):
+        (room / "file.bib").write_bytes(text)
+        out = room / "out.bib"
+        out.unlink(missing_ok=True)
+        words = ["biber", "--tool", "--nodieonerror", "--quiet", f"--configfile={room / 'biber.conf'}", "--output-fieldcase=lower", option,
+                 f"--output-file={out}", "file.bib"]
+        peers.call(words, room)
+        text = out.read_bytes() if out.is_file() else b""
+    return peers.printed_entries(text.decode("latin-1"))
 
 
-def entries(oracle, text):
-    status, said = run([oracle, 'dump'], text)
+def made(bibkit, text, room):
+    """What `bibkit resolve` makes of a text; nothing if it refuses it."""
+    (room / "it.bib").write_bytes(text)
+    status, new, said = peers.call([bibkit, "resolve", "it.bib"], room)
     if status != 0:
-        return None
-    out = []
-    for line in said.splitlines():
-        entry = json.loads(line)
-        fields = {name: content(chunks) for name, chunks in entry['fields']} if isinstance(entry['fields'], list) else {name: content(chunks) for name, chunks in entry['fields'].items()}
-        out.append((entry['key'], entry['type'], {name: chunks for name, chunks in fields.items() if name not in LINKS + OTHERWISE}))
-    return out
+        print("refused:", said.decode("utf-8", "replace").strip())
+    return new if status == 0 else None
+
+
+def fields_of(entry):
+    """The fields of an entry by name, without references."""
+    return {name: value for name, value in entry.fields if name not in ("crossref", "xdata", "ids")}
+
+
+def compare(name, before, after):
+    """Prints and counts the fields that Biber has only before or only after."""
+    found = collections.Counter()
+    old, new = ({it.key: it for it in entries} for entries in (before, after))
+    for key in [*old, *(it for it in new if it not in old)]:
+        if key not in old or key not in new:
+            found["entry"] += 1
+            print(f"{name}: {key}: only {'before' if key in old else 'after'}")
+            continue
+        one, other = fields_of(old[key]), fields_of(new[key])
+        for field in [*one, *(it for it in other if it not in one)]:
+            found["fields"] += 1
+            if one.get(field) != other.get(field):
+                found["lost" if field not in other else "new" if field not in one else "changed"] += 1
+                print(f"{name}: {key}: {field}: {one.get(field)!r} {other.get(field)!r}")
+    return found
+
+
+def files(paths):
+    """The files with references."""
+    for path in map(pathlib.Path, paths):
+        for file in sorted(path.rglob("*.bib")) if path.is_dir() else [path]:
+            text = file.read_bytes()
+            try:
+                text.decode()
+            except UnicodeDecodeError:
+                continue
+            if len(text) <= LARGEST and REFERENCE.search(text):
+                yield str(file), text
 
 
 def main():
-    options = sys.argv[1:]
-    if options[0] in ('--write', '--read'):
-        mode, place, oracle, count, seed = options
-    else:
-        mode, (place, oracle, count, seed) = 'run', options
-    maker = Maker(int(seed))
-    texts = [maker.file() for _ in range(int(count))]
-    if mode == '--write':
-        with open(place, 'w', newline='') as out:
-            out.write('\f'.join(texts))
+    parser = argparse.ArgumentParser(description=__doc__.splitlines()[0])
+    parser.add_argument("files", nargs="+")
+    parser.add_argument("--bibkit", default="bibkit")
+    parser.add_argument("--write")
+    parser.add_argument("--read")
+    parser.add_argument("--most", type=int)
+    options = parser.parse_args()
+    texts = list(files(options.files))[:options.most]
+    if options.write:
+        pathlib.Path(options.write).write_bytes(b"".join(text.replace(b"\f", b"") + b"\n\f\n" for _, text in texts))
         return 0
-    made = open(place, newline='').read().split('\f') if mode == '--read' else [run([place, 'resolve'], text)[1] for text in texts]
-    tally = Counter()
-    for text, new in zip(texts, made):
-        before = entries(oracle, text)
-        if before is None:
-            tally['refused by the original' + (', and here' if new.startswith(('refused', 'no bibliography')) or not new else ', and not here')] += 1
-            continue
-        if new.startswith(('refused', 'no bibliography')) or not new:
-            tally['refused here alone: ' + new[:60]] += 1
-            print('--- refused\n' + text + '\n=>\n' + new)
-            continue
-        after = entries(oracle, new)
-        tally['the same' if after == before else 'differs'] += 1
-        tally['changed' if new != text else 'unchanged'] += 1
-        if after != before:
-            print('--- differs\n' + text + '\n=>\n' + new)
-            for one, other in zip(before, after or []):
-                if one != other:
-                    print(one, '\n', other)
-    print(dict(tally))
-    return 1 if tally['differs'] else 0
+    answers = pathlib.Path(options.read).read_bytes().split(b"\f\n") if options.read else None
+    total = collections.Counter()
+    with tempfile.TemporaryDirectory() as folder:
+        room = pathlib.Path(folder)
+        (room / "biber.conf").write_text(configuration())
+        for number, (name, text) in enumerate(texts):
+            new = answers[number] if answers else made(options.bibkit, text, room)
+            if new is None or new.startswith(b"refused"):
+                total["refused"] += 1
+                print(f"{name}: refused: {(new or b'').decode()}")
+                continue
+            total["files"] += 1
+            total["references"] += len(REFERENCE.findall(text)) - len(REFERENCE.findall(new))
+            total += compare(name, resolved(text, room), resolved(new, room))
+    print(dict(total))
+    return 1 if total["lost"] + total["new"] + total["changed"] + total["entry"] else 0
 
 
-if __name__ == '__main__':
+if __name__ == "__main__":
     sys.exit(main())

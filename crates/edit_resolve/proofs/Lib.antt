@@ -1,5 +1,5 @@
-mod AloneFacts
-mod CompareFacts
-mod ResolvedFacts
-mod RestFacts
-mod ValueFacts
+mod AlongFacts
+mod FileFacts
+mod GatheringFacts
+mod ListFacts
+mod OrderFacts

@@ -1,4 +1,5 @@
 pub mod Errors
-pub mod Pairs
-pub mod Resolutions
-pub mod ValueSets
+pub mod Inheritance
+pub mod Parents
+pub mod Resolved
+pub mod Working

@@ -1,22 +1,20 @@
-//! Writes the fields that entries inherit into the entries of a file.
+//! Writes the fields that entries inherit into the entries of a file, as BibLaTeX has them.
 //!
-//! The inherited fields come from the resolving of `biblatex` itself. Before it, each chunk gets the span of the value of its
-//! field in the file (`places`), so an inherited field has the span of its text. `fates` decides which fields of an entry are
-//! removed, and `making` writes the entries (with `layout` and `stretches`).
+//! The parents of an entry are found by the keys in its `crossref` and `xdata` (`index`, `parents`). The references form a graph over the
+//! indices of the entries. The entries are taken in a topological order of this graph, so that the fields of an entry's parents are known
+//! when it inherits from them (`turns`). `inheritance` has the tables of BibLaTeX: which field of a parent becomes which field of an entry.
+//! `gathering` keeps the offered fields that the entry lacks. `edits` replaces the references by them.
 //!
-//! No contract covers the new text itself. It is parsed and compared with the file: the text around entries (`gaps`), the
-//! values (`values`) and the contents of entries (`comparing`). It must also have no references (`alone`). The contract of
-//! `resolve` states these comparisons, and a text that fails one isn't returned.
+//! The new text isn't parsed again. The edits are *changes of entries* of `edit_entries`, whose theorem states the reading of the text.
 #![tactic(auto)]
 
-mod alone;
-mod comparing;
+mod edits;
 pub mod errors;
-mod fates;
-mod gaps;
-mod layout;
-mod making;
-mod places;
+mod file;
+mod gathering;
+pub mod inheritance;
+mod names;
+pub mod parents;
 pub mod resolving;
-mod stretches;
-mod values;
+mod texts;
+mod turns;

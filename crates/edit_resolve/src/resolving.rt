@@ -1,122 +1,47 @@
 //! Resolving: files in which inherited fields are written out.
 
-ghost use Rattle.std.specs.Prelude.{◌≡◌, IfOk, IfErr, IsTrue, OnOk};
-ghost use Rattle.std.specs.List.{AllZip};
+ghost use Rattle.std.specs.Prelude.{IfErr, IfOk, OnOk};
 ghost use Rattle.std.specs.String.{string_bytes};
-ghost use Rattle.edit_entries.specs.Documents.{Document, IsDocument};
-ghost use Rattle.biblatex.specs.Headline.{IsBibliographyOf};
-ghost use Rattle.edit_resolve.specs.Errors.{NotOfFile};
-ghost use Rattle.edit_resolve.specs.Resolutions.{IsMadeAlike, IsResolveRefused, IsResolvedText, SaysSame, StandsAlone};
+ghost use Rattle.bib_collections.specs.Graph.{HasNoCycle};
+ghost use Rattle.edit_resolve.specs.Parents.{parent_graph};
+ghost use Rattle.edit_resolve.specs.Resolved.{IsResolved, ResolveIsRefused};
 
-use crate::alone::stands_alone;
-use crate::comparing::first_difference;
-use crate::errors::{ResolveError, unlike};
-use crate::gaps::are_gaps_same;
-use crate::making::made;
-use crate::places::placed_of;
-use crate::values::are_values_kept;
-use bib_text::text::Text;
-use biblatex::Bibliography;
+use crate::edits::edits;
+use crate::errors::ResolveError;
+use crate::file::File;
+use crate::turns::all_fields;
 use edit_entries::document::RawDocument;
-use std::alloc::{AllocError, Global};
+use edit_entries::editing::edited_all;
+use std::alloc::Global;
 
-// Returns the text with the inherited fields. No contract covers it.
-fn text_of(alloc: Global, document: &RawDocument<'_>) -> Result<String, ResolveError>
-    ensures { IfErr result NotOfFile }
-{
-    match placed_of(alloc, document) {
-        Ok(placed) => Ok(made(alloc, document, &placed)?),
-        Err(error) => Err(unlike(error)),
-    }
-}
-
-// Returns an error if two bibliographies have different entries.
-fn compare(alloc: Global, old: &Bibliography, new: &Bibliography) -> Result<(), ResolveError>
-    ensures same { OnOk result (AllZip SaysSame old.now.entries new.now.entries) }
-    ensures refused { IfErr result NotOfFile }
-{
-    match first_difference(old.iter().as_slice(), new.iter().as_slice()) {
-        Some(difference) => Err(ResolveError::Differs {
-            entry: difference.entry,
-            name: Text::from_str(alloc, difference.name)?,
-        }),
-        None => Ok(()),
-    }
-}
-
-// Returns an error if an entry of `text` refers to another.
-fn check_alone(alloc: Global, text: &str) -> Result<(), ResolveError>
-    ensures alone { OnOk result (StandsAlone text.now) }
-    ensures refused { IfErr result NotOfFile }
-{
-    match stands_alone(alloc, text) {
-        Ok(true) => Ok(()),
-        Ok(false) => Err(ResolveError::Unlike),
-        Err(error) => Err(unlike(error)),
-    }
-}
-
-// Parses the new text.
-fn read_again(alloc: Global, text: &str) -> Result<Bibliography, ResolveError>
-    ensures read { IfOk result (IsBibliographyOf text.now) }
-    ensures refused { IfErr result NotOfFile }
-{
-    match Bibliography::parse(alloc, text) {
-        Ok(bibliography) => Ok(bibliography),
-        Err(error) => Err(unlike(error)),
-    }
-}
-
-// Returns whether `made` has the texts around entries of `document`, and only values that occur in `document`, except dates.
-fn is_kept(
-    alloc: Global,
-    document: &RawDocument<'_>,
-    made: &RawDocument<'_>,
-) -> Result<bool, AllocError>
-    ensures { IfOk result (λ kept. IsTrue kept → IsMadeAlike document.now made.now) }
-{
-    if !are_gaps_same(alloc, document, made)? {
-        return Ok(false);
-    }
-    are_values_kept(alloc, document, made)
-}
-
-// Returns an error if `text` changes the texts around the entries of `document`, or has a value that doesn't occur there,
-// except dates.
-fn check_kept(alloc: Global, document: &RawDocument<'_>, text: &str) -> Result<(), ResolveError>
-    ensures kept { OnOk result ((made : Document) × IsDocument made × (made.text ≡ text.now) × IsMadeAlike document.now made) }
-    ensures refused { IfErr result NotOfFile }
-{
-    match RawDocument::parse(alloc, text) {
-        Ok(made) => if is_kept(alloc, document, &made)? {
-            Ok(())
-        } else {
-            Err(ResolveError::Unlike)
-        },
-        Err(error) => Err(unlike(error)),
-    }
-}
-
-/// Returns the text of `document` with the inherited fields of each entry written out: the fields that `Bibliography::parse`
-/// gives the entry through `crossref` and `xdata`, except `ids`.
+/// Returns the text of a document in which inherited fields are written out, by the rules of inheritance of BibLaTeX.
 ///
-/// The value of an inherited field is copied from the file, byte for byte, but an inherited date is written without its time. Each
-/// `xdata` and each `crossref` that names an entry of the file is removed. If the entry inherits a date, its own `year`, `month` and
-/// `day` are removed. The inherited fields replace the last removed field of their entry. A comment after any other removed field is
-/// removed too. A `crossref` to an unknown key, an `xdata` with one literal that names no entry, and everything else is unchanged.
+/// **References.** An entry inherits from the entries that its fields `crossref` (one key) and `xdata` (a list of keys) name, and from the
+/// entries that those inherit from. The value of such a field is one literal. A key finds the first entry with this key, or else the first
+/// entry with this name in its fields `ids`; `xdata` finds only entries of the type `xdata`.
 ///
-/// The new text is parsed and compared with the old one, and is returned only if the comparison succeeds (clause `resolved`).
-/// Returns `File` if `Bibliography::parse` fails for the text, `Differs` if the new text would change an entry, and `Unlike` if it
-/// would differ in another way.
+/// **Fields.** By `xdata` an entry inherits all fields except `ids`, `options` and references. By `crossref` the titles of the parent get
+/// other names, such as `booktitle`, if the types of both entries have such a rule. `ids`, `xref`, `related`, `label`, `options`,
+/// `shorthand`, `sortkey` and other fields of the parent itself aren't inherited, and all other fields keep their names. An own field is
+/// never replaced. Names are compared as Biber reads them: in any ASCII case, and `address`, `journal` or `school` as `location`,
+/// `journaltitle` or `institution`. An entry with `date` inherits neither `year` nor `month`, and one with `year` no `date`.
+///
+/// **Text.** The inherited fields replace the last reference of their entry, and its other references are removed, with the text up to
+/// the next field. Each value is written as its parent has it, with ` # ` between joined pieces. If nothing is inherited, the last
+/// reference is removed too, or kept if no field follows it. A reference with a key that finds no entry is kept, and so is every other
+/// byte of the file.
+///
+/// # Errors
+///
+/// Returns `Cycle` if an entry inherits from itself, and `OutOfMemory` if memory runs out.
 pub fn resolve(alloc: Global, document: &RawDocument<'_>) -> Result<String, ResolveError>
-    ensures resolved { IfOk result (λ new. IsResolvedText document.now (string_bytes new)) }
-    ensures refused { IfErr result (IsResolveRefused document.now.text) }
+    ensures resolved { IfOk result (λ new. IsResolved document.now (string_bytes new)) }
+    ensures no_cycle { OnOk result (HasNoCycle (parent_graph document.now.says.entries)) }
+    ensures refused { IfErr result (ResolveIsRefused document.now) }
 {
-    let old = Bibliography::parse(alloc, document.text())?;
-    let text = text_of(alloc, document)?;
-    check_kept(alloc, document, &text)?;
-    check_alone(alloc, &text)?;
-    let new = read_again(alloc, &text)?;
-    compare(alloc, &old, &new)?;
-    Ok(text)
+    let raw = document.raw();
+    let file = File::of(alloc, &raw.entries)?;
+    let fields = all_fields(alloc, &file)?;
+    let edits = edits(alloc, &file, document.text(), &fields)?;
+    Ok(edited_all(alloc, document.text(), &edits)?)
 }

@@ -53,8 +53,8 @@ fn sign_before(is_first: bool) -> &'static str
     if is_first { "" } else { " # " }
 }
 
-// Returns `pieces` as they are written in the file, with ` # ` between them.
-pub(crate) fn laid_out(
+/// Returns `pieces` as they are written in `text`, with ` # ` between them. The only error is out of memory.
+pub fn laid_out(
     alloc: Global,
     text: &str,
     pieces: &[&Spanned<RawChunk<'_>>],

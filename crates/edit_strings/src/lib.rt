@@ -15,7 +15,7 @@ mod braces;
 mod collected;
 pub mod collecting;
 mod definitions;
-mod elements;
+pub mod elements;
 pub mod errors;
 pub mod expanding;
 mod naming;

@@ -1,0 +1,38 @@
+-- General facts about lists.
+use Rattle.std.proofs.Common.{◌≡◌, ℕ, ◌+◌, ◌<◌, Bool, true, false, cond, List, [], ◌∷◌, ◌++◌, length, map, take, get_or, refl, sym, ap, ◌∙◌, arith, append_assoc, Option}
+use Rattle.std.specs.Prelude.{◌||◌}
+use Rattle.std.specs.List.{filter_map, list_any}
+use Rattle.std.proofs.lemmas.List.Elements.{filter_map-append}
+use Rattle.std.proofs.lemmas.List.{take_more, map-append}
+use Rattle.std.proofs.lemmas.Slice.Eq.{bytes_eq-Decides}
+use Rattle.bib_text.proofs.EnumFacts.{IsNoneOf}
+use Rattle.bib_tables.specs.Requirements.{is_one_of}
+
+-- one more element of a list that is looked at through a function
+pub seen_more : {A B : Type 0} (view : A → B) (xs : List A) (i : ℕ) (x : A) → i < length xs → x ≡ get_or xs i x
+    → map view (take (i + 1) xs) ≡ map view (take i xs) ++ view x ∷ []
+seen_more view xs i x within is =
+    ap (map view) (take_more xs i x within ∙ ap (λ y. take i xs ++ y ∷ []) (sym is)) ∙ map-append view (take i xs) (x ∷ [])
+
+-- the same test has the same outcome for a list
+pub any_same : {A : Type 0} (f g : A → Bool) → ((x : A) → f x ≡ g x) → (xs : List A) → list_any f xs ≡ list_any g xs
+any_same f g same [] = refl
+any_same f g same (x ∷ xs) =
+    ap (λ b. b || list_any f xs) (same x) ∙ ap (λ b. g x || b) (any_same f g same xs)
+
+-- a name is none of some names that differ from it
+pub one_of_none : (names : List (List ℕ)) (name : List ℕ) → IsNoneOf names name → is_one_of names name ≡ false
+one_of_none [] name none = refl
+one_of_none (x ∷ xs) name none = search (arith, none.0, one_of_none xs name none.1, bytes_eq-Decides)
+
+-- one more key
+pub mapped_more : {A B C D : Type 0} (view : A → B) (h : B → Option C) (f : C → D) (xs : List A) (i : ℕ) (x : A) → i < length xs
+    → x ≡ get_or xs i x → (old start : List D) → old ≡ start ++ map f (filter_map h (map view (take i xs)))
+    → old ++ map f (filter_map h (view x ∷ [])) ≡ start ++ map f (filter_map h (map view (take (i + 1) xs)))
+mapped_more view h f xs i x within is old start before =
+    ap (λ l. l ++ map f (filter_map h (view x ∷ []))) before
+    ∙ append_assoc start (map f (filter_map h (map view (take i xs)))) (map f (filter_map h (view x ∷ [])))
+    ∙ ap (λ l. start ++ l)
+    (sym (map-append f (filter_map h (map view (take i xs))) (filter_map h (view x ∷ [])))
+    ∙ ap (map f) (sym (filter_map-append h (map view (take i xs)) (view x ∷ [])))
+    ∙ ap (λ l. map f (filter_map h l)) (sym (seen_more view xs i x within is)))

@@ -1,0 +1,112 @@
+-- Meaning: words of public contracts.
+-- A file with inherited fields written out.
+use Rattle.std.specs.Prelude.{ℕ, zero, suc, Bool, true, false, if◌then◌else◌, List, [], ◌∷◌, ◌++◌, length, map, filter, Option, Some, None, unwrap_or, ⊤}
+use Rattle.std.specs.List.{flat_map, list_any}
+use Rattle.bib_text.specs.Enums.{value_named}
+use Rattle.bib_collections.specs.Graph.{IsFirstOnCycle}
+use Rattle.bib_queries.specs.Needed.{is_listed}
+use Rattle.bib_syntax.specs.Reading.{EntryReading, FieldReading}
+use Rattle.bib_tables.specs.declared.mechanics.EntryType.{EntryType}
+use Rattle.edit_entries.specs.Changes.{EntryChange, FieldChange, IsChanged, NewField}
+use Rattle.edit_entries.specs.Documents.{Document}
+use Rattle.edit_entries.specs.Setting.{white_before}
+use Rattle.edit_strings.specs.Expanded.{laid_out}
+use Rattle.edit_resolve.specs.Inheritance.{keeps_name, new_name, passes_on, read_name, rival_names}
+use Rattle.edit_resolve.specs.Parents.{entry_at, is_resolved, parent_graph, parents, type_of}
+use Rattle.edit_resolve.specs.declared.errors.ResolveError.{ResolveError}
+use Rattle.edit_resolve.specs.declared.errors.ResolveError.TheVariants.{Cycle, OutOfMemory}
+use Rattle.edit_resolve.specs.declared.parents.Link.{Link}
+use Rattle.edit_resolve.specs.declared.parents.Link.TheVariants.{Crossref, Xdata}
+
+-- ---- what a parent offers
+
+-- a name, and the field of the file that has the value
+pub record Named : Type 0 where
+  pub name : List ℕ
+  pub field : FieldReading
+
+-- a field under its own name
+abbrev pub as_itself : FieldReading → Named
+as_itself f = record { name = f.name.text; field = f }
+
+-- a field under a new name, if there is one
+abbrev pub renamed : Named → Option (List ℕ) → List Named
+renamed n None = []
+renamed n (Some name) = record { name = name; field = n.field } ∷ []
+
+-- the fields that a parent of the first type offers an entry of the second type: by `crossref` those with new names first
+abbrev pub offers : Link → EntryType → EntryType → List Named → List Named
+offers Xdata type child fields = filter (λ n. passes_on (read_name n.name)) fields
+offers Crossref type child fields =
+    flat_map (λ n. renamed n (new_name type child (read_name n.name))) fields
+    ++ filter (λ n. keeps_name type child (read_name n.name)) fields
+
+-- ---- what an entry inherits
+
+-- whether a field can't be inherited, since there is one with this name, or with a name that excludes it
+abbrev pub is_taken : List (List ℕ) → List ℕ → Bool
+is_taken taken name = list_any (is_listed taken) (name ∷ unwrap_or (value_named rival_names name) [])
+
+-- the offered fields that are inherited: each whose name isn't taken by an own field or by an offered field before it
+abbrev pub new_fields : List (List ℕ) → List Named → List Named
+new_fields taken [] = []
+new_fields taken (n ∷ offered) =
+    if is_taken taken (read_name n.name) then new_fields taken offered
+    else n ∷ new_fields (taken ++ read_name n.name ∷ []) offered
+
+-- the fields that an entry is offered, if its parents have these fields
+abbrev pub offered_by : List EntryReading → (ℕ → List Named) → EntryReading → List Named
+offered_by entries fields e =
+    flat_map (λ p. offers p.link (type_of (entry_at entries p.index)) (type_of e) (fields p.index)) (parents entries e)
+
+-- the fields that an entry inherits, if its parents have these fields
+abbrev pub inherited_by : List EntryReading → (ℕ → List Named) → EntryReading → List Named
+inherited_by entries fields e = new_fields (map (λ f. read_name f.name.text) e.fields) (offered_by entries fields e)
+
+-- all fields of the entry at an index: its own ones, and those that it inherits along at most so many references one after another
+abbrev pub fields_along : List EntryReading → ℕ → ℕ → List Named
+fields_along entries zero index = map as_itself (entry_at entries index).fields
+fields_along entries (suc most) index =
+    map as_itself (entry_at entries index).fields ++ inherited_by entries (fields_along entries most) (entry_at entries index)
+
+-- the fields that an entry inherits. Without a cycle, there are fewer references one after another than entries.
+abbrev pub inherited : List EntryReading → EntryReading → List Named
+inherited entries e = inherited_by entries (fields_along entries (length entries)) e
+
+-- ---- the text
+
+-- a new field: its value has the pieces of the file as they are written there, with ` # ` between them
+abbrev pub new_field : List ℕ → Named → NewField
+new_field text n = record { name = n.name; value = record { bytes = laid_out text n.field.value.pieces; pieces = n.field.value.pieces } }
+
+-- the change of an entry's last resolved reference before other fields: the inherited fields replace it. If there are none it is removed,
+-- or kept if no field follows.
+abbrev pub last_change : List ℕ → List Named → FieldReading → List FieldReading → FieldChange
+last_change text (n ∷ ns) f following = FieldChange.replaced (new_field text n) (map (new_field text) ns) (white_before text f.name.start)
+last_change text [] f [] = FieldChange.kept
+last_change text [] f (g ∷ gs) = FieldChange.removed
+
+-- the change of a field before other fields: each other resolved reference is removed, and all other fields are kept
+abbrev pub field_change : List ℕ → (FieldReading → Bool) → List Named → FieldReading → List FieldReading → FieldChange
+field_change text resolved new f following =
+    if resolved f then (if list_any resolved following then FieldChange.removed else last_change text new f following)
+    else FieldChange.kept
+
+-- the changes of fields
+abbrev pub field_changes : List ℕ → (FieldReading → Bool) → List Named → List FieldReading → List FieldChange
+field_changes text resolved new [] = []
+field_changes text resolved new (f ∷ fs) = field_change text resolved new f fs ∷ field_changes text resolved new fs
+
+-- the change of an entry
+abbrev pub resolution : List ℕ → List EntryReading → EntryReading → EntryChange
+resolution text entries e = record { kind = None; fields = field_changes text (is_resolved entries) (inherited entries e) e.fields }
+
+-- a text is a document's with inherited fields written out, and reads so
+abbrev pub IsResolved : Document → List ℕ → Type 0
+IsResolved d text = IsChanged (resolution d.text d.says.entries) d text
+
+-- the conditions under which resolving is refused: the entry at this index is the first that inherits from itself, directly or through
+-- others
+abbrev pub ResolveIsRefused : Document → ResolveError → Type 0
+ResolveIsRefused d (Cycle index) = IsFirstOnCycle (parent_graph d.says.entries) index
+ResolveIsRefused d OutOfMemory = ⊤

@@ -1,0 +1,122 @@
+-- Machinery: words of private contracts.
+-- The file, the parents and the gathered fields, in the types of the code.
+use Rattle.std.specs.Prelude.{◌≡◌, ℕ, ◌<◌, ◌≤◌, Bool, ◌||◌, if◌then◌else◌, List, [], ◌∷◌, ◌++◌, codes, bytes_eq, length, map, slice_index_or, Option, Some, None, unwrap_or, ⊤}
+use Rattle.std.specs.Borrow.{Bor}
+use Rattle.std.specs.BTreeMap.{BTreeMap, get_by}
+use Rattle.std.specs.BTreeSet.{contains_text}
+use Rattle.std.specs.Cmp.Lexicographic.{slice_cmp}
+use Rattle.std.specs.Global.{Vec}
+use Rattle.std.specs.List.{AllByRecursion, flat_map, list_any}
+use Rattle.std.specs.Ordering.{nat_cmp}
+use Rattle.std.specs.Str.{IsCharBoundary}
+use Rattle.bib_text.specs.Enums.{value_named}
+use Rattle.bib_collections.specs.Graph.{IsFirstOnCycle}
+use Rattle.bib_queries.specs.Needed.{is_listed}
+use Rattle.bib_syntax.specs.Reading.{EntryReading, FieldReading}
+use Rattle.bib_syntax.specs.Views.{entry_reading_of, field_of}
+use Rattle.bib_tables.specs.EntryType.{entry_type_of}
+use Rattle.bib_tables.specs.declared.mechanics.EntryType.{EntryType}
+use Rattle.edit_entries.specs.Changes.{FieldChange}
+use Rattle.edit_entries.specs.Cuts.{ArePiecesCut}
+use Rattle.edit_entries.specs.Documents.{first_position, is_keyed}
+use Rattle.edit_entries.specs.Placed.{IsPlaced}
+use Rattle.edit_entries.specs.References.{has_alias}
+use Rattle.edit_resolve.specs.Inheritance.{read_name, rival_names}
+use Rattle.edit_resolve.specs.Parents.{entry_at, parent_graph, type_of}
+use Rattle.edit_resolve.specs.Resolved.{Named, as_itself, fields_along, last_change, new_fields, offers}
+use Rattle.edit_resolve.specs.declared.errors.ResolveError.{ResolveError}
+use Rattle.edit_resolve.specs.declared.errors.ResolveError.TheVariants.{Cycle, OutOfMemory}
+use Rattle.edit_resolve.specs.declared.file.File.{File}
+use Rattle.edit_resolve.specs.declared.gathering.Named.{Named as NamedField}
+use Rattle.edit_resolve.specs.declared.gathering.Gathered.{Gathered}
+use Rattle.edit_resolve.specs.declared.parents.Parent.{Parent}
+
+-- ---- the file
+
+-- the index that a map has for a name
+abbrev pub index_in : BTreeMap (Bor (List ℕ)) ℕ → List ℕ → Option ℕ
+index_in indices name = get_by (λ k. slice_cmp nat_cmp name k.now) indices
+
+-- the readings of the entries of a file
+abbrev pub readings : File → List EntryReading
+readings file = map entry_reading_of file.entries.now
+
+-- the names and the types of a file are those of its entries
+pub record IsKnown (file : File) : Type 0 where
+  pub keys : (name : List ℕ) → index_in file.keys name ≡ first_position (is_keyed name) (readings file)
+  pub aliases : (name : List ℕ) → index_in file.aliases name ≡ first_position (has_alias name) (readings file)
+  pub kinds : file.kinds.items ≡ map type_of (readings file)
+
+-- the parents in the vectors of the code
+abbrev pub lists_of : List (Vec Parent) → List (List Parent)
+lists_of rows = map (λ row. row.items) rows
+
+-- ---- gathered fields
+
+-- whether a name is in a set, or one that excludes it
+abbrev pub is_taken_in : (List ℕ → Bool) → List ℕ → Bool
+is_taken_in has name = list_any has (name ∷ unwrap_or (value_named rival_names name) [])
+
+-- the field that a value of the code represents
+abbrev pub named_of : NamedField → Named
+named_of n = record { name = n.name.now; field = field_of n.field.now }
+
+-- the taken names are these, and the fields begin with these
+pub record IsGathered (taken : List (List ℕ)) (all : List Named) (g : Gathered) : Type 0 where
+  pub names : (name : List ℕ) → contains_text g.names name ≡ is_listed taken name
+  pub fields : map named_of g.fields.items ≡ all
+
+-- the names of fields
+abbrev pub read_names : List Named → List (List ℕ)
+read_names fields = map (λ n. read_name n.name) fields
+
+-- the first gathered fields become the second ones by adding the new ones among the offered fields
+abbrev pub Offered : Gathered → List Named → Gathered → Type 0
+Offered old offered new =
+    (taken : List (List ℕ)) (fields : List Named) → IsGathered taken fields old
+    → IsGathered (taken ++ read_names (new_fields taken offered)) (fields ++ new_fields taken offered) new
+
+-- the fields at an index
+abbrev pub fields_at : List (Vec NamedField) → ℕ → List Named
+fields_at found index = slice_index_or (map (λ row. map named_of row.items) found) index []
+
+-- the type at an index
+abbrev pub kind_at : List EntryType → ℕ → EntryType
+kind_at kinds index = slice_index_or kinds index (entry_type_of [])
+
+-- the fields that an entry of a type is offered by these parents
+abbrev pub offered_by : List EntryType → EntryType → (ℕ → List Named) → List Parent → List Named
+offered_by kinds child fields parents = flat_map (λ p. offers p.link (kind_at kinds p.index) child (fields p.index)) parents
+
+-- the fields of the entry at an index, and those that it inherits from these parents
+abbrev pub with_inherited : List EntryReading → (ℕ → List Named) → List Parent → ℕ → List Named
+with_inherited entries fields parents index =
+    let e = entry_at entries index in
+    map as_itself e.fields
+    ++ new_fields (map (λ f. read_name f.name.text) e.fields)
+    (flat_map (λ p. offers p.link (type_of (entry_at entries p.index)) (type_of e) (fields p.index)) parents)
+
+-- these are the fields of each entry, along any number of references one after another that is at least the number of entries
+abbrev pub AreAlong : List EntryReading → (ℕ → List Named) → Type 0
+AreAlong entries fields =
+    (index most : ℕ) → index < length entries → length entries ≤ most → fields index ≡ fields_along entries most index
+
+-- the errors of the graph of parents
+abbrev pub IsGraphError : List EntryReading → ResolveError → Type 0
+IsGraphError entries (Cycle index) = IsFirstOnCycle (parent_graph entries) index
+IsGraphError entries OutOfMemory = ⊤
+
+-- ---- edits
+
+-- the name and the value of a field may be cut out of a text
+pub record IsStretch (text : List ℕ) (f : FieldReading) : Type 0 where
+  pub placed : IsPlaced text f
+  pub name : IsCharBoundary text f.name.start
+
+-- the fields of entries and the literals of their values may be cut out of a text
+abbrev pub AreCut : List ℕ → List EntryReading → Type 0
+AreCut text entries = AllByRecursion (λ e. AllByRecursion (λ f. IsStretch text f × ArePiecesCut text f) e.fields) entries
+
+-- the change of a resolved reference
+abbrev pub last_or_removed : List ℕ → Bool → List Named → FieldReading → List FieldReading → FieldChange
+last_or_removed text is_last new f following = if is_last then last_change text new f following else FieldChange.removed

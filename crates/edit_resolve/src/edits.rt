@@ -1,0 +1,156 @@
+//! The edits that write inherited fields out.
+
+ghost use Rattle.std.specs.Prelude.{◌≡◌, ◌++◌, ℕ, List, length, map, count_by, not, drop, IfOk, OnOk};
+ghost use Rattle.std.specs.List.{AllByRecursion};
+ghost use Rattle.bib_syntax.specs.Views.{entry_reading_of, field_of};
+ghost use Rattle.edit_entries.specs.Changes.{edits_of_entries, edits_of_field, edits_of_fields, removal_edits};
+ghost use Rattle.edit_entries.specs.Cuts.{ArePiecesCut};
+ghost use Rattle.edit_entries.specs.EditList.{edit_of};
+ghost use Rattle.edit_resolve.specs.Parents as parents;
+ghost use Rattle.edit_resolve.specs.Resolved.{field_changes, last_change, resolution};
+ghost use Rattle.edit_resolve.specs.Working.{AreCut, AreAlong, IsKnown, IsStretch, fields_at, last_or_removed, named_of, readings};
+
+use crate::file::File;
+use crate::gathering::Named;
+use crate::parents::is_resolved;
+use crate::texts::{new_text, white_before};
+use bib_syntax::raw::Pair;
+use edit_entries::editing::Edit;
+use edit_entries::values::value_end;
+use std::alloc::{AllocError, Global};
+
+// Adds the edit that removes a field, up to the next one.
+fn push_removal(
+    edits: &mut Vec<Edit>,
+    alloc: Global,
+    field: &Pair<'_>,
+    following: &[Pair<'_>],
+) -> Result<(), AllocError>
+    ensures { OnOk result (map edit_of edits.new.items ≡ map edit_of edits.old.items ++ removal_edits (field_of field.now) (map field_of following.now)) }
+{
+    let [next, ..] = following else {
+        return Ok(());
+    };
+    edits.push(Edit {
+        start: field.key.span.start,
+        end: next.key.span.start,
+        text: String::new(alloc),
+    })?;
+    Ok(())
+}
+
+// Adds the edit of an entry's last resolved reference.
+fn push_last(
+    edits: &mut Vec<Edit>,
+    alloc: Global,
+    text: &str,
+    new: &[Named<'_, '_>],
+    field: &Pair<'_>,
+    following: &[Pair<'_>],
+) -> Result<(), AllocError>
+    requires field { IsStretch text.now (field_of field.now) }
+    requires new { AllByRecursion (λ n. ArePiecesCut text.now n.field) (map named_of new.now) }
+    ensures { OnOk result (map edit_of edits.new.items ≡ map edit_of edits.old.items ++
+        edits_of_field text.now (field_of field.now) (map field_of following.now)
+        (last_change text.now (map named_of new.now) (field_of field.now) (map field_of following.now))) }
+{
+    let [first, more @ ..] = new else {
+        return push_removal(edits, alloc, field, following);
+    };
+    let white = white_before(text, field.key.span.start);
+    edits.push(Edit {
+        start: field.key.span.start,
+        end: value_end(text, field),
+        text: new_text(alloc, text, white, first, more)?,
+    })?;
+    Ok(())
+}
+
+// Adds the edit of a resolved reference.
+fn push_reference(
+    edits: &mut Vec<Edit>,
+    alloc: Global,
+    text: &str,
+    is_last: bool,
+    new: &[Named<'_, '_>],
+    field: &Pair<'_>,
+    following: &[Pair<'_>],
+) -> Result<(), AllocError>
+    requires field { IsStretch text.now (field_of field.now) }
+    requires new { AllByRecursion (λ n. ArePiecesCut text.now n.field) (map named_of new.now) }
+    ensures { OnOk result (map edit_of edits.new.items ≡ map edit_of edits.old.items ++
+        edits_of_field text.now (field_of field.now) (map field_of following.now)
+        (last_or_removed text.now is_last (map named_of new.now) (field_of field.now) (map field_of following.now))) }
+{
+    if is_last {
+        push_last(edits, alloc, text, new, field, following)
+    } else {
+        push_removal(edits, alloc, field, following)
+    }
+}
+
+// Returns the number of resolved references.
+fn count_resolved(
+    alloc: Global,
+    file: &File<'_, '_>,
+    fields: &[Pair<'_>],
+) -> Result<usize, AllocError>
+    requires { IsKnown file.now }
+    ensures { IfOk result (λ count. count ≡ count_by (parents.is_resolved (readings file.now)) (map field_of fields.now)) }
+{
+    let mut count = 0usize;
+    'fields: for field in fields {
+        if is_resolved(alloc, file, field)? {
+            count += 1;
+        }
+    }
+    Ok(count)
+}
+
+// Adds the edits of the fields of an entry that inherits new fields.
+fn push_field_edits(
+    edits: &mut Vec<Edit>,
+    alloc: Global,
+    file: &File<'_, '_>,
+    text: &str,
+    new: &[Named<'_, '_>],
+    fields: &[Pair<'_>],
+) -> Result<(), AllocError>
+    requires known { IsKnown file.now }
+    requires fields { AllByRecursion (IsStretch text.now) (map field_of fields.now) }
+    requires new { AllByRecursion (λ n. ArePiecesCut text.now n.field) (map named_of new.now) }
+    ensures { OnOk result (map edit_of edits.new.items ≡ map edit_of edits.old.items ++
+        edits_of_fields text.now (map field_of fields.now)
+        (field_changes text.now (parents.is_resolved (readings file.now)) (map named_of new.now) (map field_of fields.now))) }
+{
+    let mut left = count_resolved(alloc, file, fields)?;
+    'fields: for (at, field) in fields.iter().enumerate() {
+        if is_resolved(alloc, file, field)? {
+            left -= 1;
+            push_reference(edits, alloc, text, left == 0, new, field, &fields[at + 1..])?;
+        }
+    }
+    Ok(())
+}
+
+// Returns the edits of the entries, which have these fields, their own ones first.
+pub(crate) fn edits(
+    alloc: Global,
+    file: &File<'_, '_>,
+    text: &str,
+    fields: &[Vec<Named<'_, '_>>],
+) -> Result<Vec<Edit>, AllocError>
+    requires known { IsKnown file.now }
+    requires length { length fields.now ≡ length file.now.entries.now }
+    requires along { AreAlong (readings file.now) (fields_at fields.now) }
+    requires cut { AreCut text.now (readings file.now) }
+    ensures { IfOk result (λ made. map edit_of made.items ≡ edits_of_entries (resolution text.now (readings file.now)) text.now (readings file.now)) }
+{
+    let mut edits = Vec::new(alloc);
+    'entries: for (index, entry) in file.entries.iter().enumerate() {
+        let own = &entry.v.fields;
+        let new = &fields[index][own.len()..];
+        push_field_edits(&mut edits, alloc, file, text, new, own)?;
+    }
+    Ok(edits)
+}

@@ -1,0 +1,259 @@
+//! The fields that an entry inherits from its parents.
+
+ghost use Rattle.std.specs.Prelude.{◌≡◌, ◌++◌, ◌∷◌, [], ◌<◌, ℕ, List, length, map, filter, IfOk, OnOk, slice_index_or};
+ghost use Rattle.std.specs.BTreeSet.{contains_text};
+ghost use Rattle.std.specs.List.{All, flat_map};
+ghost use Rattle.bib_queries.specs.Needed.{is_listed};
+ghost use Rattle.bib_syntax.specs.Views.{entry_reading_of, field_of};
+ghost use Rattle.edit_resolve.specs.Inheritance.{keeps_name, new_name, passes_on, read_name};
+ghost use Rattle.edit_resolve.specs.Resolved.{Named, as_itself, inherited_by, offers, renamed};
+ghost use Rattle.edit_resolve.specs.Working as spec;
+ghost use Rattle.edit_resolve.specs.Working.{IsKnown, Offered, fields_at, named_of, readings};
+
+use crate::file::File;
+use crate::inheritance::{keeps_name, new_name, passes_on};
+use crate::names::{is_taken, read_name};
+use crate::parents::{Link, Parent};
+use bib_syntax::raw::Pair;
+use bib_tables::mechanics::EntryType;
+use std::alloc::{AllocError, Global};
+use std::collections::BTreeSet;
+
+// A name, and the field of the file that has the value.
+#[derive(Clone, Copy)]
+pub(crate) struct Named<'a, 's> {
+    // The name.
+    pub(crate) name: &'s str,
+    // The field.
+    pub(crate) field: &'a Pair<'s>,
+}
+
+// The fields of an entry, and the names that are taken.
+#[derive(Drop)]
+struct Gathered<'a, 's> {
+    names: BTreeSet<String>,
+    fields: Vec<Named<'a, 's>>,
+}
+
+// Adds an offered field, unless its name is taken.
+fn push_new<'a, 's>(
+    gathered: &mut Gathered<'a, 's>,
+    alloc: Global,
+    offered: Named<'a, 's>,
+) -> Result<(), AllocError>
+    ensures { OnOk result (Offered gathered.old (named_of offered.entry ∷ []) gathered.new) }
+{
+    let name = read_name(alloc, offered.name)?;
+    if is_taken(&gathered.names, &name) {
+        return Ok(());
+    }
+    gathered.names.insert(name)?;
+    gathered.fields.push(offered)?;
+    Ok(())
+}
+
+// Adds a field of a parent that `xdata` names, if it is inherited.
+fn push_passed<'a, 's>(
+    gathered: &mut Gathered<'a, 's>,
+    alloc: Global,
+    named: Named<'a, 's>,
+) -> Result<(), AllocError>
+    ensures { OnOk result (Offered gathered.old (filter (λ n. passes_on (read_name n.name)) (named_of named.entry ∷ [])) gathered.new) }
+{
+    let name = read_name(alloc, named.name)?;
+    if !passes_on(&name) {
+        return Ok(());
+    }
+    push_new(gathered, alloc, named)
+}
+
+// Adds a field of a parent that `crossref` names under its new name, if it has one.
+fn push_renamed<'a, 's>(
+    gathered: &mut Gathered<'a, 's>,
+    alloc: Global,
+    parent: &EntryType,
+    child: &EntryType,
+    named: Named<'a, 's>,
+) -> Result<(), AllocError>
+    ensures { OnOk result (Offered gathered.old
+        (renamed (named_of named.entry) (new_name parent.now child.now (read_name (named_of named.entry).name))) gathered.new) }
+{
+    let name = read_name(alloc, named.name)?;
+    let Some(name) = new_name(parent, child, &name) else {
+        return Ok(());
+    };
+    let field = named.field;
+    push_new(gathered, alloc, Named { name, field })
+}
+
+// Adds a field of a parent that `crossref` names under its own name, if it is inherited so.
+fn push_kept<'a, 's>(
+    gathered: &mut Gathered<'a, 's>,
+    alloc: Global,
+    parent: &EntryType,
+    child: &EntryType,
+    named: Named<'a, 's>,
+) -> Result<(), AllocError>
+    ensures { OnOk result (Offered gathered.old
+        (filter (λ n. keeps_name parent.now child.now (read_name n.name)) (named_of named.entry ∷ [])) gathered.new) }
+{
+    let name = read_name(alloc, named.name)?;
+    if !keeps_name(parent, child, &name) {
+        return Ok(());
+    }
+    push_new(gathered, alloc, named)
+}
+
+// Adds the fields of a parent that `xdata` names.
+fn push_all_passed<'a, 's>(
+    gathered: &mut Gathered<'a, 's>,
+    alloc: Global,
+    fields: &[Named<'a, 's>],
+) -> Result<(), AllocError>
+    ensures { OnOk result (Offered gathered.old (filter (λ n. passes_on (read_name n.name)) (map named_of fields.now)) gathered.new) }
+{
+    'fields: for named in fields {
+        push_passed(gathered, alloc, *named)?;
+    }
+    Ok(())
+}
+
+// Adds the fields of a parent that `crossref` names under their new names.
+fn push_all_renamed<'a, 's>(
+    gathered: &mut Gathered<'a, 's>,
+    alloc: Global,
+    parent: &EntryType,
+    child: &EntryType,
+    fields: &[Named<'a, 's>],
+) -> Result<(), AllocError>
+    ensures { OnOk result (Offered gathered.old
+        (flat_map (λ n. renamed n (new_name parent.now child.now (read_name n.name))) (map named_of fields.now)) gathered.new) }
+{
+    'fields: for named in fields {
+        push_renamed(gathered, alloc, parent, child, *named)?;
+    }
+    Ok(())
+}
+
+// Adds the fields of a parent that `crossref` names under their own names.
+fn push_all_kept<'a, 's>(
+    gathered: &mut Gathered<'a, 's>,
+    alloc: Global,
+    parent: &EntryType,
+    child: &EntryType,
+    fields: &[Named<'a, 's>],
+) -> Result<(), AllocError>
+    ensures { OnOk result (Offered gathered.old
+        (filter (λ n. keeps_name parent.now child.now (read_name n.name)) (map named_of fields.now)) gathered.new) }
+{
+    'fields: for named in fields {
+        push_kept(gathered, alloc, parent, child, *named)?;
+    }
+    Ok(())
+}
+
+// Adds the fields that a parent offers.
+fn push_offers<'a, 's>(
+    gathered: &mut Gathered<'a, 's>,
+    alloc: Global,
+    link: Link,
+    parent: &EntryType,
+    child: &EntryType,
+    fields: &[Named<'a, 's>],
+) -> Result<(), AllocError>
+    ensures { OnOk result (Offered gathered.old (offers link parent.now child.now (map named_of fields.now)) gathered.new) }
+{
+    match link {
+        Link::Xdata => push_all_passed(gathered, alloc, fields),
+        Link::Crossref => {
+            push_all_renamed(gathered, alloc, parent, child, fields)?;
+            push_all_kept(gathered, alloc, parent, child, fields)
+        }
+    }
+}
+
+// Returns the names of fields.
+fn own_names(alloc: Global, fields: &[Pair<'_>]) -> Result<BTreeSet<String>, AllocError>
+    ensures { IfOk result (λ names. (name : List ℕ) → contains_text names name ≡
+        is_listed (map (λ f. read_name f.name.text) (map field_of fields.now)) name) }
+{
+    let mut names = BTreeSet::new(alloc);
+    'fields: for field in fields {
+        names.insert(read_name(alloc, field.key.v)?)?;
+    }
+    Ok(names)
+}
+
+// Returns fields under their own names.
+fn own_fields<'a, 's>(
+    alloc: Global,
+    fields: &'a [Pair<'s>],
+) -> Result<Vec<Named<'a, 's>>, AllocError>
+    ensures { IfOk result (λ own. map named_of own.items ≡ map as_itself (map field_of fields.now)) }
+{
+    let mut own = Vec::with_capacity(alloc, fields.len())?;
+    'fields: for field in fields {
+        own.push(Named {
+            name: field.key.v,
+            field,
+        })?;
+    }
+    Ok(own)
+}
+
+// Adds the fields that the parents of an entry offer.
+fn push_parents<'a, 's>(
+    gathered: &mut Gathered<'a, 's>,
+    alloc: Global,
+    kinds: &[EntryType],
+    child: &EntryType,
+    parents: &[Parent],
+    found: &[Vec<Named<'a, 's>>],
+) -> Result<(), AllocError>
+    requires as_many { length kinds.now ≡ length found.now }
+    requires within { All (λ p. p.index < length found.now) parents.now }
+    ensures { OnOk result (Offered gathered.old (spec.offered_by kinds.now child.now (fields_at found.now) parents.now) gathered.new) }
+{
+    'parents: for parent in parents {
+        push_offers(
+            gathered,
+            alloc,
+            parent.link,
+            &kinds[parent.index],
+            child,
+            &found[parent.index],
+        )?;
+    }
+    Ok(())
+}
+
+// Returns the fields of an entry, and those that it inherits from its parents, which have these fields.
+pub(crate) fn with_inherited<'a, 's>(
+    alloc: Global,
+    file: &File<'a, 's>,
+    index: usize,
+    parents: &[Parent],
+    found: &[Vec<Named<'a, 's>>],
+) -> Result<Vec<Named<'a, 's>>, AllocError>
+    requires known { IsKnown file.now }
+    requires index { index < length file.now.entries.now }
+    requires as_many { length found.now ≡ length file.now.entries.now }
+    requires within { All (λ p. p.index < length found.now) parents.now }
+    ensures { IfOk result (λ fields. map named_of fields.items ≡
+        spec.with_inherited (readings file.now) (fields_at found.now) parents.now index) }
+{
+    let fields = &file.entries[index].v.fields;
+    let mut gathered = Gathered {
+        names: own_names(alloc, fields)?,
+        fields: own_fields(alloc, fields)?,
+    };
+    push_parents(
+        &mut gathered,
+        alloc,
+        &file.kinds,
+        &file.kinds[index],
+        parents,
+        found,
+    )?;
+    Ok(gathered.fields)
+}
