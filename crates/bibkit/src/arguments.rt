@@ -1,6 +1,8 @@
 //! Parses the command line into a request.
 
 use crate::edits::{Editing, Edits, Mode};
+use crate::rekeying::Rekeying;
+use crate::selecting::Selecting;
 use bib_findings::codes::Code;
 use bib_queries::request::{Request as Excerpts, Search};
 use bib_tables::dialects::Dialect;
@@ -11,6 +13,7 @@ use bibkit_settings::commands::{command, is_editing};
 use bibkit_settings::settings::{Color, OutputFormat, Settings};
 use bibkit_settings::style_settings::{StyleSettings, delimiters_named, width_of};
 use clap::{ArgMatches, Error};
+use edit_entries::field_edits::FieldEdit;
 use edit_sort::order::Order;
 use std::alloc::{AllocError, Global};
 
@@ -49,6 +52,8 @@ pub enum Asked<'a> {
     },
     /// Prints the entries that the document of this .aux or .bcf file cites.
     Cited(&'a str),
+    /// Prints the entries that meet conditions, or their keys.
+    Select(Selecting<'a>),
     /// Runs another request.
     Other(Request<'a>),
 }
@@ -169,6 +174,63 @@ fn remove_entries<'a>(alloc: Global, keys: &[&'a str]) -> Result<Vec<Edit<'a>>, 
     Ok(edits)
 }
 
+// The options of `edit`, in the order in which their edits are made.
+static FIELD_OPTIONS: [&str; 3] = ["rename", "set", "add"];
+
+// Returns the edit of an option of `edit`, from the two parts of its word.
+fn field_edit<'a>(option: &str, name: &'a str, text: &'a str) -> FieldEdit<'a> {
+    match option {
+        "rename" => FieldEdit::Rename {
+            old: name,
+            new: text,
+        },
+        "set" => FieldEdit::Set { name, value: text },
+        _ => FieldEdit::Add { name, value: text },
+    }
+}
+
+// Adds the edits of the words of an option of `edit`. Returns the first word without `=`, if there is one.
+fn push_field_edits<'a>(
+    edits: &mut Vec<FieldEdit<'a>>,
+    option: &str,
+    words: &[&'a str],
+) -> Result<Option<&'a str>, AllocError> {
+    'words: for word in words {
+        match word.split_once('=') {
+            Some((name, text)) => edits.push(field_edit(option, name, text))?,
+            None => return Ok(Some(*word)),
+        }
+    }
+    Ok(None)
+}
+
+// Returns the edits of `edit`.
+fn selected_edits<'a>(alloc: Global, matches: &ArgMatches<'a>) -> Result<Edits<'a>, AllocError> {
+    let mut fields = Vec::new(alloc);
+    'options: for option in &FIELD_OPTIONS {
+        let words = texts(alloc, matches, option)?;
+        if let Some(word) = push_field_edits(&mut fields, option, &words)? {
+            return Ok(Edits::NoValue(word));
+        }
+    }
+    Ok(Edits::Selected {
+        conditions: texts(alloc, matches, "where")?,
+        fields,
+    })
+}
+
+// The pattern of keys without `--pattern`.
+const PATTERN: &str = "{author}{year}{title:1}";
+
+// Returns the edits of `rekey`.
+fn rekeying<'a>(matches: &ArgMatches<'a>) -> Edits<'a> {
+    Edits::Rekey(Rekeying {
+        pattern: matches.get_str("pattern").unwrap_or(PATTERN),
+        has_map: matches.get_flag("map"),
+        is_check: matches.get_flag("check"),
+    })
+}
+
 // Returns the edits of `strings`.
 fn strings_edits<'a>(alloc: Global, matches: &ArgMatches<'a>) -> Result<Edits<'a>, AllocError> {
     if matches.get_flag("expand") {
@@ -201,6 +263,8 @@ fn edits_of<'a>(
             Ok(Edits::These(remove_entries(alloc, &keys)?))
         }
         "strings" => strings_edits(alloc, matches),
+        "edit" => selected_edits(alloc, matches),
+        "rekey" => Ok(rekeying(matches)),
         "rename" => {
             let old = text(matches, "OLD");
             let new = text(matches, "NEW");
@@ -316,6 +380,12 @@ fn request_of<'a>(
             part: matches.get_str("TEXT").unwrap_or(""),
         })),
         "cited" => return Ok(Asked::Cited(matches.get_str("DOCUMENT").unwrap_or(""))),
+        "select" => {
+            return Ok(Asked::Select(Selecting {
+                conditions: texts(alloc, matches, "where")?,
+                has_keys: matches.get_flag("keys"),
+            }));
+        }
         "stats" => Request::Stats,
         _ => Request::Entries(Excerpts::Keys),
     };

@@ -1,7 +1,7 @@
 //! Runs `convert` for bibliography files.
 
 use crate::edits::{after_mark, print};
-use crate::stops::{Stop, bytes_of, error_line, say};
+use crate::stops::{Stop, bytes_of, error_line, output_stop, say};
 use bib_source::decoding::decode;
 use bib_source::positions::Positions;
 use bib_syntax::raw::Pair;
@@ -15,12 +15,6 @@ use edit_entries::document::RawDocument;
 use std::alloc::{AllocError, Global};
 use std::io;
 use std::str::from_utf8;
-
-// Returns the message and status 2 for an output that can't be written.
-fn output_stop(alloc: Global) -> Result<Stop, AllocError> {
-    let said = String::from_str(alloc, "bibkit: the output can't be written\n")?;
-    Ok(Stop::Said(said, 2))
-}
 
 // Returns the message and status 1 for the error of parsing a text as a bibliography.
 fn syntax_stop(

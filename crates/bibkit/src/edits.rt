@@ -1,6 +1,8 @@
 //! Runs the commands that edit a file.
 
+use crate::rekeying::{Rekeying, rekey};
 use crate::replacing::replace;
+use crate::selecting::edit_selected;
 use crate::stops::{Stop, bytes_of, error_line, say, syntax_line};
 use bib_source::decoding::decode;
 use bib_syntax::raw::{Pair, RawBibliography};
@@ -11,7 +13,7 @@ use bibkit_edits::printing::{Unprinted, print_difference, print_edited};
 use biblatex::Output;
 use edit_entries::document::RawDocument;
 use edit_entries::errors::EditError;
-use edit_resolve::errors::ResolveError;
+use edit_entries::field_edits::FieldEdit;
 use std::alloc::{AllocError, Global};
 use std::io;
 use std::io::ErrorKind;
@@ -31,6 +33,15 @@ pub enum Edits<'a> {
         /// The minimum number of fields with the same text.
         at_least: usize,
     },
+    /// Edits fields of the entries that meet conditions.
+    Selected {
+        /// The conditions, all of which an entry must meet.
+        conditions: Vec<&'a str>,
+        /// The edits of each of these entries.
+        fields: Vec<FieldEdit<'a>>,
+    },
+    /// Gives entries the keys that a pattern makes.
+    Rekey(Rekeying<'a>),
     /// Makes no edits, since this word isn't FIELD=VALUE.
     NoValue(&'a str),
 }
@@ -123,6 +134,12 @@ fn refused_line(
         Some(Edit::Rename { old, new }) => {
             format!(in alloc; "bibkit: {name}: `{old}` to `{new}`: {why}\n")
         }
+        Some(Edit::Fields {
+            edit: FieldEdit::Set { name: field, .. }
+            | FieldEdit::Add { name: field, .. }
+            | FieldEdit::Rename { new: field, .. },
+            ..
+        }) => format!(in alloc; "bibkit: {name}: `{field}`: {why}\n"),
         Some(Edit::Remove { key }) => format!(in alloc; "bibkit: {name}: `{key}`: {why}\n"),
         Some(Edit::Add { text }) if why == EditError::NotAKey => unsafe_key_line(
             alloc, name, text, why,
@@ -163,59 +180,27 @@ fn cycle_line(
     format!(in alloc; "bibkit: {name}: an abbreviation refers to itself\n")
 }
 
-// Returns the text for an error of `resolve`: `field` of the entry with the key `key` would change. If `field` is empty, its key or type
-// would change, or the file would have another number of entries.
-fn differing_text(alloc: Global, key: &str, field: &str) -> Result<String, AllocError> {
-    if field.is_empty() {
-        format!(in alloc; "entry `{key}`: resolving would change its key or type, or remove it")
-    } else {
-        format!(in alloc; "entry `{key}`: resolving would change `{field}`")
-    }
-}
-
-// Returns the message for an error of `resolve`: `field` of the entry with the index `entry` would change. If `text` has no such
-// entry, returns the message of `unlike_line`.
-fn differing_line(
+// Returns the message for an entry that inherits from itself, with the position of its key. The message has no position if `text` has no
+// entry with the index `entry`.
+fn reference_cycle_line(
     alloc: Global,
     name: &str,
     text: &[u8],
     entry: usize,
-    field: &str,
 ) -> Result<String, AllocError> {
     if let Ok(src) = from_utf8(text) {
         if let Ok(raw) = RawBibliography::parse(alloc, src) {
             if let Some(entry) = raw.entries.get(entry) {
-                let said = differing_text(alloc, entry.v.key.v, field)?;
-                return error_line(alloc, name, text, entry.v.key.span.start, &said);
+                let key = &entry.v.key;
+                let said = format!(in alloc;
+                    "entry `{}` inherits from itself [circular-reference]",
+                    key.v
+                )?;
+                return error_line(alloc, name, text, key.span.start, &said);
             }
         }
     }
-    unlike_line(alloc, name)
-}
-
-// Returns the message for an error of `resolve`: other text of the file would change.
-fn unlike_line(alloc: Global, name: &str) -> Result<String, AllocError> {
-    format!(in alloc; "bibkit: {name}: resolving would change other text of the file\n")
-}
-
-// Returns the message for an error of resolving references.
-fn unresolved_line(
-    alloc: Global,
-    name: &str,
-    text: &[u8],
-    why: &ResolveError,
-) -> Result<String, AllocError> {
-    match why {
-        ResolveError::File(error) => {
-            let said = format!(in alloc; "{}", error.kind)?;
-            error_line(alloc, name, text, error.span.start, &said)
-        }
-        ResolveError::Differs { entry, name: field } => {
-            differing_line(alloc, name, text, *entry, field.as_str())
-        }
-        ResolveError::Unlike => unlike_line(alloc, name),
-        ResolveError::OutOfMemory => String::from_str(alloc, "bibkit: out of memory\n"),
-    }
+    format!(in alloc; "bibkit: {name}: an entry inherits from itself\n")
 }
 
 // Returns the text that the first edit adds, or an empty text if it adds none.
@@ -248,7 +233,12 @@ fn refusal_message(
             after_mark(bytes),
             *definition,
         ),
-        Refusal::Unresolved { why, .. } => unresolved_line(alloc, name, after_mark(bytes), why),
+        Refusal::ReferenceCycle { entry, .. } => reference_cycle_line(
+            alloc,
+            name,
+            after_mark(bytes),
+            *entry,
+        ),
         Refusal::OutOfMemory => String::from_str(alloc, "bibkit: out of memory\n"),
     }
 }
@@ -402,15 +392,25 @@ fn show_difference(
     }
 }
 
+/// Applies edits to the bytes of a file, and uses the new text as `editing` requests.
+pub fn apply(
+    rt: &HostRuntime,
+    editing: &Editing<'_>,
+    bytes: &[u8],
+    edits: &[Edit<'_>],
+) -> Result<(), Stop> {
+    match editing.mode {
+        Mode::Print => print(rt, editing.name, bytes, edits),
+        Mode::Write => write_edited(rt, editing.name, bytes, edits),
+        Mode::Check => check_edited(rt.alloc(), editing.name, bytes, edits),
+        Mode::Diff { is_check } => show_difference(rt, editing.name, bytes, edits, is_check),
+    }
+}
+
 // Applies edits to a file, and uses the new text as `editing` requests.
 fn edit(rt: &HostRuntime, editing: &Editing<'_>, edits: &[Edit<'_>]) -> Result<(), Stop> {
     let bytes = bytes_of(rt, editing.name)?;
-    match editing.mode {
-        Mode::Print => print(rt, editing.name, &bytes, edits),
-        Mode::Write => write_edited(rt, editing.name, &bytes, edits),
-        Mode::Check => check_edited(rt.alloc(), editing.name, &bytes, edits),
-        Mode::Diff { is_check } => show_difference(rt, editing.name, &bytes, edits, is_check),
-    }
+    apply(rt, editing, &bytes, edits)
 }
 
 // Decodes standard input, and adds its entries to a file.
@@ -458,6 +458,8 @@ fn answer(rt: &HostRuntime, editing: &Editing<'_>) -> Result<(), Stop> {
                 }],
             )
         }
+        Edits::Selected { conditions, fields } => edit_selected(rt, editing, conditions, fields),
+        Edits::Rekey(rekeying) => rekey(rt, editing, rekeying),
         Edits::NoValue(word) => {
             let text = format!(in rt.alloc();
                 "`{word}` isn't FIELD=VALUE; use `--file` for the name of the file"

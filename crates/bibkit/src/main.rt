@@ -8,8 +8,10 @@ mod edits;
 mod files;
 mod formatting;
 mod importing;
+mod rekeying;
 mod replacing;
 mod resolving;
+mod selecting;
 mod start;
 mod stops;
 

@@ -8,6 +8,7 @@ use crate::files::SystemFiles;
 use crate::formatting::run_format;
 use crate::importing::{refuse_target, run_import};
 use crate::resolving::run_resolve;
+use crate::selecting::run_select;
 use bibkit_core::request::{Call, Cited, Request};
 use bibkit_core::run::run;
 use bibkit_settings::configuration::{ConfigurationError, Project, Reader, project_settings};
@@ -170,6 +171,7 @@ fn answer(rt: &HostRuntime, words: Words<'_>) -> u8 {
         Asked::Import(Some(dialect)) => run_import(rt, dialect, &names),
         Asked::Import(None) => refuse_target(rt),
         Asked::Cited(document) => run_cited(rt, document, &names),
+        Asked::Select(selecting) => run_select(rt, &selecting, &names),
         Asked::Other(request) => run_request(rt, request, names),
     }
 }

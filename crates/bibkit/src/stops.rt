@@ -78,6 +78,12 @@ pub fn syntax_line(
     error_line(alloc, name, text, error.span.start, &said)
 }
 
+/// Returns the message and status 2 for an output that can't be written.
+pub fn output_stop(alloc: Global) -> Result<Stop, AllocError> {
+    let said = String::from_str(alloc, "bibkit: the output can't be written\n")?;
+    Ok(Stop::Said(said, 2))
+}
+
 /// Prints the message of a stop to standard error, and returns the status.
 pub fn say(rt: &HostRuntime, stop: &Stop) -> u8 {
     match stop {

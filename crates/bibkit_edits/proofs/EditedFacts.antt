@@ -1,5 +1,7 @@
 -- The outcomes and the refusals of edits of a text.
 use Rattle.std.proofs.Common.{◌≡◌, ◌<◌, ◌+◌, ◌⊎◌, ℕ, List, [], ◌∷◌, ◌++◌, length, map, take, drop, get_or, refl, sym, ap, subst, ◌∙◌, inl, inr, append_assoc, ◌≤◌, arith}
+use Rattle.std.specs.Borrow.{Bor}
+use Rattle.std.specs.BTreeSet.{BTreeSet}
 use Rattle.std.proofs.lemmas.List.{length-take-le, take_more, take-append-drop}
 use Rattle.bib_syntax.specs.SyntaxErrors.{IsReported}
 use Rattle.bib_syntax.specs.declared.raw.ParseError.{ParseError}
@@ -13,17 +15,20 @@ use Rattle.edit_convert.specs.Conversions.{IsConverted}
 use Rattle.bib_tables.specs.declared.dialects.Dialect.{Dialect}
 use Rattle.edit_format.specs.Formatted.{IsReadAlike, says_in_order, text_in_style}
 use Rattle.edit_format.specs.declared.style.Style.{Style}
-use Rattle.edit_resolve.specs.Resolutions.{IsResolvedText}
-use Rattle.edit_resolve.specs.declared.errors.ResolveError.{ResolveError}
-use Rattle.edit_resolve.specs.declared.errors.ResolveError.TheVariants as resolve_error
+use Rattle.edit_entries.specs.Changes.{IsChanged}
+use Rattle.edit_entries.specs.FieldEdits.{selected_edited}
+use Rattle.edit_entries.specs.declared.field_edits.FieldEdit.{FieldEdit}
+use Rattle.bib_queries.specs.Needed.{is_listed}
+use Rattle.bib_queries.specs.Sets.{is_in_set}
+use Rattle.edit_resolve.specs.Resolved.{IsResolved}
 use Rattle.edit_sort.specs.Sorted.{IsReadSorted, IsSortedText}
 use Rattle.edit_strings.specs.Collected.{AreMadeAbbreviations}
 use Rattle.edit_strings.specs.Expanded.{IsExpanded}
-use Rattle.bibkit_edits.specs.Edited.{AreMade, AreRefused, AreTextsCollected, IsDocumentConverted, IsEditRefused, IsInOrder, IsInStyle, IsMade, IsDocumentOf, IsResolvedDocument, IsUnresolved, IsWrittenOut, TextAdded}
+use Rattle.bibkit_edits.specs.Edited.{AreFieldsEdited, AreMade, AreRefused, AreTextsCollected, IsDocumentConverted, IsEditRefused, IsInOrder, IsInStyle, IsMade, IsDocumentOf, IsResolvedDocument, IsWrittenOut, TextAdded}
 use Rattle.bibkit_edits.specs.Orders.{ArePlacesOf, order_text}
 use Rattle.edit_sort.specs.declared.order.Order.{Order}
 use Rattle.bibkit_edits.specs.Edited.AreMade.{none, next}
-use Rattle.bibkit_edits.specs.Steps.{AddsError, AddsUnread, AreFirstMade, IsTextRefused, StepIsRefused, edit_refusal, refusal_at, unless_no_memory, unresolved_refusal}
+use Rattle.bibkit_edits.specs.Steps.{AddsError, AddsUnread, AreFirstMade, IsTextRefused, StepIsRefused, edit_refusal, refusal_at, unless_no_memory}
 use Rattle.bibkit_edits.specs.declared.edit.Edit.{Edit}
 use Rattle.bibkit_edits.specs.declared.edit.Refusal.{Refusal}
 use Rattle.bibkit_edits.specs.declared.edit.Refusal.TheVariants as refusal
@@ -85,12 +90,23 @@ conversion_made dialect d new made = record {
 }
 
 -- a text with its references resolved is an outcome of `Resolve`
-pub resolution_made : (d : Document) (new : List ℕ) → IsResolvedText d new → IsEdited (IsResolvedDocument d) new
+pub resolution_made : (d : Document) (new : List ℕ) → IsResolved d new → IsEdited (IsResolvedDocument d) new
 resolution_made d new made = record {
-  document = made.made;
-  outcome = subst (IsResolvedText d) (sym made.is) made;
-  is = sym made.is;
-  read = made.read;
+  document = record { text = new; says = made.read.tells };
+  outcome = made;
+  is = refl;
+  read = made.read.read;
+}
+
+-- a text with an edit of a field of some entries is an outcome of `Fields`
+pub fields_made : (keys : List (List ℕ)) (edit : FieldEdit) (set : BTreeSet (Bor (List ℕ))) (d : Document) (new : List ℕ)
+    → ((key : List ℕ) → is_in_set set key ≡ is_listed keys key) → IsChanged (selected_edited d.text set edit) d new
+    → IsEdited (AreFieldsEdited keys edit d) new
+fields_made keys edit set d new has made = record {
+  document = record { text = new; says = made.read.tells };
+  outcome = record { set = set; has = has; changed = made };
+  is = refl;
+  read = made.read.read;
 }
 
 -- if edits of `text` make `new`, and one more edit of `new` makes `newer`, then all these edits of `text` make `newer`
@@ -146,9 +162,9 @@ first_refused done rest edit {text} {new} (refusal.Edit at why) first refused =
 first_refused done rest edit {text} {new} (refusal.Cycle at definition) first refused =
     subst (λ i. AreRefused (done ++ edit ∷ rest) text (refusal.Cycle i definition)) (sym refused.0)
     (AreRefused.cycle edit done rest new refused.1.document refl first.made refused.1.read refused.1.meets)
-first_refused done rest edit {text} {new} (refusal.Unresolved at why) first refused =
-    subst (λ i. AreRefused (done ++ edit ∷ rest) text (refusal.Unresolved i why)) (sym refused.0)
-    (AreRefused.unresolved edit done rest new refused.1.document refl first.made refused.1.read refused.1.refused)
+first_refused done rest edit {text} {new} (refusal.ReferenceCycle at entry) first refused =
+    subst (λ i. AreRefused (done ++ edit ∷ rest) text (refusal.ReferenceCycle i entry)) (sym refused.0)
+    (AreRefused.reference_cycle edit done rest new refused.1.document refl first.made refused.1.read refused.1.meets)
 first_refused done rest edit refusal.OutOfMemory first refused = AreRefused.no_memory
 
 -- if the edits before the index `i` are made and the edit at `i` is refused, then all of them are refused for that reason
@@ -261,22 +277,13 @@ edit_refused edit text index d error.NoFieldLeft read refused = (
   },
 )
 
--- if an edit of a document can't resolve references, the edit of its text is refused with the same error
-unresolved_at : (edit : Edit) (text : List ℕ) (index : ℕ) (d : Document) (why : ResolveError) → IsDocumentOf text d
-    → IsUnresolved edit d why → IsTextRefused edit text index (unresolved_refusal why index)
-unresolved_at edit text index d (resolve_error.File e) read refused = (refl, record { document = d; read = read; refused = refused })
-unresolved_at edit text index d (resolve_error.Differs entry name) read refused =
-    (refl, record { document = d; read = read; refused = refused })
-unresolved_at edit text index d resolve_error.Unlike read refused = (refl, record { document = d; read = read; refused = refused })
-unresolved_at edit text index d resolve_error.OutOfMemory read refused = tt
-
 -- if an edit of a document fails with a step, the edit of its text is refused with the refusal of that step
 pub step_refused : (edit : Edit) (text : List ℕ) (index : ℕ) (d : Document) (s : Step) → IsDocumentOf text d
     → StepIsRefused edit d s → IsTextRefused edit text index (refusal_at s index)
 step_refused edit text index d (step.Added e) read refused = added_refused edit text index e e.kind refl refused
 step_refused edit text index d (step.Refused why) read refused = edit_refused edit text index d why read refused
 step_refused edit text index d (step.Cycle definition) read refused = (refl, record { document = d; read = read; meets = refused })
-step_refused edit text index d (step.Unresolved why) read refused = unresolved_at edit text index d why read refused
+step_refused edit text index d (step.ReferenceCycle entry) read refused = (refl, record { document = d; read = read; meets = refused })
 
 -- the result of adding the document of a text is the result of adding the text
 pub adds_made : {d : Document} {text new : List ℕ} (more : Document) → IsDocumentOf text more

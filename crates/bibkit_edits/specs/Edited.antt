@@ -1,23 +1,30 @@
 -- Meaning: words of public contracts.
 -- The outcomes of edits of a bibliography file, and the reasons for refusing them.
 use Rattle.std.specs.Prelude.{◌≡◌, ℕ, length, map, if◌then◌else◌, List, [], ◌∷◌, ◌++◌, nat_eq}
+use Rattle.std.specs.Borrow.{Bor}
+use Rattle.std.specs.BTreeSet.{BTreeSet}
 use Rattle.std.specs.List.{starts_with}
 use Rattle.std.specs.Str.{IsUtf8}
 use Rattle.bib_syntax.specs.Reading.{FileReading}
 use Rattle.bib_syntax.specs.SyntaxErrors.{IsReported}
 use Rattle.bib_syntax.specs.declared.raw.ParseError.{ParseError}
+use Rattle.bib_queries.specs.Needed.{is_listed}
+use Rattle.bib_queries.specs.Sets.{is_in_set}
 use Rattle.bib_source.specs.Encoding.{IsFirstInvalid, byte_order_mark, without_byte_order_mark}
 use Rattle.edit_convert.specs.Conversions.{IsConverted}
 use Rattle.edit_entries.specs.Documents.{Document, EntriesAdded, EntriesAreRefused, EntryIsRefused, EntryRemoved, FieldUnset, IsDocument, IsEdited, UnsetIsRefused}
-use Rattle.edit_entries.specs.References.{KeyRenamed, RenameIsRefused}
+use Rattle.edit_entries.specs.Changes.{IsChanged}
+use Rattle.edit_entries.specs.FieldEdits.{FieldEditIsRefused, selected_edited}
+use Rattle.edit_entries.specs.declared.field_edits.FieldEdit.{FieldEdit}
+use Rattle.edit_entries.specs.References.{KeyRenamed, KeysAreRefused, KeysRenamed, RenameIsRefused, given_keys}
 use Rattle.edit_entries.specs.Setting.{FieldSet, SetIsRefused}
 use Rattle.edit_entries.specs.declared.errors.EditError.{EditError}
 use Rattle.bib_tables.specs.declared.dialects.Dialect.{Dialect}
 use Rattle.bib_tables.specs.declared.dialects.Dialect.TheVariants.{Biblatex, Bibtex}
 use Rattle.edit_format.specs.Formatted.{content, says_in_order, text_in_style}
 use Rattle.edit_format.specs.declared.style.Style.{Style}
-use Rattle.edit_resolve.specs.Resolutions.{IsResolveRefused, IsResolvedText}
-use Rattle.edit_resolve.specs.declared.errors.ResolveError.{ResolveError}
+use Rattle.edit_resolve.specs.Resolved.{IsResolved, ResolveIsRefused}
+use Rattle.edit_resolve.specs.declared.errors.ResolveError.TheVariants as resolve_error
 use Rattle.edit_sort.specs.Sorted.{AreEntriesInOrder, IsSortedText, Item, items, says_sorted, without_places}
 use Rattle.edit_strings.specs.Collected.{AreMadeAbbreviations}
 use Rattle.edit_strings.specs.Expanded.{ExpandIsRefused, IsExpanded}
@@ -25,7 +32,7 @@ use Rattle.edit_strings.specs.declared.errors.ExpandError.TheVariants as expand_
 use Rattle.bibkit_edits.specs.Orders.{ArePlacesOf, order_text}
 use Rattle.bibkit_edits.specs.declared.edit.Edit.{Edit}
 use Rattle.edit_sort.specs.declared.order.Order.{Order}
-use Rattle.bibkit_edits.specs.declared.edit.Edit.TheVariants.{Set, Unset, Rename, Remove, Add, Sort, Expand, Collect, ToBiblatex, ToBibtex, Resolve, Format}
+use Rattle.bibkit_edits.specs.declared.edit.Edit.TheVariants.{Set, Unset, Rename, RenameAll, Fields, Remove, Add, Sort, Expand, Collect, ToBiblatex, ToBibtex, Resolve, Format}
 use Rattle.bibkit_edits.specs.declared.edit.Refusal.{Refusal}
 use Rattle.bibkit_edits.specs.declared.edit.Refusal.TheVariants as refusal
 
@@ -76,13 +83,21 @@ IsDocumentConverted dialect d after = IsConverted dialect d after.text
 -- the text of the second document is that of the first with the references `crossref` and `xdata` replaced by the inherited
 -- fields
 abbrev pub IsResolvedDocument : Document → Document → Type 0
-IsResolvedDocument d after = IsResolvedText d after.text
+IsResolvedDocument d after = IsResolved d after.text
+
+-- `after` is the document `d` with an edit of a field of each entry with one of these keys
+pub record AreFieldsEdited (keys : List (List ℕ)) (edit : FieldEdit) (d after : Document) : Type 0 where
+  pub set : BTreeSet (Bor (List ℕ))
+  pub has : (key : List ℕ) → is_in_set set key ≡ is_listed keys key
+  pub changed : IsChanged (selected_edited d.text set edit) d after.text
 
 -- the second document is the outcome of an edit of the first
 abbrev pub EditOutcome : Edit → Document → Document → Type 0
 EditOutcome (Set key name value) d = FieldSet d key.now name.now value.now
 EditOutcome (Unset key name) d = FieldUnset d key.now name.now
 EditOutcome (Rename old new) d = KeyRenamed d old.now new.now
+EditOutcome (RenameAll keys) d = KeysRenamed d (given_keys keys.now)
+EditOutcome (Fields keys edit) d = AreFieldsEdited (map (λ k. k.now) keys.now) edit d
 EditOutcome (Remove key) d = EntryRemoved d key.now
 EditOutcome (Add text) d = TextAdded d text.now
 EditOutcome (Sort order) d = IsInOrder order d
@@ -111,69 +126,35 @@ pub record TextIsRefused (d : Document) (text : List ℕ) (why : EditError) : Ty
   pub read : IsDocumentOf text more
   pub refused : EntriesAreRefused d more why
 
--- an edit of a document may be refused with this error
+-- an edit of a document may be refused with this error; the edits that aren't listed can't be refused so
 abbrev pub IsEditRefused : Edit → Document → EditError → Type 0
 IsEditRefused (Set key name value) d why = SetIsRefused d key.now name.now value.now why
 IsEditRefused (Unset key name) d why = UnsetIsRefused d key.now name.now why
 IsEditRefused (Rename old new) d why = RenameIsRefused d old.now new.now why
+IsEditRefused (RenameAll keys) d why = KeysAreRefused d (given_keys keys.now) why
+IsEditRefused (Fields keys edit) d why = FieldEditIsRefused edit why
 IsEditRefused (Remove key) d why = EntryIsRefused d key.now why
 IsEditRefused (Add text) d why = TextIsRefused d text.now why
-IsEditRefused (Sort order) d why = ⊥
-IsEditRefused Expand d why = ⊥
-IsEditRefused (Collect fields at_least) d why = ⊥
-IsEditRefused ToBiblatex d why = ⊥
-IsEditRefused ToBibtex d why = ⊥
-IsEditRefused Resolve d why = ⊥
-IsEditRefused (Format style) d why = ⊥
+IsEditRefused _ d why = ⊥
 
 -- the edit expands the abbreviations of the document, and the definition at this index refers to itself
 abbrev pub MeetsCycle : Edit → Document → ℕ → Type 0
-MeetsCycle (Set key name value) d definition = ⊥
-MeetsCycle (Unset key name) d definition = ⊥
-MeetsCycle (Rename old new) d definition = ⊥
-MeetsCycle (Remove key) d definition = ⊥
-MeetsCycle (Add text) d definition = ⊥
-MeetsCycle (Sort order) d definition = ⊥
 MeetsCycle Expand d definition = ExpandIsRefused d (expand_error.Cycle definition)
-MeetsCycle (Collect fields at_least) d definition = ⊥
-MeetsCycle ToBiblatex d definition = ⊥
-MeetsCycle ToBibtex d definition = ⊥
-MeetsCycle Resolve d definition = ⊥
-MeetsCycle (Format style) d definition = ⊥
+MeetsCycle _ d definition = ⊥
 
--- the edit resolves the references of the document, and may fail with this error
-abbrev pub IsUnresolved : Edit → Document → ResolveError → Type 0
-IsUnresolved (Set key name value) d why = ⊥
-IsUnresolved (Unset key name) d why = ⊥
-IsUnresolved (Rename old new) d why = ⊥
-IsUnresolved (Remove key) d why = ⊥
-IsUnresolved (Add text) d why = ⊥
-IsUnresolved (Sort order) d why = ⊥
-IsUnresolved Expand d why = ⊥
-IsUnresolved (Collect fields at_least) d why = ⊥
-IsUnresolved ToBiblatex d why = ⊥
-IsUnresolved ToBibtex d why = ⊥
-IsUnresolved Resolve d why = IsResolveRefused d.text why
-IsUnresolved (Format style) d why = ⊥
+-- the edit resolves the references of the document, and the entry at this index inherits from itself
+abbrev pub MeetsReferenceCycle : Edit → Document → ℕ → Type 0
+MeetsReferenceCycle Resolve d entry = ResolveIsRefused d (resolve_error.Cycle entry)
+MeetsReferenceCycle _ d entry = ⊥
 
 -- the edit adds this text
 abbrev pub AddsText : Edit → List ℕ → Type 0
-AddsText (Set key name value) added = ⊥
-AddsText (Unset key name) added = ⊥
-AddsText (Rename old new) added = ⊥
-AddsText (Remove key) added = ⊥
 AddsText (Add text) added = added ≡ text.now
-AddsText (Sort order) added = ⊥
-AddsText Expand added = ⊥
-AddsText (Collect fields at_least) added = ⊥
-AddsText ToBiblatex added = ⊥
-AddsText ToBibtex added = ⊥
-AddsText Resolve added = ⊥
-AddsText (Format style) added = ⊥
+AddsText _ added = ⊥
 
 -- Edits of a text may be refused for this reason. Either the text has an error that makes parsing fail, or out of memory. Or the first
--- edits are made, and the next one adds a text with such an error, is refused, expands a definition that refers to itself, or can't
--- resolve references. The index in a refusal is the number of edits before the refused one.
+-- edits are made, and the next one adds a text with such an error, is refused, expands a definition that refers to itself, or resolves an
+-- entry that inherits from itself. The index in a refusal is the number of edits before the refused one.
 pub data AreRefused (edits : List Edit) (text : List ℕ) : Refusal → Type 0 where
   file : {e : ParseError} → IsReported text e → AreRefused edits text (refusal.File e)
   added : {e : ParseError} (edit : Edit) (done rest : List Edit) (between more : List ℕ) → edits ≡ done ++ edit ∷ rest
@@ -185,9 +166,9 @@ pub data AreRefused (edits : List Edit) (text : List ℕ) : Refusal → Type 0 w
   cycle : {definition : ℕ} (edit : Edit) (done rest : List Edit) (between : List ℕ) (d : Document)
       → edits ≡ done ++ edit ∷ rest → AreMade done text between → IsDocumentOf between d
       → MeetsCycle edit d definition → AreRefused edits text (refusal.Cycle (length done) definition)
-  unresolved : {why : ResolveError} (edit : Edit) (done rest : List Edit) (between : List ℕ) (d : Document)
+  reference_cycle : {entry : ℕ} (edit : Edit) (done rest : List Edit) (between : List ℕ) (d : Document)
       → edits ≡ done ++ edit ∷ rest → AreMade done text between → IsDocumentOf between d
-      → IsUnresolved edit d why → AreRefused edits text (refusal.Unresolved (length done) why)
+      → MeetsReferenceCycle edit d entry → AreRefused edits text (refusal.ReferenceCycle (length done) entry)
   no_memory : AreRefused edits text refusal.OutOfMemory
 
 -- the byte order mark at the start of bytes, or no bytes without one

@@ -15,7 +15,7 @@ use Rattle.edit_strings.specs.declared.errors.ExpandError.{ExpandError}
 use Rattle.edit_strings.specs.declared.errors.ExpandError.TheVariants as expand_error
 use Rattle.edit_resolve.specs.declared.errors.ResolveError.{ResolveError}
 use Rattle.edit_resolve.specs.declared.errors.ResolveError.TheVariants as resolve_error
-use Rattle.bibkit_edits.specs.Edited.{AddsText, AreMade, IsEditRefused, IsDocumentOf, IsUnresolved, MeetsCycle}
+use Rattle.bibkit_edits.specs.Edited.{AddsText, AreMade, IsEditRefused, IsDocumentOf, MeetsCycle, MeetsReferenceCycle}
 use Rattle.bibkit_edits.specs.declared.edit.Edit.{Edit}
 use Rattle.bibkit_edits.specs.declared.edit.Refusal.{Refusal}
 use Rattle.bibkit_edits.specs.declared.edit.Refusal.TheVariants as refusal
@@ -33,7 +33,7 @@ abbrev pub StepIsRefused : Edit → Document → Step → Type 0
 StepIsRefused edit d (step.Added e) = AddsUnread edit e
 StepIsRefused edit d (step.Refused why) = IsEditRefused edit d why ⊎ (why ≡ error.OutOfMemory)
 StepIsRefused edit d (step.Cycle definition) = MeetsCycle edit d definition
-StepIsRefused edit d (step.Unresolved why) = IsUnresolved edit d why
+StepIsRefused edit d (step.ReferenceCycle entry) = MeetsReferenceCycle edit d entry
 
 -- the refusal for an error of this kind: `OutOfMemory` for that kind, otherwise the second argument
 abbrev pub unless_no_memory : ParseErrorKind → Refusal → Refusal
@@ -49,26 +49,26 @@ abbrev pub file_refusal : ParseError → Refusal
 file_refusal e = unless_no_memory e.kind (refusal.File e)
 
 -- the reason for refusing an edit, from an error of expanding abbreviations
-abbrev pub step_of : ExpandError → Step
-step_of (expand_error.Cycle definition) = step.Cycle definition
-step_of expand_error.OutOfMemory = step.Refused error.OutOfMemory
+abbrev pub expansion_step : ExpandError → Step
+expansion_step (expand_error.Cycle definition) = step.Cycle definition
+expansion_step expand_error.OutOfMemory = step.Refused error.OutOfMemory
+
+-- the reason for refusing an edit, from an error of resolving references
+abbrev pub resolution_step : ResolveError → Step
+resolution_step (resolve_error.Cycle entry) = step.ReferenceCycle entry
+resolution_step resolve_error.OutOfMemory = step.Refused error.OutOfMemory
 
 -- the refusal for an error of the edit at an index
 abbrev pub edit_refusal : EditError → ℕ → Refusal
 edit_refusal error.OutOfMemory index = refusal.OutOfMemory
 edit_refusal other index = refusal.Edit index other
 
--- the refusal for an error of resolving references by the edit at an index
-abbrev pub unresolved_refusal : ResolveError → ℕ → Refusal
-unresolved_refusal resolve_error.OutOfMemory index = refusal.OutOfMemory
-unresolved_refusal why index = refusal.Unresolved index why
-
 -- the refusal of the edit at an index, for this reason
 abbrev pub refusal_at : Step → ℕ → Refusal
 refusal_at (step.Added e) index = added_refusal e
 refusal_at (step.Refused why) index = edit_refusal why index
 refusal_at (step.Cycle definition) index = refusal.Cycle index definition
-refusal_at (step.Unresolved why) index = unresolved_refusal why index
+refusal_at (step.ReferenceCycle entry) index = refusal.ReferenceCycle index entry
 
 -- an edit of the document of `text` may be refused with the error `why`
 pub record IsRefusedAt (edit : Edit) (text : List ℕ) (why : EditError) : Type 0 where
@@ -82,11 +82,11 @@ pub record MeetsCycleAt (edit : Edit) (text : List ℕ) (definition : ℕ) : Typ
   pub read : IsDocumentOf text document
   pub meets : MeetsCycle edit document definition
 
--- an edit of the document of `text` may fail to resolve references with the error `why`
-pub record IsUnresolvedAt (edit : Edit) (text : List ℕ) (why : ResolveError) : Type 0 where
+-- an edit of the document of `text` resolves the entry at this index, which inherits from itself
+pub record MeetsReferenceCycleAt (edit : Edit) (text : List ℕ) (entry : ℕ) : Type 0 where
   pub document : Document
   pub read : IsDocumentOf text document
-  pub refused : IsUnresolved edit document why
+  pub meets : MeetsReferenceCycle edit document entry
 
 -- the edit adds a text with the error `e`, which makes parsing fail
 pub record AddsError (edit : Edit) (e : ParseError) : Type 0 where
@@ -101,7 +101,7 @@ IsTextRefused edit text index (refusal.File e) = IsReported text e
 IsTextRefused edit text index (refusal.Added e) = AddsError edit e
 IsTextRefused edit text index (refusal.Edit at why) = (at ≡ index) × IsRefusedAt edit text why
 IsTextRefused edit text index (refusal.Cycle at definition) = (at ≡ index) × MeetsCycleAt edit text definition
-IsTextRefused edit text index (refusal.Unresolved at why) = (at ≡ index) × IsUnresolvedAt edit text why
+IsTextRefused edit text index (refusal.ReferenceCycle at entry) = (at ≡ index) × MeetsReferenceCycleAt edit text entry
 IsTextRefused edit text index refusal.OutOfMemory = ⊤
 
 -- the text for the next edit: the text after the last edit, or the first text before any edit

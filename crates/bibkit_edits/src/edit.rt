@@ -5,8 +5,8 @@ ghost use Rattle.bibkit_edits.specs.declared.edit.Refusal.TheVariants.{OutOfMemo
 
 use bib_syntax::raw::ParseError;
 use edit_entries::errors::EditError;
+use edit_entries::field_edits::FieldEdit;
 use edit_format::style::Style;
-use edit_resolve::errors::ResolveError;
 use edit_sort::order::Order;
 use std::alloc::AllocError;
 
@@ -36,6 +36,18 @@ pub enum Edit<'a> {
         /// The new key.
         new: &'a str,
     },
+    /// Gives entries new keys, all at once, and changes the references to them.
+    RenameAll {
+        /// The new key of each entry, by the index of the entry. `None` keeps the key.
+        keys: &'a [Option<&'a str>],
+    },
+    /// Edits a field of several entries at once.
+    Fields {
+        /// The keys of the entries.
+        keys: &'a [&'a str],
+        /// The edit of each of these entries.
+        edit: FieldEdit<'a>,
+    },
     /// Removes an entry.
     Remove {
         /// The key of the entry.
@@ -64,8 +76,8 @@ pub enum Edit<'a> {
     ToBiblatex,
     /// Converts entries to the types and fields of BibTeX.
     ToBibtex,
-    /// Replaces the references `crossref` and `xdata` of each entry by the fields that it inherits. A `crossref` to an unknown
-    /// key is kept.
+    /// Replaces the references `crossref` and `xdata` of each entry by the fields that it inherits, by the rules of BibLaTeX. A reference
+    /// to an unknown key is kept.
     Resolve,
     /// Formats the text in a style.
     Format {
@@ -100,12 +112,12 @@ pub enum Refusal {
         /// The index of the definition among those of the text, from 0.
         definition: usize,
     },
-    /// The edit [`Edit::Resolve`] is refused.
-    Unresolved {
+    /// The edit [`Edit::Resolve`] is refused: an entry inherits from itself, directly or through others.
+    ReferenceCycle {
         /// The index of the edit, from 0.
         index: usize,
-        /// The error of the edit.
-        why: ResolveError,
+        /// The index of the first such entry among those of the text, from 0.
+        entry: usize,
     },
     /// Out of memory.
     OutOfMemory,

@@ -1,14 +1,17 @@
 //! Applies edits to the text of a file, in turn.
 
-ghost use Rattle.std.specs.Prelude.{◌≡◌, ◌≢◌, IfErr, IfOk, OnErr, map};
+ghost use Rattle.std.specs.Prelude.{◌≡◌, ◌≢◌, ℕ, List, IfErr, IfOk, OnErr, map};
 ghost use Rattle.std.specs.String.{string_bytes};
+ghost use Rattle.bib_queries.specs.Needed.{is_listed};
+ghost use Rattle.bib_queries.specs.Sets.{is_in_set};
 ghost use Rattle.edit_entries.specs.Documents.{IsEdited};
+ghost use Rattle.edit_entries.specs.FieldEdits.{FieldEditIsRefused};
 ghost use Rattle.edit_entries.specs.declared.errors.EditError.TheVariants.{OutOfMemory};
-ghost use Rattle.bibkit_edits.specs.Edited.{AreMade, AreRefused, AreTextsCollected, EditOutcome, IsDocumentConverted, IsFileMade, IsFileRefused, IsInOrder, IsInStyle, IsMade, IsResolvedDocument, IsWrittenOut};
+ghost use Rattle.bibkit_edits.specs.Edited.{AreFieldsEdited, AreMade, AreRefused, AreTextsCollected, EditOutcome, IsDocumentConverted, IsFileMade, IsFileRefused, IsInOrder, IsInStyle, IsMade, IsResolvedDocument, IsWrittenOut};
 ghost use Rattle.edit_strings.specs.Expanded.{ExpandIsRefused};
-ghost use Rattle.bibkit_edits.specs.declared.editing.Step.TheVariants.{Added, Refused, Unresolved};
-ghost use Rattle.bibkit_edits.specs.Steps.{IsTextRefused, StepIsRefused, added_refusal, edit_refusal, file_refusal, latest, refusal_at, step_of, unresolved_refusal};
-ghost use Rattle.edit_resolve.specs.Resolutions.{IsResolveRefused};
+ghost use Rattle.bibkit_edits.specs.declared.editing.Step.TheVariants.{Added, Refused};
+ghost use Rattle.bibkit_edits.specs.Steps.{IsTextRefused, StepIsRefused, added_refusal, edit_refusal, expansion_step, file_refusal, latest, refusal_at, resolution_step};
+ghost use Rattle.edit_resolve.specs.Resolved.{ResolveIsRefused};
 
 use crate::edit::{Edit, Refusal};
 use crate::order::order_places;
@@ -18,6 +21,7 @@ use bib_tables::dialects::Dialect;
 use edit_convert::converting::convert;
 use edit_entries::document::RawDocument;
 use edit_entries::errors::EditError;
+use edit_entries::field_edits::FieldEdit;
 use edit_format::formatting::format;
 use edit_format::style::Style;
 use edit_resolve::errors::ResolveError;
@@ -28,6 +32,7 @@ use edit_strings::collecting::collect;
 use edit_strings::errors::ExpandError;
 use edit_strings::expanding::expand;
 use std::alloc::{AllocError, Global};
+use std::collections::BTreeSet;
 
 // The reason for refusing one edit of a document.
 #[derive(Debug, Drop)]
@@ -38,8 +43,8 @@ enum Step {
     Refused(EditError),
     // The definition of an abbreviation at this index refers to itself.
     Cycle(usize),
-    // References can't be resolved.
-    Unresolved(ResolveError),
+    // The entry at this index inherits from itself.
+    ReferenceCycle(usize),
 }
 
 impl From<ParseError> for Step {
@@ -59,7 +64,7 @@ impl From<EditError> for Step {
 }
 
 impl From<ExpandError> for Step {
-    ghost from_gives = { λ error step. step ≡ step_of error };
+    ghost from_gives = { λ error step. step ≡ expansion_step error };
 
     fn from(error: ExpandError) -> Self {
         match error.unless_out_of_memory() {
@@ -70,10 +75,13 @@ impl From<ExpandError> for Step {
 }
 
 impl From<ResolveError> for Step {
-    ghost from_gives = { λ error step. step ≡ Unresolved error };
+    ghost from_gives = { λ error step. step ≡ resolution_step error };
 
     fn from(error: ResolveError) -> Self {
-        Step::Unresolved(error)
+        match error.unless_out_of_memory() {
+            Ok(entry) => Step::ReferenceCycle(entry),
+            Err(no_memory) => Step::from(EditError::from(no_memory)),
+        }
     }
 }
 
@@ -125,10 +133,35 @@ fn convert_document(
     Ok(convert(alloc, document, dialect)?)
 }
 
+// Returns the set of these keys.
+fn key_set<'k>(alloc: Global, keys: &[&'k str]) -> Result<BTreeSet<&'k str>, AllocError>
+    ensures { IfOk result (λ set. (key : List ℕ) → is_in_set set key ≡ is_listed (map (λ k. k.now) keys.now) key) }
+{
+    let mut set = BTreeSet::new(alloc);
+    'keys: for key in keys {
+        set.insert(*key)?;
+    }
+    Ok(set)
+}
+
+// Returns the text of a document with an edit of a field of each entry with one of these keys.
+fn edit_fields(
+    alloc: Global,
+    document: &RawDocument<'_>,
+    keys: &[&str],
+    edit: &FieldEdit<'_>,
+) -> Result<String, EditError>
+    ensures made { IfOk result (λ new. IsEdited (AreFieldsEdited (map (λ k. k.now) keys.now) edit.now document.now) (string_bytes new)) }
+    ensures refused { IfErr result (FieldEditIsRefused edit.now) }
+{
+    let set = key_set(alloc, keys)?;
+    document.edit_fields(alloc, &set, edit)
+}
+
 // Returns the text of a document with the references `crossref` and `xdata` replaced by the inherited fields.
 fn resolve_document(alloc: Global, document: &RawDocument<'_>) -> Result<String, ResolveError>
     ensures made { IfOk result (λ new. IsEdited (IsResolvedDocument document.now) (string_bytes new)) }
-    ensures refused { IfErr result (IsResolveRefused document.now.text) }
+    ensures refused { IfErr result (ResolveIsRefused document.now) }
 {
     resolve(alloc, document)
 }
@@ -154,6 +187,8 @@ fn edit_document(alloc: Global, document: &RawDocument<'_>, edit: &Edit<'_>) -> 
         Edit::Set { key, name, value } => Ok(document.set_field(alloc, key, name, value)?),
         Edit::Unset { key, name } => Ok(document.unset_field(alloc, key, name)?),
         Edit::Rename { old, new } => Ok(document.rename_key(alloc, old, new)?),
+        Edit::RenameAll { keys } => Ok(document.rename_keys(alloc, keys)?),
+        Edit::Fields { keys, edit } => Ok(edit_fields(alloc, document, keys, &edit)?),
         Edit::Remove { key } => Ok(document.remove_entry(alloc, key)?),
         Edit::Add { text } => {
             let more = RawDocument::parse(alloc, text)?;
@@ -210,16 +245,6 @@ fn edit_refusal(why: EditError, index: usize) -> Refusal
     }
 }
 
-// Returns the refusal for an error of resolving references by the edit at this index.
-fn unresolved_refusal(why: ResolveError, index: usize) -> Refusal
-    ensures { result ≡ unresolved_refusal why index }
-{
-    match why.unless_out_of_memory() {
-        Ok(why) => Refusal::Unresolved { index, why },
-        Err(no_memory) => Refusal::from(no_memory),
-    }
-}
-
 // Returns the refusal for the edit at this index, which failed with `step`.
 fn refusal(step: Step, index: usize) -> Refusal
     ensures { result ≡ refusal_at step index }
@@ -228,7 +253,7 @@ fn refusal(step: Step, index: usize) -> Refusal
         Step::Added(error) => added_refusal(error),
         Step::Refused(why) => edit_refusal(why, index),
         Step::Cycle(definition) => Refusal::Cycle { index, definition },
-        Step::Unresolved(why) => unresolved_refusal(why, index),
+        Step::ReferenceCycle(entry) => Refusal::ReferenceCycle { index, entry },
     }
 }
 

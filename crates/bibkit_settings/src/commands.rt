@@ -16,6 +16,12 @@ enum Takes {
     Words,
     // A required positional argument of one or more words, each of which may be several values separated by commas.
     WordsOrTexts,
+    // An option that may be repeated: a condition on entries.
+    Condition,
+    // An option that may be repeated: two words with an equals sign between them, which help calls by this name.
+    Pair(&'static str),
+    // An option: a pattern of keys.
+    Pattern,
     // An option: the name of the file to edit.
     EditedFile,
     // A required option: the name of the file to edit.
@@ -172,6 +178,68 @@ const DIFF: Argument = Argument {
     help: "Print a diff instead of the new text",
 };
 
+// The option that selects entries.
+const WHERE: Argument = Argument {
+    name: "where",
+    takes: Takes::Condition,
+    help: "Only entries that meet this condition, and those of all other --where",
+};
+
+// The arguments of `select`.
+const SELECT: [Argument; 2] = [
+    WHERE,
+    Argument {
+        name: "keys",
+        takes: Takes::Nothing,
+        help: "Print only the keys of the entries",
+    },
+];
+
+// The arguments of `edit`.
+const EDIT: [Argument; 7] = [
+    WHERE,
+    Argument {
+        name: "rename",
+        takes: Takes::Pair("OLD=NEW"),
+        help: "Rename a field, unless the entry has the new name already",
+    },
+    Argument {
+        name: "set",
+        takes: Takes::Pair("FIELD=VALUE"),
+        help: "Set a field",
+    },
+    Argument {
+        name: "add",
+        takes: Takes::Pair("FIELD=VALUE"),
+        help: "Add a field to entries that lack it",
+    },
+    FILE,
+    WRITE,
+    DIFF,
+];
+
+// The arguments of `rekey`.
+const REKEY: [Argument; 6] = [
+    Argument {
+        name: "pattern",
+        takes: Takes::Pattern,
+        help: "The pattern of the keys [default: {author}{year}{title:1}]",
+    },
+    Argument {
+        name: "map",
+        takes: Takes::Nothing,
+        help: "Print OLD,NEW for each key that changes instead of the new text",
+    },
+    Argument {
+        name: "check",
+        takes: Takes::Nothing,
+        help: "Report the keys that would change, and change nothing",
+    },
+    FILE,
+    WRITE,
+    DIFF,
+];
+
 // The arguments of `set`.
 const SET: [Argument; 5] = [
     Argument {
@@ -318,6 +386,35 @@ Example:
 
 Status: 0 done, 1 an abbreviation refers to itself or the file has errors, 2 wrong usage, or a file or the output failed, 3 out of memory";
 
+// The text at the end of the help of `select`.
+const SELECT_HELP: &str = "\
+A condition consists of tests with `and`, `or` and `not`. A test is `has FIELD`, or compares `type`, `key`, `year` or a field.
+
+Examples:
+  bibkit select --where 'type = article and year >= 2000' refs.bib
+  bibkit select --where 'author ~ Knuth' --where 'not has doi' --keys refs.bib
+
+Status: 0 done, 1 no entry meets the conditions, 2 wrong usage, or a file or the output failed, 3 out of memory";
+
+// The text at the end of the help of `edit`.
+const EDIT_HELP: &str = "\
+Without --where, edits all entries. Fields are first renamed, then set, then added. `bibkit help select` has the conditions.
+
+Example:
+  bibkit edit --where 'type = article' --rename journal=journaltitle --add langid=english --file refs.bib --write
+
+Status: 0 done, 1 an edit is refused or the file has errors, 2 wrong usage, or a file or the output failed, 3 out of memory";
+
+// The text at the end of the help of `rekey`.
+const REKEY_HELP: &str = "\
+Gives each entry the key that the pattern makes, and changes the references to it. {author} is the family name of the first author, {year}
+the year and {title:2} the first two words of the title. {Author} and {Title} write capitals. Equal keys get the letters a, b and so on.
+
+Example:
+  bibkit rekey --pattern '{Author}:{year}' --file refs.bib --write --map >keys.csv
+
+Status: 0 done, 1 keys would change (--check), an edit is refused or the file has errors, 2 wrong usage, or a file or the output failed, 3 out of memory";
+
 // The text at the end of the help of `fmt`.
 const FMT_HELP: &str = "\
 Writes each entry with its type and field names in lower case, one field per line, and values unchanged. Keeps all other text, and entries
@@ -441,8 +538,8 @@ const CONVERT: [Argument; 2] = [
 
 // The text at the end of the help of `resolve`.
 const RESOLVE_HELP: &str = "\
-Replaces the references of each entry (crossref, xdata) by the fields that it inherits, with their text from the file. Keeps references to
-unknown keys, the entries that are referred to, and all other text.
+Replaces the references of each entry (crossref, xdata) by the fields that it inherits by BibLaTeX's rules, with their text from the file.
+Keeps references to unknown keys, the entries that are referred to, and all other text.
 
 Example:
   bibkit resolve --write refs.bib
@@ -460,7 +557,7 @@ const RESOLVE: [Argument; 2] = [
 ];
 
 // The commands that read files, in the order of help.
-static READING: [Row; 9] = [
+static READING: [Row; 10] = [
     Row {
         name: "lint",
         about: "Report errors and likely mistakes in files",
@@ -478,6 +575,12 @@ static READING: [Row; 9] = [
         about: "Print the entries with these keys, unchanged",
         help: "Example:\n  bibkit get tolkien1937,knuth1984 refs.bib\n\nStatus 1 if no entry has any of the keys",
         arguments: &GET,
+    },
+    Row {
+        name: "select",
+        about: "Print the entries that meet a condition, unchanged",
+        help: SELECT_HELP,
+        arguments: &SELECT,
     },
     Row {
         name: "grep",
@@ -518,7 +621,7 @@ static READING: [Row; 9] = [
 ];
 
 // The commands that edit a file, in the order of help, which lists them after the commands that read files.
-static EDITING: [Row; 6] = [
+static EDITING: [Row; 8] = [
     Row {
         name: "set",
         about: "Set fields of an entry, and print the new text",
@@ -536,6 +639,18 @@ static EDITING: [Row; 6] = [
         about: "Rename the key of an entry, and print the new text",
         help: RENAME_HELP,
         arguments: &RENAME,
+    },
+    Row {
+        name: "rekey",
+        about: "Give entries keys by a pattern, and print the new text",
+        help: REKEY_HELP,
+        arguments: &REKEY,
+    },
+    Row {
+        name: "edit",
+        about: "Edit fields of all entries that meet a condition, and print the new text",
+        help: EDIT_HELP,
+        arguments: &EDIT,
     },
     Row {
         name: "remove",
@@ -585,6 +700,13 @@ fn value<'a>(alloc: Global, row: &'static Argument, name: &'a str) -> Arg<'a> {
     option(alloc, row).value_name(name).action(ArgAction::Set)
 }
 
+// Returns an option that may be repeated, whose value help calls `name`.
+fn values<'a>(alloc: Global, row: &'static Argument, name: &'a str) -> Arg<'a> {
+    option(alloc, row)
+        .value_name(name)
+        .action(ArgAction::Append)
+}
+
 // Returns an option whose values are codes, separated by commas.
 fn codes<'a>(alloc: Global, row: &'static Argument) -> Arg<'a> {
     option(alloc, row)
@@ -623,6 +745,9 @@ fn argument_of<'a>(alloc: Global, row: &'static Argument) -> Result<Arg<'a>, All
         Takes::Texts => Ok(required_argument(alloc, row).value_delimiter(',')),
         Takes::Words => Ok(words(alloc, row)),
         Takes::WordsOrTexts => Ok(words(alloc, row).value_delimiter(',')),
+        Takes::Condition => Ok(values(alloc, row, "CONDITION")),
+        Takes::Pair(name) => Ok(values(alloc, row, name)),
+        Takes::Pattern => Ok(value(alloc, row, "PATTERN")),
         Takes::EditedFile => Ok(edited_file(alloc, row)),
         Takes::AnEditedFile => Ok(edited_file(alloc, row).required(true)),
         Takes::Codes => Ok(codes(alloc, row)),

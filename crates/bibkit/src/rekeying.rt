@@ -1,0 +1,172 @@
+//! Gives entries the keys that a pattern makes.
+
+use crate::edits::{Editing, Mode, after_mark, apply};
+use crate::stops::{Stop, bytes_of, error_line, output_stop};
+use bib_entry::entry::Entry;
+use bib_keys::{KeyPattern, PatternError};
+use bib_syntax::raw::{RawBibliography, RawEntry};
+use bib_text::spanned::Spanned;
+use bib_text::text::Text;
+use bibkit_edits::edit::Edit;
+use biblatex::{Bibliography, Output, Sink};
+use std::alloc::{AllocError, Global};
+use std::io;
+use std::str::from_utf8;
+
+/// The pattern of keys, and the use of the keys that it makes.
+#[derive(Clone, Copy)]
+pub struct Rekeying<'a> {
+    /// The pattern.
+    pub pattern: &'a str,
+    /// Whether a line OLD,NEW for each key that changes is printed instead of the new text.
+    pub has_map: bool,
+    /// Whether the keys that would change are reported, and nothing is edited.
+    pub is_check: bool,
+}
+
+// Parses a pattern. Fails with a message and status 2 for a text that is no pattern.
+fn parsed(alloc: Global, pattern: &str) -> Result<KeyPattern, Stop> {
+    match KeyPattern::parse(alloc, pattern) {
+        Ok(pattern) => Ok(pattern),
+        Err(PatternError::OutOfMemory) => Err(Stop::OutOfMemory),
+        Err(error) => {
+            let said = format!(in alloc; "bibkit: --pattern `{pattern}`: {error}\n")?;
+            Err(Stop::Said(said, 2))
+        }
+    }
+}
+
+// Returns the new key of each entry, by its index. An entry that has this key already, or none, gets no new key.
+fn new_keys<'k>(
+    alloc: Global,
+    entries: &[Spanned<RawEntry<'_>>],
+    made: &'k [Text],
+    origins: &[usize],
+) -> Result<Vec<Option<&'k str>>, AllocError> {
+    let mut keys = Vec::new(alloc);
+    'entries: for _ in entries {
+        keys.push(None)?;
+    }
+    'made: for (key, origin) in made.iter().zip(origins) {
+        if let Some(entry) = entries.get(*origin) {
+            let old = entry.v.key.v;
+            if !old.is_empty() && old != key.as_str() {
+                if let Some(place) = keys.get_mut(*origin) {
+                    *place = Some(key.as_str());
+                }
+            }
+        }
+    }
+    Ok(keys)
+}
+
+// Returns a line OLD,NEW for each key that changes.
+fn map_text(
+    alloc: Global,
+    entries: &[Spanned<RawEntry<'_>>],
+    keys: &[Option<&str>],
+) -> Result<String, AllocError> {
+    let mut map = String::new(alloc);
+    'entries: for (entry, key) in entries.iter().zip(keys) {
+        if let Some(key) = key {
+            map.push_str(format!(in alloc; "{},{}\n", entry.v.key.v, key)?.as_str())?;
+        }
+    }
+    Ok(map)
+}
+
+// Returns a message for each key that changes, with the position of the key.
+fn check_text(
+    alloc: Global,
+    name: &str,
+    text: &str,
+    entries: &[Spanned<RawEntry<'_>>],
+    keys: &[Option<&str>],
+) -> Result<String, AllocError> {
+    let mut lines = String::new(alloc);
+    'entries: for (entry, key) in entries.iter().zip(keys) {
+        if let Some(key) = key {
+            let old = &entry.v.key;
+            let said = format!(in alloc; "the key of `{}` isn't `{}`", old.v, key)?;
+            let line = error_line(alloc, name, text.as_bytes(), old.span.start, &said)?;
+            lines.push_str(&line)?;
+        }
+    }
+    Ok(lines)
+}
+
+// Prints a text to standard output.
+fn print(rt: &HostRuntime, text: &str) -> Result<(), Stop> {
+    let mut output = Output::new(io::writer(rt));
+    if output.write_str(text) {
+        Ok(())
+    } else {
+        Err(output_stop(rt.alloc())?)
+    }
+}
+
+// Gives the entries of a file new keys, and uses them as `rekeying` requests.
+fn use_keys(
+    rt: &HostRuntime,
+    editing: &Editing<'_>,
+    rekeying: &Rekeying<'_>,
+    bytes: &[u8],
+    text: &str,
+    entries: &[Spanned<RawEntry<'_>>],
+    keys: &[Option<&str>],
+) -> Result<(), Stop> {
+    if rekeying.is_check {
+        let lines = check_text(rt.alloc(), editing.name, text, entries, keys)?;
+        return if lines.is_empty() { Ok(()) } else { Err(Stop::Said(lines, 1)) };
+    }
+    let edits = [Edit::RenameAll { keys }];
+    if !rekeying.has_map {
+        return apply(rt, editing, bytes, &edits);
+    }
+    if editing.mode == Mode::Write {
+        apply(rt, editing, bytes, &edits)?;
+    }
+    print(rt, &map_text(rt.alloc(), entries, keys)?)
+}
+
+// Returns the keys that a pattern makes for entries.
+fn made_keys(
+    alloc: Global,
+    pattern: &KeyPattern,
+    bibliography: Bibliography,
+) -> Result<Vec<Text>, AllocError> {
+    let entries: Vec<Entry> = bibliography.into_vec();
+    pattern.keys(alloc, &entries)
+}
+
+// Gives the entries of a file's text the keys that a pattern makes. A text with a syntax error is refused.
+fn rekey_text(
+    rt: &HostRuntime,
+    editing: &Editing<'_>,
+    rekeying: &Rekeying<'_>,
+    pattern: &KeyPattern,
+    bytes: &[u8],
+    text: &str,
+) -> Result<(), Stop> {
+    let Ok(raw) = RawBibliography::parse(rt.alloc(), text) else {
+        return apply(rt, editing, bytes, &[Edit::RenameAll { keys: &[] }]);
+    };
+    let found = Bibliography::recover(rt.alloc(), text)?;
+    let made = made_keys(rt.alloc(), pattern, found.bibliography)?;
+    let keys = new_keys(rt.alloc(), &raw.entries, &made, &found.origins)?;
+    use_keys(rt, editing, rekeying, bytes, text, &raw.entries, &keys)
+}
+
+/// Gives the entries of a file the keys that a pattern makes.
+pub fn rekey(
+    rt: &HostRuntime,
+    editing: &Editing<'_>,
+    rekeying: &Rekeying<'_>,
+) -> Result<(), Stop> {
+    let pattern = parsed(rt.alloc(), rekeying.pattern)?;
+    let bytes = bytes_of(rt, editing.name)?;
+    match from_utf8(after_mark(&bytes)) {
+        Ok(text) => rekey_text(rt, editing, rekeying, &pattern, &bytes, text),
+        Err(_) => apply(rt, editing, &bytes, &[Edit::RenameAll { keys: &[] }]),
+    }
+}

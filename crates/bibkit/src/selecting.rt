@@ -1,0 +1,180 @@
+//! Prints the entries that meet conditions, and edits their fields.
+
+use crate::edits::{Editing, after_mark, apply};
+use crate::stops::{Stop, bytes_of, output_stop, say};
+use bib_entry::entry::Entry;
+use bib_queries::excerpts::answer;
+use bib_queries::request::Request as Excerpts;
+use bib_select::errors::SelectionError;
+use bib_select::selection::Selection;
+use bib_source::decoding::decode;
+use bibkit_edits::edit::Edit;
+use biblatex::{Bibliography, Output, Sink};
+use edit_entries::field_edits::FieldEdit;
+use std::alloc::{AllocError, Global};
+use std::io;
+use std::str::from_utf8;
+
+/// The entries to print, and whether only their keys are printed.
+#[derive(Drop)]
+pub struct Selecting<'a> {
+    /// The conditions, all of which an entry must meet.
+    pub conditions: Vec<&'a str>,
+    /// Whether only the keys of the entries are printed.
+    pub has_keys: bool,
+}
+
+// Parses conditions. Fails with a message and status 2 for a text that is no condition.
+fn parsed(alloc: Global, conditions: &[&str]) -> Result<Vec<Selection>, Stop> {
+    let mut selections = Vec::new(alloc);
+    'conditions: for condition in conditions {
+        match Selection::parse(alloc, *condition) {
+            Ok(selection) => selections.push(selection)?,
+            Err(SelectionError::OutOfMemory) => return Err(Stop::OutOfMemory),
+            Err(error) => {
+                let said = format!(in alloc; "bibkit: --where `{condition}`: {error}\n")?;
+                return Err(Stop::Said(said, 2));
+            }
+        }
+    }
+    Ok(selections)
+}
+
+// Returns whether an entry meets all conditions.
+fn meets_all(alloc: Global, selections: &[Selection], entry: &Entry) -> Result<bool, AllocError> {
+    'selections: for selection in selections {
+        if !selection.selects(alloc, entry)? {
+            return Ok(false);
+        }
+    }
+    Ok(true)
+}
+
+// Returns the keys of the entries of a bibliography that meet all conditions.
+fn selected_keys<'b>(
+    alloc: Global,
+    selections: &[Selection],
+    bibliography: &'b Bibliography,
+) -> Result<Vec<&'b str>, AllocError> {
+    let mut keys = Vec::new(alloc);
+    'entries: for entry in bibliography.iter() {
+        if meets_all(alloc, selections, entry)? {
+            keys.push(entry.key.as_str())?;
+        }
+    }
+    Ok(keys)
+}
+
+// Returns the keys, each followed by a line feed.
+fn key_lines(alloc: Global, keys: &[&str]) -> Result<String, AllocError> {
+    let mut lines = String::new(alloc);
+    'keys: for key in keys {
+        lines.push_str(key)?;
+        lines.push('\n')?;
+    }
+    Ok(lines)
+}
+
+// Returns the text to print for a file's text, and whether an entry meets all conditions.
+fn selected_text(
+    alloc: Global,
+    selections: &[Selection],
+    has_keys: bool,
+    text: &str,
+) -> Result<(String, bool), AllocError> {
+    let found = Bibliography::recover(alloc, text)?;
+    let keys = selected_keys(alloc, selections, &found.bibliography)?;
+    let is_found = !keys.is_empty();
+    if has_keys {
+        return Ok((key_lines(alloc, &keys)?, is_found));
+    }
+    Ok((answer(alloc, &Excerpts::Get(keys), text)?.text, is_found))
+}
+
+// Prints the entries of a file that meet all conditions. Returns whether there is one.
+fn select_file<K: Sink>(
+    rt: &HostRuntime,
+    selections: &[Selection],
+    has_keys: bool,
+    name: &str,
+    output: &mut K,
+) -> Result<bool, Stop> {
+    let bytes = bytes_of(rt, name)?;
+    let decoded = decode(rt.alloc(), &bytes)?;
+    let (text, is_found) = selected_text(rt.alloc(), selections, has_keys, &decoded.text)?;
+    if output.write_str(&text) {
+        Ok(is_found)
+    } else {
+        Err(output_stop(rt.alloc())?)
+    }
+}
+
+// Prints the entries of files that meet all conditions, and returns the greatest status: 1 if there is none.
+fn select_files(
+    rt: &HostRuntime,
+    selecting: &Selecting<'_>,
+    names: &[&str],
+) -> Result<u8, Stop> {
+    let selections = parsed(rt.alloc(), &selecting.conditions)?;
+    let mut output = Output::new(io::writer(rt));
+    let mut is_found = false;
+    let mut status = 0;
+    'names: for name in names {
+        match select_file(rt, &selections, selecting.has_keys, name, &mut output) {
+            Ok(found) => is_found = is_found || found,
+            Err(stop) => status = say(rt, &stop).max(status),
+        }
+    }
+    if is_found || status > 0 { Ok(status) } else { Ok(1) }
+}
+
+/// Prints the entries of files that meet all conditions, and returns the status.
+pub fn run_select(rt: &HostRuntime, selecting: &Selecting<'_>, names: &[&str]) -> u8 {
+    match select_files(rt, selecting, names) {
+        Ok(status) => status,
+        Err(stop) => say(rt, &stop),
+    }
+}
+
+// Returns the edits of fields of the entries with these keys.
+fn edits_of<'e>(
+    alloc: Global,
+    keys: &'e [&'e str],
+    fields: &[FieldEdit<'e>],
+) -> Result<Vec<Edit<'e>>, AllocError> {
+    let mut edits = Vec::new(alloc);
+    'fields: for edit in fields {
+        edits.push(Edit::Fields { keys, edit: *edit })?;
+    }
+    Ok(edits)
+}
+
+// Edits fields of the entries of a file's text that meet all conditions.
+fn edit_text(
+    rt: &HostRuntime,
+    editing: &Editing<'_>,
+    selections: &[Selection],
+    fields: &[FieldEdit<'_>],
+    bytes: &[u8],
+    text: &str,
+) -> Result<(), Stop> {
+    let found = Bibliography::recover(rt.alloc(), text)?;
+    let keys = selected_keys(rt.alloc(), selections, &found.bibliography)?;
+    let edits = edits_of(rt.alloc(), &keys, fields)?;
+    apply(rt, editing, bytes, &edits)
+}
+
+/// Edits fields of the entries of a file that meet all conditions.
+pub fn edit_selected(
+    rt: &HostRuntime,
+    editing: &Editing<'_>,
+    conditions: &[&str],
+    fields: &[FieldEdit<'_>],
+) -> Result<(), Stop> {
+    let selections = parsed(rt.alloc(), conditions)?;
+    let bytes = bytes_of(rt, editing.name)?;
+    match from_utf8(after_mark(&bytes)) {
+        Ok(text) => edit_text(rt, editing, &selections, fields, &bytes, text),
+        Err(_) => apply(rt, editing, &bytes, &[Edit::RenameAll { keys: &[] }]),
+    }
+}
