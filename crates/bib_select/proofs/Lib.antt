@@ -1,0 +1,3 @@
+pub mod TokenFacts
+pub mod SegmentFacts
+pub mod CompileFacts
