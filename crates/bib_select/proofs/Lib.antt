@@ -1,3 +1,4 @@
 pub mod TokenFacts
 pub mod SegmentFacts
 pub mod CompileFacts
+pub mod ParseFacts
