@@ -1,4 +1,5 @@
-pub mod TokenFacts
-pub mod SegmentFacts
 pub mod CompileFacts
+pub mod OneCutFacts
 pub mod ParseFacts
+pub mod SegmentFacts
+pub mod TokenFacts

@@ -1,19 +1,21 @@
 -- The errors of parsing: a list of tokens has no quote that isn't closed, and no expression is compiled before all of it is parsed.
-use Rattle.std.proofs.Common.{◌≡◌, ℕ, Bool, true, false, List, [], ◌∷◌, subst, Option, Some, None}
+use Rattle.std.proofs.Common.{◌≡◌, ℕ, Bool, true, false, List, [], ◌∷◌, refl, sym, ap, subst, ◌∙◌, Option, Some, None}
 use Rattle.std.specs.Prelude.{Result, Ok, Err, codes, if◌then◌else◌}
 use Rattle.std.specs.Option.{ok_or, option_map_or}
 use Rattle.bib_text.specs.Places.{place}
-use Rattle.bib_select.specs.Conditions.{QuestionAsked, SubjectAsked, TestAsked, alternatives_asked, answer_test, has_test, missing_text, operator_test, subject_test, term_asked, term_with, terms_asked, test_asked, asked_at, question_at, subject_at}
+use Rattle.bib_select.specs.Conditions.{QuestionAsked, SubjectAsked, TermAsked, TestAsked, alternatives_asked, answer_test, has_test, missing_operator, missing_text, operator_test, subject_test, term_asked, term_with, terms_asked, test_asked, asked_at, question_at, subject_at}
 use Rattle.bib_select.specs.Conditions.TestAsked.{has}
+use Rattle.bib_select.specs.Conditions.SubjectAsked.{the_type, the_key, the_year, the_field}
 use Rattle.bib_select.specs.Conditions.QuestionAsked.{is_type, is_other_type, compares_key, compares_field, compares_year}
-use Rattle.bib_select.specs.Parsed.{IsParseError, whole_text}
+use Rattle.bib_select.specs.Parsed.{IsConditionRead, IsParseError, IsSyntaxError, whole_text}
 use Rattle.bib_select.specs.Scanning.{IsReadError}
 use Rattle.bib_select.specs.Segments.{Segment, ◌>>=◌, error_at, first_as, first_token, if_ended, opens_with, segments_of, token_text, try_map, without_first}
 use Rattle.bib_select.specs.Tokens.{Placed, AreTokens}
+use Rattle.bib_select.proofs.OneCutFacts.{one_cut}
 use Rattle.bib_select.specs.declared.errors.SelectionError.{SelectionError}
 use Rattle.bib_select.specs.declared.errors.SelectionError.TheVariants.{Malformed, OutOfMemory}
 use Rattle.bib_select.specs.declared.errors.SelectionErrorKind.{SelectionErrorKind}
-use Rattle.bib_select.specs.declared.errors.SelectionErrorKind.TheVariants.{UnclosedQuote, MissingTest, MissingField, MissingOperator, MissingText, MissingYear, MissingJoint, Regex}
+use Rattle.bib_select.specs.declared.errors.SelectionErrorKind.TheVariants.{UnclosedQuote, MissingTest, MissingField, MissingOperator, MissingTypeOperator, MissingYearOperator, MissingText, MissingYear, MissingJoint, Regex}
 
 -- the kinds of errors of lists of tokens
 abbrev pub IsTokenKind : SelectionErrorKind → Type 0
@@ -21,6 +23,8 @@ IsTokenKind UnclosedQuote = ⊥
 IsTokenKind MissingTest = Unit {0}
 IsTokenKind MissingField = Unit {0}
 IsTokenKind MissingOperator = Unit {0}
+IsTokenKind MissingTypeOperator = Unit {0}
+IsTokenKind MissingYearOperator = Unit {0}
 IsTokenKind MissingText = Unit {0}
 IsTokenKind MissingYear = Unit {0}
 IsTokenKind MissingJoint = Unit {0}
@@ -65,6 +69,12 @@ missing_is (compares_key operator) = tt
 missing_is (compares_field name operator) = tt
 missing_is (compares_year comparison) = tt
 
+operator_is : (subject : SubjectAsked) → IsTokenKind (missing_operator subject)
+operator_is the_type = tt
+operator_is the_key = tt
+operator_is the_year = tt
+operator_is (the_field name) = tt
+
 -- ---- parsing fails by tokens
 
 answer_fails : (question : QuestionAsked) (s : Segment) → FailsByTokens (answer_test question s)
@@ -73,7 +83,7 @@ answer_fails question s =
 
 operator_fails : (subject : SubjectAsked) (s : Segment) → FailsByTokens (operator_test subject s)
 operator_fails subject s =
-    then_fails _ _ (first_fails (question_at subject) MissingOperator s tt) (λ question. answer_fails question (without_first s))
+    then_fails _ _ (first_fails (question_at subject) (missing_operator subject) s (operator_is subject)) (λ question. answer_fails question (without_first s))
 
 subject_fails : (s : Segment) → FailsByTokens (subject_test s)
 subject_fails s = then_fails _ _ (first_fails subject_at MissingTest s tt) (λ subject. operator_fails subject (without_first s))
@@ -107,6 +117,37 @@ refused_by_tokens text tokens cut (Malformed (Regex cause) at) is = absurd (subs
 refused_by_tokens text tokens cut (Malformed MissingTest at) is = record { tokens = tokens; cut = cut; reads = is }
 refused_by_tokens text tokens cut (Malformed MissingField at) is = record { tokens = tokens; cut = cut; reads = is }
 refused_by_tokens text tokens cut (Malformed MissingOperator at) is = record { tokens = tokens; cut = cut; reads = is }
+refused_by_tokens text tokens cut (Malformed MissingTypeOperator at) is = record { tokens = tokens; cut = cut; reads = is }
+refused_by_tokens text tokens cut (Malformed MissingYearOperator at) is = record { tokens = tokens; cut = cut; reads = is }
 refused_by_tokens text tokens cut (Malformed MissingText at) is = record { tokens = tokens; cut = cut; reads = is }
 refused_by_tokens text tokens cut (Malformed MissingYear at) is = record { tokens = tokens; cut = cut; reads = is }
 refused_by_tokens text tokens cut (Malformed MissingJoint at) is = record { tokens = tokens; cut = cut; reads = is }
+
+-- ---- a text is one condition
+
+-- the tokens of a text are the same wherever they are read
+pub one_condition : (text : List ℕ) (asked others : Result (List (List TermAsked)) SelectionError) → IsConditionRead text asked
+    → IsConditionRead text others → asked ≡ others
+one_condition text asked others first second =
+    sym first.reads ∙ ap (λ tokens. alternatives_asked (whole_text text tokens)) (same_list (Ok first.tokens) refl (one_cut first.cut second.cut)) ∙ second.reads
+  where
+    same_list : {a b : List Placed} (r : Result (List Placed) ℕ) → r ≡ Ok a → r ≡ Ok b → a ≡ b
+    same_list r is other = cc
+
+not_both : {A E : Type 0} {a : A} {e : E} → Ok a ≡ Err e → ⊥
+not_both is = cc
+
+-- a condition has no error of its text
+pub no_error : (text : List ℕ) (asked : List (List TermAsked)) (e : SelectionError) → IsConditionRead text (Ok asked)
+    → IsParseError text e → IsSyntaxError e → ⊥
+no_error text asked OutOfMemory reads refused syntax = syntax
+no_error text asked (Malformed (Regex cause) at) reads refused syntax = syntax
+no_error text asked (Malformed UnclosedQuote at) reads refused syntax = not_both (one_cut reads.cut refused)
+no_error text asked (Malformed MissingTest at) reads refused syntax = not_both (one_condition text _ _ reads refused)
+no_error text asked (Malformed MissingField at) reads refused syntax = not_both (one_condition text _ _ reads refused)
+no_error text asked (Malformed MissingOperator at) reads refused syntax = not_both (one_condition text _ _ reads refused)
+no_error text asked (Malformed MissingTypeOperator at) reads refused syntax = not_both (one_condition text _ _ reads refused)
+no_error text asked (Malformed MissingYearOperator at) reads refused syntax = not_both (one_condition text _ _ reads refused)
+no_error text asked (Malformed MissingText at) reads refused syntax = not_both (one_condition text _ _ reads refused)
+no_error text asked (Malformed MissingYear at) reads refused syntax = not_both (one_condition text _ _ reads refused)
+no_error text asked (Malformed MissingJoint at) reads refused syntax = not_both (one_condition text _ _ reads refused)

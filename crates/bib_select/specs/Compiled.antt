@@ -8,6 +8,7 @@ use Rattle.regex.specs.Patterns.{default_config}
 use Rattle.regex.specs.Strings.{regex_source, regex_config, IsReadFromSource, IsDefaultFailure}
 use Rattle.regex.specs.declared.string.regex.Regex.{Regex}
 use Rattle.regex.specs.declared.error.Error as regex
+use Rattle.regex.specs.declared.error.Error.TheVariants as cause_kind
 use Rattle.bib_select.specs.Conditions.{TermAsked, TestAsked, TextAsked}
 use Rattle.bib_select.specs.Conditions.TestAsked.{has, of_type, of_other_type, key, field, year}
 use Rattle.bib_select.specs.declared.errors.SelectionError.{SelectionError}
@@ -72,11 +73,13 @@ HasTermExpression terms source at = Any (λ term. HasExpression term.asked sourc
 abbrev pub HasAnyExpression : List (List TermAsked) → List ℕ → ℕ → Type 0
 HasAnyExpression alternatives source at = Any (λ terms. HasTermExpression terms source at) alternatives
 
--- the error of the crate `regex` for the text at this byte offset
+-- the error of the crate `regex` for the text at this byte offset, which is never out of memory or an internal error
 pub record IsExpressionError (Has : List ℕ → ℕ → Type 0) (cause : regex.Error) (at : ℕ) : Type 0 where
   pub source : List ℕ
   pub here : Has source at
   pub failure : IsDefaultFailure source cause
+  pub no_memory : cause ≢ cause_kind.OutOfMemory
+  pub no_internal : cause ≢ cause_kind.Internal
 
 -- the error of compiling a condition that has these regular expressions: that of one of them, or out of memory
 abbrev pub IsCompileError : (List ℕ → ℕ → Type 0) → SelectionError → Type 0

@@ -9,7 +9,7 @@ use Rattle.bib_select.specs.Tokens.Token.{word, quoted, sign}
 use Rattle.bib_select.specs.Segments.{Segment, ◌>>=◌, first_as, if_ended, is_keyword, opens_with, segments_of, token_text, try_map, without_first}
 use Rattle.bib_select.specs.declared.errors.SelectionError.{SelectionError}
 use Rattle.bib_select.specs.declared.errors.SelectionErrorKind.{SelectionErrorKind}
-use Rattle.bib_select.specs.declared.errors.SelectionErrorKind.TheVariants.{MissingTest, MissingField, MissingOperator, MissingText, MissingYear}
+use Rattle.bib_select.specs.declared.errors.SelectionErrorKind.TheVariants.{MissingTest, MissingField, MissingOperator, MissingTypeOperator, MissingYearOperator, MissingText, MissingYear}
 use Rattle.bib_select.specs.declared.selection.Comparison.{Comparison}
 use Rattle.bib_select.specs.declared.selection.Comparison.TheVariants.{Less, AtMost, Equal, NotEqual, AtLeast, Greater}
 use Rattle.bib_select.specs.declared.terms.Operator.{Operator}
@@ -129,10 +129,16 @@ answer_test question s = do
   asked ← first_as (asked_at question) (missing_text question) s
   if_ended asked (without_first s)
 
+-- what is missing after a subject without an operator for it
+abbrev pub missing_operator : SubjectAsked → SelectionErrorKind
+missing_operator the_type = MissingTypeOperator
+missing_operator the_year = MissingYearOperator
+missing_operator other = MissingOperator
+
 -- the test that a subject and the operator and the text after it are
 abbrev pub operator_test : SubjectAsked → Segment → Result TestAsked SelectionError
 operator_test subject s = do
-  question ← first_as (question_at subject) MissingOperator s
+  question ← first_as (question_at subject) (missing_operator subject) s
   answer_test question (without_first s)
 
 -- the test that a subject, an operator and a text are

@@ -41,3 +41,9 @@ IsParseError text OutOfMemory = ⊤
 IsParseError text (Malformed UnclosedQuote at) = AreTokens (place text 0) (Err at)
 IsParseError text (Malformed (Regex cause) at) = IsExpressionRefused text (Malformed (Regex cause) at)
 IsParseError text (Malformed other at) = IsConditionRead text (Err (Malformed other at))
+
+-- an error of the text, and not of a regular expression or of memory
+abbrev pub IsSyntaxError : SelectionError → Type 0
+IsSyntaxError OutOfMemory = ⊥
+IsSyntaxError (Malformed (Regex cause) at) = ⊥
+IsSyntaxError (Malformed other at) = ⊤

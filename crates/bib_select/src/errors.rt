@@ -16,8 +16,12 @@ pub enum SelectionErrorKind {
     MissingTest,
     /// The name of a field is missing after `has`.
     MissingField,
-    /// An operator is missing, or isn't one for the word before it.
+    /// No operator comes after a key or a field.
     MissingOperator,
+    /// No operator comes after `type`.
+    MissingTypeOperator,
+    /// No operator comes after `year`.
+    MissingYearOperator,
     /// A text is missing after an operator.
     MissingText,
     /// A year is missing after an operator.
@@ -39,14 +43,13 @@ impl fmt::Display for SelectionErrorKind {
                 )
             }
             Self::MissingField => write!(f, "expected the name of a field"),
-            Self::MissingOperator => write!(
-                f,
-                "expected an operator: `=` or `!=`, for a key or a field also `contains` or `~`, for `year` also `<`, `<=`, `>` or `>=`"
-            ),
+            Self::MissingOperator => write!(f, "expected `=`, `!=`, `contains` or `~`"),
+            Self::MissingTypeOperator => write!(f, "expected `=` or `!=`"),
+            Self::MissingYearOperator => { write!(f, "expected `=`, `!=`, `<`, `<=`, `>` or `>=`") }
             Self::MissingText => write!(f, "expected a text"),
             Self::MissingYear => write!(f, "expected a year"),
             Self::MissingJoint => write!(f, "expected `and` or `or`"),
-            Self::Regex(error) => write!(f, "{error}"),
+            Self::Regex(error) => write!(f, "malformed regular expression ({error})"),
         }
     }
 }

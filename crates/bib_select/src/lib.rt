@@ -13,6 +13,7 @@
 mod compiling;
 mod conditions;
 pub mod errors;
+pub mod laws;
 mod parsing;
 mod segments;
 pub mod selection;

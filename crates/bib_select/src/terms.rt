@@ -188,6 +188,17 @@ fn decimal(text: &str) -> Option<i64>
     text.parse::<i64>().ok()
 }
 
+// Returns what is missing after a subject without an operator for it.
+fn missing_operator(subject: Subject<'_>) -> SelectionErrorKind
+    ensures { result ≡ conditions.missing_operator (subject_of subject.entry) }
+{
+    match subject {
+        Subject::EntryType => SelectionErrorKind::MissingTypeOperator,
+        Subject::Year => SelectionErrorKind::MissingYearOperator,
+        Subject::Key | Subject::Field(_) => SelectionErrorKind::MissingOperator,
+    }
+}
+
 // Returns what is missing after a question without a text that answers it.
 fn missing_text(question: Question<'_>) -> SelectionErrorKind
     ensures { result ≡ conditions.missing_text (question_of question.entry) }
@@ -234,10 +245,10 @@ fn operator_test<'s>(
         conditions.operator_test (subject_of subject.entry) (segment_of segment.entry) }
 {
     let Some(first) = segment.first() else {
-        return Err(segment.error(SelectionErrorKind::MissingOperator));
+        return Err(segment.error(missing_operator(subject)));
     };
     let Some(question) = question_at(subject, &first) else {
-        return Err(segment.error(SelectionErrorKind::MissingOperator));
+        return Err(segment.error(missing_operator(subject)));
     };
     answer_test(question, segment.rest())
 }

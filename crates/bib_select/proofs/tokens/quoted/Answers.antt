@@ -14,7 +14,7 @@ returns-then-eat_if c =
 pub returns : goal.returns
 returns c =
     let inside : Longest (λ x. not (x == c.args.quote)) c.eat-opening.new.self c.eat_until-text.new.self =
-        c.eat_until-text.ensures.longest _ (λ x r post. search rules) in (
+    c.eat_until-text.ensures.longest _ (λ x r post. search rules) in (
       refl,
       unclosed (moved_past c.eat-opening.result c.requires.here.1 c.eat-opening.ensures) c.requires.quote inside
           (no_closing c.args.quote c.eat_until-text.ensures.stopped inside.stops c.if-eat_if.ensures.1),
