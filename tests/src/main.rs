@@ -21,6 +21,7 @@ mod guide;
 mod imports;
 mod items;
 mod resolutions;
+mod selections;
 mod sortings;
 mod strings;
 mod support;
@@ -47,6 +48,7 @@ fn rows(alloc: Global, layer: &str, input: &str) -> Result<String, AllocError> {
         "imports" => answered::<imports::Imports>(alloc, input),
         "items" => answered::<items::CslItems>(alloc, input),
         "resolutions" => answered::<resolutions::Resolutions>(alloc, input),
+        "selections" => answered::<selections::Selections>(alloc, input),
         "sortings" => answered::<sortings::Sortings>(alloc, input),
         "strings" => answered::<strings::Strings>(alloc, input),
         "entries" => answered::<entries::Entries>(alloc, input),

@@ -1,0 +1,52 @@
+-- Compiling a condition: the tests so far are those that are asked, and an error is that of one of the regular expressions.
+use Rattle.std.proofs.Common.{◌≡◌, ◌<◌, ◌+◌, ℕ, List, [], ◌∷◌, ◌++◌, length, take, get_or, map, refl, sym, ap, subst, ◌∙◌, arith}
+use Rattle.std.specs.List.{Any, AllZip}
+use Rattle.std.proofs.lemmas.List.{map_more, length-map, get_or-map}
+use Rattle.bib_select.specs.Compiled.{HasText, HasTextExpression, IsCompileError, IsExpressionError}
+use Rattle.bib_select.specs.Conditions.{TextAsked}
+use Rattle.bib_select.specs.declared.errors.SelectionError.{SelectionError}
+use Rattle.bib_select.specs.declared.errors.SelectionError.TheVariants.{Malformed, OutOfMemory}
+use Rattle.bib_select.specs.declared.errors.SelectionErrorKind.TheVariants as kind
+
+-- the error of an expression that one condition has is one of another condition that has it, too
+pub error_of_more : {Has More : List ℕ → ℕ → Type 0} (e : SelectionError) → ((source : List ℕ) (at : ℕ) → Has source at → More source at)
+    → IsCompileError Has e → IsCompileError More e
+error_of_more OutOfMemory more is = tt
+error_of_more (Malformed (kind.Regex cause) at) more is = record { source = is.source; here = more is.source at is.here; failure = is.failure; no_memory = is.no_memory; no_internal = is.no_internal }
+error_of_more (Malformed kind.UnclosedQuote at) more is = is
+error_of_more (Malformed kind.MissingTest at) more is = is
+error_of_more (Malformed kind.MissingField at) more is = is
+error_of_more (Malformed kind.MissingOperator at) more is = is
+error_of_more (Malformed kind.MissingTypeOperator at) more is = is
+error_of_more (Malformed kind.MissingYearOperator at) more is = is
+error_of_more (Malformed kind.MissingText at) more is = is
+error_of_more (Malformed kind.MissingYear at) more is = is
+error_of_more (Malformed kind.MissingJoint at) more is = is
+
+-- one more pair of elements
+pub all_zip_push : {A B : Type 0} (R : A → B → Type 0) (xs : List A) (ys : List B) (x : A) (y : B) → AllZip R xs ys → R x y
+    → AllZip R (xs ++ x ∷ []) (ys ++ y ∷ [])
+all_zip_push R [] [] x y all one = (one, tt)
+all_zip_push R [] (b ∷ ys) x y all one = absurd all
+all_zip_push R (a ∷ xs) [] x y all one = absurd all
+all_zip_push R (a ∷ xs) (b ∷ ys) x y all one = (all.0, all_zip_push R xs ys x y all.1 one)
+
+-- the elements before an index and one more
+pub all_zip_more : {A B C : Type 0} (R : B → C → Type 0) (f : A → B) (xs : List A) (ys : List C) (index : ℕ) (d : A) (y : C)
+    → index < length xs → AllZip R (map f (take index xs)) ys → R (f (get_or xs index d)) y
+    → AllZip R (map f (take (index + 1) xs)) (ys ++ y ∷ [])
+all_zip_more R f xs ys index d y within all one =
+    subst (λ l. AllZip R l (ys ++ y ∷ []))
+    (sym (map_more f xs index d within))
+    (all_zip_push R (map f (take index xs)) ys (f (get_or xs index d)) y all one)
+
+-- a property of an element is one of some element
+pub some_at : {A B : Type 0} (P : B → Type 0) (f : A → B) (xs : List A) (index : ℕ) (d : A) → index < length xs
+    → P (f (get_or xs index d)) → Any P (map f xs)
+some_at P f xs index d within holds = (
+  index,
+  f (get_or xs index d),
+  rw length-map within,
+  get_or-map f xs index d (f (get_or xs index d)) within,
+  holds,
+)

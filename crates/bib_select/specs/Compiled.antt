@@ -1,0 +1,88 @@
+-- Meaning: words of public contracts.
+-- A parsed condition has the tests of its text. Its regular expressions are compiled, and its names are in lower case.
+use Rattle.std.specs.Prelude.{◌≡◌, ◌≢◌, ◌⊎◌, ℕ, List, Result, Ok, Err, ⊤}
+use Rattle.std.specs.List.{Any, AllZip}
+use Rattle.std.specs.Str.{str_to_ascii_lowercase}
+use Rattle.bib_tables.specs.EntryType.{entry_type_of}
+use Rattle.regex.specs.Patterns.{default_config}
+use Rattle.regex.specs.Strings.{regex_source, regex_config, IsReadFromSource, IsDefaultFailure}
+use Rattle.regex.specs.declared.string.regex.Regex.{Regex}
+use Rattle.regex.specs.declared.error.Error as regex
+use Rattle.regex.specs.declared.error.Error.TheVariants as cause_kind
+use Rattle.bib_select.specs.Conditions.{TermAsked, TestAsked, TextAsked}
+use Rattle.bib_select.specs.Conditions.TestAsked.{has, of_type, of_other_type, key, field, year}
+use Rattle.bib_select.specs.declared.errors.SelectionError.{SelectionError}
+use Rattle.bib_select.specs.declared.errors.SelectionError.TheVariants.{Malformed, OutOfMemory}
+use Rattle.bib_select.specs.declared.errors.SelectionErrorKind.TheVariants as kind
+use Rattle.bib_select.specs.declared.terms.Operator.TheVariants as operator
+use Rattle.bib_select.specs.declared.selection.Term.{Term}
+use Rattle.bib_select.specs.declared.selection.Test.{Test}
+use Rattle.bib_select.specs.declared.selection.Test.TheVariants as test
+use Rattle.bib_select.specs.declared.selection.TextTest.{TextTest}
+use Rattle.bib_select.specs.declared.selection.TextTest.TheVariants as text_test
+
+-- the regular expression is compiled from this text, with the default options
+pub record IsCompiledFrom (text : List ℕ) (regex : Regex) : Type 0 where
+  pub source : regex_source regex ≡ text
+  pub config : regex_config regex ≡ default_config
+  pub pattern : IsReadFromSource regex
+
+-- a test of a text has this operator and this text
+abbrev pub IsTextTestOf : TextAsked → TextTest → Type 0
+IsTextTestOf asked (text_test.Is text) = (asked.operator ≡ operator.Is) × (asked.text ≡ text)
+IsTextTestOf asked (text_test.IsNot text) = (asked.operator ≡ operator.IsNot) × (asked.text ≡ text)
+IsTextTestOf asked (text_test.Contains text) = (asked.operator ≡ operator.Contains) × (asked.text ≡ text)
+IsTextTestOf asked (text_test.Matches regex) = (asked.operator ≡ operator.Matches) × IsCompiledFrom asked.text regex
+
+-- a test is the one that is written so
+abbrev pub IsTestOf : TestAsked → Test → Type 0
+IsTestOf (has name) t = t ≡ test.Has (str_to_ascii_lowercase name)
+IsTestOf (of_type name) t = t ≡ test.OfType (entry_type_of name)
+IsTestOf (of_other_type name) t = t ≡ test.OfOtherType (entry_type_of name)
+IsTestOf (key asked) t = (text : TextTest) × (t ≡ test.Key text) × IsTextTestOf asked text
+IsTestOf (field name asked) t = (text : TextTest) × (t ≡ test.Field (str_to_ascii_lowercase name) text) × IsTextTestOf asked text
+IsTestOf (year comparison number) t = t ≡ test.Year comparison number
+
+-- a term is the one that is written so
+pub record IsTermOf (asked : TermAsked) (term : Term) : Type 0 where
+  pub negated : term.negated ≡ asked.negated
+  pub test : IsTestOf asked.asked term.test
+
+-- these are the text and the byte offset
+abbrev pub HasText : List ℕ → ℕ → List ℕ → ℕ → Type 0
+HasText text place source at = (text ≡ source) × (place ≡ at)
+
+-- a text in a test is a regular expression, with this text and at this byte offset
+abbrev pub HasTextExpression : TextAsked → List ℕ → ℕ → Type 0
+HasTextExpression asked source at = (asked.operator ≡ operator.Matches) × HasText asked.text asked.at source at
+
+-- a test has a regular expression with this text at this byte offset
+abbrev pub HasExpression : TestAsked → List ℕ → ℕ → Type 0
+HasExpression (has name) source at = ⊥
+HasExpression (of_type name) source at = ⊥
+HasExpression (of_other_type name) source at = ⊥
+HasExpression (key asked) source at = HasTextExpression asked source at
+HasExpression (field name asked) source at = HasTextExpression asked source at
+HasExpression (year comparison number) source at = ⊥
+
+-- a term has one
+abbrev pub HasTermExpression : List TermAsked → List ℕ → ℕ → Type 0
+HasTermExpression terms source at = Any (λ term. HasExpression term.asked source at) terms
+
+-- a condition has one
+abbrev pub HasAnyExpression : List (List TermAsked) → List ℕ → ℕ → Type 0
+HasAnyExpression alternatives source at = Any (λ terms. HasTermExpression terms source at) alternatives
+
+-- the error of the crate `regex` for the text at this byte offset, which is never out of memory or an internal error
+pub record IsExpressionError (Has : List ℕ → ℕ → Type 0) (cause : regex.Error) (at : ℕ) : Type 0 where
+  pub source : List ℕ
+  pub here : Has source at
+  pub failure : IsDefaultFailure source cause
+  pub no_memory : cause ≢ cause_kind.OutOfMemory
+  pub no_internal : cause ≢ cause_kind.Internal
+
+-- the error of compiling a condition that has these regular expressions: that of one of them, or out of memory
+abbrev pub IsCompileError : (List ℕ → ℕ → Type 0) → SelectionError → Type 0
+IsCompileError Has OutOfMemory = ⊤
+IsCompileError Has (Malformed (kind.Regex cause) at) = IsExpressionError Has cause at
+IsCompileError Has (Malformed other at) = ⊥

@@ -1,0 +1,49 @@
+-- Meaning: words of public contracts.
+-- Parsing a condition: which condition a text is, and what error it gives if it is none.
+use Rattle.std.specs.Prelude.{◌≡◌, ℕ, List, length, Result, Ok, Err, ⊤}
+use Rattle.std.specs.List.{AllZip}
+use Rattle.bib_text.specs.Places.{place}
+use Rattle.bib_select.specs.Compiled.{HasAnyExpression, IsCompileError, IsTermOf}
+use Rattle.bib_select.specs.Conditions.{TermAsked, alternatives_asked}
+use Rattle.bib_select.specs.Segments.{Segment}
+use Rattle.bib_select.specs.Tokens.{Placed, AreTokens}
+use Rattle.bib_select.specs.declared.errors.SelectionError.{SelectionError}
+use Rattle.bib_select.specs.declared.errors.SelectionError.TheVariants.{Malformed, OutOfMemory}
+use Rattle.bib_select.specs.declared.errors.SelectionErrorKind.TheVariants.{Regex, UnclosedQuote}
+use Rattle.bib_select.specs.declared.selection.Selection.{Selection}
+
+-- all tokens of a text
+abbrev pub whole_text : List ℕ → List Placed → Segment
+whole_text text tokens = record { tokens = tokens; end = length text }
+
+-- the result of parsing the tokens of a text: the alternatives of the condition, or the error
+pub record IsConditionRead (text : List ℕ) (outcome : Result (List (List TermAsked)) SelectionError) : Type 0 where
+  pub tokens : List Placed
+  pub cut : AreTokens (place text 0) (Ok tokens)
+  pub reads : alternatives_asked (whole_text text tokens) ≡ outcome
+
+-- the selection is the condition that the text is
+pub record IsParsed (text : List ℕ) (selection : Selection) : Type 0 where
+  pub asked : List (List TermAsked)
+  pub reads : IsConditionRead text (Ok asked)
+  pub compiled : AllZip (AllZip IsTermOf) asked selection.alternatives
+
+-- the text is a condition, and the error is that of one of its regular expressions
+pub record IsExpressionRefused (text : List ℕ) (error : SelectionError) : Type 0 where
+  pub asked : List (List TermAsked)
+  pub reads : IsConditionRead text (Ok asked)
+  pub refused : IsCompileError (HasAnyExpression asked) error
+
+-- the error of parsing a text: a quote that isn't closed, the error of a regular expression, the first token that doesn't fit, or
+-- out of memory
+abbrev pub IsParseError : List ℕ → SelectionError → Type 0
+IsParseError text OutOfMemory = ⊤
+IsParseError text (Malformed UnclosedQuote at) = AreTokens (place text 0) (Err at)
+IsParseError text (Malformed (Regex cause) at) = IsExpressionRefused text (Malformed (Regex cause) at)
+IsParseError text (Malformed other at) = IsConditionRead text (Err (Malformed other at))
+
+-- an error of the text, and not of a regular expression or of memory
+abbrev pub IsSyntaxError : SelectionError → Type 0
+IsSyntaxError OutOfMemory = ⊥
+IsSyntaxError (Malformed (Regex cause) at) = ⊥
+IsSyntaxError (Malformed other at) = ⊤

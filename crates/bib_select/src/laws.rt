@@ -1,0 +1,19 @@
+//! A law of conditions. The function has no code: its clauses are theorems about the definitions.
+
+ghost use Rattle.std.specs.Prelude.{◌≡◌, ℕ, List, Result, Ok};
+ghost use Rattle.bib_text.specs.Places.{Place};
+ghost use Rattle.bib_select.specs.Conditions.{TermAsked};
+ghost use Rattle.bib_select.specs.Parsed.{IsConditionRead, IsParseError, IsSyntaxError};
+ghost use Rattle.bib_select.specs.Tokens.{Placed, AreTokens};
+ghost use Rattle.bib_select.specs.declared.errors.SelectionError.{SelectionError};
+
+/// A text has one list of tokens or one quote that isn't closed, is one condition at most, and no condition has an error except that
+/// of one of its regular expressions.
+pub fn a_text_is_one_condition()
+    ensures tokens { (place : Place) (tokens others : Result (List Placed) ℕ) → AreTokens place tokens →
+        AreTokens place others → tokens ≡ others }
+    ensures condition { (text : List ℕ) (asked others : Result (List (List TermAsked)) SelectionError) →
+        IsConditionRead text asked → IsConditionRead text others → asked ≡ others }
+    ensures no_error { (text : List ℕ) (asked : List (List TermAsked)) (error : SelectionError) →
+        IsConditionRead text (Ok asked) → IsParseError text error → IsSyntaxError error → ⊥ }
+{}

@@ -1,0 +1,28 @@
+//! Parses a condition from its text.
+
+ghost use Rattle.std.specs.Prelude.{IfOk, IfErr};
+ghost use Rattle.bib_select.specs.Parsed.{IsParsed, IsParseError};
+
+use crate::errors::SelectionError;
+use crate::segments::Segment;
+use crate::selection::Selection;
+use crate::tokens::tokens;
+use crate::{compiling, conditions};
+use std::alloc::Global;
+
+impl Selection {
+    /// Parses a condition. The error has the byte offset of the token that doesn't fit, or is out of memory.
+    pub fn parse(alloc: Global, text: &str) -> Result<Selection, SelectionError>
+        ensures found { IfOk result (IsParsed text.now) }
+        ensures refused { IfErr result (IsParseError text.now) }
+    {
+        let tokens = tokens(alloc, text)?;
+        let whole = Segment {
+            tokens: &tokens,
+            end: text.len(),
+        };
+        let asked = conditions::alternatives(alloc, whole)?;
+        let alternatives = compiling::alternatives(alloc, &asked)?;
+        Ok(Selection { alternatives })
+    }
+}
