@@ -1,0 +1,2 @@
+pub mod PatternFacts
+pub mod SuffixFacts
