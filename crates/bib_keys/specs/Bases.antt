@@ -1,6 +1,6 @@
 -- Meaning: words of public contracts.
 -- The text that a pattern gives for an entry.
-use Rattle.std.specs.Prelude.{ℕ, ◌==◌, ◌&&◌, Bool, true, false, not, if◌then◌else◌, List, [], ◌∷◌, codes, take, Option}
+use Rattle.std.specs.Prelude.{ℕ, ◌==◌, ◌&&◌, Bool, true, false, not, if◌then◌else◌, List, [], ◌∷◌, codes, encode_utf8, take, Option}
 use Rattle.std.specs.Char.{is_ascii_alphanumeric}
 use Rattle.std.specs.List.{flat_map, list_any}
 use Rattle.std.specs.Option.{option_map_or, unwrap_or}
@@ -34,21 +34,20 @@ year_text is_short entry = option_map_or (λ date. year_in is_short (text date))
 
 -- the text of a part for an entry; a placeholder whose field is missing has no text
 abbrev pub part_text : Entry → Part → List ℕ
-part_text entry (Literal c) = c ∷ []
+part_text entry (Literal c) = encode_utf8 c
 part_text entry (Author case count) = authors_text case count entry
 part_text entry (Title case count) = title_text case count entry
 part_text entry Year = year_text false entry
 part_text entry ShortYear = year_text true entry
 
--- whether both characters are hyphens
-abbrev pub are_hyphens : ℕ → ℕ → Bool
-are_hyphens last c = last == char.hyphen && c == char.hyphen
+-- whether `c` stays in a key after the character `last`: it is allowed, and no second hyphen
+abbrev pub is_kept : ℕ → ℕ → Bool
+is_kept last c = is_in_keys c && not (last == char.hyphen && c == char.hyphen)
 
--- a text without the characters that keys don't have, and with one hyphen for several in a row; `last` is the character before it
+-- a text without the characters that don't stay in a key; `last` is the character before it
 abbrev pub cleaned_after : ℕ → List ℕ → List ℕ
 cleaned_after last [] = []
-cleaned_after last (c ∷ text) =
-    if is_in_keys c && not (are_hyphens last c) then c ∷ cleaned_after c text else cleaned_after last text
+cleaned_after last (c ∷ text) = if is_kept last c then c ∷ cleaned_after c text else cleaned_after last text
 
 -- the same at the start of a key
 abbrev pub cleaned : List ℕ → List ℕ

@@ -100,7 +100,14 @@ fn joined(alloc: Global, pattern: &[Part], entry: &Entry) -> Result<String, Allo
     Ok(out)
 }
 
-// Returns a text without the characters that keys don't have, and with one hyphen for several in a row.
+// Returns whether `c` stays in a key after the character `last`: it is allowed, and no second hyphen.
+fn is_kept(last: char, c: char) -> bool
+    ensures { result ≡ spec.is_kept last c }
+{
+    is_in_keys(c) && !(last == '-' && c == '-')
+}
+
+// Returns a text without the characters that don't stay in a key.
 fn cleaned(alloc: Global, text: &str) -> Result<String, AllocError>
     ensures { IfOk result (λ key. string_bytes key ≡ spec.cleaned text.now) }
 {
@@ -108,10 +115,11 @@ fn cleaned(alloc: Global, text: &str) -> Result<String, AllocError>
     let mut last = ' ';
     'bytes: for byte in text.as_bytes() {
         let c = *byte as char;
-        if is_in_keys(c) && !(last == '-' && c == '-') {
-            out.push(c)?;
-            last = c;
+        if !is_kept(last, c) {
+            continue;
         }
+        out.push(c)?;
+        last = c;
     }
     Ok(out)
 }
