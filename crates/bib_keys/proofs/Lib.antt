@@ -1,0 +1,7 @@
+pub mod AllowedFacts
+pub mod BaseFacts
+pub mod KeyFacts
+pub mod PatternFacts
+pub mod SuffixFacts
+pub mod WordFacts
+pub mod YearFacts

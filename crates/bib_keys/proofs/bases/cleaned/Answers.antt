@@ -1,0 +1,11 @@
+use Rattle.std.proofs.Common.{◌∙◌, sym}
+use Rattle.std.specs.Prelude.{string_bytes}
+use Rattle.bib_keys.proofs.BaseFacts.{kept}
+use Rattle.bib_keys.proofs.bases.cleaned.Goals as goal
+
+pub bytes-preserved : goal.bytes-preserved
+bytes-preserved c =
+    c.bytes.invariant
+    ∙ kept c.bytes.last c.bytes.byte-index c.as_bytes-byte-items.result.now c.args.text.now (string_bytes c.bytes.out)
+    (string_bytes c.push.new.self) c.as_bytes-byte-items.ensures.value c.bytes-test.true (sym c.is_kept.ensures ∙ c.if-not-is_kept.false)
+    c.in_ok-push.ensures.bytes

@@ -1,0 +1,12 @@
+use Rattle.std.proofs.Common.{◌≡◌, ◌∙◌, ap, sym, true}
+use Rattle.std.specs.Prelude.{string_bytes}
+use Rattle.std.specs.BTreeMap.{get_by_text}
+use Rattle.bib_keys.specs.Taken.{is_taken}
+use Rattle.bib_keys.proofs.KeyFacts.{more_taken}
+use Rattle.bib_keys.proofs.keys.new_from.Goals as goal
+
+pub numbers-preserved : goal.numbers-preserved
+numbers-preserved c =
+    let taken = get_by_text c.args.taken.now in
+    more_taken taken (string_bytes c.args.text.now) (string_bytes c.in_ok-key.key) c.args.start c.numbers.number c.numbers.invariant
+    c.in_ok-key.ensures (sym (ap (is_taken taken) c.as_str.ensures.value) ∙ sym c.in_ok-is_taken.ensures ∙ c.if-not-branch.false)

@@ -1,0 +1,10 @@
+pub mod Bases
+pub mod Characters
+pub mod Keys
+pub mod Letters
+pub mod Names
+pub mod Parsing
+pub mod Patterns
+pub mod Taken
+pub mod Words
+pub mod Years

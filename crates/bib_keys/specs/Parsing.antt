@@ -1,0 +1,10 @@
+-- Machinery: words of private contracts.
+-- The errors of patterns.
+use Rattle.std.specs.Prelude.{ℕ, ◌==◌, if◌then◌else◌, List, slice_index}
+use Rattle.bib_text.specs.Characters as char
+use Rattle.bib_keys.specs.declared.errors.PatternError.{PatternError}
+use Rattle.bib_keys.specs.declared.errors.PatternError.TheVariants.{NotInKeys, NoPlaceholder}
+
+-- the error at an offset where the text goes on with `rest`, and no part begins
+abbrev pub error_at : ℕ → List ℕ → PatternError
+error_at at rest = if slice_index rest 0 == char.open_brace then NoPlaceholder at else NotInKeys at

@@ -1,0 +1,19 @@
+-- Meaning: words of public contracts.
+-- The year in a key.
+use Rattle.std.specs.Prelude.{ℕ, ◌&&◌, Bool, true, false, if◌then◌else◌, List, [], ◌∷◌, drop, length, nat_le, take}
+use Rattle.std.specs.Char.{is_ascii_digit}
+use Rattle.std.specs.List.{list_all}
+
+-- whether a text begins with four digits
+abbrev pub begins_with_year : List ℕ → Bool
+begins_with_year text = nat_le 4 (length text) && list_all is_ascii_digit (take 4 text)
+
+-- the first four digits in a row, or nothing
+abbrev pub four_digits : List ℕ → List ℕ
+four_digits [] = []
+four_digits (c ∷ text) = if begins_with_year (c ∷ text) then take 4 (c ∷ text) else four_digits text
+
+-- these digits, or the last two of them
+abbrev pub year_in : Bool → List ℕ → List ℕ
+year_in false text = four_digits text
+year_in true text = drop 2 (four_digits text)

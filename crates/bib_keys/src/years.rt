@@ -1,0 +1,46 @@
+//! The year in a key.
+
+ghost use Rattle.std.specs.Prelude.{◌≡◌, ◌⊎◌, length, IsAscii};
+ghost use Rattle.std.specs.Char.{is_ascii_digit};
+ghost use Rattle.std.specs.List.{list_all};
+ghost use Rattle.bib_keys.specs.Years as spec;
+
+// Returns whether bytes are digits.
+fn are_digits(bytes: &[u8]) -> bool
+    ensures { result ≡ list_all is_ascii_digit bytes.now }
+{
+    bytes.iter().all(|byte| byte.is_ascii_digit())
+}
+
+// Returns whether bytes begin with four digits.
+fn begins_with_year(bytes: &[u8]) -> bool
+    ensures { result ≡ spec.begins_with_year bytes.now }
+{
+    bytes.len() >= 4 && are_digits(&bytes[..4])
+}
+
+// Returns the first four digits in a row, or an empty text.
+fn four_digits(text: &str) -> &str
+    ensures digits { result.now ≡ spec.four_digits text.now }
+    ensures ascii { IsAscii result.now }
+    ensures length { length result.now ≡ 0 ⊎ length result.now ≡ 4 }
+{
+    let bytes = text.as_bytes();
+    'starts: for start in 0..bytes.len() {
+        if begins_with_year(&bytes[start..]) {
+            return &text[start..start + 4];
+        }
+    }
+    ""
+}
+
+// Returns the first four digits in a row, or the last two of them, or an empty text.
+pub(crate) fn year_in(text: &str, is_short: bool) -> &str
+    ensures { result.now ≡ spec.year_in is_short text.now }
+{
+    let digits = four_digits(text);
+    if is_short && !digits.is_empty() {
+        return &digits[2..];
+    }
+    digits
+}
