@@ -7,7 +7,7 @@ _bibkit() {
     local fields='author editor title subtitle booktitle journaltitle journal series edition volume number pages publisher location address
         institution school organization date year month doi isbn issn url urldate note keywords abstract crossref'
     if [ "$COMP_CWORD" = 1 ]; then
-        mapfile -t COMPREPLY < <(compgen -W 'lint keys get grep cited stats fmt convert resolve set unset rename remove add strings help --help --version' -- "$current")
+        mapfile -t COMPREPLY < <(compgen -W 'lint keys get select grep cited stats fmt convert resolve set unset rename rekey edit remove add strings help --help --version' -- "$current")
         return
     fi
     case $previous in
@@ -55,7 +55,7 @@ _bibkit() {
             mapfile -t COMPREPLY < <(compgen -P "$before" -W "$fields" -- "${current##*,}")
             return
             ;;
-        --width | --at-least)
+        --width | --at-least | --where | --pattern)
             COMPREPLY=()
             return
             ;;
@@ -71,6 +71,9 @@ _bibkit() {
     if [[ $current == -* ]]; then
         local options='--help'
         [[ $command =~ ^(set|unset|rename|remove|add)$ ]] && options='--file --write --diff --help'
+        [ "$command" = rekey ] && options='--pattern --map --check --file --write --diff --help'
+        [ "$command" = edit ] && options='--where --rename --set --add --file --write --diff --help'
+        [ "$command" = select ] && options='--where --keys --help'
         [ "$command" = strings ] && options='--expand --collect --fields --at-least --file --write --diff --help'
         [ "$command" = fmt ] && options='--indent --align --no-align --trailing-comma --no-trailing-comma --blank-lines --delimiters --order
             --width --sort --check --write --diff --help'

@@ -1,6 +1,6 @@
 # Completions of bibkit for fish: put this file into ~/.config/fish/completions.
-set -l commands lint keys get grep cited stats fmt convert resolve set unset rename remove add strings help
-set -l edits set unset rename remove add strings
+set -l commands lint keys get select grep cited stats fmt convert resolve set unset rename rekey edit remove add strings help
+set -l edits set unset rename rekey edit remove add strings
 set -l codes unread-bytes syntax unread-field unknown-abbreviation circular-abbreviation duplicate-key circular-reference \
     unread-date missing-field superfluous-field malformed-field unknown-field unknown-reference likely-duplicate missing-entry \
     unused-entry
@@ -11,6 +11,7 @@ complete -c bibkit -n "not __fish_seen_subcommand_from $commands" -f
 complete -c bibkit -n "not __fish_seen_subcommand_from $commands" -a lint -d 'Report errors and likely mistakes in files'
 complete -c bibkit -n "not __fish_seen_subcommand_from $commands" -a keys -d 'Print the key of each entry'
 complete -c bibkit -n "not __fish_seen_subcommand_from $commands" -a get -d 'Print the entries with these keys'
+complete -c bibkit -n "not __fish_seen_subcommand_from $commands" -a select -d 'Print the entries that meet a condition'
 complete -c bibkit -n "not __fish_seen_subcommand_from $commands" -a grep -d 'Print the entries with a text in a field'
 complete -c bibkit -n "not __fish_seen_subcommand_from $commands" -a cited -d 'Print the entries that a document cites'
 complete -c bibkit -n "not __fish_seen_subcommand_from $commands" -a stats -d 'Count entries, fields and findings'
@@ -20,6 +21,8 @@ complete -c bibkit -n "not __fish_seen_subcommand_from $commands" -a resolve -d 
 complete -c bibkit -n "not __fish_seen_subcommand_from $commands" -a set -d 'Set fields of an entry'
 complete -c bibkit -n "not __fish_seen_subcommand_from $commands" -a unset -d 'Remove fields of an entry'
 complete -c bibkit -n "not __fish_seen_subcommand_from $commands" -a rename -d 'Rename the key of an entry'
+complete -c bibkit -n "not __fish_seen_subcommand_from $commands" -a rekey -d 'Give entries keys by a pattern'
+complete -c bibkit -n "not __fish_seen_subcommand_from $commands" -a edit -d 'Edit fields of all entries that meet a condition'
 complete -c bibkit -n "not __fish_seen_subcommand_from $commands" -a remove -d 'Remove entries'
 complete -c bibkit -n "not __fish_seen_subcommand_from $commands" -a add -d 'Add the entries of standard input'
 complete -c bibkit -n "not __fish_seen_subcommand_from $commands" -a strings -d 'Expand abbreviations, or collect repeated texts'
@@ -50,6 +53,14 @@ complete -c bibkit -n '__fish_seen_subcommand_from resolve' -l write -d 'Write t
 complete -c bibkit -n '__fish_seen_subcommand_from resolve' -l diff -d 'Print a diff'
 complete -c bibkit -n '__fish_seen_subcommand_from convert' -x -l to -a 'csl json ris biblatex bibtex' -d 'The format'
 complete -c bibkit -n '__fish_seen_subcommand_from convert' -x -l from -a 'bib csl' -d 'The format of the input'
+complete -c bibkit -n '__fish_seen_subcommand_from select edit' -x -l where -d 'Only entries that meet this condition'
+complete -c bibkit -n '__fish_seen_subcommand_from select' -l keys -d 'Print only their keys'
+complete -c bibkit -n '__fish_seen_subcommand_from edit' -x -l rename -d 'Rename a field: OLD=NEW'
+complete -c bibkit -n '__fish_seen_subcommand_from edit' -x -l set -d 'Set a field: FIELD=VALUE'
+complete -c bibkit -n '__fish_seen_subcommand_from edit' -x -l add -d 'Add a field to entries that lack it: FIELD=VALUE'
+complete -c bibkit -n '__fish_seen_subcommand_from rekey' -x -l pattern -d 'The pattern of the keys'
+complete -c bibkit -n '__fish_seen_subcommand_from rekey' -l map -d 'Print OLD,NEW for each key that changes'
+complete -c bibkit -n '__fish_seen_subcommand_from rekey' -l check -d 'Report the keys that would change'
 complete -c bibkit -n '__fish_seen_subcommand_from strings' -l expand -d 'Replace abbreviations by their texts'
 complete -c bibkit -n '__fish_seen_subcommand_from strings' -l collect -d 'Collect repeated texts'
 complete -c bibkit -n '__fish_seen_subcommand_from strings' -x -l fields -a "$fields" -d 'Collect the texts of these fields'

@@ -95,7 +95,7 @@ run 'the version' 0 $'bibkit 0.1.0\n' --version
 run 'the version, in short' 0 $'bibkit 0.1.0\n' -V
 for word in help --help -h; do
     run_start "$word" 0 $'Check, search and edit bibliography files\n\nUsage: bibkit <COMMAND>\n' "$word"
-    for command in lint keys get grep cited stats fmt convert resolve set unset rename remove add strings; do
+    for command in lint keys get select grep cited stats fmt convert resolve set unset rename rekey edit remove add strings; do
         holds "$word names $command" grep -qE "^  $command +[A-Z]" results
     done
 done
@@ -108,11 +108,11 @@ run_start 'help of get' 0 $'Print the entries with these keys, unchanged\n\nUsag
 run_start 'help of grep' 0 $'Print the entries with a text in a field, unchanged\n\nUsage: bibkit grep <FIELD> <TEXT> [FILE]...\n' grep --help
 run_start 'help of cited' 0 $'Print the entries that a document cites, unchanged\n\nUsage: bibkit cited <DOCUMENT> [FILE]...\n' cited --help
 run_start 'help of stats' 0 $'Count entries by type and year, fields by name, and findings by code\n\nUsage: bibkit stats [FILE]...\n' stats --help
-for command in lint keys get grep cited stats fmt convert resolve set unset rename remove add strings; do
+for command in lint keys get select grep cited stats fmt convert resolve set unset rename rekey edit remove add strings; do
     "$program" $command --help >output
     holds "help of $command has an example" prints "  bibkit $command"
 done
-for command in set unset rename remove add strings; do
+for command in set unset rename rekey edit remove add strings; do
     "$program" $command --help >output
     holds "help of $command names the file" prints '-f, --file <FILE>'
     holds "help of $command names --write" prints '--write'
@@ -1123,6 +1123,71 @@ cp circle.bib circular.bib
 run 'a circle is not written' 1 '' resolve --write circular.bib
 holds 'a file that is refused stays' cmp -s circle.bib circular.bib
 
+# select
+cat >select.bib <<'BIB'
+@book{knuth1984, author={Knuth, Donald E.}, title={The TeXbook}, year=1984}
+@article{church1936, author={Church, Alonzo}, title={A Note}, journaltitle={JSL}, date={1936-03}, doi={10/x}}
+@misc{n, title={No Year}}
+BIB
+church='@article{church1936, author={Church, Alonzo}, title={A Note}, journaltitle={JSL}, date={1936-03}, doi={10/x}}'
+run 'the entries that meet a condition' 0 "$church"$'\n' select --where 'type = article' select.bib
+run 'their keys' 0 $'knuth1984\n' select --keys --where 'year >= 1950' select.bib
+run 'entries meet all conditions' 1 '' select --where 'type = book' --where 'has doi' select.bib
+run 'without a condition, all keys' 0 $'knuth1984\nchurch1936\nn\n' select --keys select.bib
+run 'keys by a regular expression' 0 $'knuth1984\n' select --keys --where 'author ~ "^Knuth"' select.bib
+run 'keys by alternatives' 0 $'knuth1984\nn\n' select --keys --where 'author contains Knuth or not has author' select.bib
+cp select.bib input
+run 'selected entries of standard input' 0 "$church"$'\n' select --where 'has doi'
+run 'selected keys of two files' 0 $'church1936\nb\n' select --keys --where 'has doi or key = b' select.bib two.bib
+run 'selected keys of a file with an error' 0 $'a\n' select --keys --where 'has title' broken.bib
+run_messages 'a condition that ends too early' 2 $'bibkit: --where `year >`: expected a year at byte 6\n' select --where 'year >' select.bib
+run 'a condition that ends too early: nothing is printed' 2 '' select --where 'year >' select.bib
+run 'a file that is not there, and selected keys' 2 $'n\n' select --keys --where 'key = n' nothing.bib select.bib
+
+# edit
+edited='@article{church1936, langid = {english}, note = {x}, author={Church, Alonzo}, title={A Note}, journal={JSL}, date={1936-03}, doi={10/x}}'
+run 'fields of selected entries' 0 "$(head -1 select.bib)"$'\n'"$edited"$'\n@misc{n, title={No Year}}\n' \
+    edit --where 'type = article' --add langid=english --set note=x --rename journaltitle=journal --file select.bib
+run 'fields of all entries' 0 $'@misc{a, note = {x}, title={A}, author={B}}\n\n@misc{b, note = {x}, title={x y}, author={Knuth, D.}, year={1984}}\n' \
+    edit --set note=x -f two.bib
+run 'fields of no entry' 0 "$(cat two.bib)"$'\n' edit --where 'key = none' --set note=x -f two.bib
+cp two.bib input
+run 'fields of entries of standard input' 0 $'@misc{a, title={A}, author={B}}\n\n@misc{b, title={x y}, author={Knuth, D.}, date={1984}}\n' \
+    edit --rename year=date
+cp two.bib edited.bib
+run 'edited fields are written' 0 '' edit --where 'key = a' --add note=x --write --file edited.bib
+holds 'the file has the edited fields' eval 'printf "@misc{a, note = {x}, title={A}, author={B}}\n\n@misc{b, title={x y}, author={Knuth, D.}, year={1984}}\n" | cmp -s - edited.bib'
+run_messages 'a value that can not be written' 1 $'bibkit: two.bib: `note`: the value can\'t be written in braces\n' edit --set 'note=}' -f two.bib
+run_messages 'a name that can not be one' 1 $'bibkit: two.bib: `1a`: the text can\'t be the name of a field\n' edit --rename title=1a -f two.bib
+run_messages 'an edit without an equals sign' 2 $'bibkit: `note` isn\'t FIELD=VALUE; use `--file` for the name of the file\n' edit --set note -f two.bib
+run_messages 'a wrong condition of an edit' 2 $'bibkit: --where `or`: expected a test, for example `type = article` or `has doi` at byte 0\n' edit --where or -f two.bib
+refuses 'fields of a file with an error' 1 $'broken.bib:3:1: error: expected comma [syntax]\n' edit --set note=x -f broken.bib
+
+# rekey
+cat >rekey.bib <<'BIB'
+@book{a, author={Knuth, Donald E.}, title={The TeXbook}, year=1984}
+@inbook{b, author={Knuth, Donald E.}, title={Boxes}, crossref={a}, year=1984}
+BIB
+run 'keys by a pattern' 0 $'@book{Knuth1984, author={Knuth, Donald E.}, title={The TeXbook}, year=1984}
+@inbook{Knuth1984a, author={Knuth, Donald E.}, title={Boxes}, crossref={Knuth1984}, year=1984}
+' rekey --pattern '{Author}{year}' -f rekey.bib
+run 'keys by the usual pattern' 0 $'@book{knuth1984texbook, author={Knuth, Donald E.}, title={The TeXbook}, year=1984}
+@inbook{knuth1984boxes, author={Knuth, Donald E.}, title={Boxes}, crossref={knuth1984texbook}, year=1984}
+' rekey -f rekey.bib
+run 'the old and the new keys' 0 $'a,knuth1984\nb,knuth1984a\n' rekey --pattern '{author}{year}' --map -f rekey.bib
+cp rekey.bib rekeyed.bib
+run 'new keys are written, and their map is printed' 0 $'a,k\nb,ka\n' rekey --pattern k --map --write -f rekeyed.bib
+run 'new keys are written again' 0 '' rekey --pattern k --map --write -f rekeyed.bib
+holds 'the file has the new keys' grep -qF '@inbook{ka, author={Knuth, Donald E.}, title={Boxes}, crossref={k}, year=1984}' rekeyed.bib
+run 'keys follow the pattern' 0 '' rekey --pattern k --check -f rekeyed.bib
+run_messages 'keys do not follow the pattern' 1 $'rekeyed.bib:1:7: error: the key of `k` isn\'t `k84`
+rekeyed.bib:2:9: error: the key of `ka` isn\'t `k84a`
+' rekey --pattern 'k{year:2}' --check -f rekeyed.bib
+printf '@misc{a, title={Tea}}\n@misc{b, title={Bee}, ids={TEA}}\n' >taken.bib
+run_messages 'a new key that is an alias' 1 $'bibkit: taken.bib: an entry has the name already, as its key or in its field `ids`\n' rekey --pattern '{title}' -f taken.bib
+run_messages 'a pattern that is none' 2 $'bibkit: --pattern `{x}`: the brace at byte 0 doesn\'t begin `{author}`, `{title}` or `{year}`, with a number such as `:2` or without\n' rekey --pattern '{x}' -f rekey.bib
+refuses 'new keys of a file with an error' 1 $'broken.bib:3:1: error: expected comma [syntax]\n' rekey -f broken.bib
+
 # completions, in the shells that are there: each row is a line, and what its last word can be
 completed() {
     if printf %s "$3" | cmp -s - output; then
@@ -1167,6 +1232,10 @@ in_bash 'bibkit rem' $'remove\n'
 in_bash 'bibkit conv' $'convert\n'
 in_bash 'bibkit res' $'resolve\n'
 in_bash 'bibkit resolve --' $'--write\n--diff\n--help\n'
+in_bash 'bibkit sel' $'select\n'
+in_bash 'bibkit select --' $'--where\n--keys\n--help\n'
+in_bash 'bibkit edit --re' $'--rename\n'
+in_bash 'bibkit rekey --m' $'--map\n'
 in_bash 'bibkit convert --to ' $'csl\njson\nris\nbiblatex\nbibtex\n'
 in_bash 'bibkit set --wr' $'--write\n'
 in_bash 'bibkit fmt --no-al' $'--no-align\n'
