@@ -52,6 +52,12 @@ class Difference(NamedTuple):
     after: str = ""
 
 
+def with_user_field(entries):
+    """The entries with the same text in the field usera of each."""
+    keep = lambda fields: [it for it in fields if it[0] != "usera"]
+    return [Entry(it.key, it.entry_type, [*keep(it.fields), ("usera", "An {E}dit")]) for it in entries]
+
+
 CONVERT = ["convert", "--to"]
 # The commands without a key.
 LAYOUTS = [
@@ -62,14 +68,15 @@ LAYOUTS = [
     Command("expand", ["strings", "--expand", "-f", "FILE"]),
     Command("collect", ["strings", "--collect", "-f", "FILE"]),
     Command("resolve", ["resolve", "FILE"], "resolved"),
+    Command("edit", ["edit", "--set", "usera=An {E}dit", "-f", "FILE"], "edited", with_user_field),
     Command("to-biblatex", [*CONVERT, "biblatex", "FILE"], "biblatex"),
     Command("to-bibtex", [*CONVERT, "bibtex", "FILE"], "bibtex"),
     Command("there-and-back", [*CONVERT, "biblatex", "FILE"], "back", then=[*CONVERT, "bibtex", "FILE"]),
 ]
 EDITS = """add add-case add-string rename rename-case set-new set-old set-twice unset unset-last unset-all remove""".split()
-NAMES = [it.name for it in LAYOUTS] + EDITS
+NAMES = [it.name for it in LAYOUTS] + ["rekey"] + EDITS
 # Biber takes seconds for a file, so it reads the output of these commands only.
-FOR_BIBER = set("fmt-quotes sort-key expand collect resolve to-biblatex to-bibtex add rename set-new set-twice".split())
+FOR_BIBER = set("fmt-quotes sort-key expand collect resolve to-biblatex to-bibtex edit rekey add rename set-new set-twice".split())
 
 
 def with_fields(key, change):
@@ -84,14 +91,30 @@ def adding(key, title="Added {T}itle", before=""):
     return Command("add", ["add", "-f", "FILE"], "edited", lambda entries: [*entries, added], text, key)
 
 
+def with_keys(keys):
+    """What is wanted if entries get new keys, each by its old one. Only BibTeX compares keys in any case, and only in crossref."""
+    lower = {old.lower(): new for old, new in keys.items()}
+    def put(name, text):
+        """The text of a reference with the new keys."""
+        new = lambda it: keys.get(it[0]) or name == "crossref" and lower.get(it[0].lower()) or it[0]
+        return re.sub(r"[^,\s]+", new, text) if name in REFERENCES else text
+    named = lambda it: Entry(keys.get(it.key, it.key), it.entry_type, [(name, put(name, text)) for name, text in it.fields])
+    return lambda entries: [named(it) for it in entries]
+
+
 def renaming(old, new):
     """The command that renames a key."""
-    def named(entry):
-        """The entry with the new key, in its references too."""
-        put = lambda text: re.sub(r"[^,\s]+", lambda it: new if it[0].lower() == old.lower() else it[0], text)
-        fields = [(name, put(text) if name in REFERENCES else text) for name, text in entry.fields]
-        return Entry(new if entry.key == old else entry.key, entry.entry_type, fields)
-    return Command("rename", ["rename", old, new, "-f", "FILE"], "renamed", lambda entries: [named(it) for it in entries], key=new)
+    return Command("rename", ["rename", old, new, "-f", "FILE"], "renamed", with_keys({old: new}), key=new)
+
+
+# The command that prints the keys that `rekey` changes.
+KEY_MAP = Command("map", ["rekey", "--map", "-f", "FILE"])
+
+
+def rekeying(said):
+    """The command that gives all entries new keys, which KEY_MAP prints."""
+    keys = dict(it.rsplit(",", 1) for it in said.decode("latin-1").splitlines())
+    return Command("rekey", ["rekey", "-f", "FILE"], "rekeyed", with_keys(keys))
 
 
 def setting(key, name, text):
@@ -293,6 +316,8 @@ def differences(command, program, before, after, source, said):
     found = entry_differences(wanted, after.entries, is_ordered)
     if before.preamble != after.preamble:
         found.append(Difference("preamble", "", "", before.preamble, after.preamble))
+    if rule == "rekeyed":
+        return found
     if rule in ("same", "sorted"):
         found += printed_differences(before.printed, after.printed, set(before.printed))
         return found + message_differences(before.messages, after.messages)

@@ -128,7 +128,7 @@ def compare(work, command, result):
         return judge(work, command, "bibkit", [refusal], (None, None), result)
     judge(work, command, "bytes", byte_differences(command, work.text, new), (None, None), result)
     is_same = new == work.text
-    if is_same and command.rule not in ("edited", "renamed"):
+    if is_same and command.rule not in ("edited", "renamed", "rekeyed"):
         return None
     result.counts[command.name, "changed"] += not is_same
     for program in work.programs:
@@ -172,6 +172,13 @@ def begin(work, result):
     return result.status == "compared"
 
 
+def key_commands(work):
+    """The command that gives all entries new keys, if no two entries have the same key in any case."""
+    status, keys, _ = work.run(changes.KEY_MAP, work.text)
+    lower = [it.key.lower() for it in work.source]
+    return [changes.rekeying(keys)] if status == 0 and len(set(lower)) == len(lower) else []
+
+
 def one_file(job):
     """The result of one file."""
     path, is_crlf, options = job
@@ -187,7 +194,8 @@ def one_file(job):
             result.counts["entries"] += len(work.source)
             chance = random.Random(f"{options.seed} {path.name}")
             strings = [it for it, _ in DEFINITION.findall(text.decode("latin-1"))]
-            for command in changes.LAYOUTS + changes.edits(work.source, referred(work), strings, chance):
+            commands = changes.LAYOUTS + changes.edits(work.source, referred(work), strings, chance)
+            for command in commands + key_commands(work):
                 if not options.only or command.name in options.only:
                     compare(work, command, result)
             if path in options.walk_files and not is_crlf:
