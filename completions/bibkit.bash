@@ -73,7 +73,7 @@ _bibkit() {
         [[ $command =~ ^(set|unset|rename|remove|add)$ ]] && options='--file --write --diff --help'
         [ "$command" = rekey ] && options='--pattern --map --check --file --write --diff --help'
         [ "$command" = edit ] && options='--where --rename --set --add --file --write --diff --help'
-        [ "$command" = select ] && options='--where --keys --help'
+        [ "$command" = select ] && options='--where --complete --keys --help'
         [ "$command" = strings ] && options='--expand --collect --fields --at-least --file --write --diff --help'
         [ "$command" = fmt ] && options='--indent --align --no-align --trailing-comma --no-trailing-comma --blank-lines --delimiters --order
             --width --sort --check --write --diff --help'

@@ -1133,6 +1133,15 @@ church='@article{church1936, author={Church, Alonzo}, title={A Note}, journaltit
 run 'the entries that meet a condition' 0 "$church"$'\n' select --where 'type = article' select.bib
 run 'their keys' 0 $'knuth1984\n' select --keys --where 'year >= 1950' select.bib
 run 'entries meet all conditions' 1 '' select --where 'type = book' --where 'has doi' select.bib
+cat >uses.bib <<'BIB'
+@misc{n, title={N}}
+@inproceedings{c, title={T}, crossref={p}, publisher=acm}
+@proceedings{p, title={P}}
+@string{acm = {ACM}}
+BIB
+run 'what they use is printed, too' 0 $'@string{acm = {ACM}}\n@inproceedings{c, title={T}, crossref={p}, publisher=acm}\n@proceedings{p, title={P}}\n' \
+    select --complete --where 'has publisher' uses.bib
+run 'keys of entries and of those that they use' 0 $'c\np\n' select --complete --keys --where 'key = c' uses.bib
 run 'without a condition, all keys' 0 $'knuth1984\nchurch1936\nn\n' select --keys select.bib
 run 'keys by a regular expression' 0 $'knuth1984\n' select --keys --where 'author ~ "^Knuth"' select.bib
 run 'keys by alternatives' 0 $'knuth1984\nn\n' select --keys --where 'author contains Knuth or not has author' select.bib
@@ -1233,7 +1242,7 @@ in_bash 'bibkit conv' $'convert\n'
 in_bash 'bibkit res' $'resolve\n'
 in_bash 'bibkit resolve --' $'--write\n--diff\n--help\n'
 in_bash 'bibkit sel' $'select\n'
-in_bash 'bibkit select --' $'--where\n--keys\n--help\n'
+in_bash 'bibkit select --' $'--where\n--complete\n--keys\n--help\n'
 in_bash 'bibkit edit --re' $'--rename\n'
 in_bash 'bibkit rekey --m' $'--map\n'
 in_bash 'bibkit convert --to ' $'csl\njson\nris\nbiblatex\nbibtex\n'

@@ -2,7 +2,7 @@
 
 use crate::edits::{Editing, Edits, Mode};
 use crate::rekeying::Rekeying;
-use crate::selecting::Selecting;
+use crate::selecting::{Printed, Selecting};
 use bib_findings::codes::Code;
 use bib_queries::request::{Request as Excerpts, Search};
 use bib_tables::dialects::Dialect;
@@ -383,7 +383,10 @@ fn request_of<'a>(
         "select" => {
             return Ok(Asked::Select(Selecting {
                 conditions: texts(alloc, matches, "where")?,
-                has_keys: matches.get_flag("keys"),
+                printed: Printed {
+                    is_complete: matches.get_flag("complete"),
+                    has_keys: matches.get_flag("keys"),
+                },
             }));
         }
         "stats" => Request::Stats,

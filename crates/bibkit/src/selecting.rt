@@ -4,7 +4,7 @@ use crate::edits::{Editing, after_mark, apply};
 use crate::stops::{Stop, bytes_of, output_stop, say};
 use bib_entry::entry::Entry;
 use bib_queries::excerpts::answer;
-use bib_queries::request::Request as Excerpts;
+use bib_queries::request::{CitedKeys, Request as Excerpts};
 use bib_select::errors::SelectionError;
 use bib_select::selection::Selection;
 use bib_source::decoding::decode;
@@ -15,12 +15,21 @@ use std::alloc::{AllocError, Global};
 use std::io;
 use std::str::from_utf8;
 
-/// The entries to print, and whether only their keys are printed.
+/// The entries to print, and what is printed of them.
 #[derive(Drop)]
 pub struct Selecting<'a> {
     /// The conditions, all of which an entry must meet.
     pub conditions: Vec<&'a str>,
-    /// Whether only the keys of the entries are printed.
+    /// What is printed of the entries.
+    pub printed: Printed,
+}
+
+/// What is printed of the selected entries.
+#[derive(Clone, Copy)]
+pub struct Printed {
+    /// Whether the definitions, the preambles and the entries that they use are printed, too.
+    pub is_complete: bool,
+    /// Whether only the keys of entries are printed.
     pub has_keys: bool,
 }
 
@@ -65,43 +74,39 @@ fn selected_keys<'b>(
     Ok(keys)
 }
 
-// Returns the keys, each followed by a line feed.
-fn key_lines(alloc: Global, keys: &[&str]) -> Result<String, AllocError> {
-    let mut lines = String::new(alloc);
-    'keys: for key in keys {
-        lines.push_str(key)?;
-        lines.push('\n')?;
-    }
-    Ok(lines)
-}
-
 // Returns the text to print for a file's text, and whether an entry meets all conditions.
 fn selected_text(
     alloc: Global,
     selections: &[Selection],
-    has_keys: bool,
+    printed: Printed,
     text: &str,
 ) -> Result<(String, bool), AllocError> {
     let found = Bibliography::recover(alloc, text)?;
     let keys = selected_keys(alloc, selections, &found.bibliography)?;
     let is_found = !keys.is_empty();
-    if has_keys {
-        return Ok((key_lines(alloc, &keys)?, is_found));
+    let request = if printed.is_complete {
+        Excerpts::Cited(CitedKeys { keys, all: false })
+    } else {
+        Excerpts::Get(keys)
+    };
+    let entries = answer(alloc, &request, text)?.text;
+    if printed.has_keys {
+        return Ok((answer(alloc, &Excerpts::Keys, &entries)?.text, is_found));
     }
-    Ok((answer(alloc, &Excerpts::Get(keys), text)?.text, is_found))
+    Ok((entries, is_found))
 }
 
 // Prints the entries of a file that meet all conditions. Returns whether there is one.
 fn select_file<K: Sink>(
     rt: &HostRuntime,
     selections: &[Selection],
-    has_keys: bool,
+    printed: Printed,
     name: &str,
     output: &mut K,
 ) -> Result<bool, Stop> {
     let bytes = bytes_of(rt, name)?;
     let decoded = decode(rt.alloc(), &bytes)?;
-    let (text, is_found) = selected_text(rt.alloc(), selections, has_keys, &decoded.text)?;
+    let (text, is_found) = selected_text(rt.alloc(), selections, printed, &decoded.text)?;
     if output.write_str(&text) {
         Ok(is_found)
     } else {
@@ -120,7 +125,7 @@ fn select_files(
     let mut is_found = false;
     let mut status = 0;
     'names: for name in names {
-        match select_file(rt, &selections, selecting.has_keys, name, &mut output) {
+        match select_file(rt, &selections, selecting.printed, name, &mut output) {
             Ok(found) => is_found = is_found || found,
             Err(stop) => status = say(rt, &stop).max(status),
         }

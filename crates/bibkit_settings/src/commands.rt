@@ -186,8 +186,13 @@ const WHERE: Argument = Argument {
 };
 
 // The arguments of `select`.
-const SELECT: [Argument; 2] = [
+const SELECT: [Argument; 3] = [
     WHERE,
+    Argument {
+        name: "complete",
+        takes: Takes::Nothing,
+        help: "Print also the definitions, preambles and entries that they use",
+    },
     Argument {
         name: "keys",
         takes: Takes::Nothing,
@@ -393,6 +398,7 @@ A condition consists of tests with `and`, `or` and `not`. A test is `has FIELD`,
 Examples:
   bibkit select --where 'type = article and year >= 2000' refs.bib
   bibkit select --where 'author ~ Knuth' --where 'not has doi' --keys refs.bib
+  bibkit select --where 'type = article' --complete refs.bib | bibkit convert --to csl
 
 Status: 0 done, 1 no entry meets the conditions, 2 wrong usage, or a file or the output failed, 3 out of memory";
 
