@@ -3,3 +3,4 @@ mod FileFacts
 mod GatheringFacts
 mod ListFacts
 mod OrderFacts
+mod ParentFacts
