@@ -18,8 +18,8 @@ use Rattle.bib_syntax.specs.Reading.{EntryReading}
 use Rattle.edit_resolve.specs.Errors.{resolve_error}
 use Rattle.edit_resolve.specs.Inheritance.{read_name}
 use Rattle.edit_resolve.specs.Parents.{entry_at, no_entry, parent_graph, parents, type_of}
-use Rattle.edit_resolve.specs.Resolved.{Named, as_itself, fields_along, new_fields, offers}
-use Rattle.edit_resolve.specs.Working.{AreAlong, IsGraphError, fields_at, lists_of, named_of, with_inherited}
+use Rattle.edit_resolve.specs.Resolved.{IsResolveError, Named, as_itself, fields_along, new_fields, offers}
+use Rattle.edit_resolve.specs.Working.{AreAlong, fields_at, lists_of, named_of, with_inherited}
 use Rattle.edit_resolve.specs.declared.errors.ResolveError.{ResolveError}
 use Rattle.edit_resolve.specs.declared.gathering.Named.{Named as NamedField}
 use Rattle.edit_resolve.specs.declared.parents.Parent.{Parent}
@@ -157,11 +157,11 @@ rows_count entries rows are =
 
 -- an error of the order is one of the graph
 pub graph_error : {A : Type 0} (entries : List EntryReading) (graph : Graph) (r : Result A ResolveError) (e : OrderError)
-    → graph ≡ parent_graph entries → IsErrAnd r (λ x. x ≡ resolve_error e) → IsOrderError graph e → IfErr r (IsGraphError entries)
+    → graph ≡ parent_graph entries → IsErrAnd r (λ x. x ≡ resolve_error e) → IsOrderError graph e → IfErr r (IsResolveError entries)
 graph_error entries graph (Ok x) e same gives known = tt
 graph_error entries graph (Err x) e same gives known =
-    subst (IsGraphError entries) (sym gives) (by_case e (subst (λ g. IsOrderError g e) same known))
+    subst (IsResolveError entries) (sym gives) (by_case e (subst (λ g. IsOrderError g e) same known))
   where
-    by_case : (o : OrderError) → IsOrderError (parent_graph entries) o → IsGraphError entries (resolve_error o)
+    by_case : (o : OrderError) → IsOrderError (parent_graph entries) o → IsResolveError entries (resolve_error o)
     by_case order.OutOfMemory at = tt
     by_case (order.Cycle index) at = at

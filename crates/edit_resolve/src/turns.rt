@@ -5,7 +5,8 @@ ghost use Rattle.bib_collections.specs.Graph.{HasNoCycle, IsInRange, IsTopologic
 ghost use Rattle.bib_collections.specs.Rows.{rows};
 ghost use Rattle.edit_resolve.specs.Parents as spec;
 ghost use Rattle.edit_resolve.specs.Parents.{parent_graph};
-ghost use Rattle.edit_resolve.specs.Working.{AreAlong, IsGraphError, IsKnown, fields_at, lists_of, readings};
+ghost use Rattle.edit_resolve.specs.Resolved.{IsResolveError};
+ghost use Rattle.edit_resolve.specs.Working.{AreAlong, IsKnown, fields_at, lists_of, readings};
 
 use crate::errors::ResolveError;
 use crate::file::File;
@@ -63,7 +64,7 @@ pub(crate) fn all_fields<'a, 's>(
     ensures length { IfOk result (λ fields. length fields.items ≡ length file.now.entries.now) }
     ensures fields { IfOk result (λ fields. AreAlong (readings file.now) (fields_at fields.items)) }
     ensures no_cycle { OnOk result (HasNoCycle (parent_graph (readings file.now))) }
-    ensures refused { IfErr result (IsGraphError (readings file.now)) }
+    ensures refused { IfErr result (IsResolveError (readings file.now)) }
 {
     let parents = all_parents(alloc, file)?;
     let refs = graph(alloc, &parents)?;

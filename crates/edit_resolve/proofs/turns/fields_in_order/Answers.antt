@@ -25,8 +25,11 @@ parents_at-requires c =
 pub with_inherited-requires-clause-index : goal.with_inherited-requires-clause-index
 with_inherited-requires-clause-index c =
     let es = readings c.args.file.now in
-    omega (arith, turn_within es c.args.order.now c.requires.order c.order.index-index c.order-test.true,
-    length-map c.args.file.now.entries.now entry_reading_of)
+    omega (
+      arith,
+      turn_within es c.args.order.now c.requires.order c.order.index-index c.order-test.true,
+      length-map c.args.file.now.entries.now entry_reading_of,
+    )
 
 pub with_inherited-requires-clause-within : goal.with_inherited-requires-clause-within
 with_inherited-requires-clause-within c =
@@ -43,8 +46,12 @@ with_inherited-requires-clause-within c =
 pub index_mut-requires : goal.index_mut-requires
 index_mut-requires c =
     let es = readings c.args.file.now in
-    omega (arith, turn_within es c.args.order.now c.requires.order c.order.index-index c.order-test.true, c.order.invariant.count,
-    length-map c.args.file.now.entries.now entry_reading_of)
+    omega (
+      arith,
+      turn_within es c.args.order.now c.requires.order c.order.index-index c.order-test.true,
+      c.order.invariant.count,
+      length-map c.args.file.now.entries.now entry_reading_of,
+    )
 
 pub order-preserved : goal.order-preserved
 order-preserved c =
