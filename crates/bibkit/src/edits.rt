@@ -11,7 +11,6 @@ use bibkit_edits::printing::{Unprinted, print_difference, print_edited};
 use biblatex::Output;
 use edit_entries::document::RawDocument;
 use edit_entries::errors::EditError;
-use edit_resolve::errors::ResolveError;
 use std::alloc::{AllocError, Global};
 use std::io;
 use std::io::ErrorKind;
@@ -163,59 +162,26 @@ fn cycle_line(
     format!(in alloc; "bibkit: {name}: an abbreviation refers to itself\n")
 }
 
-// Returns the text for an error of `resolve`: `field` of the entry with the key `key` would change. If `field` is empty, its key or type
-// would change, or the file would have another number of entries.
-fn differing_text(alloc: Global, key: &str, field: &str) -> Result<String, AllocError> {
-    if field.is_empty() {
-        format!(in alloc; "entry `{key}`: resolving would change its key or type, or remove it")
-    } else {
-        format!(in alloc; "entry `{key}`: resolving would change `{field}`")
-    }
-}
-
-// Returns the message for an error of `resolve`: `field` of the entry with the index `entry` would change. If `text` has no such
-// entry, returns the message of `unlike_line`.
-fn differing_line(
-    alloc: Global,
-    name: &str,
-    text: &[u8],
-    entry: usize,
-    field: &str,
-) -> Result<String, AllocError> {
-    if let Ok(src) = from_utf8(text) {
-        if let Ok(raw) = RawBibliography::parse(alloc, src) {
-            if let Some(entry) = raw.entries.get(entry) {
-                let said = differing_text(alloc, entry.v.key.v, field)?;
-                return error_line(alloc, name, text, entry.v.key.span.start, &said);
-            }
-        }
-    }
-    unlike_line(alloc, name)
-}
-
-// Returns the message for an error of `resolve`: other text of the file would change.
-fn unlike_line(alloc: Global, name: &str) -> Result<String, AllocError> {
-    format!(in alloc; "bibkit: {name}: resolving would change other text of the file\n")
-}
-
-// Returns the message for an error of resolving references.
+// Returns the message for the entry with the index `entry`, which inherits from itself, with its position. The message has no position
+// if `text` has no entry with this index.
 fn unresolved_line(
     alloc: Global,
     name: &str,
     text: &[u8],
-    why: &ResolveError,
+    entry: usize,
 ) -> Result<String, AllocError> {
-    match why {
-        ResolveError::File(error) => {
-            let said = format!(in alloc; "{}", error.kind)?;
-            error_line(alloc, name, text, error.span.start, &said)
+    if let Ok(src) = from_utf8(text) {
+        if let Ok(raw) = RawBibliography::parse(alloc, src) {
+            if let Some(entry) = raw.entries.get(entry) {
+                let said = format!(in alloc;
+                    "entry `{}` inherits from itself [circular-reference]",
+                    entry.v.key.v
+                )?;
+                return error_line(alloc, name, text, entry.span.start, &said);
+            }
         }
-        ResolveError::Differs { entry, name: field } => {
-            differing_line(alloc, name, text, *entry, field.as_str())
-        }
-        ResolveError::Unlike => unlike_line(alloc, name),
-        ResolveError::OutOfMemory => String::from_str(alloc, "bibkit: out of memory\n"),
     }
+    format!(in alloc; "bibkit: {name}: an entry inherits from itself\n")
 }
 
 // Returns the text that the first edit adds, or an empty text if it adds none.
@@ -248,7 +214,7 @@ fn refusal_message(
             after_mark(bytes),
             *definition,
         ),
-        Refusal::Unresolved { why, .. } => unresolved_line(alloc, name, after_mark(bytes), why),
+        Refusal::Unresolved { entry, .. } => unresolved_line(alloc, name, after_mark(bytes), *entry),
         Refusal::OutOfMemory => String::from_str(alloc, "bibkit: out of memory\n"),
     }
 }

@@ -13,7 +13,7 @@ use Rattle.edit_convert.specs.Conversions.{IsConverted}
 use Rattle.bib_tables.specs.declared.dialects.Dialect.{Dialect}
 use Rattle.edit_format.specs.Formatted.{IsReadAlike, says_in_order, text_in_style}
 use Rattle.edit_format.specs.declared.style.Style.{Style}
-use Rattle.edit_resolve.specs.Resolutions.{IsResolvedText}
+use Rattle.edit_resolve.specs.Resolved.{IsResolved}
 use Rattle.edit_resolve.specs.declared.errors.ResolveError.{ResolveError}
 use Rattle.edit_resolve.specs.declared.errors.ResolveError.TheVariants as resolve_error
 use Rattle.edit_sort.specs.Sorted.{IsReadSorted, IsSortedText}
@@ -85,12 +85,12 @@ conversion_made dialect d new made = record {
 }
 
 -- a text with its references resolved is an outcome of `Resolve`
-pub resolution_made : (d : Document) (new : List ℕ) → IsResolvedText d new → IsEdited (IsResolvedDocument d) new
+pub resolution_made : (d : Document) (new : List ℕ) → IsResolved d new → IsEdited (IsResolvedDocument d) new
 resolution_made d new made = record {
-  document = made.made;
-  outcome = subst (IsResolvedText d) (sym made.is) made;
-  is = sym made.is;
-  read = made.read;
+  document = record { text = new; says = made.read.tells };
+  outcome = made;
+  is = refl;
+  read = made.read.read;
 }
 
 -- if edits of `text` make `new`, and one more edit of `new` makes `newer`, then all these edits of `text` make `newer`
@@ -146,8 +146,8 @@ first_refused done rest edit {text} {new} (refusal.Edit at why) first refused =
 first_refused done rest edit {text} {new} (refusal.Cycle at definition) first refused =
     subst (λ i. AreRefused (done ++ edit ∷ rest) text (refusal.Cycle i definition)) (sym refused.0)
     (AreRefused.cycle edit done rest new refused.1.document refl first.made refused.1.read refused.1.meets)
-first_refused done rest edit {text} {new} (refusal.Unresolved at why) first refused =
-    subst (λ i. AreRefused (done ++ edit ∷ rest) text (refusal.Unresolved i why)) (sym refused.0)
+first_refused done rest edit {text} {new} (refusal.Unresolved at entry) first refused =
+    subst (λ i. AreRefused (done ++ edit ∷ rest) text (refusal.Unresolved i entry)) (sym refused.0)
     (AreRefused.unresolved edit done rest new refused.1.document refl first.made refused.1.read refused.1.refused)
 first_refused done rest edit refusal.OutOfMemory first refused = AreRefused.no_memory
 
@@ -264,10 +264,7 @@ edit_refused edit text index d error.NoFieldLeft read refused = (
 -- if an edit of a document can't resolve references, the edit of its text is refused with the same error
 unresolved_at : (edit : Edit) (text : List ℕ) (index : ℕ) (d : Document) (why : ResolveError) → IsDocumentOf text d
     → IsUnresolved edit d why → IsTextRefused edit text index (unresolved_refusal why index)
-unresolved_at edit text index d (resolve_error.File e) read refused = (refl, record { document = d; read = read; refused = refused })
-unresolved_at edit text index d (resolve_error.Differs entry name) read refused =
-    (refl, record { document = d; read = read; refused = refused })
-unresolved_at edit text index d resolve_error.Unlike read refused = (refl, record { document = d; read = read; refused = refused })
+unresolved_at edit text index d (resolve_error.Cycle entry) read refused = (refl, record { document = d; read = read; refused = refused })
 unresolved_at edit text index d resolve_error.OutOfMemory read refused = tt
 
 -- if an edit of a document fails with a step, the edit of its text is refused with the refusal of that step

@@ -16,8 +16,9 @@ use Rattle.bib_tables.specs.declared.dialects.Dialect.{Dialect}
 use Rattle.bib_tables.specs.declared.dialects.Dialect.TheVariants.{Biblatex, Bibtex}
 use Rattle.edit_format.specs.Formatted.{content, says_in_order, text_in_style}
 use Rattle.edit_format.specs.declared.style.Style.{Style}
-use Rattle.edit_resolve.specs.Resolutions.{IsResolveRefused, IsResolvedText}
+use Rattle.edit_resolve.specs.Resolved.{IsResolved, ResolveIsRefused}
 use Rattle.edit_resolve.specs.declared.errors.ResolveError.{ResolveError}
+use Rattle.edit_resolve.specs.declared.errors.ResolveError.TheVariants as resolve_error
 use Rattle.edit_sort.specs.Sorted.{AreEntriesInOrder, IsSortedText, Item, items, says_sorted, without_places}
 use Rattle.edit_strings.specs.Collected.{AreMadeAbbreviations}
 use Rattle.edit_strings.specs.Expanded.{ExpandIsRefused, IsExpanded}
@@ -76,7 +77,7 @@ IsDocumentConverted dialect d after = IsConverted dialect d after.text
 -- the text of the second document is that of the first with the references `crossref` and `xdata` replaced by the inherited
 -- fields
 abbrev pub IsResolvedDocument : Document → Document → Type 0
-IsResolvedDocument d after = IsResolvedText d after.text
+IsResolvedDocument d after = IsResolved d after.text
 
 -- the second document is the outcome of an edit of the first
 abbrev pub EditOutcome : Edit → Document → Document → Type 0
@@ -153,7 +154,7 @@ IsUnresolved Expand d why = ⊥
 IsUnresolved (Collect fields at_least) d why = ⊥
 IsUnresolved ToBiblatex d why = ⊥
 IsUnresolved ToBibtex d why = ⊥
-IsUnresolved Resolve d why = IsResolveRefused d.text why
+IsUnresolved Resolve d why = ResolveIsRefused d why
 IsUnresolved (Format style) d why = ⊥
 
 -- the edit adds this text
@@ -185,9 +186,9 @@ pub data AreRefused (edits : List Edit) (text : List ℕ) : Refusal → Type 0 w
   cycle : {definition : ℕ} (edit : Edit) (done rest : List Edit) (between : List ℕ) (d : Document)
       → edits ≡ done ++ edit ∷ rest → AreMade done text between → IsDocumentOf between d
       → MeetsCycle edit d definition → AreRefused edits text (refusal.Cycle (length done) definition)
-  unresolved : {why : ResolveError} (edit : Edit) (done rest : List Edit) (between : List ℕ) (d : Document)
+  unresolved : {entry : ℕ} (edit : Edit) (done rest : List Edit) (between : List ℕ) (d : Document)
       → edits ≡ done ++ edit ∷ rest → AreMade done text between → IsDocumentOf between d
-      → IsUnresolved edit d why → AreRefused edits text (refusal.Unresolved (length done) why)
+      → IsUnresolved edit d (resolve_error.Cycle entry) → AreRefused edits text (refusal.Unresolved (length done) entry)
   no_memory : AreRefused edits text refusal.OutOfMemory
 
 -- the byte order mark at the start of bytes, or no bytes without one

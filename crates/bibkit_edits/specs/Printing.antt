@@ -66,7 +66,7 @@ refusal_status (refusal.File e) = 1
 refusal_status (refusal.Added e) = 1
 refusal_status (refusal.Edit index why) = 1
 refusal_status (refusal.Cycle index definition) = 1
-refusal_status (refusal.Unresolved index why) = 1
+refusal_status (refusal.Unresolved index entry) = 1
 refusal_status refusal.OutOfMemory = 3
 
 -- the status of an error of printing

@@ -61,7 +61,7 @@ edit_refusal other index = refusal.Edit index other
 -- the refusal for an error of resolving references by the edit at an index
 abbrev pub unresolved_refusal : ResolveError → ℕ → Refusal
 unresolved_refusal resolve_error.OutOfMemory index = refusal.OutOfMemory
-unresolved_refusal why index = refusal.Unresolved index why
+unresolved_refusal (resolve_error.Cycle entry) index = refusal.Unresolved index entry
 
 -- the refusal of the edit at an index, for this reason
 abbrev pub refusal_at : Step → ℕ → Refusal
@@ -101,7 +101,7 @@ IsTextRefused edit text index (refusal.File e) = IsReported text e
 IsTextRefused edit text index (refusal.Added e) = AddsError edit e
 IsTextRefused edit text index (refusal.Edit at why) = (at ≡ index) × IsRefusedAt edit text why
 IsTextRefused edit text index (refusal.Cycle at definition) = (at ≡ index) × MeetsCycleAt edit text definition
-IsTextRefused edit text index (refusal.Unresolved at why) = (at ≡ index) × IsUnresolvedAt edit text why
+IsTextRefused edit text index (refusal.Unresolved at entry) = (at ≡ index) × IsUnresolvedAt edit text (resolve_error.Cycle entry)
 IsTextRefused edit text index refusal.OutOfMemory = ⊤
 
 -- the text for the next edit: the text after the last edit, or the first text before any edit

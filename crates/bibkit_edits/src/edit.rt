@@ -6,7 +6,6 @@ ghost use Rattle.bibkit_edits.specs.declared.edit.Refusal.TheVariants.{OutOfMemo
 use bib_syntax::raw::ParseError;
 use edit_entries::errors::EditError;
 use edit_format::style::Style;
-use edit_resolve::errors::ResolveError;
 use edit_sort::order::Order;
 use std::alloc::AllocError;
 
@@ -64,8 +63,8 @@ pub enum Edit<'a> {
     ToBiblatex,
     /// Converts entries to the types and fields of BibTeX.
     ToBibtex,
-    /// Replaces the references `crossref` and `xdata` of each entry by the fields that it inherits. A `crossref` to an unknown
-    /// key is kept.
+    /// Replaces the references `crossref` and `xdata` of each entry by the fields that it inherits. A reference to an unknown key is
+    /// kept.
     Resolve,
     /// Formats the text in a style.
     Format {
@@ -100,12 +99,12 @@ pub enum Refusal {
         /// The index of the definition among those of the text, from 0.
         definition: usize,
     },
-    /// The edit [`Edit::Resolve`] is refused.
+    /// The edit [`Edit::Resolve`] is refused: an entry inherits from itself, directly or through others.
     Unresolved {
         /// The index of the edit, from 0.
         index: usize,
-        /// The error of the edit.
-        why: ResolveError,
+        /// The index of the first such entry among those of the text, from 0.
+        entry: usize,
     },
     /// Out of memory.
     OutOfMemory,

@@ -8,7 +8,7 @@ ghost use Rattle.bibkit_edits.specs.Edited.{AreMade, AreRefused, AreTextsCollect
 ghost use Rattle.edit_strings.specs.Expanded.{ExpandIsRefused};
 ghost use Rattle.bibkit_edits.specs.declared.editing.Step.TheVariants.{Added, Refused, Unresolved};
 ghost use Rattle.bibkit_edits.specs.Steps.{IsTextRefused, StepIsRefused, added_refusal, edit_refusal, file_refusal, latest, refusal_at, step_of, unresolved_refusal};
-ghost use Rattle.edit_resolve.specs.Resolutions.{IsResolveRefused};
+ghost use Rattle.edit_resolve.specs.Resolved.{ResolveIsRefused};
 
 use crate::edit::{Edit, Refusal};
 use crate::order::order_places;
@@ -125,10 +125,11 @@ fn convert_document(
     Ok(convert(alloc, document, dialect)?)
 }
 
-// Returns the text of a document with the references `crossref` and `xdata` replaced by the inherited fields.
+// Returns the text of a document with the references `crossref` and `xdata` replaced by the inherited fields. Fails if an entry inherits
+// from itself, or if out of memory.
 fn resolve_document(alloc: Global, document: &RawDocument<'_>) -> Result<String, ResolveError>
     ensures made { IfOk result (λ new. IsEdited (IsResolvedDocument document.now) (string_bytes new)) }
-    ensures refused { IfErr result (IsResolveRefused document.now.text) }
+    ensures refused { IfErr result (ResolveIsRefused document.now) }
 {
     resolve(alloc, document)
 }
@@ -214,9 +215,9 @@ fn edit_refusal(why: EditError, index: usize) -> Refusal
 fn unresolved_refusal(why: ResolveError, index: usize) -> Refusal
     ensures { result ≡ unresolved_refusal why index }
 {
-    match why.unless_out_of_memory() {
-        Ok(why) => Refusal::Unresolved { index, why },
-        Err(no_memory) => Refusal::from(no_memory),
+    match why {
+        ResolveError::Cycle(entry) => Refusal::Unresolved { index, entry },
+        ResolveError::OutOfMemory => Refusal::OutOfMemory,
     }
 }
 

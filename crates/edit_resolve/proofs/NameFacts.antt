@@ -1,6 +1,6 @@
 -- The names of fields: each can be the name of a new field.
-use Rattle.std.proofs.Common.{◌≡◌, inl, ℕ, zero, suc, ◌+◌, ◌<◌, ◌≤◌, Bool, true, false, cond, List, [], ◌∷◌, ◌++◌, length, drop, refl, sym, ap, ◌∙◌, subst, arith, append-nil, codes, Option, Some, None}
-use Rattle.std.specs.Prelude.{bytes_eq, slice_get}
+use Rattle.std.proofs.Common.{◌≡◌, inl, ℕ, ◌≤◌, Bool, true, false, cond, List, [], ◌∷◌, ◌++◌, length, drop, refl, sym, ap, ◌∙◌, subst, arith, append-nil, codes, Option, Some, None}
+use Rattle.std.specs.Prelude.{bytes_eq}
 use Rattle.std.specs.List.{AllByRecursion}
 use Rattle.std.proofs.lemmas.List.{drop_all}
 use Rattle.bib_text.specs.Enums.{value_named}
@@ -8,7 +8,7 @@ use Rattle.bib_text.specs.Places.{Place, place, CharAt, Run, between}
 use Rattle.bib_text.proofs.PlaceFacts.{ahead_char, ahead_run, ahead_then, char_left, stops_at_end}
 use Rattle.bib_text.proofs.BoundaryFacts.{not_over}
 use Rattle.bib_syntax.specs.Characters.{is_id_continue}
-use Rattle.bib_syntax.specs.Reading.{EntryReading, FieldReading, Part, part}
+use Rattle.bib_syntax.specs.Reading.{Part, part}
 use Rattle.bib_syntax.specs.Grammar.{Identifier, longest}
 use Rattle.bib_syntax.proofs.FieldFacts.{ahead_identifier}
 use Rattle.bib_tables.specs.declared.mechanics.EntryType.{EntryType}

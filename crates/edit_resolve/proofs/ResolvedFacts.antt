@@ -1,5 +1,5 @@
 -- The changes of a resolved document can be made.
-use Rattle.std.proofs.Common.{◌≡◌, ℕ, ◌≤◌, Bool, true, false, cond, List, [], ◌∷◌, ◌++◌, length, map, refl, subst, arith, Option, Some, None}
+use Rattle.std.proofs.Common.{ℕ, Bool, true, false, cond, List, [], ◌∷◌, map, refl}
 use Rattle.std.specs.Prelude.{◌||◌}
 use Rattle.std.specs.List.{AllByRecursion, list_any}
 use Rattle.std.specs.Str.{IsCharBoundary}
@@ -8,12 +8,10 @@ use Rattle.edit_entries.specs.Changes.{FieldChange}
 use Rattle.edit_entries.specs.Cuts.{ArePiecesCut, IsPieceCut}
 use Rattle.edit_entries.specs.Documents.{CanBeName, Document, IsDocument}
 use Rattle.edit_entries.specs.Placed.{IsPlaced}
-use Rattle.edit_entries.specs.Setting.{white_before}
-use Rattle.edit_entries.proofs.AllFacts.{OfFields, all_both, all_placed, all_weaker, fields_weaker}
+use Rattle.edit_entries.proofs.AllFacts.{OfFields, all_placed, all_weaker, fields_weaker}
 use Rattle.edit_entries.proofs.ChangesFacts.{CanChange, CanEntryChange, CanFieldsChange}
 use Rattle.edit_entries.proofs.NewFieldFacts.{CanBePut}
 use Rattle.edit_entries.proofs.PartFacts.{AreEntriesIn, AreFieldsIn, file_in}
-use Rattle.edit_entries.proofs.StandsFacts.{AreWhite}
 use Rattle.edit_entries.proofs.WhiteBeforeFacts.{before_white}
 use Rattle.edit_strings.proofs.ElementFacts.{IsElement, IsValue, can_be_read, file_stands, is_cut}
 use Rattle.edit_resolve.specs.Inheritance.{read_name}

@@ -1,6 +1,6 @@
 -- Meaning: words of public contracts.
 -- A file with inherited fields written out.
-use Rattle.std.specs.Prelude.{ℕ, zero, suc, Bool, true, false, if◌then◌else◌, List, [], ◌∷◌, ◌++◌, length, map, filter, Option, Some, None, unwrap_or, ⊤}
+use Rattle.std.specs.Prelude.{ℕ, zero, suc, Bool, if◌then◌else◌, List, [], ◌∷◌, ◌++◌, length, map, filter, Option, Some, None, unwrap_or, ⊤}
 use Rattle.std.specs.List.{flat_map, list_any}
 use Rattle.bib_text.specs.Enums.{value_named}
 use Rattle.bib_collections.specs.Graph.{IsFirstOnCycle}

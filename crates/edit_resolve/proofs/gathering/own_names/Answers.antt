@@ -1,10 +1,7 @@
-use Rattle.std.proofs.Common.{◌∙◌, ap, map, sym, true}
+use Rattle.std.proofs.Common.{◌∙◌, true}
 use Rattle.std.specs.BTreeSet.{contains_text}
 use Rattle.std.specs.String.{string_bytes}
 use Rattle.std.proofs.lemmas.Map.Text.{btree_set_updates_text}
-use Rattle.bib_queries.specs.Needed.{is_listed}
-use Rattle.bib_syntax.specs.Views.{field_of}
-use Rattle.edit_resolve.specs.Inheritance.{read_name}
 use Rattle.edit_resolve.proofs.GatheringFacts.{names_more}
 use Rattle.edit_resolve.proofs.gathering.own_names.Goals as goal
 

@@ -1,10 +1,10 @@
-use Rattle.std.proofs.Common.{ap, append-nil, map, subst, sym}
+use Rattle.std.proofs.Common.{map, subst}
 use Rattle.std.specs.List.{filter}
 use Rattle.std.proofs.lemmas.List.Elements.{filter-append}
 use Rattle.edit_resolve.specs.Inheritance.{keeps_name, read_name}
 use Rattle.std.proofs.lemmas.List.{take_all}
 use Rattle.edit_resolve.specs.Working.{Offered, named_of}
-use Rattle.edit_resolve.proofs.GatheringFacts.{offered_more, offered_none, offered_same}
+use Rattle.edit_resolve.proofs.GatheringFacts.{offered_more, offered_none}
 use Rattle.edit_resolve.proofs.gathering.push_all_kept.Goals as goal
 
 pub fields-init : goal.fields-init

@@ -1,4 +1,4 @@
-use Rattle.std.proofs.Common.{ap, append-nil, map, subst, sym}
+use Rattle.std.proofs.Common.{append-nil, map, subst, sym}
 use Rattle.std.specs.List.{flat_map}
 use Rattle.std.proofs.lemmas.List.Concat.{flat_map-append}
 use Rattle.edit_resolve.specs.Inheritance.{new_name, read_name}

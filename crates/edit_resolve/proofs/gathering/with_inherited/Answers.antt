@@ -7,7 +7,7 @@ use Rattle.bib_tables.specs.declared.mechanics.EntryType.{EntryType}
 use Rattle.edit_resolve.specs.Inheritance.{read_name}
 use Rattle.edit_resolve.specs.Parents.{entry_at, no_entry, type_of}
 use Rattle.edit_resolve.specs.Resolved.{Named, as_itself, new_fields, offers}
-use Rattle.edit_resolve.specs.Working.{IsGathered, fields_at, named_of, offered_by, readings}
+use Rattle.edit_resolve.specs.Working.{fields_at, offered_by, readings}
 use Rattle.edit_resolve.proofs.FileFacts.{kind_found}
 use Rattle.edit_resolve.proofs.GatheringFacts.{offered_is}
 use Rattle.edit_resolve.proofs.gathering.with_inherited.Goals as goal

@@ -1,9 +1,8 @@
-use Rattle.std.proofs.Common.{◌≡◌, ◌∙◌, List, ap, map, subst, sym}
+use Rattle.std.proofs.Common.{◌≡◌, ◌∙◌, ap, map, subst, sym}
 use Rattle.std.specs.Str.{IsUtf8}
 use Rattle.std.specs.String.{string_bytes}
 use Rattle.std.proofs.lemmas.Result.{err_from_is_err_and}
 use Rattle.bib_collections.specs.Graph.{HasNoCycle}
-use Rattle.bib_syntax.specs.Reading.{EntryReading}
 use Rattle.bib_syntax.specs.Views.{entry_reading_of}
 use Rattle.edit_entries.specs.Changes.{IsReadPlaceless, edits_of_entries, file_changed, text_changed}
 use Rattle.edit_entries.specs.Documents.{Document}
@@ -22,7 +21,7 @@ returns-in_err-fields-clause-refused c =
     let es : readings c.in_ok-file.file ≡ d.says.entries =
     ap (map entry_reading_of) (c.in_ok-file.ensures.entries ∙ c.deref.ensures.value) ∙ ap (λ f. f.entries) c.raw-raw.ensures.says in
     let p = err_from_is_err_and c.from_residual-in_err-fields.result c.from_residual-in_err-fields.ensures.1 in
-    rw (p.1, p.2) (subst (λ l. IsResolveError l c.in_err-fields.field-0) es c.in_err-fields.ensures.refused)
+    rw (p.1, p.2) (subst (λ l. IsResolveError l c.in_err-fields.field-0.0) es c.in_err-fields.ensures.refused)
 
 pub edits-requires-clause-cut : goal.edits-requires-clause-cut
 edits-requires-clause-cut c =

@@ -1,4 +1,4 @@
-use Rattle.std.proofs.Common.{◌≡◌, ◌∙◌, List, ap, map, subst, sym}
+use Rattle.std.proofs.Common.{subst, sym}
 use Rattle.bib_collections.specs.Graph.{HasNoCycle, IsInRange, IsTopologicalOrder}
 use Rattle.bib_collections.specs.Rows.{rows}
 use Rattle.edit_resolve.specs.Parents.{parent_graph}

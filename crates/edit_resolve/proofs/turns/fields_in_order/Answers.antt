@@ -1,9 +1,8 @@
-use Rattle.std.proofs.Common.{◌≡◌, ◌<◌, ◌∙◌, ℕ, List, [], ap, arith, get_or, length, length-set, map, set, subst, sym}
+use Rattle.std.proofs.Common.{◌≡◌, ◌<◌, ◌∙◌, ℕ, ap, arith, get_or, length, length-set, map, set, subst, sym}
 use Rattle.std.specs.List.{All}
 use Rattle.std.proofs.lemmas.List.{get_or_default, length-map}
 use Rattle.bib_syntax.specs.Views.{entry_reading_of}
 use Rattle.edit_resolve.specs.Parents.{entry_at, parents}
-use Rattle.edit_resolve.specs.Resolved.{Named}
 use Rattle.edit_resolve.specs.Working.{fields_at, named_of, readings, with_inherited}
 use Rattle.edit_resolve.specs.declared.parents.Parent.{Parent}
 use Rattle.edit_resolve.proofs.AlongFacts.{IsAlongTo, along_all, along_more, row_found, row_kept, row_set, rows_count, turn_within}
