@@ -1,23 +1,30 @@
 -- The fields of all entries, taken in a topological order.
-use Rattle.std.proofs.Common.{◌≡◌, ◌⊎◌, inl, inr, ℕ, zero, suc, ◌+◌, ◌<◌, ◌≤◌, Bool, true, false, cond, eqb, List, [], ◌∷◌, ◌++◌, length, map, take, get_or, set, refl, sym, ap, ◌∙◌, subst, arith, get_or-set_same, get_or-set_other, length-set}
+use Rattle.std.proofs.Common.{◌≡◌, ◌⊎◌, inl, inr, ℕ, zero, suc, ◌+◌, ◌<◌, ◌≤◌, List, [], ◌∷◌, ◌++◌, length, map, take, get_or, set, refl, sym, ap, ◌∙◌, subst, arith, Result, Ok, Err}
+use Rattle.std.specs.Prelude.{IfErr, IsErrAnd}
 use Rattle.std.specs.List.{All, Contains, flat_map}
 use Rattle.std.specs.Global.{Vec}
-use Rattle.std.proofs.lemmas.Bool.{lt-ltb}
+use Rattle.std.proofs.lemmas.Bool.{cases_lt, le-ltb, lt-ltb}
 use Rattle.std.proofs.lemmas.Bool.Decides.{eqb_tells}
 use Rattle.std.proofs.lemmas.List.{length-map, take_more, take_all}
-use Rattle.std.proofs.lemmas.List.Elements.{All-contains, Contains-append_cases}
+use Rattle.std.proofs.lemmas.List.Elements.{All-contains, Contains-append_cases, Contains-get_or}
 use Rattle.bib_text.proofs.ListFacts.{cons_cases, contains_more}
-use Rattle.bib_collections.specs.Graph.{IsTopologicalOrder, refs_of}
+use Rattle.bib_collections.specs.Graph.{Graph, IsTopologicalOrder, refs_of}
+use Rattle.bib_collections.specs.Rows.{IsOrderError}
+use Rattle.bib_collections.specs.declared.worklist.OrderError.{OrderError}
+use Rattle.bib_collections.specs.declared.worklist.OrderError.TheVariants as order
 use Rattle.bib_collections.proofs.Order.{contains_from_count}
-use Rattle.bib_collections.proofs.Work.{as_one}
+use Rattle.bib_collections.proofs.Work.{as_one, times_from_contains}
 use Rattle.bib_syntax.specs.Reading.{EntryReading}
+use Rattle.edit_resolve.specs.Errors.{resolve_error}
 use Rattle.edit_resolve.specs.Inheritance.{read_name}
 use Rattle.edit_resolve.specs.Parents.{entry_at, no_entry, parent_graph, parents, type_of}
-use Rattle.edit_resolve.specs.Resolved.{Named, as_itself, fields_along, new_fields, offers}
-use Rattle.edit_resolve.specs.Working.{AreAlong, fields_at, named_of, with_inherited}
+use Rattle.edit_resolve.specs.Resolved.{IsResolveError, Named, as_itself, fields_along, new_fields, offers}
+use Rattle.edit_resolve.specs.Working.{AreAlong, fields_at, lists_of, named_of, with_inherited}
+use Rattle.edit_resolve.specs.declared.errors.ResolveError.{ResolveError}
 use Rattle.edit_resolve.specs.declared.gathering.Named.{Named as NamedField}
 use Rattle.edit_resolve.specs.declared.parents.Parent.{Parent}
 use Rattle.edit_resolve.proofs.OrderFacts.{order_within}
+use Rattle.edit_resolve.proofs.ParentFacts.{graph_size}
 
 -- parents with the same fields offer the same fields
 offered_alike : (entries : List EntryReading) (e : EntryReading) (fields others : ℕ → List Named) (ps : List Parent)
@@ -38,19 +45,32 @@ map_at f [] i a b within = absurd (omega (arith, within))
 map_at f (x ∷ xs) zero a b within = refl
 map_at f (x ∷ xs) (suc i) a b within = map_at f xs i a b (omega (arith, within))
 
-module _ (entries : List EntryReading) (order : List ℕ) (sorted : IsTopologicalOrder (parent_graph entries) order) where
-  -- the fields of the first indices of the order are known
-  abbrev pub IsAlongTo : ℕ → (ℕ → List Named) → Type 0
-  IsAlongTo k fields =
-      (i most : ℕ) → Contains (take k order) i → k ≤ most → fields i ≡ fields_along entries most i
+-- the fields of the first indices of an order are known
+abbrev pub IsAlongTo : List EntryReading → List ℕ → ℕ → (ℕ → List Named) → Type 0
+IsAlongTo entries order k fields = (i most : ℕ) → Contains (take k order) i → k ≤ most → fields i ≡ fields_along entries most i
 
+module _ (entries : List EntryReading) (order : List ℕ) (sorted : IsTopologicalOrder (parent_graph entries) order) where
   graph_row : (index : ℕ) → index < length entries
       → refs_of (parent_graph entries) index ≡ map (λ p. p.index) (parents entries (entry_at entries index))
   graph_row index within = map_at (λ e. map (λ p. p.index) (parents entries e)) entries index no_entry [] within
 
+  -- each index of the order is that of an entry
+  pub turn_within : (k : ℕ) → k < length order → get_or order k 0 < length entries
+  turn_within k within = by_case (cases_lt (get_or order k 0) (length (parent_graph entries)))
+    where
+      by_case : (get_or order k 0 < length (parent_graph entries)) ⊎ (length (parent_graph entries) ≤ get_or order k 0)
+          → get_or order k 0 < length entries
+      by_case (inl below) = omega (arith, below, graph_size entries)
+      by_case (inr past) = absurd (omega (
+        arith,
+        times_from_contains (get_or order k 0) order (Contains-get_or order k 0 within),
+        sorted.once (get_or order k 0),
+        as_one _ _ (le-ltb (get_or order k 0) (length (parent_graph entries)) past),
+      ))
+
   -- the fields of the next entry
   next_along : (k index : ℕ) (fields : ℕ → List Named) → k < length order → get_or order k 0 ≡ index → index < length entries
-      → IsAlongTo k fields → (most : ℕ) → k + 1 ≤ most
+      → IsAlongTo entries order k fields → (most : ℕ) → k + 1 ≤ most
       → with_inherited entries fields (parents entries (entry_at entries index)) index ≡ fields_along entries most index
   next_along k index fields before is within known zero some = absurd (omega (arith, some))
   next_along k index fields before is within known (suc most) some =
@@ -65,9 +85,9 @@ module _ (entries : List EntryReading) (order : List ℕ) (sorted : IsTopologica
 
   -- one more entry has its fields
   pub along_more : (k index : ℕ) (fields others : ℕ → List Named) → k < length order → index ≡ get_or order k index
-      → index < length entries → IsAlongTo k fields
+      → index < length entries → IsAlongTo entries order k fields
       → others index ≡ with_inherited entries fields (parents entries (entry_at entries index)) index
-      → ((i : ℕ) → (i ≡ index → ⊥) → others i ≡ fields i) → IsAlongTo (k + 1) others
+      → ((i : ℕ) → (i ≡ index → ⊥) → others i ≡ fields i) → IsAlongTo entries order (k + 1) others
   along_more k index fields others before is within known new kept i most there some =
       elim (eqb_tells i index) [
         | inl same ↦
@@ -92,7 +112,7 @@ module _ (entries : List EntryReading) (order : List ℕ) (sorted : IsTopologica
       ]
 
   -- all entries have their fields
-  pub along_all : (fields : ℕ → List Named) → IsAlongTo (length order) fields → AreAlong entries fields
+  pub along_all : (fields : ℕ → List Named) → IsAlongTo entries order (length order) fields → AreAlong entries fields
   along_all fields known index most within enough =
       known index most
       (subst (λ l. Contains l index) (sym (take_all (length order) order (omega arith)))
@@ -122,3 +142,26 @@ row_kept (x ∷ xs) zero row zero other = absurd (other refl)
 row_kept (x ∷ xs) zero row (suc i) other = refl
 row_kept (x ∷ xs) (suc index) row zero other = refl
 row_kept (x ∷ xs) (suc index) row (suc i) other = row_kept xs index row i (λ same. other (ap suc same))
+
+-- the parents of the entry at an index, in the vectors of the code
+pub row_found : (entries : List EntryReading) (rows : List (Vec Parent)) (i : ℕ)
+    → lists_of rows ≡ map (parents entries) entries → i < length entries
+    → get_or (lists_of rows) i [] ≡ parents entries (entry_at entries i)
+row_found entries rows i are within =
+    ap (λ l. get_or l i []) are ∙ map_at (parents entries) entries i no_entry [] within
+
+pub rows_count : (entries : List EntryReading) (rows : List (Vec Parent)) → lists_of rows ≡ map (parents entries) entries
+    → length rows ≡ length entries
+rows_count entries rows are =
+    sym (length-map rows (λ r. r.items)) ∙ ap length are ∙ length-map entries (parents entries)
+
+-- an error of the order is one of the graph
+pub graph_error : {A : Type 0} (entries : List EntryReading) (graph : Graph) (r : Result A ResolveError) (e : OrderError)
+    → graph ≡ parent_graph entries → IsErrAnd r (λ x. x ≡ resolve_error e) → IsOrderError graph e → IfErr r (IsResolveError entries)
+graph_error entries graph (Ok x) e same gives known = tt
+graph_error entries graph (Err x) e same gives known =
+    subst (IsResolveError entries) (sym gives) (by_case e (subst (λ g. IsOrderError g e) same known))
+  where
+    by_case : (o : OrderError) → IsOrderError (parent_graph entries) o → IsResolveError entries (resolve_error o)
+    by_case order.OutOfMemory at = tt
+    by_case (order.Cycle index) at = at

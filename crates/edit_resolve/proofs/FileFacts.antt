@@ -4,7 +4,6 @@ use Rattle.std.specs.Prelude.{bytes_eq, ◌||◌}
 use Rattle.std.specs.Borrow.{Bor}
 use Rattle.std.proofs.lemmas.List.{get_or-map, length-map, length-take-le}
 use Rattle.std.proofs.lemmas.Slice.Eq.{bytes_eq-Decides}
-use Rattle.bib_queries.specs.Needed.{is_listed}
 use Rattle.bib_syntax.specs.Reading.{EntryReading}
 use Rattle.bib_tables.specs.Requirements.{is_container}
 use Rattle.bib_tables.specs.declared.mechanics.EntryType.{EntryType}

@@ -1,15 +1,22 @@
 -- Offered fields one after another.
-use Rattle.std.proofs.Common.{◌≡◌, ℕ, ◌+◌, ◌<◌, Bool, true, false, cond, List, [], ◌∷◌, ◌++◌, length, map, take, get_or, refl, sym, ap, ◌∙◌, subst, append_assoc, append-nil, Option, Some, None}
-use Rattle.std.specs.Prelude.{bytes_eq, ◌||◌, unwrap_or}
+use Rattle.std.proofs.Common.{◌≡◌, ℕ, ◌+◌, ◌<◌, Bool, true, false, cond, List, [], ◌∷◌, ◌++◌, length, map, take, get_or, refl, sym, ap, ◌∙◌, subst, append_assoc, append-nil, Option, Some, Result, Ok, Err, zero, suc}
+use Rattle.std.specs.Prelude.{bytes_eq, not, ◌||◌, unwrap_or, OnOk}
 use Rattle.bib_text.specs.Enums.{value_named}
 use Rattle.std.specs.BTreeSet.{contains_text}
-use Rattle.std.specs.List.{list_any}
-use Rattle.std.proofs.lemmas.List.{map-append}
+use Rattle.std.specs.List.{flat_map}
+use Rattle.std.proofs.lemmas.List.{map-append, take_more}
+use Rattle.std.proofs.lemmas.List.Concat.{flat_map-append}
 use Rattle.std.proofs.lemmas.List.Folds.{list_any-append}
 use Rattle.bib_queries.specs.Needed.{is_listed}
+use Rattle.bib_syntax.specs.declared.raw.Pair.{Pair}
+use Rattle.bib_syntax.specs.Views.{field_of}
 use Rattle.edit_resolve.specs.Inheritance.{read_name, rival_names}
-use Rattle.edit_resolve.specs.Resolved.{Named, is_taken, new_fields}
-use Rattle.edit_resolve.specs.Working.{IsGathered, Offered, is_taken_in, named_of, read_names}
+use Rattle.bib_syntax.specs.Reading.{EntryReading}
+use Rattle.bib_tables.specs.declared.mechanics.EntryType.{EntryType}
+use Rattle.edit_resolve.specs.Parents.{entry_at, type_of}
+use Rattle.edit_resolve.specs.Resolved.{Named, is_taken, new_fields, offers, renamed}
+use Rattle.edit_resolve.specs.declared.parents.Parent.{Parent}
+use Rattle.edit_resolve.specs.Working.{IsGathered, Offered, is_taken_in, kind_at, named_of, offered_by, read_names}
 use Rattle.edit_resolve.specs.declared.gathering.Named.{Named as NamedField}
 use Rattle.edit_resolve.specs.declared.gathering.Gathered.{Gathered}
 use Rattle.edit_resolve.proofs.ListFacts.{any_same, seen_more}
@@ -96,3 +103,84 @@ listed_more taken name q has known =
     turned true false = refl
     turned false true = refl
     turned false false = refl
+
+-- a field whose name isn't taken is added
+pub pushed : (taken : List (List ℕ)) (fields : List Named) (n : Named) (old new : Gathered) (low : List ℕ) → low ≡ read_name n.name
+    → is_taken_in (contains_text old.names) low ≡ false
+    → ((q : List ℕ) → contains_text new.names q ≡ cond (bytes_eq low q) true (contains_text old.names q))
+    → map named_of new.fields.items ≡ map named_of old.fields.items ++ n ∷ [] → IsGathered taken fields old
+    → IsGathered (taken ++ read_names (new_fields taken (n ∷ []))) (fields ++ new_fields taken (n ∷ [])) new
+pushed taken fields n old new low read free added lists is =
+    let new_is : new_fields taken (n ∷ []) ≡ n ∷ [] =
+    one_new taken n false
+    (ap (is_taken taken) (sym read) ∙ sym (taken_known taken (contains_text old.names) low is.names) ∙ free) in
+    let all : IsGathered (taken ++ read_name n.name ∷ []) (fields ++ n ∷ []) new = record {
+      names = λ q.
+          added q ∙ listed_more taken low q (contains_text old.names q) (is.names q)
+          ∙ ap (λ l. is_listed (taken ++ l ∷ []) q) read;
+      fields = lists ∙ ap (λ l. l ++ n ∷ []) is.fields;
+    } in
+    subst (λ l. IsGathered (taken ++ read_names l) (fields ++ l) new) (sym new_is) all
+
+-- a field that passes a test is offered
+pub passed : {A : Type 0} (x : A) (b : Bool) → b ≡ true → x ∷ [] ≡ cond b (x ∷ []) []
+passed x b is = ap (λ t. cond t (x ∷ []) []) (sym is)
+
+-- what isn't false is true
+pub not_false : (b : Bool) → not b ≡ false → b ≡ true
+not_false true is = refl
+not_false false is = absurd (cc)
+
+-- what is renamed is offered
+pub renamed_found : (n : Named) (new : Option (List ℕ)) (name : List ℕ) → new ≡ Some name
+    → record { name = name; field = n.field } ∷ [] ≡ renamed n new
+renamed_found n new name is = ap (renamed n) (sym is)
+
+-- one more name of an entry's own fields
+pub names_more : (fields : List Pair) (i : ℕ) (f : Pair) (low q : List ℕ) (has : Bool) → i < length fields → f ≡ get_or fields i f
+    → low ≡ read_name f.key.v.now
+    → has ≡ is_listed (map (λ f. read_name f.name.text) (map field_of (take i fields))) q
+    → cond (bytes_eq low q) true has ≡ is_listed (map (λ f. read_name f.name.text) (map field_of (take (i + 1) fields))) q
+names_more fields i f low q has within is read known =
+    listed_more (map (λ f. read_name f.name.text) (map field_of (take i fields))) low q has known
+    ∙ ap (λ l. is_listed (map (λ f. read_name f.name.text) (map field_of (take i fields)) ++ l ∷ []) q) read
+    ∙ ap (λ l. is_listed l q)
+    (sym (ap (map (λ f. read_name f.name.text)) (seen_more field_of fields i f within is)
+    ∙ map-append (λ f. read_name f.name.text) (map field_of (take i fields)) (field_of f ∷ [])))
+
+-- what follows from a success
+pub on_ok : {A E : Type 0} {P Q : Type 0} (r : Result A E) → (P → Q) → OnOk r P → OnOk r Q
+on_ok (Ok x) f is = f is
+on_ok (Err e) f is = is
+
+-- the type of the entry at an index
+kind_is : (entries : List EntryReading) (i : ℕ) → kind_at (map type_of entries) i ≡ type_of (entry_at entries i)
+kind_is [] i = refl
+kind_is (e ∷ es) zero = refl
+kind_is (e ∷ es) (suc i) = kind_is es i
+
+-- what parents offer, by the types of all entries
+pub offered_is : (entries : List EntryReading) (kinds : List EntryType) (child : EntryType) (fields : ℕ → List Named) (ps : List Parent)
+    → kinds ≡ map type_of entries
+    → offered_by kinds child fields ps
+    ≡ flat_map (λ p. offers p.link (type_of (entry_at entries p.index)) child (fields p.index)) ps
+offered_is entries kinds child fields [] are = refl
+offered_is entries kinds child fields (p ∷ ps) are =
+    ap (λ k. offers p.link k child (fields p.index) ++ offered_by kinds child fields ps)
+    (ap (λ ks. kind_at ks p.index) are ∙ kind_is entries p.index)
+    ∙ ap (λ l. offers p.link (type_of (entry_at entries p.index)) child (fields p.index) ++ l)
+    (offered_is entries kinds child fields ps are)
+
+-- one more parent
+pub parents_more : (kinds : List EntryType) (child : EntryType) (fields : ℕ → List Named) (ps : List Parent) (i : ℕ) (d : Parent)
+    (a b c : Gathered) → i < length ps → Offered a (offered_by kinds child fields (take i ps)) b
+    → Offered b (offers (get_or ps i d).link (kind_at kinds (get_or ps i d).index) child (fields (get_or ps i d).index)) c
+    → Offered a (offered_by kinds child fields (take (i + 1) ps)) c
+parents_more kinds child fields ps i d a b c within before now =
+    let each = λ (q : Parent). offers q.link (kind_at kinds q.index) child (fields q.index) in
+    let p : Parent = get_or ps i d in
+    offered_same a c _ _
+    (ap (λ l. offered_by kinds child fields (take i ps) ++ l) (sym (append-nil (each p)))
+    ∙ sym (flat_map-append each (take i ps) (p ∷ []))
+    ∙ ap (flat_map each) (sym (take_more ps i d within)))
+    (offered_then a b c _ _ before now)

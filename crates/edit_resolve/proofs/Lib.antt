@@ -1,5 +1,10 @@
 mod AlongFacts
+mod ChangeFacts
 mod FileFacts
 mod GatheringFacts
+mod InheritedFacts
 mod ListFacts
+mod NameFacts
 mod OrderFacts
+mod ParentFacts
+mod ResolvedFacts

@@ -1,5 +1,5 @@
 -- General facts about lists.
-use Rattle.std.proofs.Common.{◌≡◌, ℕ, ◌+◌, ◌<◌, Bool, true, false, cond, List, [], ◌∷◌, ◌++◌, length, map, take, get_or, refl, sym, ap, ◌∙◌, arith, append_assoc, Option}
+use Rattle.std.proofs.Common.{◌≡◌, ℕ, ◌+◌, ◌<◌, Bool, false, List, [], ◌∷◌, ◌++◌, length, map, take, get_or, refl, sym, ap, ◌∙◌, arith, append_assoc, Option}
 use Rattle.std.specs.Prelude.{◌||◌}
 use Rattle.std.specs.List.{filter_map, list_any}
 use Rattle.std.proofs.lemmas.List.Elements.{filter_map-append}
@@ -25,14 +25,20 @@ pub one_of_none : (names : List (List ℕ)) (name : List ℕ) → IsNoneOf names
 one_of_none [] name none = refl
 one_of_none (x ∷ xs) name none = search (arith, none.0, one_of_none xs name none.1, bytes_eq-Decides)
 
+-- one more element, where the default of the list is given
+pub seen_at : {A B : Type 0} (view : A → B) (xs : List A) (i : ℕ) (d : A) → i < length xs
+    → map view (take (i + 1) xs) ≡ map view (take i xs) ++ view (get_or xs i d) ∷ []
+seen_at view xs i d within = ap (map view) (take_more xs i d within) ∙ map-append view (take i xs) (get_or xs i d ∷ [])
+
 -- one more key
-pub mapped_more : {A B C D : Type 0} (view : A → B) (h : B → Option C) (f : C → D) (xs : List A) (i : ℕ) (x : A) → i < length xs
-    → x ≡ get_or xs i x → (old start : List D) → old ≡ start ++ map f (filter_map h (map view (take i xs)))
-    → old ++ map f (filter_map h (view x ∷ [])) ≡ start ++ map f (filter_map h (map view (take (i + 1) xs)))
-mapped_more view h f xs i x within is old start before =
+pub mapped_more : {A B C D : Type 0} (view : A → B) (h : B → Option C) (f : C → D) (xs : List A) (i : ℕ) (d : A) → i < length xs
+    → (old start : List D) → old ≡ start ++ map f (filter_map h (map view (take i xs)))
+    → old ++ map f (filter_map h (view (get_or xs i d) ∷ [])) ≡ start ++ map f (filter_map h (map view (take (i + 1) xs)))
+mapped_more view h f xs i d within old start before =
+    let x = get_or xs i d in
     ap (λ l. l ++ map f (filter_map h (view x ∷ []))) before
     ∙ append_assoc start (map f (filter_map h (map view (take i xs)))) (map f (filter_map h (view x ∷ [])))
     ∙ ap (λ l. start ++ l)
     (sym (map-append f (filter_map h (map view (take i xs))) (filter_map h (view x ∷ [])))
     ∙ ap (map f) (sym (filter_map-append h (map view (take i xs)) (view x ∷ [])))
-    ∙ ap (λ l. map f (filter_map h l)) (sym (seen_more view xs i x within is)))
+    ∙ ap (λ l. map f (filter_map h l)) (sym (seen_at view xs i d within)))

@@ -1,9 +1,10 @@
 -- A topological order has as many indices as the graph.
-use Rattle.std.proofs.Common.{◌≡◌, ◌⊎◌, inl, inr, ℕ, ◌+◌, ◌<◌, ◌≤◌, Bool, true, false, cond, eqb, ltb, List, [], ◌∷◌, length, refl, sym, ap, ◌∙◌, arith}
+use Rattle.std.proofs.Common.{◌≡◌, inl, inr, ℕ, ◌<◌, ◌≤◌, Bool, true, false, cond, eqb, ltb, List, [], ◌∷◌, length, refl, sym, ap, ◌∙◌, arith}
 use Rattle.std.specs.Prelude.{◌||◌}
 use Rattle.std.specs.List.{AllByRecursion, IsDistinct, list_any}
 use Rattle.std.proofs.lemmas.Bool.{cases_lt, le-ltb}
 use Rattle.std.proofs.lemmas.Bool.Decides.{eqb_tells}
+use Rattle.std.proofs.lemmas.List.Sums.{sum_by-cons}
 use Rattle.std.proofs.lemmas.Map.Steps.{length-le_from_distinct_below}
 use Rattle.bib_collections.specs.Graph.{Graph, IsTopologicalOrder}
 use Rattle.bib_collections.specs.Work.{times}
@@ -20,8 +21,8 @@ one false = omega arith
 all_other : (x : ℕ) (xs : List ℕ) → times x xs ≡ 0 → AllByRecursion (λ y. eqb x y ≡ false) xs
 all_other x [] none = tt
 all_other x (y ∷ ys) none = elim (eqb_tells x y) [
-  | inl same ↦ absurd (omega (arith, none, as_one (eqb y x) true (turned same.1)))
-  | inr other ↦ (other.0, all_other x ys (omega (arith, none)))
+  | inl same ↦ absurd (omega (arith, none, sum_by-cons (λ t. cond (eqb t x) 1 0) y ys, as_one (eqb y x) true (turned same.1)))
+  | inr other ↦ (other.0, all_other x ys (omega (arith, none, sum_by-cons (λ t. cond (eqb t x) 1 0) y ys)))
 ]
   where
     turned : x ≡ y → eqb y x ≡ true
@@ -32,16 +33,20 @@ distinct : (xs : List ℕ) → ((p : ℕ) → times p xs ≤ 1) → IsDistinct e
 unfolding IsDistinct
 distinct [] once = tt
 distinct (x ∷ xs) once = (
-  all_other x xs (omega (arith, once x, as_one (eqb x x) true (itself x))),
-  distinct xs (λ p. omega (arith, once p)),
+  all_other x xs (omega (arith, once x, sum_by-cons (λ t. cond (eqb t x) 1 0) x xs, as_one (eqb x x) true (itself x))),
+  distinct xs (λ p. omega (arith, once p, sum_by-cons (λ t. cond (eqb t p) 1 0) x xs)),
 )
 
 -- an index that occurs occurs at least once
 occurs : (q : ℕ) (xs : List ℕ) → list_any (eqb q) xs ≡ true → 0 < times q xs
 occurs q [] any = absurd (cc)
 occurs q (x ∷ xs) any = elim (eqb_tells q x) [
-  | inl same ↦ omega (arith, as_one (eqb x q) true (ap (eqb x) same.1 ∙ itself x))
-  | inr other ↦ omega (arith, occurs q xs (sym (ap (λ b. b || list_any (eqb q) xs) other.0) ∙ any))
+  | inl same ↦ omega (arith, sum_by-cons (λ t. cond (eqb t q) 1 0) x xs, as_one (eqb x q) true (ap (eqb x) same.1 ∙ itself x))
+  | inr other ↦ omega (
+    arith,
+    sum_by-cons (λ t. cond (eqb t q) 1 0) x xs,
+    occurs q xs (sym (ap (λ b. b || list_any (eqb q) xs) other.0) ∙ any),
+  )
 ]
 
 pub order_within : (graph : Graph) (order : List ℕ) → IsTopologicalOrder graph order → length order ≤ length graph

@@ -1,6 +1,6 @@
 -- Meaning: words of public contracts.
 -- The parents of an entry: the entries that it inherits from, which Biber finds by the keys in its fields `crossref` and `xdata`.
-use Rattle.std.specs.Prelude.{ℕ, Bool, true, false, not, ◌&&◌, ◌||◌, if◌then◌else◌, is_some, List, [], ◌∷◌, ◌++◌, codes, length, ◌==◌, map, reverse, slice_index_or, Option, Some, None}
+use Rattle.std.specs.Prelude.{ℕ, Bool, not, ◌&&◌, ◌||◌, if◌then◌else◌, is_some, List, [], ◌++◌, codes, length, ◌==◌, map, reverse, slice_index_or, Option, Some, None}
 use Rattle.std.specs.List.{filter_map, flat_map, list_all}
 use Rattle.std.specs.Str.{trim}
 use Rattle.bib_collections.specs.Graph.{Graph}

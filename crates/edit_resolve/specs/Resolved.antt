@@ -1,6 +1,6 @@
 -- Meaning: words of public contracts.
 -- A file with inherited fields written out.
-use Rattle.std.specs.Prelude.{ℕ, zero, suc, Bool, true, false, if◌then◌else◌, List, [], ◌∷◌, ◌++◌, length, map, filter, Option, Some, None, unwrap_or, ⊤}
+use Rattle.std.specs.Prelude.{ℕ, zero, suc, Bool, if◌then◌else◌, List, [], ◌∷◌, ◌++◌, length, map, filter, Option, Some, None, unwrap_or, ⊤}
 use Rattle.std.specs.List.{flat_map, list_any}
 use Rattle.bib_text.specs.Enums.{value_named}
 use Rattle.bib_collections.specs.Graph.{IsFirstOnCycle}
@@ -105,8 +105,11 @@ resolution text entries e = record { kind = None; fields = field_changes text (i
 abbrev pub IsResolved : Document → List ℕ → Type 0
 IsResolved d text = IsChanged (resolution d.text d.says.entries) d text
 
--- the conditions under which resolving is refused: the entry at this index is the first that inherits from itself, directly or through
--- others
+-- why resolving entries fails: the entry at this index is the first that inherits from itself, directly or through others, or memory ran out
+abbrev pub IsResolveError : List EntryReading → ResolveError → Type 0
+IsResolveError entries (Cycle index) = IsFirstOnCycle (parent_graph entries) index
+IsResolveError entries OutOfMemory = ⊤
+
+-- the conditions under which resolving a document is refused
 abbrev pub ResolveIsRefused : Document → ResolveError → Type 0
-ResolveIsRefused d (Cycle index) = IsFirstOnCycle (parent_graph d.says.entries) index
-ResolveIsRefused d OutOfMemory = ⊤
+ResolveIsRefused d e = IsResolveError d.says.entries e

@@ -1,6 +1,6 @@
 -- Machinery: words of private contracts.
 -- The file, the parents and the gathered fields, in the types of the code.
-use Rattle.std.specs.Prelude.{◌≡◌, ℕ, ◌<◌, ◌≤◌, Bool, ◌||◌, if◌then◌else◌, List, [], ◌∷◌, ◌++◌, codes, bytes_eq, length, map, slice_index_or, Option, Some, None, unwrap_or, ⊤}
+use Rattle.std.specs.Prelude.{◌≡◌, ℕ, ◌<◌, ◌≤◌, Bool, if◌then◌else◌, List, [], ◌∷◌, ◌++◌, length, map, slice_index_or, Option, unwrap_or}
 use Rattle.std.specs.Borrow.{Bor}
 use Rattle.std.specs.BTreeMap.{BTreeMap, get_by}
 use Rattle.std.specs.BTreeSet.{contains_text}
@@ -10,7 +10,6 @@ use Rattle.std.specs.List.{AllByRecursion, flat_map, list_any}
 use Rattle.std.specs.Ordering.{nat_cmp}
 use Rattle.std.specs.Str.{IsCharBoundary}
 use Rattle.bib_text.specs.Enums.{value_named}
-use Rattle.bib_collections.specs.Graph.{IsFirstOnCycle}
 use Rattle.bib_queries.specs.Needed.{is_listed}
 use Rattle.bib_syntax.specs.Reading.{EntryReading, FieldReading}
 use Rattle.bib_syntax.specs.Views.{entry_reading_of, field_of}
@@ -22,10 +21,8 @@ use Rattle.edit_entries.specs.Documents.{first_position, is_keyed}
 use Rattle.edit_entries.specs.Placed.{IsPlaced}
 use Rattle.edit_entries.specs.References.{has_alias}
 use Rattle.edit_resolve.specs.Inheritance.{read_name, rival_names}
-use Rattle.edit_resolve.specs.Parents.{entry_at, parent_graph, type_of}
+use Rattle.edit_resolve.specs.Parents.{entry_at, type_of}
 use Rattle.edit_resolve.specs.Resolved.{Named, as_itself, fields_along, last_change, new_fields, offers}
-use Rattle.edit_resolve.specs.declared.errors.ResolveError.{ResolveError}
-use Rattle.edit_resolve.specs.declared.errors.ResolveError.TheVariants.{Cycle, OutOfMemory}
 use Rattle.edit_resolve.specs.declared.file.File.{File}
 use Rattle.edit_resolve.specs.declared.gathering.Named.{Named as NamedField}
 use Rattle.edit_resolve.specs.declared.gathering.Gathered.{Gathered}
@@ -100,11 +97,6 @@ with_inherited entries fields parents index =
 abbrev pub AreAlong : List EntryReading → (ℕ → List Named) → Type 0
 AreAlong entries fields =
     (index most : ℕ) → index < length entries → length entries ≤ most → fields index ≡ fields_along entries most index
-
--- the errors of the graph of parents
-abbrev pub IsGraphError : List EntryReading → ResolveError → Type 0
-IsGraphError entries (Cycle index) = IsFirstOnCycle (parent_graph entries) index
-IsGraphError entries OutOfMemory = ⊤
 
 -- ---- edits
 

@@ -1,20 +1,21 @@
 //! The edits that write inherited fields out.
 
-ghost use Rattle.std.specs.Prelude.{◌≡◌, ◌++◌, ℕ, List, length, map, count_by, not, drop, IfOk, OnOk};
+ghost use Rattle.std.specs.Prelude.{◌≡◌, ◌++◌, ◌<◌, ◌≤◌, length, map, count_by, drop, IfOk, OnOk};
 ghost use Rattle.std.specs.List.{AllByRecursion};
 ghost use Rattle.bib_syntax.specs.Views.{entry_reading_of, field_of};
-ghost use Rattle.edit_entries.specs.Changes.{edits_of_entries, edits_of_field, edits_of_fields, removal_edits};
+ghost use Rattle.edit_entries.specs.Changes.{edits_of_entries, edits_of_entry, edits_of_field, edits_of_fields, removal_edits};
 ghost use Rattle.edit_entries.specs.Cuts.{ArePiecesCut};
 ghost use Rattle.edit_entries.specs.EditList.{edit_of};
 ghost use Rattle.edit_resolve.specs.Parents as parents;
-ghost use Rattle.edit_resolve.specs.Resolved.{field_changes, last_change, resolution};
+ghost use Rattle.edit_resolve.specs.Resolved.{as_itself, field_changes, inherited, last_change, resolution};
 ghost use Rattle.edit_resolve.specs.Working.{AreCut, AreAlong, IsKnown, IsStretch, fields_at, last_or_removed, named_of, readings};
 
 use crate::file::File;
 use crate::gathering::Named;
 use crate::parents::is_resolved;
 use crate::texts::{new_text, white_before};
-use bib_syntax::raw::Pair;
+use bib_syntax::raw::{Pair, RawEntry};
+use bib_text::spanned::Spanned;
 use edit_entries::editing::Edit;
 use edit_entries::values::value_end;
 use std::alloc::{AllocError, Global};
@@ -133,6 +134,44 @@ fn push_field_edits(
     Ok(())
 }
 
+// Returns fields without this number of first ones.
+fn without_first<'f, 'a, 's>(fields: &'f [Named<'a, 's>], count: usize) -> &'f [Named<'a, 's>]
+    requires { count ≤ length fields.now }
+    ensures { result.now ≡ drop count fields.now }
+{
+    &fields[count..]
+}
+
+// Adds the edits of an entry, which has these fields, its own ones first.
+fn push_entry_edits(
+    edits: &mut Vec<Edit>,
+    alloc: Global,
+    file: &File<'_, '_>,
+    text: &str,
+    entry: &Spanned<RawEntry<'_>>,
+    all: &[Named<'_, '_>],
+) -> Result<(), AllocError>
+    requires known { IsKnown file.now }
+    requires own { AllByRecursion (λ f. IsStretch text.now f × ArePiecesCut text.now f) (entry_reading_of entry.now).fields }
+    requires all { map named_of all.now ≡
+        map as_itself (entry_reading_of entry.now).fields ++ inherited (readings file.now) (entry_reading_of entry.now) }
+    requires new { AllByRecursion (λ n. ArePiecesCut text.now n.field) (inherited (readings file.now) (entry_reading_of entry.now)) }
+    ensures { OnOk result (map edit_of edits.new.items ≡ map edit_of edits.old.items ++
+        edits_of_entry text.now (entry_reading_of entry.now) (resolution text.now (readings file.now) (entry_reading_of entry.now))) }
+{
+    let own = &entry.v.fields;
+    let new = without_first(all, own.len());
+    push_field_edits(edits, alloc, file, text, new, own)
+}
+
+// Returns the fields at an index.
+fn fields_of<'f, 'a, 's>(fields: &'f [Vec<Named<'a, 's>>], index: usize) -> &'f [Named<'a, 's>]
+    requires { index < length fields.now }
+    ensures { map named_of result.now ≡ fields_at fields.now index }
+{
+    &fields[index]
+}
+
 // Returns the edits of the entries, which have these fields, their own ones first.
 pub(crate) fn edits(
     alloc: Global,
@@ -148,9 +187,14 @@ pub(crate) fn edits(
 {
     let mut edits = Vec::new(alloc);
     'entries: for (index, entry) in file.entries.iter().enumerate() {
-        let own = &entry.v.fields;
-        let new = &fields[index][own.len()..];
-        push_field_edits(&mut edits, alloc, file, text, new, own)?;
+        push_entry_edits(
+            &mut edits,
+            alloc,
+            file,
+            text,
+            entry,
+            fields_of(fields, index),
+        )?;
     }
     Ok(edits)
 }

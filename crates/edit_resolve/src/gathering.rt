@@ -8,7 +8,7 @@ ghost use Rattle.bib_syntax.specs.Views.{entry_reading_of, field_of};
 ghost use Rattle.edit_resolve.specs.Inheritance.{keeps_name, new_name, passes_on, read_name};
 ghost use Rattle.edit_resolve.specs.Resolved.{Named, as_itself, inherited_by, offers, renamed};
 ghost use Rattle.edit_resolve.specs.Working as spec;
-ghost use Rattle.edit_resolve.specs.Working.{IsKnown, Offered, fields_at, named_of, readings};
+ghost use Rattle.edit_resolve.specs.Working.{IsKnown, Offered, fields_at, kind_at, named_of, readings};
 
 use crate::file::File;
 use crate::inheritance::{keeps_name, new_name, passes_on};
@@ -201,6 +201,30 @@ fn own_fields<'a, 's>(
     Ok(own)
 }
 
+// Adds the fields that a parent offers.
+fn push_parent<'a, 's>(
+    gathered: &mut Gathered<'a, 's>,
+    alloc: Global,
+    kinds: &[EntryType],
+    child: &EntryType,
+    parent: Parent,
+    found: &[Vec<Named<'a, 's>>],
+) -> Result<(), AllocError>
+    requires as_many { length kinds.now ≡ length found.now }
+    requires within { parent.index < length found.now }
+    ensures { OnOk result (Offered gathered.old
+        (offers parent.link (kind_at kinds.now parent.index) child.now (fields_at found.now parent.index)) gathered.new) }
+{
+    push_offers(
+        gathered,
+        alloc,
+        parent.link,
+        &kinds[parent.index],
+        child,
+        &found[parent.index],
+    )
+}
+
 // Adds the fields that the parents of an entry offer.
 fn push_parents<'a, 's>(
     gathered: &mut Gathered<'a, 's>,
@@ -215,14 +239,7 @@ fn push_parents<'a, 's>(
     ensures { OnOk result (Offered gathered.old (spec.offered_by kinds.now child.now (fields_at found.now) parents.now) gathered.new) }
 {
     'parents: for parent in parents {
-        push_offers(
-            gathered,
-            alloc,
-            parent.link,
-            &kinds[parent.index],
-            child,
-            &found[parent.index],
-        )?;
+        push_parent(gathered, alloc, kinds, child, *parent, found)?;
     }
     Ok(())
 }

@@ -1,11 +1,12 @@
 //! The fields of all entries, with inherited ones.
 
-ghost use Rattle.std.specs.Prelude.{◌≡◌, ◌<◌, ◌≤◌, ℕ, length, map, IfErr, IfOk, OnOk};
+ghost use Rattle.std.specs.Prelude.{◌≡◌, ◌<◌, [], length, map, slice_index_or, IfErr, IfOk, OnOk};
 ghost use Rattle.bib_collections.specs.Graph.{HasNoCycle, IsInRange, IsTopologicalOrder};
 ghost use Rattle.bib_collections.specs.Rows.{rows};
 ghost use Rattle.edit_resolve.specs.Parents as spec;
 ghost use Rattle.edit_resolve.specs.Parents.{parent_graph};
-ghost use Rattle.edit_resolve.specs.Working.{AreAlong, IsGraphError, IsKnown, fields_at, lists_of, readings};
+ghost use Rattle.edit_resolve.specs.Resolved.{IsResolveError};
+ghost use Rattle.edit_resolve.specs.Working.{AreAlong, IsKnown, fields_at, lists_of, readings};
 
 use crate::errors::ResolveError;
 use crate::file::File;
@@ -26,6 +27,14 @@ fn empty_lists<'a, 's>(alloc: Global, count: usize) -> Result<Vec<Vec<Named<'a, 
     Ok(lists)
 }
 
+// Returns the parents of the entry at an index.
+fn parents_at(parents: &[Vec<Parent>], index: usize) -> &[Parent]
+    requires { index < length parents.now }
+    ensures { result.now ≡ slice_index_or (lists_of parents.now) index [] }
+{
+    &parents[index]
+}
+
 // Returns the fields of each entry, with the inherited ones. In `order`, each entry comes after its parents.
 fn fields_in_order<'a, 's>(
     alloc: Global,
@@ -41,7 +50,7 @@ fn fields_in_order<'a, 's>(
 {
     let mut fields = empty_lists(alloc, file.entries.len())?;
     'order: for index in order {
-        fields[*index] = with_inherited(alloc, file, *index, &parents[*index], &fields)?;
+        fields[*index] = with_inherited(alloc, file, *index, parents_at(parents, *index), &fields)?;
     }
     Ok(fields)
 }
@@ -55,7 +64,7 @@ pub(crate) fn all_fields<'a, 's>(
     ensures length { IfOk result (λ fields. length fields.items ≡ length file.now.entries.now) }
     ensures fields { IfOk result (λ fields. AreAlong (readings file.now) (fields_at fields.items)) }
     ensures no_cycle { OnOk result (HasNoCycle (parent_graph (readings file.now))) }
-    ensures refused { IfErr result (IsGraphError (readings file.now)) }
+    ensures refused { IfErr result (IsResolveError (readings file.now)) }
 {
     let parents = all_parents(alloc, file)?;
     let refs = graph(alloc, &parents)?;

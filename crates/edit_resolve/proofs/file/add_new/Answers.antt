@@ -1,4 +1,4 @@
-use Rattle.std.proofs.Common.{ℕ, None, sym, ◌≡◌, ◌∙◌}
+use Rattle.std.proofs.Common.{None, sym, ◌≡◌, ◌∙◌}
 use Rattle.std.proofs.lemmas.Map.Text.{btree_map_updates_str}
 use Rattle.edit_resolve.specs.Working.{index_in}
 use Rattle.edit_resolve.proofs.FileFacts.{added, none_of}

@@ -1,4 +1,4 @@
-use Rattle.std.proofs.Common.{◌≡◌, ◌-◌, ℕ, take, ap, ◌∙◌, arith}
+use Rattle.std.proofs.Common.{◌≡◌, ◌-◌, take, ap, ◌∙◌, arith}
 use Rattle.edit_entries.proofs.WhiteBeforeFacts.{white_cut}
 use Rattle.edit_resolve.proofs.texts.white_before.Goals as goal
 

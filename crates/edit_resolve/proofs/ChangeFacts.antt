@@ -1,0 +1,84 @@
+-- The changes of fields and entries.
+use Rattle.std.proofs.Common.{◌≡◌, ℕ, ◌+◌, ◌<◌, Bool, true, false, cond, List, [], ◌∷◌, ◌++◌, length, map, drop, get_or, refl, sym, ap, ◌∙◌, arith, append_assoc}
+use Rattle.std.specs.Prelude.{count_by, ◌==◌, ◌||◌}
+use Rattle.std.specs.List.{list_any}
+use Rattle.std.proofs.lemmas.Bool.Decides.{nat_tests}
+use Rattle.std.proofs.lemmas.List.{drop_more}
+use Rattle.std.proofs.lemmas.List.Sums.{sum_by-cons}
+use Rattle.bib_syntax.specs.Reading.{FieldReading}
+use Rattle.edit_entries.specs.Changes.{FieldChange, edits_of_field, edits_of_fields}
+use Rattle.edit_entries.specs.Edits.{Edit}
+use Rattle.edit_resolve.specs.Resolved.{Named, as_itself, field_change, field_changes, last_change}
+use Rattle.edit_resolve.specs.Working.{last_or_removed, named_of}
+use Rattle.edit_resolve.specs.declared.gathering.Named.{Named as NamedField}
+
+module _ (text : List ℕ) (resolved : FieldReading → Bool) (new : List Named) where
+  -- the edits of fields
+  abbrev pub edits_from : List FieldReading → List Edit
+  edits_from fs = edits_of_fields text fs (field_changes text resolved new fs)
+
+  -- one of some fields passes a test exactly if more than none does
+  any_counted : {A : Type 0} (fs : List FieldReading) (x y : A)
+      → cond (list_any resolved fs) x y ≡ cond (count_by resolved fs == 0) y x
+  any_counted [] x y = refl
+  any_counted (f ∷ fs) x y =
+      ap (λ b. cond (b || list_any resolved fs) x y) refl
+      ∙ by_case (resolved f) (any_counted fs x y)
+      ∙ ap (λ n. cond (n == 0) y x) (sym (sum_by-cons (λ g. cond (resolved g) 1 0) f fs))
+    where
+      by_case : (b : Bool) → cond (list_any resolved fs) x y ≡ cond (count_by resolved fs == 0) y x
+          → cond (b || list_any resolved fs) x y ≡ cond (cond b 1 0 + count_by resolved fs == 0) y x
+      by_case true rest = ap (λ n. cond n y x) (some (count_by resolved fs))
+        where
+          some : (n : ℕ) → false ≡ (1 + n == 0)
+          some n = grind (arith, nat_tests)
+      by_case false rest = rest ∙ ap (λ n. cond (n == 0) y x) (none (count_by resolved fs))
+        where
+          none : (n : ℕ) → n ≡ 0 + n
+          none n = omega arith
+
+  -- the change of a resolved reference, by the number of those that follow
+  pub change_is : (f : FieldReading) (following : List FieldReading) (left : ℕ) → resolved f ≡ true → left ≡ count_by resolved following
+      → field_change text resolved new f following ≡ last_or_removed text (left == 0) new f following
+  change_is f following left is count =
+      ap (λ b. cond b (cond (list_any resolved following) FieldChange.removed (last_change text new f following)) FieldChange.kept) is
+      ∙ any_counted following FieldChange.removed (last_change text new f following)
+      ∙ ap (λ n. cond (n == 0) (last_change text new f following) FieldChange.removed) (sym count)
+
+  -- the number of resolved references from a field on
+  pub count_step : {A : Type 0} (view : A → FieldReading) (xs : List A) (i : ℕ) (x : A) → i < length xs → x ≡ get_or xs i x
+      → count_by resolved (map view (drop i xs)) ≡ cond (resolved (view x)) 1 0 + count_by resolved (map view (drop (i + 1) xs))
+  count_step view xs i x within is =
+      ap (λ l. count_by resolved (map view l)) (drop_more xs i x within ∙ ap (λ y. y ∷ drop (i + 1) xs) (sym is))
+      ∙ sum_by-cons (λ g. cond (resolved g) 1 0) (view x) (map view (drop (i + 1) xs))
+
+  -- a field that is kept has no edit
+  pub kept_is : (f : FieldReading) (following : List FieldReading) → resolved f ≡ false
+      → [] ≡ edits_of_field text f following (field_change text resolved new f following)
+  kept_is f following is =
+      ap
+      (λ b.
+      edits_of_field text f following
+      (cond b (cond (list_any resolved following) FieldChange.removed (last_change text new f following)) FieldChange.kept)) (sym is)
+
+  -- the edits of one more field were added
+  pub edits_step : {A : Type 0} (view : A → FieldReading) (xs : List A) (i : ℕ) (x : A) → i < length xs → x ≡ get_or xs i x
+      → (old now all : List Edit)
+      → now ≡ old ++ edits_of_field text (view x) (map view (drop (i + 1) xs))
+      (field_change text resolved new (view x) (map view (drop (i + 1) xs)))
+      → old ++ edits_from (map view (drop i xs)) ≡ all → now ++ edits_from (map view (drop (i + 1) xs)) ≡ all
+  edits_step view xs i x within is old now all added so_far =
+      let rest : List FieldReading = map view (drop (i + 1) xs) in
+      let left : map view (drop i xs) ≡ view x ∷ rest =
+      ap (map view) (drop_more xs i x within ∙ ap (λ y. y ∷ drop (i + 1) xs) (sym is)) in
+      ap (λ l. l ++ edits_from rest) added
+      ∙ append_assoc old (edits_of_field text (view x) rest (field_change text resolved new (view x) rest)) (edits_from rest)
+      ∙ ap (λ l. old ++ edits_from l) (sym left) ∙ so_far
+
+-- the inherited fields are those after the own ones
+pub new_part : (all : List NamedField) (fs : List FieldReading) (inherits : List Named) (n : ℕ)
+    → map named_of all ≡ map as_itself fs ++ inherits → n ≡ length fs → map named_of (drop n all) ≡ inherits
+new_part all [] inherits n is size = ap (λ m. map named_of (drop m all)) size ∙ is
+new_part [] (f ∷ fs) inherits n is size = absurd (cc)
+new_part (a ∷ as') (f ∷ fs) inherits n is size =
+    ap (λ m. map named_of (drop m (a ∷ as'))) size ∙ new_part as' fs inherits (length fs) (let tails : map named_of as' ≡ map as_itself fs ++ inherits = cc in tails) refl
