@@ -1,9 +1,8 @@
 -- Texts that can be keys.
-use Rattle.std.proofs.Common.{◌≡◌, ℕ, zero, suc, ◌+◌, ◌*◌, ◌<◌, Bool, true, false, not, cond, List, [], ◌∷◌, ◌++◌, length, refl, sym, ◌∙◌, ap, subst, arith, lit<, length-append}
-use Rattle.std.specs.Prelude.{◌&&◌, ◌||◌, ◌==◌, codes}
+use Rattle.std.proofs.Common.{◌≡◌, ℕ, ◌+◌, ◌<◌, Bool, true, false, not, cond, List, [], ◌∷◌, ◌++◌, length, refl, sym, ◌∙◌, ap, subst, arith, lit<, length-append}
+use Rattle.std.specs.Prelude.{◌&&◌, ◌==◌, codes}
 use Rattle.std.specs.Char.{is_ascii_alphanumeric}
 use Rattle.std.specs.List.{flat_map, list_all, list_any}
-use Rattle.std.specs.Str.Iter.{HasSubslice}
 use Rattle.std.proofs.lemmas.Bool.Decides.{nat_tests}
 use Rattle.std.proofs.lemmas.List.Folds.{list_all-append}
 use Rattle.bib_entry.specs.declared.entry.Entry.{Entry}
@@ -94,11 +93,13 @@ pub clean_base : (pattern : List Part) (entry : Entry) → IsClean (base pattern
 clean_base pattern entry = of (list_any is_ascii_alphanumeric text) refl where
   text : List ℕ
   text = cleaned (flat_map (part_text entry) pattern)
+
   some : (l : List ℕ) → list_any is_ascii_alphanumeric l ≡ true → 0 < length l
   some [] h = absurd (clash h) where
     clash : false ≡ true → ⊥
     clash x = cc
   some (c ∷ l) h = omega arith
+
   of : (b : Bool) → list_any is_ascii_alphanumeric text ≡ b → IsClean (cond b text (codes "nokey"))
   of true h = record {
     some = some text h;
@@ -112,13 +113,13 @@ suffix_letters : (n : ℕ) (letters : List ℕ) → IsSuffix n letters
     → (list_all is_in_keys letters ≡ true) × (list_all is_no_hyphen letters ≡ true)
 suffix_letters _ _ IsSuffix.none = (refl, refl)
 suffix_letters _ _ (IsSuffix.more {n = n} {letters = letters} k small one) =
-    let before = suffix_letters n letters one in
-    (
+    let before = suffix_letters n letters one in (
       list_all-append is_in_keys letters ((97 + k) ∷ []) ∙ both_and _ _ before.0 (allowed (97 + k) (omega arith) (omega arith)),
       list_all-append is_no_hyphen letters ((97 + k) ∷ []) ∙ both_and _ _ before.1 (no_hyphen (97 + k) (omega arith)),
     ) where
       allowed : (c : ℕ) → 96 < c → c < 123 → (is_in_keys c && true) ≡ true
       allowed c low high = grind (arith, nat_tests)
+
       no_hyphen : (c : ℕ) → 96 < c → (is_no_hyphen c && true) ≡ true
       no_hyphen c low = grind (arith, nat_tests)
 

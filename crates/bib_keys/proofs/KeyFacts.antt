@@ -1,5 +1,5 @@
 -- New keys, and the keys that are taken.
-use Rattle.std.proofs.Common.{◌≡◌, ◌≢◌, ℕ, zero, suc, ◌+◌, ◌-◌, ◌*◌, ◌<◌, ◌≤◌, ◌⊎◌, Bool, true, false, cond, List, [], ◌∷◌, ◌++◌, Option, Some, None, map, refl, sym, ◌∙◌, ap, subst, inl, inr, arith, append_assoc, length, take, get_or, length-append}
+use Rattle.std.proofs.Common.{◌≡◌, ℕ, zero, suc, ◌+◌, ◌<◌, ◌≤◌, ◌⊎◌, Bool, true, false, cond, List, [], ◌∷◌, ◌++◌, Option, Some, None, refl, sym, ◌∙◌, ap, subst, inl, inr, arith, length, take, get_or}
 use Rattle.std.specs.Prelude.{◌||◌, bytes_eq, is_some}
 use Rattle.std.specs.Char.{to_ascii_lowercase}
 use Rattle.std.specs.List.{All, list_any}
@@ -35,7 +35,7 @@ one_with_suffix n text a b one other =
     one.is ∙ ap (λ s. text ++ s) (one_suffix n n one.suffix other.suffix one.numbered other.numbered refl) ∙ sym other.is
 
 -- a number is below another or not
-below_or_not : (a b : ℕ) → (a < b) ⊎ (b ≤ a)
+pub below_or_not : (a b : ℕ) → (a < b) ⊎ (b ≤ a)
 below_or_not a b = grind arith
 
 -- a test is true or false
@@ -79,6 +79,7 @@ from_zero taken text key start number closed is new = record {
       → is_taken taken other ≡ true
   known None n other same below has = absurd (omega arith)
   known (Some m) n other same below has = closed.below m n text other same below has
+
   of : (n : ℕ) (other : List ℕ) → n < number → HasSuffix n text other → (n < start) ⊎ (start ≤ n) → is_taken taken other ≡ true
   of n other below has (inl less) = known (taken (str_to_ascii_lowercase text)) n other refl (subst (λ m. n < m) is less) has
   of n other below has (inr not_less) = new.first n other not_less below has
@@ -96,19 +97,24 @@ pub now_taken : (m0 m1 m2 : Numbers) (text key : List ℕ) (number : ℕ) → Is
 now_taken m0 m1 m2 text key number new one two other = of (bool_cases (bytes_eq k q)) (bool_cases (bytes_eq t q)) where
   k : List ℕ
   k = str_to_ascii_lowercase key
+
   t : List ℕ
   t = str_to_ascii_lowercase text
+
   q : List ℕ
   q = str_to_ascii_lowercase other
+
   old_taken : bytes_eq k q ≡ false → bytes_eq t q ≡ true → is_taken m0 other ≡ true
   old_taken differs same = from (text_taken m0 text key number new) where
     equal : t ≡ q
     equal = (bytes_eq-Decides t q).0 same
+
     from : (text ≡ key) ⊎ (is_taken m0 text ≡ true) → is_taken m0 other ≡ true
     from (inl is) = absurd (clash (bytes_eq k q) ((bytes_eq-Decides k q).1 (ap str_to_ascii_lowercase (sym is) ∙ equal)) differs) where
       clash : (b : Bool) → b ≡ true → b ≡ false → ⊥
       clash b x y = cc
     from (inr taken) = same_taken m0 text other equal taken
+
   of : (bytes_eq k q ≡ true) ⊎ (bytes_eq k q ≡ false) → (bytes_eq t q ≡ true) ⊎ (bytes_eq t q ≡ false)
       → is_some (m2 q) ≡ (bytes_eq k q || is_some (m0 q))
   of (inl same) _ =
@@ -138,12 +144,15 @@ now_closed m0 m1 m2 text key number closed new one two = record {
 } where
   others : (other : List ℕ) → is_taken m2 other ≡ (str_eq_ignore_ascii_case key other || is_taken m0 other)
   others = now_taken m0 m1 m2 text key number new one two
+
   old : (other : List ℕ) → is_taken m0 other ≡ true → is_taken m2 other ≡ true
   old other taken = others other ∙ still_taken (str_eq_ignore_ascii_case key other) (is_taken m0 other) taken
+
   itself : is_taken m2 key ≡ true
   itself =
       others key
       ∙ ap (λ b. b || is_taken m0 key) ((bytes_eq-Decides (str_to_ascii_lowercase key) (str_to_ascii_lowercase key)).1 refl)
+
   of : (found n : ℕ) (base other : List ℕ) → m2 (str_to_ascii_lowercase base) ≡ Some found → n < found → HasSuffix n base other
       → (bytes_eq (str_to_ascii_lowercase key) (str_to_ascii_lowercase base) ≡ true)
       ⊎ (bytes_eq (str_to_ascii_lowercase key) (str_to_ascii_lowercase base) ≡ false)
@@ -205,6 +214,7 @@ none_at : {X : Type 0} (p : X → Bool) (xs : List X) (i : ℕ) (d : X) → i < 
 none_at p xs i d within none = of (bool_cases (p (get_or xs i d))) where
   clash : (b : Bool) → b ≡ true → b ≡ false → ⊥
   clash b x y = cc
+
   of : (p (get_or xs i d) ≡ true) ⊎ (p (get_or xs i d) ≡ false) → p (get_or xs i d) ≡ false
   of (inl passes) = absurd (clash (list_any p xs) (list_any_at p xs i d within passes) none)
   of (inr fails) = fails

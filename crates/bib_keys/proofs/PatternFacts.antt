@@ -78,7 +78,7 @@ placeholder_is text name count None named is = λ part other.
 placeholder_is text name count (Some part) named is = record { name = name; count = count; named = named; means = sym is }
 
 -- a brace is no character of keys
-no_literal : is_in_keys 123 ≡ true → ⊥
+pub no_literal : is_in_keys 123 ≡ true → ⊥
 no_literal h = cc
 
 -- a test isn't both true and false
@@ -86,11 +86,11 @@ true_false : (b : Bool) → b ≡ true → b ≡ false → ⊥
 true_false b x y = cc
 
 -- the first numbers of equal lists
-first_same : (c d : ℕ) (s t : List ℕ) → (c ∷ []) ++ s ≡ d ∷ t → c ≡ d
+pub first_same : (c d : ℕ) (s t : List ℕ) → (c ∷ []) ++ s ≡ d ∷ t → c ≡ d
 first_same c d s t e = cc
 
 -- the texts inside equal braces
-inside_same : (after a rest : List ℕ) → 123 ∷ after ≡ (123 ∷ a ++ (125 ∷ [])) ++ rest → after ≡ a ++ (125 ∷ rest)
+pub inside_same : (after a rest : List ℕ) → 123 ∷ after ≡ (123 ∷ a ++ (125 ∷ [])) ++ rest → after ≡ a ++ (125 ∷ rest)
 inside_same after a rest e =
     let whole : 123 ∷ after ≡ 123 ∷ (a ++ (125 ∷ rest)) = e ∙ ap (λ l. 123 ∷ l) (append_assoc a (125 ∷ []) rest) in cc
 
@@ -163,23 +163,30 @@ pub read_no_more : (text : List ℕ) (parts : List Part) (rest : List ℕ) → I
 read_no_more text parts rest so_far some stops = by_case (slice_index rest 0 == 123) refl where
   at : ℕ
   at = length text - length rest
+
   sizes : length text ≡ length so_far.before + length rest
   sizes = ap length so_far.is ∙ length-append so_far.before rest
+
   place : length so_far.before ≡ at
   place = omega (arith, sizes)
+
   ahead : drop at text ≡ rest
   ahead = subst (λ n. drop n text ≡ rest) place (ap (drop (length so_far.before)) so_far.is ∙ drop-append_seam so_far.before rest)
+
   behind : take at text ≡ so_far.before
   behind =
       subst (λ n. take n text ≡ so_far.before) place
       (ap (take (length so_far.before)) so_far.is ∙ take-append_seam so_far.before rest)
+
   first : slice_index text at ≡ slice_index rest 0
   first = ap (λ n. get_or text n 0) (sym (add-zero at)) ∙ sym (get_or-drop at text 0 0) ∙ ap (λ l. get_or l 0 0) ahead
+
   none : IsNoPattern text
   none all pattern =
       let left = so_far.only all pattern in
       let (q, qs, t, r, first, others, split) = first_of left.0 rest left.1 some in
       stops q t r first split
+
   stop : StopsAt text at
   stop = record {
     parts = parts;
@@ -187,6 +194,7 @@ read_no_more text parts rest so_far some stops = by_case (slice_index rest 0 == 
     goes_on = omega (arith, sizes);
     stops = λ part here after is_part is. stops part here after is_part (sym ahead ∙ is);
   }
+
   by_case : (b : Bool) → slice_index rest 0 == 123 ≡ b → IsPatternError text (error_at at rest)
   by_case true is =
       subst (λ b. IsPatternError text (cond b (NoPlaceholder at) (NotInKeys at))) (sym is)
@@ -216,12 +224,11 @@ not_placeholder text after inside left is split lacks none part _ rest (IsPart.p
 -- a placeholder in braces begins a text
 pub is_placeholder : (text after inside left : List ℕ) (part : Part) → text ≡ 123 ∷ after → after ≡ inside ++ (125 ∷ left)
     → LacksByte 125 inside → IsPlaceholder part inside → (here : List ℕ) × IsPart part here × (text ≡ here ++ left)
-is_placeholder text after inside left part is split lacks placeholder =
-    (
-      123 ∷ (inside ++ (125 ∷ [])),
-      IsPart.placeholder lacks placeholder,
-      is ∙ ap (λ l. 123 ∷ l) (split ∙ sym (append_assoc inside (125 ∷ []) left)),
-    )
+is_placeholder text after inside left part is split lacks placeholder = (
+  123 ∷ (inside ++ (125 ∷ [])),
+  IsPart.placeholder lacks placeholder,
+  is ∙ ap (λ l. 123 ∷ l) (split ∙ sym (append_assoc inside (125 ∷ []) left)),
+)
 
 -- a character that is allowed in keys is ASCII
 pub in_keys_ascii : (c : ℕ) → is_in_keys c ≡ true → c < 128

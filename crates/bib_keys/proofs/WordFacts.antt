@@ -1,10 +1,9 @@
 -- Words and texts as plain text.
-use Rattle.std.proofs.Common.{◌≡◌, ℕ, ◌+◌, ◌<◌, ◌≤◌, ◌⊎◌, Bool, List, [], ◌∷◌, ◌++◌, length, map, take, drop, get_or, refl, sym, ◌∙◌, ap, ap₂, subst, arith, inl, inr, append_assoc, length-append, cond}
+use Rattle.std.proofs.Common.{◌≡◌, ℕ, ◌<◌, ◌≤◌, ◌⊎◌, Bool, List, [], ◌∷◌, ◌++◌, length, map, take, drop, get_or, refl, sym, ◌∙◌, ap, subst, arith, inl, inr, length-append, cond}
 use Rattle.std.specs.Prelude.{◌||◌, false, encode_utf8}
 use Rattle.std.specs.Char.{is_ascii_alphanumeric, to_ascii_uppercase}
 use Rattle.std.specs.List.{filter, list_any}
 use Rattle.std.proofs.lemmas.Bool.Decides.{nat_tests}
-use Rattle.std.proofs.lemmas.List.{map-append}
 use Rattle.std.proofs.lemmas.Str.{char_from_byte, encode_ascii, len_utf8_bounds, length-encode}
 use Rattle.bib_keys.specs.Letters.{is_gap, letters_for, plain_char}
 use Rattle.bib_keys.specs.Words.{in_case}
@@ -49,7 +48,7 @@ capital_is word rest c is = of (below_or_not c 128) where
         let some : 0 < length word = subst (λ l. 0 < length l) first (omega arith) in
         let head : get_or word 0 0 ≡ b = ap (λ l. get_or l 0 0) (sym first) in
         let not_small : (b < 128) → ⊥ = λ small.
-            let same : c ≡ get_or word 0 0 = char_from_byte word rest c is (omega (arith, head, small)) some in omega (arith, same, head, great, small) in
+        let same : c ≡ get_or word 0 0 = char_from_byte word rest c is (omega (arith, head, small)) some in omega (arith, same, head, great, small) in
         let upper : to_ascii_uppercase b ≡ b = no_upper b (not_below b 128 not_small) in
         subst (λ l. l ≡ map to_ascii_uppercase (take 1 l) ++ drop 1 l) first (ap (λ x. x ∷ w) (sym upper))
 

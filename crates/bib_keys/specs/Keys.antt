@@ -40,3 +40,7 @@ pub data AreKeys (pattern : List Part) : List Entry → List (List ℕ) → Type
 -- no two keys are the same in any ASCII case
 abbrev pub AreDistinct : List (List ℕ) → Type 0
 AreDistinct keys = AllPairs (λ key other. str_eq_ignore_ascii_case key other ≡ false) keys
+
+-- an entry with an empty key, to compare entries that may have different keys
+abbrev pub without_key : Entry → Entry
+without_key entry = record entry { key = [] }

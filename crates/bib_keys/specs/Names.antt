@@ -1,6 +1,6 @@
 -- Meaning: words of public contracts.
 -- The family names in a key.
-use Rattle.std.specs.Prelude.{ℕ, Bool, if◌then◌else◌, List, [], ◌∷◌, ◌++◌, length, map, take, nat_lt, codes, bytes_eq, Option, Some, None}
+use Rattle.std.specs.Prelude.{ℕ, if◌then◌else◌, List, [], ◌∷◌, ◌++◌, length, map, take, nat_lt, codes, bytes_eq, Option, Some, None}
 use Rattle.bib_chunks.specs.Values.{Value}
 use Rattle.bib_people.specs.People.{people_of}
 use Rattle.bib_people.specs.declared.person.Person.{Person}

@@ -60,7 +60,7 @@ fn push_title(
     push_words(alloc, out, case, &words)
 }
 
-// Appends the year, without its first `without` digits.
+// Appends the digits of the year.
 fn push_year(
     alloc: Global,
     out: &mut String,

@@ -1,10 +1,10 @@
-use Rattle.std.proofs.Common.{◌++◌, map, ap, sym, ◌∙◌}
-use Rattle.std.specs.Prelude.{string_bytes, chars}
+use Rattle.std.proofs.Common.{ap, sym, ◌∙◌}
+use Rattle.std.specs.Prelude.{chars}
 use Rattle.std.specs.List.{flat_map}
 use Rattle.std.proofs.lemmas.List.{map-id}
 use Rattle.std.proofs.lemmas.Iterator.{YieldsList-from_chars}
 use Rattle.std.proofs.lemmas.Iterator.Consumers.{YieldsList-end}
-use Rattle.std.proofs.lemmas.Str.{IsUtf8-string_bytes, encodes-chars, encodes_same}
+use Rattle.std.proofs.lemmas.Str.{encodes-chars, encodes_same}
 use Rattle.unicode_normalization.specs.Forms.{nfkd}
 use Rattle.bib_keys.specs.Letters.{plain_char}
 use Rattle.bib_keys.proofs.letters.plain.Goals as goal

@@ -1,6 +1,6 @@
 use Rattle.std.proofs.Common.{◌++◌, ◌∙◌, ap, append_assoc, sym}
 use Rattle.std.specs.Prelude.{string_bytes}
-use Rattle.bib_keys.specs.Letters.{for_capital, for_small}
+use Rattle.bib_keys.specs.Letters.{for_small}
 use Rattle.bib_keys.proofs.WordFacts.{plain_letters}
 use Rattle.bib_keys.proofs.letters.push_plain.Goals as goal
 

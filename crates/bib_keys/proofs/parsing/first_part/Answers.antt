@@ -1,4 +1,4 @@
-use Rattle.std.proofs.Common.{[], ◌∷◌, ◌++◌, ◌∙◌, ◌+◌, ap, lit<, sym, append-nil}
+use Rattle.std.proofs.Common.{◌++◌, ◌∙◌, ap, lit<, sym}
 use Rattle.std.specs.Prelude.{encode_utf8}
 use Rattle.std.proofs.lemmas.Str.Pattern.{split_parts, strip_prefix_char}
 use Rattle.bib_keys.proofs.PatternFacts.{is_literal, is_placeholder, not_closed, not_literal, not_placeholder}
