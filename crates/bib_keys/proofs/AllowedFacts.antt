@@ -6,8 +6,8 @@ use Rattle.std.specs.List.{flat_map, list_all, list_any}
 use Rattle.std.proofs.lemmas.Bool.Decides.{nat_tests}
 use Rattle.std.proofs.lemmas.List.Folds.{list_all-append}
 use Rattle.bib_entry.specs.declared.entry.Entry.{Entry}
-use Rattle.bib_keys.specs.Bases.{base, cleaned, cleaned_after, is_kept, part_text}
-use Rattle.bib_keys.specs.Characters.{CanBeKey, is_in_keys}
+use Rattle.bib_keys.specs.Bases.{cleaned, cleaned_after, is_kept, key_text, part_text}
+use Rattle.bib_keys.specs.Characters.{CanServeAsKey, is_in_keys}
 use Rattle.bib_keys.specs.Keys.{HasSuffix, IsSuffix}
 use Rattle.bib_keys.specs.declared.pattern.Part.{Part}
 use Rattle.bib_keys.proofs.YearFacts.{and_both}
@@ -89,8 +89,8 @@ pub record IsClean (text : List ℕ) : Type 0 where
   pub single : is_single 32 text ≡ true
 
 -- the text that a pattern gives for an entry
-pub clean_base : (pattern : List Part) (entry : Entry) → IsClean (base pattern entry)
-clean_base pattern entry = of (list_any is_ascii_alphanumeric text) refl where
+pub clean_key_text : (pattern : List Part) (entry : Entry) → IsClean (key_text pattern entry)
+clean_key_text pattern entry = of (list_any is_ascii_alphanumeric text) refl where
   text : List ℕ
   text = cleaned (flat_map (part_text entry) pattern)
 
@@ -124,10 +124,10 @@ suffix_letters _ _ (IsSuffix.more {n = n} {letters = letters} k small one) =
       no_hyphen c low = grind (arith, nat_tests)
 
 -- such a text with a suffix can be a key
-pub suffixed_allowed : (n : ℕ) (text key : List ℕ) → IsClean text → HasSuffix n text key → CanBeKey key
+pub suffixed_allowed : (n : ℕ) (text key : List ℕ) → IsClean text → HasSuffix n text key → CanServeAsKey key
 suffixed_allowed n text key clean has =
     let letters = suffix_letters n has.suffix has.numbered in
-    subst CanBeKey (sym has.is)
+    subst CanServeAsKey (sym has.is)
     (record {
       some = omega (arith, length-append text has.suffix, clean.some);
       characters = list_all-append is_in_keys text has.suffix ∙ both_and _ _ clean.characters letters.0;

@@ -2,10 +2,10 @@
 use Rattle.std.proofs.Common.{◌≡◌, ℕ, ◌<◌, ◌≤◌, ◌⊎◌, Bool, true, false, List, [], ◌∷◌, ◌++◌, Some, length, map, refl, sym, ◌∙◌, ap, ap₂, subst, inl, inr, arith, append_assoc, length-append}
 use Rattle.std.proofs.lemmas.List.{length-map, map-append}
 use Rattle.bib_entry.specs.declared.entry.Entry.{Entry}
-use Rattle.bib_keys.specs.Bases.{base}
+use Rattle.bib_keys.specs.Bases.{key_text}
 use Rattle.bib_keys.specs.Characters.{is_in_keys}
-use Rattle.bib_keys.specs.Keys.{AreKeys, HasSuffix, IsFirstNew, has_key, without_key}
-use Rattle.bib_keys.specs.Patterns.{IsPart, IsPattern, IsPlaceholder, part_of}
+use Rattle.bib_keys.specs.Keys.{AreKeys, HasSuffix, IsFirstNew, has_same_key, without_key}
+use Rattle.bib_keys.specs.Patterns.{IsPart, IsPattern, IsPlaceholder, part_meant}
 use Rattle.bib_keys.specs.declared.pattern.Part.{Part}
 use Rattle.bib_keys.specs.declared.pattern.Part.TheVariants.{Literal}
 use Rattle.bib_keys.proofs.KeyFacts.{below_or_not, one_with_suffix}
@@ -16,7 +16,7 @@ one_placeholder : (p q : Part) (inside : List ℕ) → IsPlaceholder p inside �
 one_placeholder p q inside one other =
     let same = one_named inside one.name other.name one.count other.count one.named other.named in
     let parts : Some p ≡ Some q =
-    sym one.means ∙ ap (λ n. part_of n one.count) same.0 ∙ ap (λ d. part_of other.name d) same.1 ∙ other.means in cc
+    sym one.means ∙ ap (λ n. part_meant n one.count) same.0 ∙ ap (λ d. part_meant other.name d) same.1 ∙ other.means in cc
 
 -- the part at the start of a text is one part
 one_part : (p q : Part) (a b s t : List ℕ) → IsPart p a → IsPart q b → a ++ s ≡ b ++ t → p ≡ q
@@ -84,8 +84,8 @@ one_first keys text a b one other = of (below_or_not one.number other.number) (b
   clash t x y = cc
 
   of : (one.number < other.number) ⊎ (other.number ≤ one.number) → (other.number < one.number) ⊎ (one.number ≤ other.number) → a ≡ b
-  of (inl less) _ = absurd (clash (has_key keys a) (other.first one.number a less one.suffixed) one.new)
-  of (inr _) (inl less) = absurd (clash (has_key keys b) (one.first other.number b less other.suffixed) other.new)
+  of (inl less) _ = absurd (clash (has_same_key keys a) (other.first one.number a less one.suffixed) one.new)
+  of (inr _) (inl less) = absurd (clash (has_same_key keys b) (one.first other.number b less other.suffixed) other.new)
   of (inr below) (inr above) =
       let same : other.number ≡ one.number = omega arith in
       one_with_suffix one.number text a b one.suffixed (subst (λ n. HasSuffix n text b) same other.suffixed)
@@ -117,7 +117,7 @@ one_keys pattern _ _ _ _ same (AreKeys.next {entries = es} {keys = ks} {key = k}
     last_same (map without_key es) (map without_key fs) (without_key e) (without_key f)
     (sym (map-append without_key es (e ∷ [])) ∙ same ∙ map-append without_key fs (f ∷ [])) in
     let before : ks ≡ ls = one_keys pattern es fs ks ls ends.0 are others in
-    let text : base pattern f ≡ base pattern e = ap (base pattern) (sym ends.1) in
+    let text : key_text pattern f ≡ key_text pattern e = ap (key_text pattern) (sym ends.1) in
     ap₂ (λ h x. h ++ (x ∷ [])) before
-    (one_first ks (base pattern e) k l first
-    (subst (λ h. IsFirstNew h (base pattern e) l) (sym before) (subst (λ t. IsFirstNew ls t l) text other_first)))
+    (one_first ks (key_text pattern e) k l first
+    (subst (λ h. IsFirstNew h (key_text pattern e) l) (sym before) (subst (λ t. IsFirstNew ls t l) text other_first)))

@@ -5,7 +5,7 @@ use Rattle.std.specs.Char.{is_ascii_alphanumeric, to_ascii_uppercase}
 use Rattle.std.specs.List.{filter, list_any}
 use Rattle.std.proofs.lemmas.Bool.Decides.{nat_tests}
 use Rattle.std.proofs.lemmas.Str.{char_from_byte, encode_ascii, len_utf8_bounds, length-encode}
-use Rattle.bib_keys.specs.Letters.{is_gap, letters_for, plain_char}
+use Rattle.bib_keys.specs.Letters.{is_word_gap, letters_for, key_letter}
 use Rattle.bib_keys.specs.Words.{in_case}
 use Rattle.bib_keys.specs.declared.pattern.Case.TheVariants.{Capital}
 
@@ -53,10 +53,10 @@ capital_is word rest c is = of (below_or_not c 128) where
         subst (λ l. l ≡ map to_ascii_uppercase (take 1 l) ++ drop 1 l) first (ap (λ x. x ∷ w) (sym upper))
 
 -- a character that is neither a letter, a digit nor a gap
-pub plain_letters : (c : ℕ) → is_ascii_alphanumeric c ≡ false → is_gap c ≡ false → letters_for c ≡ plain_char c
+pub plain_letters : (c : ℕ) → is_ascii_alphanumeric c ≡ false → is_word_gap c ≡ false → letters_for c ≡ key_letter c
 plain_letters c plain gap =
     sym
-    (ap (λ b. cond b (c ∷ []) (cond (is_gap c) (32 ∷ []) (letters_for c))) plain ∙ ap (λ b. cond b (32 ∷ []) (letters_for c)) gap)
+    (ap (λ b. cond b (c ∷ []) (cond (is_word_gap c) (32 ∷ []) (letters_for c))) plain ∙ ap (λ b. cond b (32 ∷ []) (letters_for c)) gap)
 
 -- a word that fails a test is left out
 pub filter_skipped : {A B : Type 0} (p : B → Bool) (f : A → B) (xs : List A) (x : A) → p (f x) ≡ false

@@ -8,8 +8,8 @@ use Rattle.unicode_normalization.specs.Forms.{nfkd}
 use Rattle.bib_text.specs.Characters as char
 
 -- whether `c` separates words: white space, a slash or a dash; a hyphen doesn't
-abbrev pub is_gap : ℕ → Bool
-is_gap c = is_whitespace c || (c == char.slash || c == char.en_dash || c == char.em_dash)
+abbrev pub is_word_gap : ℕ → Bool
+is_word_gap c = is_whitespace c || (c == char.slash || c == char.en_dash || c == char.em_dash)
 
 -- the letters for a small letter that no mark is added to, or none
 abbrev pub for_small : ℕ → List ℕ
@@ -32,10 +32,10 @@ abbrev pub letters_for : ℕ → List ℕ
 letters_for c = for_small c ++ for_capital c
 
 -- a character as plain text: a letter or a digit, a space, or nothing
-abbrev pub plain_char : ℕ → List ℕ
-plain_char c = if is_ascii_alphanumeric c then c ∷ [] else if is_gap c then char.space ∷ [] else letters_for c
+abbrev pub key_letter : ℕ → List ℕ
+key_letter c = if is_ascii_alphanumeric c then c ∷ [] else if is_word_gap c then char.space ∷ [] else letters_for c
 
 -- a text as plain text: letters lose their marks (Unicode's compatibility decomposition), and what is neither a letter, a digit nor a
 -- gap is left out
-abbrev pub plain : List ℕ → List ℕ
-plain text = flat_map plain_char (nfkd (chars text))
+abbrev pub key_letters : List ℕ → List ℕ
+key_letters text = flat_map key_letter (nfkd (chars text))

@@ -8,7 +8,7 @@ parts-init c = (c.utf8.text, subst (λ l. IsReadTo c.args.text.now l c.args.text
 
 pub returns-in_default-clause-refused : goal.returns-in_default-clause-refused
 returns-in_default-clause-refused c =
-    subst (IsPatternError c.args.text.now) (sym c.error_at.ensures)
+    subst (IsPatternError c.args.text.now) (sym c.stop_error.ensures)
     (read_no_more c.args.text.now c.parts.parts c.parts.rest.now c.parts.invariant.1
     (not_empty (length c.parts.rest.now) (sym c.is_empty.ensures ∙ c.parts-test.true)) c.in_default.ensures)
 
