@@ -6,7 +6,7 @@ use Rattle.std.specs.List.{flat_map, list_all, list_any}
 use Rattle.std.proofs.lemmas.Bool.Decides.{nat_tests}
 use Rattle.std.proofs.lemmas.List.Folds.{list_all-append}
 use Rattle.bib_entry.specs.declared.entry.Entry.{Entry}
-use Rattle.bib_keys.specs.Bases.{cleaned, cleaned_after, is_kept, key_text, part_text}
+use Rattle.bib_keys.specs.Bases.{cleaned, cleaned_after, is_kept, pattern_text, part_text}
 use Rattle.bib_keys.specs.Characters.{CanServeAsKey, is_in_keys}
 use Rattle.bib_keys.specs.Keys.{HasSuffix, IsSuffix}
 use Rattle.bib_keys.specs.declared.pattern.Part.{Part}
@@ -29,7 +29,8 @@ cleaned_allowed last (c ∷ text) = of (is_kept last c) refl (cleaned_allowed c 
       → list_all is_in_keys (cleaned_after last text) ≡ true
       → list_all is_in_keys (cond b (c ∷ cleaned_after c text) (cleaned_after last text)) ≡ true
   of true stays after others =
-      both_and (is_in_keys c) (list_all is_in_keys (cleaned_after c text)) (and_both (is_in_keys c) (not (last == 45 && c == 45)) stays).0 after
+      both_and (is_in_keys c) (list_all is_in_keys (cleaned_after c text))
+      (and_both (is_in_keys c) (not (last == 45 && c == 45)) stays).0 after
   of false out after others = others
 
 -- no two hyphens in a row stay
@@ -89,8 +90,8 @@ pub record IsClean (text : List ℕ) : Type 0 where
   pub single : is_single 32 text ≡ true
 
 -- the text that a pattern gives for an entry
-pub clean_key_text : (pattern : List Part) (entry : Entry) → IsClean (key_text pattern entry)
-clean_key_text pattern entry = of (list_any is_ascii_alphanumeric text) refl where
+pub clean_pattern_text : (pattern : List Part) (entry : Entry) → IsClean (pattern_text pattern entry)
+clean_pattern_text pattern entry = of (list_any is_ascii_alphanumeric text) refl where
   text : List ℕ
   text = cleaned (flat_map (part_text entry) pattern)
 

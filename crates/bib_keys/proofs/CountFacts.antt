@@ -1,7 +1,7 @@
 -- A map has as many names as suffixes of a text whose keys it has.
 use Rattle.std.proofs.Common.{◌≡◌, ℕ, zero, suc, ◌+◌, ◌-◌, ◌*◌, ◌/◌, ◌%◌, ◌<◌, ◌≤◌, Bool, true, false, List, [], ◌∷◌, ◌++◌, length, map, drop, eqb, refl, sym, ◌∙◌, ap, subst, arith}
-use Rattle.std.specs.Prelude.{String, ◌||◌, bytes_eq, is_some, string_bytes}
-use Rattle.std.specs.BTreeMap.{BTreeMap, btree_map_len, get_by_text, is_at}
+use Rattle.std.specs.Prelude.{String, ◌||◌, string_bytes}
+use Rattle.std.specs.BTreeMap.{BTreeMap, btree_map_len, get_by_text}
 use Rattle.std.specs.Char.{to_ascii_lowercase}
 use Rattle.std.specs.Cmp.Lexicographic.{slice_cmp}
 use Rattle.std.specs.List.{list_any}
@@ -16,7 +16,7 @@ use Rattle.std.proofs.lemmas.Map.Steps.{le-length_from_below}
 use Rattle.std.proofs.lemmas.Map.Text.{is_eq-slice_cmp}
 use Rattle.std.proofs.lemmas.Slice.Eq.{bytes_eq-Decides}
 use Rattle.std.specs.Map.{keys_of}
-use Rattle.bib_keys.specs.Keys.{HasSuffix, IsSuffix}
+use Rattle.bib_keys.specs.Keys.{IsSuffix}
 use Rattle.bib_keys.specs.Taken.{AreTakenBelow}
 use Rattle.bib_keys.proofs.WordFacts.{any_of_map}
 
@@ -67,7 +67,8 @@ suffix_of n = within n n (omega arith) where
         whole x = omega arith
 
 -- a weaker test finds what a test finds
-any_weaker : {A : Type 0} (p q : A → Bool) → ((x : A) → p x ≡ true → q x ≡ true) → (xs : List A) → list_any p xs ≡ true → list_any q xs ≡ true
+any_weaker : {A : Type 0} (p q : A → Bool) → ((x : A) → p x ≡ true → q x ≡ true) → (xs : List A) → list_any p xs ≡ true
+    → list_any q xs ≡ true
 any_weaker p q weaker [] h = h
 any_weaker p q weaker (x ∷ xs) h = of (p x) refl (weaker x) (any_weaker p q weaker xs) h where
   of : (b : Bool) → p x ≡ b → (p x ≡ true → q x ≡ true) → (list_any p xs ≡ true → list_any q xs ≡ true) → (p x || list_any p xs) ≡ true
@@ -105,7 +106,8 @@ number_bound taken text number all =
           sym (is_some-lookup is_at_low taken.entries)
           ∙ all q other below (record { suffix = suffix.0; numbered = suffix.1; is = refl }) in
           any_of_map name_number (eqb q) (keys_of taken.entries)
-          ∙ any_weaker is_at_low (λ k. eqb q (name_number k)) (λ k at. same_number q k suffix.0 suffix.1 (same_name low (string_bytes k) at))
+          ∙ any_weaker is_at_low (λ k. eqb q (name_number k))
+          (λ k at. same_number q k suffix.0 suffix.1 (same_name low (string_bytes k) at))
           (keys_of taken.entries) there where
             same_number : (n : ℕ) (k : String Global) (letters : List ℕ) → IsSuffix n letters
                 → str_to_ascii_lowercase (text ++ letters) ≡ string_bytes k → eqb n (spelled 0 (drop (length text) (string_bytes k))) ≡ true

@@ -11,12 +11,12 @@ use Rattle.std.proofs.lemmas.List.Quantifiers.{all_pairs_push}
 use Rattle.std.proofs.lemmas.List.Folds.{list_any-append, list_any_at}
 use Rattle.std.proofs.lemmas.Slice.Eq.{bytes_eq-Decides}
 use Rattle.bib_entry.specs.declared.entry.Entry.{Entry}
-use Rattle.bib_keys.specs.Bases.{key_text}
+use Rattle.bib_keys.specs.Bases.{pattern_text}
 use Rattle.bib_keys.specs.Characters.{CanServeAsKey}
 use Rattle.bib_keys.specs.Keys.{AreDistinct, AreKeys, HasSuffix, IsFirstNew, IsSuffix, has_same_key}
 use Rattle.bib_keys.specs.Taken.{AreBelowTaken, AreTakenBelow, IsFirstFree, Numbers, SetsNumber, TakesKey, is_key_taken}
 use Rattle.bib_keys.specs.declared.pattern.Part.{Part}
-use Rattle.bib_keys.proofs.AllowedFacts.{clean_key_text, suffixed_allowed}
+use Rattle.bib_keys.proofs.AllowedFacts.{clean_pattern_text, suffixed_allowed}
 use Rattle.bib_keys.proofs.SuffixFacts.{no_suffix}
 
 -- a number has one suffix
@@ -180,7 +180,8 @@ now_closed m0 m1 m2 text key number closed new one two = record {
       old other
       (closed.below found base
       (sym
-      (two q ∙ ap (λ b. cond b (Some 1) (m1 q)) differs ∙ one q ∙ ap (λ b. cond b (Some (number + 1)) (m0 q)) other_text) ∙ has) n other below
+      (two q ∙ ap (λ b. cond b (Some 1) (m1 q)) differs ∙ one q ∙ ap (λ b. cond b (Some (number + 1)) (m0 q)) other_text) ∙ has) n other
+      below
       suffixed)
 
 -- a text gets its key
@@ -227,7 +228,9 @@ pub record AreTaken (taken : Numbers) (keys : List (List ℕ)) : Type 0 where
 -- a map without keys
 pub none_taken : (taken : Numbers) → ((q : List ℕ) → taken q ≡ None) → AreTaken taken []
 none_taken taken none = record {
-  closed = record { below = λ number text has n other below suffixed. absurd (clash (taken (str_to_ascii_lowercase text)) number (none _) has) };
+  closed = record {
+    below = λ number text has n other below suffixed. absurd (clash (taken (str_to_ascii_lowercase text)) number (none _) has);
+  };
   same = λ key. ap is_some (none (str_to_ascii_lowercase key));
 } where
   clash : (o : Option ℕ) (n : ℕ) → o ≡ None → o ≡ Some n → ⊥
@@ -253,7 +256,7 @@ more_keys old new keys text key are is = record {
 
 -- the keys of one more entry
 pub keys_more : (pattern : List Part) (entries : List Entry) (i : ℕ) (entry : Entry) (keys : List (List ℕ)) (text key : List ℕ)
-    → AreKeys pattern (take i entries) keys → i < length entries → entry ≡ get_or entries i entry → text ≡ key_text pattern entry
+    → AreKeys pattern (take i entries) keys → i < length entries → entry ≡ get_or entries i entry → text ≡ pattern_text pattern entry
     → IsFirstNew keys text key → AreKeys pattern (take (i + 1) entries) (keys ++ (key ∷ []))
 keys_more pattern entries i entry keys text key are within is is_text first =
     subst (λ es. AreKeys pattern es (keys ++ (key ∷ [])))
@@ -268,8 +271,9 @@ distinct_keys pattern _ _ (AreKeys.next {entries = entries} {keys = keys} {key =
     (λ i d within. none_at (λ own. str_eq_ignore_ascii_case own key) keys i d within first.new)
 
 -- keys of entries can be keys
-pub allowed_keys : (pattern : List Part) (entries : List Entry) (keys : List (List ℕ)) → AreKeys pattern entries keys → All CanServeAsKey keys
+pub allowed_keys : (pattern : List Part) (entries : List Entry) (keys : List (List ℕ)) → AreKeys pattern entries keys
+    → All CanServeAsKey keys
 allowed_keys pattern _ _ AreKeys.none = λ i d within. absurd (omega arith)
 allowed_keys pattern _ _ (AreKeys.next {entries = entries} {keys = keys} {key = key} entry are first) =
     All-push CanServeAsKey keys key (allowed_keys pattern entries keys are)
-    (suffixed_allowed first.number (key_text pattern entry) key (clean_key_text pattern entry) first.suffixed)
+    (suffixed_allowed first.number (pattern_text pattern entry) key (clean_pattern_text pattern entry) first.suffixed)

@@ -2,7 +2,7 @@
 use Rattle.std.proofs.Common.{◌≡◌, ℕ, ◌<◌, ◌≤◌, ◌⊎◌, Bool, true, false, List, [], ◌∷◌, ◌++◌, Some, length, map, refl, sym, ◌∙◌, ap, ap₂, subst, inl, inr, arith, append_assoc, length-append}
 use Rattle.std.proofs.lemmas.List.{length-map, map-append}
 use Rattle.bib_entry.specs.declared.entry.Entry.{Entry}
-use Rattle.bib_keys.specs.Bases.{key_text}
+use Rattle.bib_keys.specs.Bases.{pattern_text}
 use Rattle.bib_keys.specs.Characters.{is_in_keys}
 use Rattle.bib_keys.specs.Keys.{AreKeys, HasSuffix, IsFirstNew, has_same_key, without_key}
 use Rattle.bib_keys.specs.Patterns.{IsPart, IsPattern, IsPlaceholder, part_meant}
@@ -117,7 +117,7 @@ one_keys pattern _ _ _ _ same (AreKeys.next {entries = es} {keys = ks} {key = k}
     last_same (map without_key es) (map without_key fs) (without_key e) (without_key f)
     (sym (map-append without_key es (e ∷ [])) ∙ same ∙ map-append without_key fs (f ∷ [])) in
     let before : ks ≡ ls = one_keys pattern es fs ks ls ends.0 are others in
-    let text : key_text pattern f ≡ key_text pattern e = ap (key_text pattern) (sym ends.1) in
+    let text : pattern_text pattern f ≡ pattern_text pattern e = ap (pattern_text pattern) (sym ends.1) in
     ap₂ (λ h x. h ++ (x ∷ [])) before
-    (one_first ks (key_text pattern e) k l first
-    (subst (λ h. IsFirstNew h (key_text pattern e) l) (sym before) (subst (λ t. IsFirstNew ls t l) text other_first)))
+    (one_first ks (pattern_text pattern e) k l first
+    (subst (λ h. IsFirstNew h (pattern_text pattern e) l) (sym before) (subst (λ t. IsFirstNew ls t l) text other_first)))

@@ -109,7 +109,8 @@ part_end p q _ _ s t (IsPart.literal {c = c} x) (IsPart.placeholder lacks y) e =
 part_end p q _ _ s t (IsPart.placeholder lacks y) (IsPart.literal {c = c} x) e =
     let same : c ≡ 123 = cc in let clash : is_in_keys 123 ≡ true = subst (λ d. is_in_keys d ≡ true) same x in cc
 part_end p q _ _ s t (IsPart.placeholder {inside = a} la x) (IsPart.placeholder {inside = b} lb y) e =
-    let inner : a ++ (125 ∷ s) ≡ b ++ (125 ∷ t) = tails (sym (append_assoc (123 ∷ a) (125 ∷ []) s) ∙ e ∙ append_assoc (123 ∷ b) (125 ∷ []) t) in
+    let inner : a ++ (125 ∷ s) ≡ b ++ (125 ∷ t) =
+    tails (sym (append_assoc (123 ∷ a) (125 ∷ []) s) ∙ e ∙ append_assoc (123 ∷ b) (125 ∷ []) t) in
     (cut_once 125 a b s t la lb inner).1 where
       tails : 123 ∷ (a ++ (125 ∷ s)) ≡ 123 ∷ (b ++ (125 ∷ t)) → a ++ (125 ∷ s) ≡ b ++ (125 ∷ t)
       tails h = cc
@@ -134,7 +135,8 @@ read_none text = record { before = []; is = refl; read = IsPattern.end; only = �
 
 -- the parts of a text that isn't empty begin with one
 pub first_of : (all : List Part) (text : List ℕ) → IsPattern all text → 0 < length text
-    → (part : Part) × (parts : List Part) × (here : List ℕ) × (rest : List ℕ) × IsPart part here × IsPattern parts rest × (text ≡ here ++ rest)
+    → (part : Part) × (parts : List Part) × (here : List ℕ) × (rest : List ℕ) × IsPart part here × IsPattern parts rest
+    × (text ≡ here ++ rest)
 first_of _ _ IsPattern.end some = absurd (omega arith)
 first_of _ _ (IsPattern.next {part = p} {parts = ps} {text = t} {rest = r} first rest) some = (p, ps, t, r, first, rest, refl)
 

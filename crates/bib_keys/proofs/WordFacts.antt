@@ -48,7 +48,8 @@ capital_is word rest c is = of (below_or_not c 128) where
         let some : 0 < length word = subst (λ l. 0 < length l) first (omega arith) in
         let head : get_or word 0 0 ≡ b = ap (λ l. get_or l 0 0) (sym first) in
         let not_small : (b < 128) → ⊥ = λ small.
-        let same : c ≡ get_or word 0 0 = char_from_byte word rest c is (omega (arith, head, small)) some in omega (arith, same, head, great, small) in
+        let same : c ≡ get_or word 0 0 = char_from_byte word rest c is (omega (arith, head, small)) some in
+        omega (arith, same, head, great, small) in
         let upper : to_ascii_uppercase b ≡ b = no_upper b (not_below b 128 not_small) in
         subst (λ l. l ≡ map to_ascii_uppercase (take 1 l) ++ drop 1 l) first (ap (λ x. x ∷ w) (sym upper))
 

@@ -58,7 +58,7 @@ abbrev pub has_letter_or_digit : List ℕ → Bool
 has_letter_or_digit text = list_any is_ascii_alphanumeric text
 
 -- the text that a pattern gives for an entry: the texts of its parts, one after another, or `nokey` if they have no letter and no digit
-abbrev pub key_text : List Part → Entry → List ℕ
-key_text pattern entry =
+abbrev pub pattern_text : List Part → Entry → List ℕ
+pattern_text pattern entry =
     let text = cleaned (flat_map (part_text entry) pattern) in
     if has_letter_or_digit text then text else codes "nokey"

@@ -5,7 +5,7 @@ use Rattle.std.specs.List.{AllPairs, list_any}
 use Rattle.std.specs.Str.{str_eq_ignore_ascii_case}
 use Rattle.bib_text.specs.Characters as char
 use Rattle.bib_entry.specs.declared.entry.Entry.{Entry}
-use Rattle.bib_keys.specs.Bases.{key_text}
+use Rattle.bib_keys.specs.Bases.{pattern_text}
 use Rattle.bib_keys.specs.declared.pattern.Part.{Part}
 
 -- the suffixes by their numbers: none has the number 0, `a` 1, `z` 26, `aa` 27
@@ -35,7 +35,7 @@ pub record IsFirstNew (keys : List (List ℕ)) (text key : List ℕ) : Type 0 wh
 pub data AreKeys (pattern : List Part) : List Entry → List (List ℕ) → Type 0 where
   none : AreKeys pattern [] []
   next : {entries : List Entry} {keys : List (List ℕ)} {key : List ℕ} (entry : Entry) → AreKeys pattern entries keys
-      → IsFirstNew keys (key_text pattern entry) key → AreKeys pattern (entries ++ (entry ∷ [])) (keys ++ (key ∷ []))
+      → IsFirstNew keys (pattern_text pattern entry) key → AreKeys pattern (entries ++ (entry ∷ [])) (keys ++ (key ∷ []))
 
 -- no two keys are the same in any ASCII case
 abbrev pub AreDistinct : List (List ℕ) → Type 0

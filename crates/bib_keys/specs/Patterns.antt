@@ -18,10 +18,14 @@ year_part (Some n) = if n == 2 then Some ShortYear else None
 -- the part that a name and a number mean; the case of the name is that of the words
 abbrev pub part_meant : List ℕ → Option ℕ → Option Part
 part_meant name count =
-    if bytes_eq name (codes "author") then Some (Author Lower count) else if bytes_eq name (codes "Author") then Some (Author Capital count)
-    else if bytes_eq name (codes "AUTHOR") then Some (Author Upper count) else if bytes_eq name (codes "title") then Some (Title Lower count)
-    else if bytes_eq name (codes "Title") then Some (Title Capital count) else if bytes_eq name (codes "TITLE") then Some (Title Upper count)
-    else if bytes_eq name (codes "year") then year_part count else None
+    if bytes_eq name (codes "author") then Some (Author Lower count)
+    else if bytes_eq name (codes "Author") then Some (Author Capital count)
+    else if bytes_eq name (codes "AUTHOR") then Some (Author Upper count)
+    else if bytes_eq name (codes "title") then Some (Title Lower count)
+    else if bytes_eq name (codes "Title") then Some (Title Capital count)
+    else if bytes_eq name (codes "TITLE") then Some (Title Upper count)
+    else if bytes_eq name (codes "year") then year_part count
+    else None
 
 -- the text of a number: none, or a colon and a digit from 1 to 9
 pub data IsCount : Option ℕ → List ℕ → Type 0 where

@@ -134,8 +134,12 @@ fn has_letter_or_digit(text: &str) -> bool
 }
 
 // Returns the text that a pattern gives for an entry.
-pub(crate) fn key_text(alloc: Global, pattern: &[Part], entry: &Entry) -> Result<String, AllocError>
-    ensures { IfOk result (λ text. string_bytes text ≡ spec.key_text pattern.now entry.now) }
+pub(crate) fn pattern_text(
+    alloc: Global,
+    pattern: &[Part],
+    entry: &Entry,
+) -> Result<String, AllocError>
+    ensures { IfOk result (λ text. string_bytes text ≡ spec.pattern_text pattern.now entry.now) }
 {
     let text = joined(alloc, pattern, entry)?;
     let text = cleaned(alloc, text.as_str())?;

@@ -10,7 +10,7 @@ ghost use Rattle.bib_keys.specs.Characters.{CanServeAsKey};
 ghost use Rattle.bib_keys.specs.Keys.{AreDistinct, AreKeys, HasSuffix};
 ghost use Rattle.bib_keys.specs.Taken.{AreBelowTaken, AreTakenBelow, IsFirstFree, SetsNumber, TakesKey, is_key_taken};
 
-use crate::bases::key_text;
+use crate::bases::pattern_text;
 use crate::pattern::Part;
 use crate::suffixes::push_suffix;
 use bib_entry::entry::Entry;
@@ -89,7 +89,7 @@ fn keys_of(alloc: Global, pattern: &[Part], entries: &[Entry]) -> Result<Vec<Tex
     let mut taken = BTreeMap::new(alloc);
     let mut keys = Vec::new(alloc);
     'entries: for entry in entries {
-        let text = key_text(alloc, pattern, entry)?;
+        let text = pattern_text(alloc, pattern, entry)?;
         keys.push(Text::from_string(take_key(alloc, &mut taken, &text)?))?;
     }
     Ok(keys)

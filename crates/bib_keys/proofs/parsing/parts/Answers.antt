@@ -17,6 +17,7 @@ parts-preserved c =
     let (here, is_part, split) = c.in-Some.ensures in (
       search rules,
       subst (λ l. IsReadTo c.args.text.now l c.in-Some.after.now) (sym c.in_ok-push.ensures.items)
-          (read_more c.args.text.now c.parts.parts c.in-Some.part here c.parts.rest.now c.in-Some.after.now c.parts.invariant.1 is_part split
+          (read_more c.args.text.now c.parts.parts c.in-Some.part here c.parts.rest.now c.in-Some.after.now c.parts.invariant.1 is_part
+          split
           (not_empty (length c.parts.rest.now) (sym c.is_empty.ensures ∙ c.parts-test.true))),
     )
