@@ -69,8 +69,8 @@ pub record IsStuckAt (text : List ℕ) (at : ℕ) : Type 0 where
 abbrev pub IsNoPattern : List ℕ → Type 0
 IsNoPattern text = (parts : List Part) → IsPattern parts text → ⊥
 
--- what an error states about the text: no parts have it, and the error is where the first of them would end. A brace begins no
--- placeholder, or another character isn't allowed in keys
+-- what an error states about the text: no parts have it, and no part begins at the offset `at`, though the text before it is a pattern.
+-- `NoPlaceholder` means that an opening brace is there, and `NotInKeys` that another character is
 abbrev pub IsPatternError : List ℕ → PatternError → Type 0
 IsPatternError text (NotInKeys at) = IsNoPattern text × IsStuckAt text at × (slice_index text at ≡ char.open_brace → ⊥)
 IsPatternError text (NoPlaceholder at) = IsNoPattern text × IsStuckAt text at × (slice_index text at ≡ char.open_brace)

@@ -35,8 +35,8 @@ fn is_key_taken(alloc: Global, taken: &BTreeMap<String, u64>, key: &str) -> Resu
     Ok(taken.contains_key(lowercase.as_str()))
 }
 
-// Returns the first key that isn't taken and the number of its suffix. All smaller numbers than `start` are known to be taken. The
-// map has as many keys as its length, so one of the next numbers is free.
+// Returns the first key that isn't taken and the number of its suffix. The keys with the numbers below `start` are known to be taken.
+// A map of `len` keys can't contain the keys of `len + 1` numbers, so one of the numbers up to `len` is free.
 fn first_free(
     alloc: Global,
     taken: &BTreeMap<String, u64>,
