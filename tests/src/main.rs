@@ -20,6 +20,7 @@ mod formats;
 mod guide;
 mod imports;
 mod items;
+mod keys;
 mod resolutions;
 mod selections;
 mod sortings;
@@ -47,6 +48,7 @@ fn rows(alloc: Global, layer: &str, input: &str) -> Result<String, AllocError> {
         "formats" => answered::<formats::Formats>(alloc, input),
         "imports" => answered::<imports::Imports>(alloc, input),
         "items" => answered::<items::CslItems>(alloc, input),
+        "keys" => answered::<keys::Keys>(alloc, input),
         "resolutions" => answered::<resolutions::Resolutions>(alloc, input),
         "selections" => answered::<selections::Selections>(alloc, input),
         "sortings" => answered::<sortings::Sortings>(alloc, input),

@@ -1,14 +1,13 @@
 -- Texts that can be keys.
-use Rattle.std.proofs.Common.{◌≡◌, ℕ, zero, suc, ◌+◌, ◌*◌, ◌<◌, Bool, true, false, not, cond, List, [], ◌∷◌, ◌++◌, length, refl, sym, ◌∙◌, ap, subst, arith, lit<, length-append}
-use Rattle.std.specs.Prelude.{◌&&◌, ◌||◌, ◌==◌, codes}
+use Rattle.std.proofs.Common.{◌≡◌, ℕ, ◌+◌, ◌<◌, Bool, true, false, not, cond, List, [], ◌∷◌, ◌++◌, length, refl, sym, ◌∙◌, ap, subst, arith, lit<, length-append}
+use Rattle.std.specs.Prelude.{◌&&◌, ◌==◌, codes}
 use Rattle.std.specs.Char.{is_ascii_alphanumeric}
 use Rattle.std.specs.List.{flat_map, list_all, list_any}
-use Rattle.std.specs.Str.Iter.{HasSubslice}
 use Rattle.std.proofs.lemmas.Bool.Decides.{nat_tests}
 use Rattle.std.proofs.lemmas.List.Folds.{list_all-append}
 use Rattle.bib_entry.specs.declared.entry.Entry.{Entry}
-use Rattle.bib_keys.specs.Bases.{base, cleaned, cleaned_after, is_kept, part_text}
-use Rattle.bib_keys.specs.Characters.{CanBeKey, is_in_keys}
+use Rattle.bib_keys.specs.Bases.{cleaned, cleaned_after, is_kept, pattern_text, part_text}
+use Rattle.bib_keys.specs.Characters.{CanServeAsKey, is_in_keys}
 use Rattle.bib_keys.specs.Keys.{HasSuffix, IsSuffix}
 use Rattle.bib_keys.specs.declared.pattern.Part.{Part}
 use Rattle.bib_keys.proofs.YearFacts.{and_both}
@@ -30,7 +29,8 @@ cleaned_allowed last (c ∷ text) = of (is_kept last c) refl (cleaned_allowed c 
       → list_all is_in_keys (cleaned_after last text) ≡ true
       → list_all is_in_keys (cond b (c ∷ cleaned_after c text) (cleaned_after last text)) ≡ true
   of true stays after others =
-      both_and (is_in_keys c) (list_all is_in_keys (cleaned_after c text)) (and_both (is_in_keys c) (not (last == 45 && c == 45)) stays).0 after
+      both_and (is_in_keys c) (list_all is_in_keys (cleaned_after c text))
+      (and_both (is_in_keys c) (not (last == 45 && c == 45)) stays).0 after
   of false out after others = others
 
 -- no two hyphens in a row stay
@@ -90,15 +90,17 @@ pub record IsClean (text : List ℕ) : Type 0 where
   pub single : is_single 32 text ≡ true
 
 -- the text that a pattern gives for an entry
-pub clean_base : (pattern : List Part) (entry : Entry) → IsClean (base pattern entry)
-clean_base pattern entry = of (list_any is_ascii_alphanumeric text) refl where
+pub clean_pattern_text : (pattern : List Part) (entry : Entry) → IsClean (pattern_text pattern entry)
+clean_pattern_text pattern entry = of (list_any is_ascii_alphanumeric text) refl where
   text : List ℕ
   text = cleaned (flat_map (part_text entry) pattern)
+
   some : (l : List ℕ) → list_any is_ascii_alphanumeric l ≡ true → 0 < length l
   some [] h = absurd (clash h) where
     clash : false ≡ true → ⊥
     clash x = cc
   some (c ∷ l) h = omega arith
+
   of : (b : Bool) → list_any is_ascii_alphanumeric text ≡ b → IsClean (cond b text (codes "nokey"))
   of true h = record {
     some = some text h;
@@ -112,21 +114,21 @@ suffix_letters : (n : ℕ) (letters : List ℕ) → IsSuffix n letters
     → (list_all is_in_keys letters ≡ true) × (list_all is_no_hyphen letters ≡ true)
 suffix_letters _ _ IsSuffix.none = (refl, refl)
 suffix_letters _ _ (IsSuffix.more {n = n} {letters = letters} k small one) =
-    let before = suffix_letters n letters one in
-    (
+    let before = suffix_letters n letters one in (
       list_all-append is_in_keys letters ((97 + k) ∷ []) ∙ both_and _ _ before.0 (allowed (97 + k) (omega arith) (omega arith)),
       list_all-append is_no_hyphen letters ((97 + k) ∷ []) ∙ both_and _ _ before.1 (no_hyphen (97 + k) (omega arith)),
     ) where
       allowed : (c : ℕ) → 96 < c → c < 123 → (is_in_keys c && true) ≡ true
       allowed c low high = grind (arith, nat_tests)
+
       no_hyphen : (c : ℕ) → 96 < c → (is_no_hyphen c && true) ≡ true
       no_hyphen c low = grind (arith, nat_tests)
 
 -- such a text with a suffix can be a key
-pub suffixed_allowed : (n : ℕ) (text key : List ℕ) → IsClean text → HasSuffix n text key → CanBeKey key
+pub suffixed_allowed : (n : ℕ) (text key : List ℕ) → IsClean text → HasSuffix n text key → CanServeAsKey key
 suffixed_allowed n text key clean has =
     let letters = suffix_letters n has.suffix has.numbered in
-    subst CanBeKey (sym has.is)
+    subst CanServeAsKey (sym has.is)
     (record {
       some = omega (arith, length-append text has.suffix, clean.some);
       characters = list_all-append is_in_keys text has.suffix ∙ both_and _ _ clean.characters letters.0;

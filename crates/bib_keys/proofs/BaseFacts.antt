@@ -1,6 +1,6 @@
 -- Texts without the characters that don't stay in a key.
-use Rattle.std.proofs.Common.{◌≡◌, ℕ, suc, zero, ◌+◌, ◌<◌, Bool, true, false, cond, List, [], ◌∷◌, ◌++◌, length, drop, get_or, sym, ◌∙◌, ap, subst, arith, refl, add-one, append_assoc}
-use Rattle.std.specs.Prelude.{◌&&◌, encode_utf8}
+use Rattle.std.proofs.Common.{◌≡◌, ℕ, suc, zero, ◌+◌, ◌<◌, true, cond, List, [], ◌∷◌, ◌++◌, length, drop, get_or, sym, ◌∙◌, ap, subst, arith, refl, add-one, append_assoc}
+use Rattle.std.specs.Prelude.{encode_utf8}
 use Rattle.std.proofs.lemmas.Str.{encode_ascii}
 use Rattle.bib_keys.specs.Bases.{cleaned_after, is_kept}
 use Rattle.bib_keys.specs.Characters.{is_in_keys}

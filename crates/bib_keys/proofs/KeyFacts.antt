@@ -1,5 +1,5 @@
 -- New keys, and the keys that are taken.
-use Rattle.std.proofs.Common.{◌≡◌, ◌≢◌, ℕ, zero, suc, ◌+◌, ◌-◌, ◌*◌, ◌<◌, ◌≤◌, ◌⊎◌, Bool, true, false, cond, List, [], ◌∷◌, ◌++◌, Option, Some, None, map, refl, sym, ◌∙◌, ap, subst, inl, inr, arith, append_assoc, length, take, get_or, length-append}
+use Rattle.std.proofs.Common.{◌≡◌, ℕ, zero, suc, ◌+◌, ◌<◌, ◌≤◌, ◌⊎◌, Bool, true, false, cond, List, [], ◌∷◌, ◌++◌, Option, Some, None, refl, sym, ◌∙◌, ap, subst, inl, inr, arith, length, take, get_or}
 use Rattle.std.specs.Prelude.{◌||◌, bytes_eq, is_some}
 use Rattle.std.specs.Char.{to_ascii_lowercase}
 use Rattle.std.specs.List.{All, list_any}
@@ -11,12 +11,12 @@ use Rattle.std.proofs.lemmas.List.Quantifiers.{all_pairs_push}
 use Rattle.std.proofs.lemmas.List.Folds.{list_any-append, list_any_at}
 use Rattle.std.proofs.lemmas.Slice.Eq.{bytes_eq-Decides}
 use Rattle.bib_entry.specs.declared.entry.Entry.{Entry}
-use Rattle.bib_keys.specs.Bases.{base}
-use Rattle.bib_keys.specs.Characters.{CanBeKey}
-use Rattle.bib_keys.specs.Keys.{AreDistinct, AreKeys, HasSuffix, IsFirstNew, IsSuffix, has_key}
-use Rattle.bib_keys.specs.Taken.{IsClosed, IsNewFrom, IsSet, IsTaken, Numbers, is_taken}
+use Rattle.bib_keys.specs.Bases.{pattern_text}
+use Rattle.bib_keys.specs.Characters.{CanServeAsKey}
+use Rattle.bib_keys.specs.Keys.{AreDistinct, AreKeys, HasSuffix, IsFirstNew, IsSuffix, has_same_key}
+use Rattle.bib_keys.specs.Taken.{AreBelowTaken, AreTakenBelow, IsFirstFree, Numbers, SetsNumber, TakesKey, is_key_taken}
 use Rattle.bib_keys.specs.declared.pattern.Part.{Part}
-use Rattle.bib_keys.proofs.AllowedFacts.{clean_base, suffixed_allowed}
+use Rattle.bib_keys.proofs.AllowedFacts.{clean_pattern_text, suffixed_allowed}
 use Rattle.bib_keys.proofs.SuffixFacts.{no_suffix}
 
 -- a number has one suffix
@@ -35,7 +35,7 @@ one_with_suffix n text a b one other =
     one.is ∙ ap (λ s. text ++ s) (one_suffix n n one.suffix other.suffix one.numbered other.numbered refl) ∙ sym other.is
 
 -- a number is below another or not
-below_or_not : (a b : ℕ) → (a < b) ⊎ (b ≤ a)
+pub below_or_not : (a b : ℕ) → (a < b) ⊎ (b ≤ a)
 below_or_not a b = grind arith
 
 -- a test is true or false
@@ -44,21 +44,19 @@ bool_cases true = inl refl
 bool_cases false = inr refl
 
 -- one more number whose suffix gives a key that is taken
-pub more_taken : (taken : Numbers) (text key : List ℕ) (start number : ℕ)
-    → ((n : ℕ) (other : List ℕ) → start ≤ n → n < number → HasSuffix n text other → is_taken taken other ≡ true)
-    → HasSuffix number text key → is_taken taken key ≡ true
-    → (n : ℕ) (other : List ℕ) → start ≤ n → n < number + 1 → HasSuffix n text other → is_taken taken other ≡ true
-more_taken taken text key start number before has this n other from below has_other = of (below_or_not n number) where
-  of : (n < number) ⊎ (number ≤ n) → is_taken taken other ≡ true
-  of (inl less) = before n other from less has_other
+pub more_taken : (taken : Numbers) (text key : List ℕ) (number : ℕ) → AreTakenBelow taken text number → HasSuffix number text key
+    → is_key_taken taken key ≡ true → AreTakenBelow taken text (number + 1)
+more_taken taken text key number before has this n other below has_other = of (below_or_not n number) where
+  of : (n < number) ⊎ (number ≤ n) → is_key_taken taken other ≡ true
+  of (inl less) = before n other less has_other
   of (inr not_less) =
       let same : n ≡ number = omega arith in
       let one : other ≡ key = one_with_suffix number text other key (subst (λ m. HasSuffix m text other) same has_other) has in
-      subst (λ k. is_taken taken k ≡ true) (sym one) this
+      subst (λ k. is_key_taken taken k ≡ true) (sym one) this
 
 -- a key is taken in any case, or not at all
-same_taken : (taken : Numbers) (a b : List ℕ) → str_to_ascii_lowercase a ≡ str_to_ascii_lowercase b → is_taken taken a ≡ true
-    → is_taken taken b ≡ true
+same_taken : (taken : Numbers) (a b : List ℕ) → str_to_ascii_lowercase a ≡ str_to_ascii_lowercase b → is_key_taken taken a ≡ true
+    → is_key_taken taken b ≡ true
 same_taken taken a b same h = sym (ap (λ l. is_some (taken l)) same) ∙ h
 
 -- texts that are the same in any case, with the same suffix
@@ -67,48 +65,46 @@ same_suffixed : (a b s : List ℕ) → str_to_ascii_lowercase a ≡ str_to_ascii
 same_suffixed a b s same =
     map-append to_ascii_lowercase a s ∙ ap (λ l. l ++ str_to_ascii_lowercase s) same ∙ sym (map-append to_ascii_lowercase b s)
 
--- the first new key, from the number 0 on, if all suffixes before the number that the map has are taken
-from_zero : (taken : Numbers) (text key : List ℕ) (start number : ℕ) → IsClosed taken
-    → start ≡ unwrap_or (taken (str_to_ascii_lowercase text)) 0 → IsNewFrom taken text start number key → IsNewFrom taken text 0 number key
-from_zero taken text key start number closed is new = record {
-  suffixed = new.suffixed;
-  new = new.new;
-  first = λ n other from below has. of n other below has (below_or_not n start);
-} where
-  known : (o : Option ℕ) (n : ℕ) (other : List ℕ) → taken (str_to_ascii_lowercase text) ≡ o → n < unwrap_or o 0 → HasSuffix n text other
-      → is_taken taken other ≡ true
-  known None n other same below has = absurd (omega arith)
-  known (Some m) n other same below has = closed.below m n text other same below has
-  of : (n : ℕ) (other : List ℕ) → n < number → HasSuffix n text other → (n < start) ⊎ (start ≤ n) → is_taken taken other ≡ true
-  of n other below has (inl less) = known (taken (str_to_ascii_lowercase text)) n other refl (subst (λ m. n < m) is less) has
-  of n other below has (inr not_less) = new.first n other not_less below has
+-- the suffixes before the number of a text are taken
+pub taken_before : (taken : Numbers) (text : List ℕ) (start : ℕ) → AreBelowTaken taken
+    → start ≡ unwrap_or (taken (str_to_ascii_lowercase text)) 0 → AreTakenBelow taken text start
+taken_before taken text start closed is n other below has =
+    of (taken (str_to_ascii_lowercase text)) refl (subst (λ m. n < m) is below) where
+      of : (o : Option ℕ) → taken (str_to_ascii_lowercase text) ≡ o → n < unwrap_or o 0 → is_key_taken taken other ≡ true
+      of None same less = absurd (omega arith)
+      of (Some m) same less = closed.below m text same n other less has
 
 -- the text is the new key, or is taken
-text_taken : (taken : Numbers) (text key : List ℕ) (number : ℕ) → IsNewFrom taken text 0 number key
-    → (text ≡ key) ⊎ (is_taken taken text ≡ true)
+text_taken : (taken : Numbers) (text key : List ℕ) (number : ℕ) → IsFirstFree taken text number key
+    → (text ≡ key) ⊎ (is_key_taken taken text ≡ true)
 text_taken taken text key zero new = inl (one_with_suffix 0 text text key (no_suffix 0 text refl) new.suffixed)
-text_taken taken text key (suc n) new = inr (new.first 0 text (omega arith) (omega arith) (no_suffix 0 text refl))
+text_taken taken text key (suc n) new = inr (new.first 0 text (omega arith) (no_suffix 0 text refl))
 
 -- the keys that are taken after the numbers of the text and of its key are set
-pub now_taken : (m0 m1 m2 : Numbers) (text key : List ℕ) (number : ℕ) → IsNewFrom m0 text 0 number key
-    → IsSet m0 m1 (str_to_ascii_lowercase text) (number + 1) → IsSet m1 m2 (str_to_ascii_lowercase key) 1
-    → (other : List ℕ) → is_taken m2 other ≡ (str_eq_ignore_ascii_case key other || is_taken m0 other)
+pub now_taken : (m0 m1 m2 : Numbers) (text key : List ℕ) (number : ℕ) → IsFirstFree m0 text number key
+    → SetsNumber m0 m1 (str_to_ascii_lowercase text) (number + 1) → SetsNumber m1 m2 (str_to_ascii_lowercase key) 1
+    → (other : List ℕ) → is_key_taken m2 other ≡ (str_eq_ignore_ascii_case key other || is_key_taken m0 other)
 now_taken m0 m1 m2 text key number new one two other = of (bool_cases (bytes_eq k q)) (bool_cases (bytes_eq t q)) where
   k : List ℕ
   k = str_to_ascii_lowercase key
+
   t : List ℕ
   t = str_to_ascii_lowercase text
+
   q : List ℕ
   q = str_to_ascii_lowercase other
-  old_taken : bytes_eq k q ≡ false → bytes_eq t q ≡ true → is_taken m0 other ≡ true
+
+  old_taken : bytes_eq k q ≡ false → bytes_eq t q ≡ true → is_key_taken m0 other ≡ true
   old_taken differs same = from (text_taken m0 text key number new) where
     equal : t ≡ q
     equal = (bytes_eq-Decides t q).0 same
-    from : (text ≡ key) ⊎ (is_taken m0 text ≡ true) → is_taken m0 other ≡ true
+
+    from : (text ≡ key) ⊎ (is_key_taken m0 text ≡ true) → is_key_taken m0 other ≡ true
     from (inl is) = absurd (clash (bytes_eq k q) ((bytes_eq-Decides k q).1 (ap str_to_ascii_lowercase (sym is) ∙ equal)) differs) where
       clash : (b : Bool) → b ≡ true → b ≡ false → ⊥
       clash b x y = cc
     from (inr taken) = same_taken m0 text other equal taken
+
   of : (bytes_eq k q ≡ true) ⊎ (bytes_eq k q ≡ false) → (bytes_eq t q ≡ true) ⊎ (bytes_eq t q ≡ false)
       → is_some (m2 q) ≡ (bytes_eq k q || is_some (m0 q))
   of (inl same) _ =
@@ -128,35 +124,38 @@ still_taken true b h = refl
 still_taken false b h = h
 
 -- the suffixes with smaller numbers are taken then too
-pub now_closed : (m0 m1 m2 : Numbers) (text key : List ℕ) (number : ℕ) → IsClosed m0 → IsNewFrom m0 text 0 number key
-    → IsSet m0 m1 (str_to_ascii_lowercase text) (number + 1) → IsSet m1 m2 (str_to_ascii_lowercase key) 1 → IsClosed m2
+pub now_closed : (m0 m1 m2 : Numbers) (text key : List ℕ) (number : ℕ) → AreBelowTaken m0 → IsFirstFree m0 text number key
+    → SetsNumber m0 m1 (str_to_ascii_lowercase text) (number + 1) → SetsNumber m1 m2 (str_to_ascii_lowercase key) 1 → AreBelowTaken m2
 now_closed m0 m1 m2 text key number closed new one two = record {
-  below = λ found n base other has below suffixed.
+  below = λ found base has n other below suffixed.
       of found n base other has below suffixed
       (bool_cases (bytes_eq (str_to_ascii_lowercase key) (str_to_ascii_lowercase base)))
       (bool_cases (bytes_eq (str_to_ascii_lowercase text) (str_to_ascii_lowercase base)));
 } where
-  others : (other : List ℕ) → is_taken m2 other ≡ (str_eq_ignore_ascii_case key other || is_taken m0 other)
+  others : (other : List ℕ) → is_key_taken m2 other ≡ (str_eq_ignore_ascii_case key other || is_key_taken m0 other)
   others = now_taken m0 m1 m2 text key number new one two
-  old : (other : List ℕ) → is_taken m0 other ≡ true → is_taken m2 other ≡ true
-  old other taken = others other ∙ still_taken (str_eq_ignore_ascii_case key other) (is_taken m0 other) taken
-  itself : is_taken m2 key ≡ true
+
+  old : (other : List ℕ) → is_key_taken m0 other ≡ true → is_key_taken m2 other ≡ true
+  old other taken = others other ∙ still_taken (str_eq_ignore_ascii_case key other) (is_key_taken m0 other) taken
+
+  itself : is_key_taken m2 key ≡ true
   itself =
       others key
-      ∙ ap (λ b. b || is_taken m0 key) ((bytes_eq-Decides (str_to_ascii_lowercase key) (str_to_ascii_lowercase key)).1 refl)
+      ∙ ap (λ b. b || is_key_taken m0 key) ((bytes_eq-Decides (str_to_ascii_lowercase key) (str_to_ascii_lowercase key)).1 refl)
+
   of : (found n : ℕ) (base other : List ℕ) → m2 (str_to_ascii_lowercase base) ≡ Some found → n < found → HasSuffix n base other
       → (bytes_eq (str_to_ascii_lowercase key) (str_to_ascii_lowercase base) ≡ true)
       ⊎ (bytes_eq (str_to_ascii_lowercase key) (str_to_ascii_lowercase base) ≡ false)
       → (bytes_eq (str_to_ascii_lowercase text) (str_to_ascii_lowercase base) ≡ true)
       ⊎ (bytes_eq (str_to_ascii_lowercase text) (str_to_ascii_lowercase base) ≡ false)
-      → is_taken m2 other ≡ true
+      → is_key_taken m2 other ≡ true
   of found n base other has below suffixed (inl same) _ =
       let q = str_to_ascii_lowercase base in
       let here : Some 1 ≡ Some found = sym (two q ∙ ap (λ b. cond b (Some 1) (m1 q)) same) ∙ has in
       let one_more : 1 ≡ found = cc in
       let first : n ≡ 0 = omega arith in
       let equal : base ≡ other = one_with_suffix n base base other (no_suffix n base first) suffixed in
-      subst (λ l. is_taken m2 l ≡ true) equal (ap is_some has)
+      subst (λ l. is_key_taken m2 l ≡ true) equal (ap is_some has)
   of found n base other has below suffixed (inr differs) (inl same) =
       let q = str_to_ascii_lowercase base in
       let here : Some (number + 1) ≡ Some found =
@@ -169,35 +168,34 @@ now_closed m0 m1 m2 text key number closed new one two = record {
       let alike : str_to_ascii_lowercase twin ≡ str_to_ascii_lowercase other =
       same_suffixed text base suffixed.suffix equal ∙ ap str_to_ascii_lowercase (sym suffixed.is) in
       same_taken m2 twin other alike (by_number twin twin_suffixed (below_or_not n number) (omega arith)) where
-        by_number : (twin : List ℕ) → HasSuffix n text twin → (n < number) ⊎ (number ≤ n) → n < number + 1 → is_taken m2 twin ≡ true
-        by_number twin has_twin (inl less) _ = old twin (new.first n twin (omega arith) less has_twin)
+        by_number : (twin : List ℕ) → HasSuffix n text twin → (n < number) ⊎ (number ≤ n) → n < number + 1 → is_key_taken m2 twin ≡ true
+        by_number twin has_twin (inl less) _ = old twin (new.first n twin less has_twin)
         by_number twin has_twin (inr not_less) limit =
             let last : n ≡ number = omega arith in
             let equal : twin ≡ key =
             one_with_suffix number text twin key (subst (λ m. HasSuffix m text twin) last has_twin) new.suffixed in
-            subst (λ l. is_taken m2 l ≡ true) (sym equal) itself
+            subst (λ l. is_key_taken m2 l ≡ true) (sym equal) itself
   of found n base other has below suffixed (inr differs) (inr other_text) =
       let q = str_to_ascii_lowercase base in
       old other
-      (closed.below found n base other
+      (closed.below found base
       (sym
-      (two q ∙ ap (λ b. cond b (Some 1) (m1 q)) differs ∙ one q ∙ ap (λ b. cond b (Some (number + 1)) (m0 q)) other_text) ∙ has) below
+      (two q ∙ ap (λ b. cond b (Some 1) (m1 q)) differs ∙ one q ∙ ap (λ b. cond b (Some (number + 1)) (m0 q)) other_text) ∙ has) n other
+      below
       suffixed)
 
 -- a text gets its key
-pub gets_key : (m0 m1 m2 : Numbers) (text key text_name key_name : List ℕ) (start number : ℕ) → IsClosed m0
-    → text_name ≡ str_to_ascii_lowercase text → key_name ≡ str_to_ascii_lowercase key
-    → start ≡ unwrap_or (m0 (str_to_ascii_lowercase text)) 0 → IsNewFrom m0 text start number key
-    → IsSet m0 m1 text_name (number + 1) → IsSet m1 m2 key_name 1 → IsTaken m0 m2 text key
-gets_key m0 m1 m2 text key text_name key_name start number closed is_text is_key is_start new one two =
-    let zero_on = from_zero m0 text key start number closed is_start new in
-    let one' = subst (λ l. IsSet m0 m1 l (number + 1)) is_text one in
-    let two' = subst (λ l. IsSet m1 m2 l 1) is_key two in
+pub gets_key : (m0 m1 m2 : Numbers) (text key text_name key_name : List ℕ) (number : ℕ) → AreBelowTaken m0
+    → text_name ≡ str_to_ascii_lowercase text → key_name ≡ str_to_ascii_lowercase key → IsFirstFree m0 text number key
+    → SetsNumber m0 m1 text_name (number + 1) → SetsNumber m1 m2 key_name 1 → TakesKey m0 m2 text key
+gets_key m0 m1 m2 text key text_name key_name number closed is_text is_key free one two =
+    let one' = subst (λ l. SetsNumber m0 m1 l (number + 1)) is_text one in
+    let two' = subst (λ l. SetsNumber m1 m2 l 1) is_key two in
     record {
       number = number;
-      from_zero = zero_on;
-      others = now_taken m0 m1 m2 text key number zero_on one' two';
-      closed = now_closed m0 m1 m2 text key number closed zero_on one' two';
+      free = free;
+      others = now_taken m0 m1 m2 text key number free one' two';
+      closed = now_closed m0 m1 m2 text key number closed free one' two';
     }
 
 -- a test that fails for a whole list fails for each element
@@ -205,13 +203,14 @@ none_at : {X : Type 0} (p : X → Bool) (xs : List X) (i : ℕ) (d : X) → i < 
 none_at p xs i d within none = of (bool_cases (p (get_or xs i d))) where
   clash : (b : Bool) → b ≡ true → b ≡ false → ⊥
   clash b x y = cc
+
   of : (p (get_or xs i d) ≡ true) ⊎ (p (get_or xs i d) ≡ false) → p (get_or xs i d) ≡ false
   of (inl passes) = absurd (clash (list_any p xs) (list_any_at p xs i d within passes) none)
   of (inr fails) = fails
 
 -- a test of a longer list
-has_more : (keys : List (List ℕ)) (key other : List ℕ) (b : Bool) → b ≡ has_key keys other
-    → (str_eq_ignore_ascii_case key other || b) ≡ has_key (keys ++ (key ∷ [])) other
+has_more : (keys : List (List ℕ)) (key other : List ℕ) (b : Bool) → b ≡ has_same_key keys other
+    → (str_eq_ignore_ascii_case key other || b) ≡ has_same_key (keys ++ (key ∷ [])) other
 has_more keys key other b is =
     of (str_eq_ignore_ascii_case key other) b ∙ ap (λ x. x || (str_eq_ignore_ascii_case key other || false)) is
     ∙ sym (list_any-append (λ own. str_eq_ignore_ascii_case own other) keys (key ∷ [])) where
@@ -223,39 +222,41 @@ has_more keys key other b is =
 
 -- the map has these keys
 pub record AreTaken (taken : Numbers) (keys : List (List ℕ)) : Type 0 where
-  pub closed : IsClosed taken
-  pub same : (key : List ℕ) → is_taken taken key ≡ has_key keys key
+  pub closed : AreBelowTaken taken
+  pub same : (key : List ℕ) → is_key_taken taken key ≡ has_same_key keys key
 
 -- a map without keys
 pub none_taken : (taken : Numbers) → ((q : List ℕ) → taken q ≡ None) → AreTaken taken []
 none_taken taken none = record {
-  closed = record { below = λ number n text other has below suffixed. absurd (clash (taken (str_to_ascii_lowercase text)) number (none _) has) };
+  closed = record {
+    below = λ number text has n other below suffixed. absurd (clash (taken (str_to_ascii_lowercase text)) number (none _) has);
+  };
   same = λ key. ap is_some (none (str_to_ascii_lowercase key));
 } where
   clash : (o : Option ℕ) (n : ℕ) → o ≡ None → o ≡ Some n → ⊥
   clash o n x y = cc
 
 -- a text gets its first new key
-pub is_first : (old new : Numbers) (keys : List (List ℕ)) (text key : List ℕ) → AreTaken old keys → IsTaken old new text key
+pub is_first : (old new : Numbers) (keys : List (List ℕ)) (text key : List ℕ) → AreTaken old keys → TakesKey old new text key
     → IsFirstNew keys text key
 is_first old new keys text key are is = record {
   number = is.number;
-  suffixed = is.from_zero.suffixed;
-  new = sym (are.same key) ∙ is.from_zero.new;
-  first = λ n other below has. sym (are.same other) ∙ is.from_zero.first n other (omega arith) below has;
+  suffixed = is.free.suffixed;
+  new = sym (are.same key) ∙ is.free.new;
+  first = λ n other below has. sym (are.same other) ∙ is.free.first n other below has;
 }
 
 -- one more key is taken
-pub more_keys : (old new : Numbers) (keys : List (List ℕ)) (text key : List ℕ) → AreTaken old keys → IsTaken old new text key
+pub more_keys : (old new : Numbers) (keys : List (List ℕ)) (text key : List ℕ) → AreTaken old keys → TakesKey old new text key
     → AreTaken new (keys ++ (key ∷ []))
 more_keys old new keys text key are is = record {
   closed = is.closed;
-  same = λ other. is.others other ∙ has_more keys key other (is_taken old other) (are.same other);
+  same = λ other. is.others other ∙ has_more keys key other (is_key_taken old other) (are.same other);
 }
 
 -- the keys of one more entry
 pub keys_more : (pattern : List Part) (entries : List Entry) (i : ℕ) (entry : Entry) (keys : List (List ℕ)) (text key : List ℕ)
-    → AreKeys pattern (take i entries) keys → i < length entries → entry ≡ get_or entries i entry → text ≡ base pattern entry
+    → AreKeys pattern (take i entries) keys → i < length entries → entry ≡ get_or entries i entry → text ≡ pattern_text pattern entry
     → IsFirstNew keys text key → AreKeys pattern (take (i + 1) entries) (keys ++ (key ∷ []))
 keys_more pattern entries i entry keys text key are within is is_text first =
     subst (λ es. AreKeys pattern es (keys ++ (key ∷ [])))
@@ -270,8 +271,9 @@ distinct_keys pattern _ _ (AreKeys.next {entries = entries} {keys = keys} {key =
     (λ i d within. none_at (λ own. str_eq_ignore_ascii_case own key) keys i d within first.new)
 
 -- keys of entries can be keys
-pub allowed_keys : (pattern : List Part) (entries : List Entry) (keys : List (List ℕ)) → AreKeys pattern entries keys → All CanBeKey keys
+pub allowed_keys : (pattern : List Part) (entries : List Entry) (keys : List (List ℕ)) → AreKeys pattern entries keys
+    → All CanServeAsKey keys
 allowed_keys pattern _ _ AreKeys.none = λ i d within. absurd (omega arith)
 allowed_keys pattern _ _ (AreKeys.next {entries = entries} {keys = keys} {key = key} entry are first) =
-    All-push CanBeKey keys key (allowed_keys pattern entries keys are)
-    (suffixed_allowed first.number (base pattern entry) key (clean_base pattern entry) first.suffixed)
+    All-push CanServeAsKey keys key (allowed_keys pattern entries keys are)
+    (suffixed_allowed first.number (pattern_text pattern entry) key (clean_pattern_text pattern entry) first.suffixed)

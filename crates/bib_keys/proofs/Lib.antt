@@ -1,6 +1,8 @@
 pub mod AllowedFacts
 pub mod BaseFacts
+pub mod CountFacts
 pub mod KeyFacts
+pub mod LawFacts
 pub mod PatternFacts
 pub mod SuffixFacts
 pub mod WordFacts

@@ -8,8 +8,8 @@ use Rattle.std.specs.Prelude.{Bool, false, ◌==◌, encode_utf8, slice_index}
 use Rattle.std.specs.Option.{MatchOption}
 use Rattle.std.specs.Str.Iter.{LacksByte}
 use Rattle.bib_keys.specs.Characters.{is_in_keys}
-use Rattle.bib_keys.specs.Parsing.{error_at}
-use Rattle.bib_keys.specs.Patterns.{IsCount, IsNamed, IsNoPattern, IsPart, IsPattern, IsPatternError, IsPlaceholder, StopsAt, part_of}
+use Rattle.bib_keys.specs.Parsing.{stop_error}
+use Rattle.bib_keys.specs.Patterns.{IsCount, HasNameAndCount, IsNoPattern, IsPart, IsPattern, IsPatternError, IsPlaceholder, IsStuckAt, part_meant}
 use Rattle.bib_keys.specs.declared.errors.PatternError.TheVariants.{NotInKeys, NoPlaceholder}
 use Rattle.bib_keys.specs.declared.pattern.Part.{Part}
 use Rattle.bib_keys.specs.declared.pattern.Part.TheVariants.{Literal}
@@ -40,7 +40,7 @@ lacks_inside c (x ∷ text) (y ∷ a) s lacks e =
 
 -- a text with a colon whose end isn't a number has no name and number
 pub not_named : (text front number : List ℕ) → text ≡ front ++ (58 ∷ number) → LacksByte 58 front
-    → ((n : ℕ) → 0 < n → n < 10 → number ≡ (48 + n) ∷ [] → ⊥) → (name : List ℕ) (count : Option ℕ) → IsNamed text name count → ⊥
+    → ((n : ℕ) → 0 < n → n < 10 → number ≡ (48 + n) ∷ [] → ⊥) → (name : List ℕ) (count : Option ℕ) → HasNameAndCount text name count → ⊥
 not_named text front number is lacks none name count named = of named.digits count named.number named.is where
   of : (digits : List ℕ) (count : Option ℕ) → IsCount count digits → text ≡ name ++ digits → ⊥
   of _ _ IsCount.none e = lacks_inside 58 name front number named.colon (sym (append-nil name) ∙ sym e ∙ is)
@@ -48,7 +48,7 @@ not_named text front number is lacks none name count named = of named.digits cou
       none n some small (cut_once 58 front name number ((48 + n) ∷ []) lacks named.colon (sym is ∙ e)).1
 
 -- a text is named in one way
-pub one_named : (text a b : List ℕ) (c d : Option ℕ) → IsNamed text a c → IsNamed text b d → (a ≡ b) × (c ≡ d)
+pub one_named : (text a b : List ℕ) (c d : Option ℕ) → HasNameAndCount text a c → HasNameAndCount text b d → (a ≡ b) × (c ≡ d)
 one_named text a b c d one other = of one.digits other.digits c d one.number other.number (sym one.is ∙ other.is) where
   of : (s t : List ℕ) (c d : Option ℕ) → IsCount c s → IsCount d t → a ++ s ≡ b ++ t → (a ≡ b) × (c ≡ d)
   of _ _ _ _ IsCount.none IsCount.none e = (sym (append-nil a) ∙ e ∙ append-nil b, refl)
@@ -68,17 +68,17 @@ no_part : (o : Option Part) (part : Part) → o ≡ None → o ≡ Some part →
 no_part o part is other = cc
 
 -- a text is a placeholder exactly if its name and its number mean a part
-pub placeholder_is : (text name : List ℕ) (count : Option ℕ) (r : Option Part) → IsNamed text name count → r ≡ part_of name count
+pub placeholder_is : (text name : List ℕ) (count : Option ℕ) (r : Option Part) → HasNameAndCount text name count → r ≡ part_meant name count
     → MatchOption r ((part : Part) → IsPlaceholder part text → ⊥) (λ part. IsPlaceholder part text)
 placeholder_is text name count None named is = λ part other.
     let same = one_named text name other.name count other.count named other.named in
-    let means : part_of name count ≡ Some part =
-    subst (λ n. part_of n count ≡ Some part) (sym same.0) (subst (λ d. part_of other.name d ≡ Some part) (sym same.1) other.means) in
-    no_part (part_of name count) part (sym is) means
+    let means : part_meant name count ≡ Some part =
+    subst (λ n. part_meant n count ≡ Some part) (sym same.0) (subst (λ d. part_meant other.name d ≡ Some part) (sym same.1) other.means) in
+    no_part (part_meant name count) part (sym is) means
 placeholder_is text name count (Some part) named is = record { name = name; count = count; named = named; means = sym is }
 
 -- a brace is no character of keys
-no_literal : is_in_keys 123 ≡ true → ⊥
+pub no_literal : is_in_keys 123 ≡ true → ⊥
 no_literal h = cc
 
 -- a test isn't both true and false
@@ -86,11 +86,11 @@ true_false : (b : Bool) → b ≡ true → b ≡ false → ⊥
 true_false b x y = cc
 
 -- the first numbers of equal lists
-first_same : (c d : ℕ) (s t : List ℕ) → (c ∷ []) ++ s ≡ d ∷ t → c ≡ d
+pub first_same : (c d : ℕ) (s t : List ℕ) → (c ∷ []) ++ s ≡ d ∷ t → c ≡ d
 first_same c d s t e = cc
 
 -- the texts inside equal braces
-inside_same : (after a rest : List ℕ) → 123 ∷ after ≡ (123 ∷ a ++ (125 ∷ [])) ++ rest → after ≡ a ++ (125 ∷ rest)
+pub inside_same : (after a rest : List ℕ) → 123 ∷ after ≡ (123 ∷ a ++ (125 ∷ [])) ++ rest → after ≡ a ++ (125 ∷ rest)
 inside_same after a rest e =
     let whole : 123 ∷ after ≡ 123 ∷ (a ++ (125 ∷ rest)) = e ∙ ap (λ l. 123 ∷ l) (append_assoc a (125 ∷ []) rest) in cc
 
@@ -109,7 +109,8 @@ part_end p q _ _ s t (IsPart.literal {c = c} x) (IsPart.placeholder lacks y) e =
 part_end p q _ _ s t (IsPart.placeholder lacks y) (IsPart.literal {c = c} x) e =
     let same : c ≡ 123 = cc in let clash : is_in_keys 123 ≡ true = subst (λ d. is_in_keys d ≡ true) same x in cc
 part_end p q _ _ s t (IsPart.placeholder {inside = a} la x) (IsPart.placeholder {inside = b} lb y) e =
-    let inner : a ++ (125 ∷ s) ≡ b ++ (125 ∷ t) = tails (sym (append_assoc (123 ∷ a) (125 ∷ []) s) ∙ e ∙ append_assoc (123 ∷ b) (125 ∷ []) t) in
+    let inner : a ++ (125 ∷ s) ≡ b ++ (125 ∷ t) =
+    tails (sym (append_assoc (123 ∷ a) (125 ∷ []) s) ∙ e ∙ append_assoc (123 ∷ b) (125 ∷ []) t) in
     (cut_once 125 a b s t la lb inner).1 where
       tails : 123 ∷ (a ++ (125 ∷ s)) ≡ 123 ∷ (b ++ (125 ∷ t)) → a ++ (125 ∷ s) ≡ b ++ (125 ∷ t)
       tails h = cc
@@ -134,7 +135,8 @@ read_none text = record { before = []; is = refl; read = IsPattern.end; only = �
 
 -- the parts of a text that isn't empty begin with one
 pub first_of : (all : List Part) (text : List ℕ) → IsPattern all text → 0 < length text
-    → (part : Part) × (parts : List Part) × (here : List ℕ) × (rest : List ℕ) × IsPart part here × IsPattern parts rest × (text ≡ here ++ rest)
+    → (part : Part) × (parts : List Part) × (here : List ℕ) × (rest : List ℕ) × IsPart part here × IsPattern parts rest
+    × (text ≡ here ++ rest)
 first_of _ _ IsPattern.end some = absurd (omega arith)
 first_of _ _ (IsPattern.next {part = p} {parts = ps} {text = t} {rest = r} first rest) some = (p, ps, t, r, first, rest, refl)
 
@@ -159,35 +161,43 @@ read_all text parts (x ∷ rest) so_far none = absurd (omega arith)
 -- no part begins where the text goes on
 pub read_no_more : (text : List ℕ) (parts : List Part) (rest : List ℕ) → IsReadTo text parts rest → 0 < length rest
     → ((part : Part) (here after : List ℕ) → IsPart part here → rest ≡ here ++ after → ⊥)
-    → IsPatternError text (error_at (length text - length rest) rest)
+    → IsPatternError text (stop_error (length text - length rest) rest)
 read_no_more text parts rest so_far some stops = by_case (slice_index rest 0 == 123) refl where
   at : ℕ
   at = length text - length rest
+
   sizes : length text ≡ length so_far.before + length rest
   sizes = ap length so_far.is ∙ length-append so_far.before rest
+
   place : length so_far.before ≡ at
   place = omega (arith, sizes)
+
   ahead : drop at text ≡ rest
   ahead = subst (λ n. drop n text ≡ rest) place (ap (drop (length so_far.before)) so_far.is ∙ drop-append_seam so_far.before rest)
+
   behind : take at text ≡ so_far.before
   behind =
       subst (λ n. take n text ≡ so_far.before) place
       (ap (take (length so_far.before)) so_far.is ∙ take-append_seam so_far.before rest)
+
   first : slice_index text at ≡ slice_index rest 0
   first = ap (λ n. get_or text n 0) (sym (add-zero at)) ∙ sym (get_or-drop at text 0 0) ∙ ap (λ l. get_or l 0 0) ahead
+
   none : IsNoPattern text
   none all pattern =
       let left = so_far.only all pattern in
       let (q, qs, t, r, first, others, split) = first_of left.0 rest left.1 some in
       stops q t r first split
-  stop : StopsAt text at
+
+  stop : IsStuckAt text at
   stop = record {
     parts = parts;
     before = subst (IsPattern parts) (sym behind) so_far.read;
     goes_on = omega (arith, sizes);
     stops = λ part here after is_part is. stops part here after is_part (sym ahead ∙ is);
   }
-  by_case : (b : Bool) → slice_index rest 0 == 123 ≡ b → IsPatternError text (error_at at rest)
+
+  by_case : (b : Bool) → slice_index rest 0 == 123 ≡ b → IsPatternError text (stop_error at rest)
   by_case true is =
       subst (λ b. IsPatternError text (cond b (NoPlaceholder at) (NotInKeys at))) (sym is)
       (none, stop, first ∙ same_number (slice_index rest 0) 123 is)
@@ -216,12 +226,11 @@ not_placeholder text after inside left is split lacks none part _ rest (IsPart.p
 -- a placeholder in braces begins a text
 pub is_placeholder : (text after inside left : List ℕ) (part : Part) → text ≡ 123 ∷ after → after ≡ inside ++ (125 ∷ left)
     → LacksByte 125 inside → IsPlaceholder part inside → (here : List ℕ) × IsPart part here × (text ≡ here ++ left)
-is_placeholder text after inside left part is split lacks placeholder =
-    (
-      123 ∷ (inside ++ (125 ∷ [])),
-      IsPart.placeholder lacks placeholder,
-      is ∙ ap (λ l. 123 ∷ l) (split ∙ sym (append_assoc inside (125 ∷ []) left)),
-    )
+is_placeholder text after inside left part is split lacks placeholder = (
+  123 ∷ (inside ++ (125 ∷ [])),
+  IsPart.placeholder lacks placeholder,
+  is ∙ ap (λ l. 123 ∷ l) (split ∙ sym (append_assoc inside (125 ∷ []) left)),
+)
 
 -- a character that is allowed in keys is ASCII
 pub in_keys_ascii : (c : ℕ) → is_in_keys c ≡ true → c < 128

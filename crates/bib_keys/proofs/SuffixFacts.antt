@@ -1,5 +1,5 @@
 -- Suffixes and their numbers.
-use Rattle.std.proofs.Common.{◌≡◌, ◌≢◌, ℕ, ◌+◌, ◌-◌, ◌*◌, ◌/◌, ◌%◌, ◌<◌, List, [], ◌∷◌, ◌++◌, sym, ◌∙◌, ap, subst, append-nil, append_assoc, arith}
+use Rattle.std.proofs.Common.{◌≡◌, ◌≢◌, ℕ, ◌+◌, ◌-◌, ◌*◌, ◌/◌, ◌%◌, List, [], ◌∷◌, ◌++◌, sym, ◌∙◌, ap, subst, append-nil, append_assoc, arith}
 use Rattle.bib_keys.specs.Keys.{IsSuffix, HasSuffix}
 
 -- a text has the suffix with the number 0
@@ -12,7 +12,7 @@ no_suffix n text zero = record {
 
 -- one more letter
 pub more_suffix : (n : ℕ) (text key longer : List ℕ) → n ≢ 0 → HasSuffix ((n - 1) / 26) text key
-  → longer ≡ key ++ ((97 + (n - 1) % 26) ∷ []) → HasSuffix n text longer
+    → longer ≡ key ++ ((97 + (n - 1) % 26) ∷ []) → HasSuffix n text longer
 more_suffix n text key longer some has is =
     let k : ℕ = (n - 1) % 26 in
     let number : 26 * ((n - 1) / 26) + k + 1 ≡ n = omega arith in

@@ -1,12 +1,11 @@
 -- Words and texts as plain text.
-use Rattle.std.proofs.Common.{◌≡◌, ℕ, ◌+◌, ◌<◌, ◌≤◌, ◌⊎◌, Bool, List, [], ◌∷◌, ◌++◌, length, map, take, drop, get_or, refl, sym, ◌∙◌, ap, ap₂, subst, arith, inl, inr, append_assoc, length-append, cond}
+use Rattle.std.proofs.Common.{◌≡◌, ℕ, ◌<◌, ◌≤◌, ◌⊎◌, Bool, List, [], ◌∷◌, ◌++◌, length, map, take, drop, get_or, refl, sym, ◌∙◌, ap, subst, arith, inl, inr, length-append, cond}
 use Rattle.std.specs.Prelude.{◌||◌, false, encode_utf8}
 use Rattle.std.specs.Char.{is_ascii_alphanumeric, to_ascii_uppercase}
 use Rattle.std.specs.List.{filter, list_any}
 use Rattle.std.proofs.lemmas.Bool.Decides.{nat_tests}
-use Rattle.std.proofs.lemmas.List.{map-append}
 use Rattle.std.proofs.lemmas.Str.{char_from_byte, encode_ascii, len_utf8_bounds, length-encode}
-use Rattle.bib_keys.specs.Letters.{is_gap, letters_for, plain_char}
+use Rattle.bib_keys.specs.Letters.{is_word_gap, letters_for, key_letter}
 use Rattle.bib_keys.specs.Words.{in_case}
 use Rattle.bib_keys.specs.declared.pattern.Case.TheVariants.{Capital}
 
@@ -49,15 +48,16 @@ capital_is word rest c is = of (below_or_not c 128) where
         let some : 0 < length word = subst (λ l. 0 < length l) first (omega arith) in
         let head : get_or word 0 0 ≡ b = ap (λ l. get_or l 0 0) (sym first) in
         let not_small : (b < 128) → ⊥ = λ small.
-            let same : c ≡ get_or word 0 0 = char_from_byte word rest c is (omega (arith, head, small)) some in omega (arith, same, head, great, small) in
+        let same : c ≡ get_or word 0 0 = char_from_byte word rest c is (omega (arith, head, small)) some in
+        omega (arith, same, head, great, small) in
         let upper : to_ascii_uppercase b ≡ b = no_upper b (not_below b 128 not_small) in
         subst (λ l. l ≡ map to_ascii_uppercase (take 1 l) ++ drop 1 l) first (ap (λ x. x ∷ w) (sym upper))
 
 -- a character that is neither a letter, a digit nor a gap
-pub plain_letters : (c : ℕ) → is_ascii_alphanumeric c ≡ false → is_gap c ≡ false → letters_for c ≡ plain_char c
+pub plain_letters : (c : ℕ) → is_ascii_alphanumeric c ≡ false → is_word_gap c ≡ false → letters_for c ≡ key_letter c
 plain_letters c plain gap =
     sym
-    (ap (λ b. cond b (c ∷ []) (cond (is_gap c) (32 ∷ []) (letters_for c))) plain ∙ ap (λ b. cond b (32 ∷ []) (letters_for c)) gap)
+    (ap (λ b. cond b (c ∷ []) (cond (is_word_gap c) (32 ∷ []) (letters_for c))) plain ∙ ap (λ b. cond b (32 ∷ []) (letters_for c)) gap)
 
 -- a word that fails a test is left out
 pub filter_skipped : {A B : Type 0} (p : B → Bool) (f : A → B) (xs : List A) (x : A) → p (f x) ≡ false

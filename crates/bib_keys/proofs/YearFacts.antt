@@ -1,5 +1,5 @@
 -- Four digits in a text.
-use Rattle.std.proofs.Common.{◌≡◌, ℕ, zero, suc, ◌+◌, ◌-◌, ◌<◌, ◌≤◌, ◌⊎◌, true, cond, List, [], ◌∷◌, length, take, drop, get_or, refl, sym, ◌∙◌, ap, subst, arith, inl, inr, add-one, length-drop, lit<}
+use Rattle.std.proofs.Common.{◌≡◌, ℕ, zero, suc, ◌+◌, ◌-◌, ◌<◌, ◌≤◌, true, cond, List, [], ◌∷◌, length, take, drop, get_or, refl, sym, ◌∙◌, ap, subst, arith, add-one, length-drop, lit<}
 use Rattle.std.specs.Prelude.{Bool, false, ◌&&◌, IsAscii, IsCharBoundary, IsUtf8, nat_le}
 use Rattle.std.specs.Char.{is_ascii_digit}
 use Rattle.std.specs.List.{list_all}
@@ -28,7 +28,8 @@ long_enough text begins =
 pub digits_ascii : (text : List ℕ) → list_all is_ascii_digit text ≡ true → IsAscii text
 digits_ascii [] all = IsAscii-nil
 digits_ascii (c ∷ text) all =
-    let both = and_both (is_ascii_digit c) (list_all is_ascii_digit text) all in IsAscii-cons c text (small c both.0) (digits_ascii text both.1) where
+    let both = and_both (is_ascii_digit c) (list_all is_ascii_digit text) all in
+    IsAscii-cons c text (small c both.0) (digits_ascii text both.1) where
       small : (d : ℕ) → is_ascii_digit d ≡ true → d < 128
       small d h = grind (arith, nat_tests)
 
@@ -56,7 +57,9 @@ pub year_ends : (text : List ℕ) (i : ℕ) → IsUtf8 text → begins_with_year
 year_ends text i utf8 begins =
     let long : 4 ≤ length (drop i text) = long_enough (drop i text) begins in
     let within : i + 3 < length text = omega (arith, length-drop i text) in
-    let digit : get_or text (i + 3) 0 < 128 = subst (λ n. n < 128) (get_or-take 4 (drop i text) 3 0 (lit< tt) ∙ get_or-drop i text 3 0) (year_ascii (drop i text) begins 3) in
+    let digit : get_or text (i + 3) 0 < 128 =
+    subst (λ n. n < 128) (get_or-take 4 (drop i text) 3 0 (lit< tt) ∙ get_or-drop i text 3 0)
+    (year_ascii (drop i text) begins 3) in
     subst (IsCharBoundary text) (next i) (IsCharBoundary-after_ascii text (i + 3) utf8 within digit) where
       next : (n : ℕ) → n + 3 + 1 ≡ n + 4
       next n = omega arith

@@ -10,35 +10,35 @@ use Rattle.bib_chunks.specs.Values.{text}
 use Rattle.bib_entry.specs.Fields.{field_or}
 use Rattle.bib_entry.specs.declared.entry.Entry.{Entry}
 use Rattle.bib_keys.specs.Characters.{is_in_keys}
-use Rattle.bib_keys.specs.Names.{names_in}
+use Rattle.bib_keys.specs.Names.{names_in_key}
 use Rattle.bib_keys.specs.Words.{in_case, significant_words}
-use Rattle.bib_keys.specs.Years.{year_in}
+use Rattle.bib_keys.specs.Years.{year_digits}
 use Rattle.bib_keys.specs.declared.pattern.Case.{Case}
 use Rattle.bib_keys.specs.declared.pattern.Part.{Part}
 use Rattle.bib_keys.specs.declared.pattern.Part.TheVariants.{Literal, Author, Title, Year, ShortYear}
 
 -- the names of the people in the field `author`, or in `editor` if there is no `author`
-abbrev pub authors_text : Case → Option ℕ → Entry → List ℕ
-authors_text case count entry =
-    option_map_or (λ people. flat_map (in_case case) (names_in count people)) (field_or entry (codes "author") (codes "editor")) []
+abbrev pub authors_in_key : Case → Option ℕ → Entry → List ℕ
+authors_in_key case count entry =
+    option_map_or (λ people. flat_map (in_case case) (names_in_key count people)) (field_or entry (codes "author") (codes "editor")) []
 
 -- the first words of the field `title`, one word if there is no number
-abbrev pub title_text : Case → Option ℕ → Entry → List ℕ
-title_text case count entry =
+abbrev pub title_in_key : Case → Option ℕ → Entry → List ℕ
+title_in_key case count entry =
     option_map_or (λ title. flat_map (in_case case) (take (unwrap_or count 1) (significant_words (text title))))
     (by_name.get entry.fields (codes "title")) []
 
 -- the digits of the year in the field `date`, or in `year` if there is no `date`
-abbrev pub year_text : Bool → Entry → List ℕ
-year_text is_short entry = option_map_or (λ date. year_in is_short (text date)) (field_or entry (codes "date") (codes "year")) []
+abbrev pub year_in_key : Bool → Entry → List ℕ
+year_in_key is_short entry = option_map_or (λ date. year_digits is_short (text date)) (field_or entry (codes "date") (codes "year")) []
 
 -- the text of a part for an entry; a placeholder whose field is missing has no text
 abbrev pub part_text : Entry → Part → List ℕ
 part_text entry (Literal c) = encode_utf8 c
-part_text entry (Author case count) = authors_text case count entry
-part_text entry (Title case count) = title_text case count entry
-part_text entry Year = year_text false entry
-part_text entry ShortYear = year_text true entry
+part_text entry (Author case count) = authors_in_key case count entry
+part_text entry (Title case count) = title_in_key case count entry
+part_text entry Year = year_in_key false entry
+part_text entry ShortYear = year_in_key true entry
 
 -- whether `c` stays in a key after the character `last`: it is allowed, and no second hyphen
 abbrev pub is_kept : ℕ → ℕ → Bool
@@ -58,7 +58,7 @@ abbrev pub has_letter_or_digit : List ℕ → Bool
 has_letter_or_digit text = list_any is_ascii_alphanumeric text
 
 -- the text that a pattern gives for an entry: the texts of its parts, one after another, or `nokey` if they have no letter and no digit
-abbrev pub base : List Part → Entry → List ℕ
-base pattern entry =
+abbrev pub pattern_text : List Part → Entry → List ℕ
+pattern_text pattern entry =
     let text = cleaned (flat_map (part_text entry) pattern) in
     if has_letter_or_digit text then text else codes "nokey"

@@ -6,5 +6,5 @@ use Rattle.bib_keys.specs.declared.errors.PatternError.{PatternError}
 use Rattle.bib_keys.specs.declared.errors.PatternError.TheVariants.{NotInKeys, NoPlaceholder}
 
 -- the error at an offset where the text goes on with `rest`, and no part begins
-abbrev pub error_at : ℕ → List ℕ → PatternError
-error_at at rest = if slice_index rest 0 == char.open_brace then NoPlaceholder at else NotInKeys at
+abbrev pub stop_error : ℕ → List ℕ → PatternError
+stop_error at rest = if slice_index rest 0 == char.open_brace then NoPlaceholder at else NotInKeys at

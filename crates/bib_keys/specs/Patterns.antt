@@ -16,12 +16,16 @@ year_part None = Some Year
 year_part (Some n) = if n == 2 then Some ShortYear else None
 
 -- the part that a name and a number mean; the case of the name is that of the words
-abbrev pub part_of : List ℕ → Option ℕ → Option Part
-part_of name count =
-    if bytes_eq name (codes "author") then Some (Author Lower count) else if bytes_eq name (codes "Author") then Some (Author Capital count)
-    else if bytes_eq name (codes "AUTHOR") then Some (Author Upper count) else if bytes_eq name (codes "title") then Some (Title Lower count)
-    else if bytes_eq name (codes "Title") then Some (Title Capital count) else if bytes_eq name (codes "TITLE") then Some (Title Upper count)
-    else if bytes_eq name (codes "year") then year_part count else None
+abbrev pub part_meant : List ℕ → Option ℕ → Option Part
+part_meant name count =
+    if bytes_eq name (codes "author") then Some (Author Lower count)
+    else if bytes_eq name (codes "Author") then Some (Author Capital count)
+    else if bytes_eq name (codes "AUTHOR") then Some (Author Upper count)
+    else if bytes_eq name (codes "title") then Some (Title Lower count)
+    else if bytes_eq name (codes "Title") then Some (Title Capital count)
+    else if bytes_eq name (codes "TITLE") then Some (Title Upper count)
+    else if bytes_eq name (codes "year") then year_part count
+    else None
 
 -- the text of a number: none, or a colon and a digit from 1 to 9
 pub data IsCount : Option ℕ → List ℕ → Type 0 where
@@ -29,7 +33,7 @@ pub data IsCount : Option ℕ → List ℕ → Type 0 where
   digit : (n : ℕ) → 0 < n → n < 10 → IsCount (Some n) (char.colon ∷ (char.zero + n) ∷ [])
 
 -- a text is this name, which has no colon, and the text of this number
-pub record IsNamed (text name : List ℕ) (count : Option ℕ) : Type 0 where
+pub record HasNameAndCount (text name : List ℕ) (count : Option ℕ) : Type 0 where
   pub colon : LacksByte char.colon name
   pub digits : List ℕ
   pub number : IsCount count digits
@@ -39,8 +43,8 @@ pub record IsNamed (text name : List ℕ) (count : Option ℕ) : Type 0 where
 pub record IsPlaceholder (part : Part) (text : List ℕ) : Type 0 where
   pub name : List ℕ
   pub count : Option ℕ
-  pub named : IsNamed text name count
-  pub means : part_of name count ≡ Some part
+  pub named : HasNameAndCount text name count
+  pub means : part_meant name count ≡ Some part
 
 -- a part of a pattern: a character that is allowed in keys, or a placeholder in braces
 pub data IsPart : Part → List ℕ → Type 0 where
@@ -55,7 +59,7 @@ pub data IsPattern : List Part → List ℕ → Type 0 where
       → IsPattern (part ∷ parts) (text ++ rest)
 
 -- the text before the offset `at` is a pattern, and no part begins there, where the text goes on
-pub record StopsAt (text : List ℕ) (at : ℕ) : Type 0 where
+pub record IsStuckAt (text : List ℕ) (at : ℕ) : Type 0 where
   pub parts : List Part
   pub before : IsPattern parts (take at text)
   pub goes_on : at < length text
@@ -65,9 +69,9 @@ pub record StopsAt (text : List ℕ) (at : ℕ) : Type 0 where
 abbrev pub IsNoPattern : List ℕ → Type 0
 IsNoPattern text = (parts : List Part) → IsPattern parts text → ⊥
 
--- what an error states about the text: no parts have it, and the error is where the first of them would end. A brace begins no
--- placeholder, or another character isn't allowed in keys
+-- what an error states about the text: no parts have it, and no part begins at the offset `at`, though the text before it is a pattern.
+-- `NoPlaceholder` means that an opening brace is there, and `NotInKeys` that another character is
 abbrev pub IsPatternError : List ℕ → PatternError → Type 0
-IsPatternError text (NotInKeys at) = IsNoPattern text × StopsAt text at × (slice_index text at ≡ char.open_brace → ⊥)
-IsPatternError text (NoPlaceholder at) = IsNoPattern text × StopsAt text at × (slice_index text at ≡ char.open_brace)
+IsPatternError text (NotInKeys at) = IsNoPattern text × IsStuckAt text at × (slice_index text at ≡ char.open_brace → ⊥)
+IsPatternError text (NoPlaceholder at) = IsNoPattern text × IsStuckAt text at × (slice_index text at ≡ char.open_brace)
 IsPatternError text OutOfMemory = Unit {0}

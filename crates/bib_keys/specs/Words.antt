@@ -6,7 +6,7 @@ use Rattle.std.specs.List.{filter, list_any, slice_split}
 use Rattle.std.specs.Str.{str_eq_ignore_ascii_case}
 use Rattle.bib_text.specs.Characters as char
 use Rattle.bib_text.specs.Enums.{words}
-use Rattle.bib_keys.specs.Letters.{plain}
+use Rattle.bib_keys.specs.Letters.{key_letters}
 use Rattle.bib_keys.specs.declared.pattern.Case.{Case}
 use Rattle.bib_keys.specs.declared.pattern.Case.TheVariants.{Lower, Capital, Upper}
 
@@ -32,4 +32,4 @@ is_significant word = not (length word == 0) && not (is_function_word word)
 
 -- the words of a title that count, as plain text
 abbrev pub significant_words : List ℕ → List (List ℕ)
-significant_words title = filter is_significant (slice_split (λ b. b == char.space) (plain title))
+significant_words title = filter is_significant (slice_split (λ b. b == char.space) (key_letters title))

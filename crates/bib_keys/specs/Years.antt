@@ -14,6 +14,6 @@ four_digits [] = []
 four_digits (c ∷ text) = if begins_with_year (c ∷ text) then take 4 (c ∷ text) else four_digits text
 
 -- these digits, or the last two of them
-abbrev pub year_in : Bool → List ℕ → List ℕ
-year_in false text = four_digits text
-year_in true text = drop 2 (four_digits text)
+abbrev pub year_digits : Bool → List ℕ → List ℕ
+year_digits false text = four_digits text
+year_digits true text = drop 2 (four_digits text)

@@ -8,10 +8,10 @@ ghost use Rattle.bib_keys.specs.Bases as spec;
 
 use crate::cases::push_words;
 use crate::characters::is_in_keys;
-use crate::names::names_in;
+use crate::names::names_in_key;
 use crate::pattern::{Case, Part};
 use crate::titles::first_words;
-use crate::years::year_in;
+use crate::years::year_digits;
 use bib_chunks::chunk::{ChunksRef, format_verbatim};
 use bib_entry::entry::Entry;
 use std::alloc::{AllocError, Global};
@@ -34,12 +34,12 @@ fn push_authors(
     count: Option<u8>,
     entry: &Entry,
 ) -> Result<(), AllocError>
-    ensures { OnOk result (string_bytes out.new ≡ string_bytes out.old ++ spec.authors_text case count entry.now) }
+    ensures { OnOk result (string_bytes out.new ≡ string_bytes out.old ++ spec.authors_in_key case count entry.now) }
 {
     let Some(people) = field_or(entry, "author", "editor") else {
         return Ok(());
     };
-    let names = names_in(alloc, count, people)?;
+    let names = names_in_key(alloc, count, people)?;
     push_words(alloc, out, case, &names)
 }
 
@@ -51,7 +51,7 @@ fn push_title(
     count: Option<u8>,
     entry: &Entry,
 ) -> Result<(), AllocError>
-    ensures { OnOk result (string_bytes out.new ≡ string_bytes out.old ++ spec.title_text case count entry.now) }
+    ensures { OnOk result (string_bytes out.new ≡ string_bytes out.old ++ spec.title_in_key case count entry.now) }
 {
     let Some(title) = entry.get("title") else {
         return Ok(());
@@ -60,20 +60,20 @@ fn push_title(
     push_words(alloc, out, case, &words)
 }
 
-// Appends the year, without its first `without` digits.
+// Appends the digits of the year.
 fn push_year(
     alloc: Global,
     out: &mut String,
     is_short: bool,
     entry: &Entry,
 ) -> Result<(), AllocError>
-    ensures { OnOk result (string_bytes out.new ≡ string_bytes out.old ++ spec.year_text is_short entry.now) }
+    ensures { OnOk result (string_bytes out.new ≡ string_bytes out.old ++ spec.year_in_key is_short entry.now) }
 {
     let Some(date) = field_or(entry, "date", "year") else {
         return Ok(());
     };
     let date = format_verbatim(alloc, date)?;
-    out.push_str(year_in(date.as_str(), is_short))
+    out.push_str(year_digits(date.as_str(), is_short))
 }
 
 // Appends the text of a part.
@@ -134,8 +134,12 @@ fn has_letter_or_digit(text: &str) -> bool
 }
 
 // Returns the text that a pattern gives for an entry.
-pub(crate) fn base(alloc: Global, pattern: &[Part], entry: &Entry) -> Result<String, AllocError>
-    ensures { IfOk result (λ text. string_bytes text ≡ spec.base pattern.now entry.now) }
+pub(crate) fn pattern_text(
+    alloc: Global,
+    pattern: &[Part],
+    entry: &Entry,
+) -> Result<String, AllocError>
+    ensures { IfOk result (λ text. string_bytes text ≡ spec.pattern_text pattern.now entry.now) }
 {
     let text = joined(alloc, pattern, entry)?;
     let text = cleaned(alloc, text.as_str())?;

@@ -6,14 +6,14 @@ ghost use Rattle.bib_keys.specs.declared.errors.PatternError.TheVariants.{OutOfM
 use std::alloc::{AllocError, AllocFailed};
 use thiserror::Error;
 
-/// The reason why a text isn't a pattern. An offset counts the bytes before the error.
+/// The reason why a text isn't a pattern. The number is an offset in bytes.
 #[derive(Debug, Clone, Copy, PartialEq, Eq, Error)]
 pub enum PatternError {
-    /// A character at this offset isn't allowed in a key.
-    #[error("the character at byte {0} isn't a letter, a digit or one of `+-./:_`")]
+    /// The character at this offset isn't allowed in a key.
+    #[error("a key can't contain the character at byte {0}, only ASCII letters, digits and `+-./:_`")]
     NotInKeys(usize),
     /// The brace at this offset doesn't begin a placeholder.
-    #[error("the brace at byte {0} doesn't begin `{{author}}`, `{{title}}` or `{{year}}`, with a number such as `:2` or without")]
+    #[error("expected `{{author}}`, `{{title}}` or `{{year}}` at byte {0}, or one of them with a number, such as `{{title:3}}`")]
     NoPlaceholder(usize),
     /// Out of memory.
     #[error("out of memory")]

@@ -7,8 +7,8 @@ use std::alloc::{AllocError, Global};
 use unicode_normalization::to_nfkd;
 
 // Returns whether a character separates words: white space, a slash or a dash.
-fn is_gap(c: char) -> bool
-    ensures { result ≡ spec.is_gap c }
+fn is_word_gap(c: char) -> bool
+    ensures { result ≡ spec.is_word_gap c }
 {
     c.is_whitespace() || matches!(c, '/' | '–' | '—')
 }
@@ -56,12 +56,12 @@ fn for_capital(c: char) -> &'static str
 
 // Appends a character as plain text.
 fn push_plain(out: &mut String, c: char) -> Result<(), AllocError>
-    ensures { OnOk result (string_bytes out.new ≡ string_bytes out.old ++ spec.plain_char c) }
+    ensures { OnOk result (string_bytes out.new ≡ string_bytes out.old ++ spec.key_letter c) }
 {
     if c.is_ascii_alphanumeric() {
         return out.push(c);
     }
-    if is_gap(c) {
+    if is_word_gap(c) {
         return out.push(' ');
     }
     out.push_str(for_small(c))?;
@@ -70,8 +70,8 @@ fn push_plain(out: &mut String, c: char) -> Result<(), AllocError>
 }
 
 // Returns a text as plain text: ASCII letters, ASCII digits and spaces.
-pub(crate) fn plain(alloc: Global, text: &str) -> Result<String, AllocError>
-    ensures { IfOk result (λ plain. string_bytes plain ≡ spec.plain text.now) }
+pub(crate) fn key_letters(alloc: Global, text: &str) -> Result<String, AllocError>
+    ensures { IfOk result (λ letters. string_bytes letters ≡ spec.key_letters text.now) }
 {
     let decomposed = to_nfkd(alloc, text)?;
     let mut out = String::new(alloc);

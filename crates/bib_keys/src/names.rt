@@ -3,7 +3,7 @@
 ghost use Rattle.std.specs.Prelude.{◌≡◌, IfOk, map};
 ghost use Rattle.bib_keys.specs.Names as spec;
 
-use crate::letters::plain;
+use crate::letters::key_letters;
 use bib_chunks::chunk::ChunksRef;
 use bib_people::people::read_people;
 use bib_people::person::Person;
@@ -14,22 +14,22 @@ use std::alloc::{AllocError, Global};
 const OTHERS: &str = "EtAl";
 
 // Returns the family name of a person as plain text.
-fn family_name(alloc: Global, person: &Person) -> Result<Text, AllocError>
-    ensures { IfOk result (λ name. name ≡ spec.family_name person.now) }
+fn shown_family_name(alloc: Global, person: &Person) -> Result<Text, AllocError>
+    ensures { IfOk result (λ name. name ≡ spec.shown_family_name person.now) }
 {
     if person.name.as_str() == "others" {
         return Text::from_str(alloc, OTHERS);
     }
-    Ok(Text::from_string(plain(alloc, person.name.as_str())?))
+    Ok(Text::from_string(key_letters(alloc, person.name.as_str())?))
 }
 
 // Returns the family names of people.
 fn family_names(alloc: Global, people: &[Person]) -> Result<Vec<Text>, AllocError>
-    ensures { IfOk result (λ names. names.items ≡ map spec.family_name people.now) }
+    ensures { IfOk result (λ names. names.items ≡ map spec.shown_family_name people.now) }
 {
     let mut names = Vec::new(alloc);
     'people: for person in people {
-        names.push(family_name(alloc, person)?)?;
+        names.push(shown_family_name(alloc, person)?)?;
     }
     Ok(names)
 }
@@ -50,12 +50,12 @@ fn shown(alloc: Global, count: Option<u8>, mut names: Vec<Text>) -> Result<Vec<T
 }
 
 // Returns the names of the people in a field.
-pub(crate) fn names_in(
+pub(crate) fn names_in_key(
     alloc: Global,
     count: Option<u8>,
     people: ChunksRef<'_>,
 ) -> Result<Vec<Text>, AllocError>
-    ensures { IfOk result (λ names. names.items ≡ spec.names_in count people.now) }
+    ensures { IfOk result (λ names. names.items ≡ spec.names_in_key count people.now) }
 {
     let people = read_people(alloc, people)?;
     shown(alloc, count, family_names(alloc, &people)?)

@@ -3,8 +3,8 @@
 ghost use Rattle.std.specs.Prelude.{◌≡◌, ◌++◌, ◌∷◌, [], ◌+◌, ◌<◌, ℕ, List, IfErr, IfOk, MatchOption, Option};
 ghost use Rattle.bib_text.specs.Characters as char;
 ghost use Rattle.bib_keys.specs.declared.pattern.Part.{Part as APart};
-ghost use Rattle.bib_keys.specs.Parsing.{error_at};
-ghost use Rattle.bib_keys.specs.Patterns.{IsNamed, IsPart, IsPattern, IsPatternError, IsPlaceholder, part_of};
+ghost use Rattle.bib_keys.specs.Parsing.{stop_error};
+ghost use Rattle.bib_keys.specs.Patterns.{HasNameAndCount, IsPart, IsPattern, IsPatternError, IsPlaceholder, part_meant};
 
 use crate::characters::is_in_keys;
 use crate::errors::PatternError;
@@ -27,8 +27,8 @@ fn digit(text: &str) -> Option<u8>
 // Splits a placeholder into its name and its number.
 fn name_and_count(text: &str) -> Option<(&str, Option<u8>)>
     ensures { MatchOption result
-        ((name : List ℕ) (count : Option ℕ) → IsNamed text.now name count → ⊥)
-        (λ found. IsNamed text.now found.0.now found.1) }
+        ((name : List ℕ) (count : Option ℕ) → HasNameAndCount text.now name count → ⊥)
+        (λ found. HasNameAndCount text.now found.0.now found.1) }
 {
     match text.split_once(':') {
         Some((name, number)) => Some((name, Some(digit(number)?))),
@@ -38,7 +38,7 @@ fn name_and_count(text: &str) -> Option<(&str, Option<u8>)>
 
 // Returns the part that a name and a number mean.
 fn part_named(name: &str, count: Option<u8>) -> Option<Part>
-    ensures { result ≡ part_of name.now count }
+    ensures { result ≡ part_meant name.now count }
 {
     match (name, count) {
         ("author", count) => Some(Part::Author(Case::Lower, count)),
@@ -82,8 +82,8 @@ fn first_part(text: &str) -> Option<(Part, &str)>
 }
 
 // Returns the error at an offset where the text goes on with `rest`, and no part begins.
-fn error_at(at: usize, rest: &str) -> PatternError
-    ensures { result ≡ error_at at rest.now }
+fn stop_error(at: usize, rest: &str) -> PatternError
+    ensures { result ≡ stop_error at rest.now }
 {
     if rest.starts_with('{') {
         return PatternError::NoPlaceholder(at);
@@ -100,7 +100,7 @@ pub(crate) fn parts(alloc: Global, text: &str) -> Result<Items<Part>, PatternErr
     let mut rest = text;
     'parts: while !rest.is_empty() {
         let Some((part, after)) = first_part(rest) else {
-            return Err(error_at(text.len() - rest.len(), rest));
+            return Err(stop_error(text.len() - rest.len(), rest));
         };
         parts.push(part)?;
         rest = after;

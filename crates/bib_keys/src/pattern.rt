@@ -2,7 +2,7 @@
 
 ghost use Rattle.std.specs.Prelude.{◌≡◌, IfErr, IfOk};
 ghost use Rattle.std.specs.List.{All, AllPairs};
-ghost use Rattle.bib_keys.specs.Characters.{CanBeKey};
+ghost use Rattle.bib_keys.specs.Characters.{CanServeAsKey};
 ghost use Rattle.bib_keys.specs.Keys.{AreDistinct, AreKeys};
 ghost use Rattle.bib_keys.specs.Patterns.{IsPattern, IsPatternError};
 
@@ -77,7 +77,7 @@ impl KeyPattern {
     pub fn keys(&self, alloc: Global, entries: &[Entry]) -> Result<Vec<Text>, AllocError>
         ensures keys { IfOk result (λ keys. AreKeys self.now entries.now keys.items) }
         ensures distinct { IfOk result (λ keys. AreDistinct keys.items) }
-        ensures allowed { IfOk result (λ keys. All CanBeKey keys.items) }
+        ensures allowed { IfOk result (λ keys. All CanServeAsKey keys.items) }
     {
         new_keys(alloc, self.parts.as_slice(), entries)
     }

@@ -6,7 +6,7 @@ ghost use Rattle.std.specs.Str.{str_eq_ignore_ascii_case};
 ghost use Rattle.bib_chunks.specs.Values.{text};
 ghost use Rattle.bib_keys.specs.Words as spec;
 
-use crate::letters::plain;
+use crate::letters::key_letters;
 use bib_chunks::chunk::{ChunksRef, format_verbatim};
 use bib_text::text::Text;
 use std::alloc::{AllocError, Global};
@@ -50,9 +50,9 @@ pub(crate) fn first_words(
     ensures { IfOk result (λ words. words.items ≡ take count (spec.significant_words (text title.now))) }
 {
     let title = format_verbatim(alloc, title)?;
-    let plain = plain(alloc, title.as_str())?;
+    let letters = key_letters(alloc, title.as_str())?;
     let mut words = Vec::new(alloc);
-    'words: for word in plain.split(' ') {
+    'words: for word in letters.split(' ') {
         if is_significant(word) {
             words.push(Text::from_str(alloc, word)?)?;
         }

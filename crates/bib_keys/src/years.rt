@@ -35,8 +35,8 @@ fn four_digits(text: &str) -> &str
 }
 
 // Returns the first four digits in a row, or the last two of them, or an empty text.
-pub(crate) fn year_in(text: &str, is_short: bool) -> &str
-    ensures { result.now ≡ spec.year_in is_short text.now }
+pub(crate) fn year_digits(text: &str, is_short: bool) -> &str
+    ensures { result.now ≡ spec.year_digits is_short text.now }
 {
     let digits = four_digits(text);
     if is_short && !digits.is_empty() {

@@ -1,6 +1,6 @@
 use Rattle.std.proofs.Common.{◌++◌, ◌∙◌, ap, append_assoc, sym}
 use Rattle.std.specs.Prelude.{string_bytes}
-use Rattle.bib_keys.specs.Letters.{for_capital, for_small}
+use Rattle.bib_keys.specs.Letters.{for_small}
 use Rattle.bib_keys.proofs.WordFacts.{plain_letters}
 use Rattle.bib_keys.proofs.letters.push_plain.Goals as goal
 
@@ -13,4 +13,4 @@ returns c =
     ∙ ap (λ l. out ++ (l ++ capital)) c.for_small.ensures ∙ ap (λ l. out ++ (for_small c.args.c ++ l)) c.for_capital.ensures
     ∙ ap (λ l. out ++ l)
     (plain_letters c.args.c (sym c.is_ascii_alphanumeric.ensures.value ∙ c.if-is_ascii_alphanumeric.false)
-    (sym c.is_gap.ensures ∙ c.if-is_gap.false))
+    (sym c.is_word_gap.ensures ∙ c.if-is_word_gap.false))

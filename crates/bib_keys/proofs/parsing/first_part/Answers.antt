@@ -1,4 +1,4 @@
-use Rattle.std.proofs.Common.{[], ◌∷◌, ◌++◌, ◌∙◌, ◌+◌, ap, lit<, sym, append-nil}
+use Rattle.std.proofs.Common.{◌++◌, ◌∙◌, ap, lit<, sym}
 use Rattle.std.specs.Prelude.{encode_utf8}
 use Rattle.std.proofs.lemmas.Str.Pattern.{split_parts, strip_prefix_char}
 use Rattle.bib_keys.proofs.PatternFacts.{is_literal, is_placeholder, not_closed, not_literal, not_placeholder}
@@ -33,6 +33,7 @@ returns-then-is_in_keys c =
 
 pub returns : goal.returns
 returns c =
-    let brace = rw c.in_default.is at (strip_prefix_char 123 c.args.text.now c.strip_prefix.result c.strip_prefix.ensures.cases (lit< tt)) in
+    let brace =
+    rw c.in_default.is at (strip_prefix_char 123 c.args.text.now c.strip_prefix.result c.strip_prefix.ensures.cases (lit< tt)) in
     not_literal c.args.text.now _ c.in_ok-c.c brace (sym c.chars-rest.ensures.rest ∙ c.in_ok-c.ensures.steps.0)
     (sym c.is_in_keys.ensures ∙ c.if-is_in_keys.false)

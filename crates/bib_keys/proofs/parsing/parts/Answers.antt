@@ -1,5 +1,4 @@
-use Rattle.std.proofs.Common.{◌∙◌, ◌+◌, ◌<◌, length, ap, arith, rules, subst, sym}
-use Rattle.bib_keys.specs.Parsing.{error_at}
+use Rattle.std.proofs.Common.{◌∙◌, length, rules, subst, sym}
 use Rattle.bib_keys.specs.Patterns.{IsPatternError}
 use Rattle.bib_keys.proofs.PatternFacts.{IsReadTo, not_empty, read_more, read_no_more, read_none}
 use Rattle.bib_keys.proofs.parsing.parts.Goals as goal
@@ -9,16 +8,16 @@ parts-init c = (c.utf8.text, subst (λ l. IsReadTo c.args.text.now l c.args.text
 
 pub returns-in_default-clause-refused : goal.returns-in_default-clause-refused
 returns-in_default-clause-refused c =
-    subst (IsPatternError c.args.text.now) (sym c.error_at.ensures)
+    subst (IsPatternError c.args.text.now) (sym c.stop_error.ensures)
     (read_no_more c.args.text.now c.parts.parts c.parts.rest.now c.parts.invariant.1
     (not_empty (length c.parts.rest.now) (sym c.is_empty.ensures ∙ c.parts-test.true)) c.in_default.ensures)
 
 pub parts-preserved : goal.parts-preserved
 parts-preserved c =
-    let (here, is_part, split) = c.in-Some.ensures in
-    (
+    let (here, is_part, split) = c.in-Some.ensures in (
       search rules,
       subst (λ l. IsReadTo c.args.text.now l c.in-Some.after.now) (sym c.in_ok-push.ensures.items)
-      (read_more c.args.text.now c.parts.parts c.in-Some.part here c.parts.rest.now c.in-Some.after.now c.parts.invariant.1 is_part split
-      (not_empty (length c.parts.rest.now) (sym c.is_empty.ensures ∙ c.parts-test.true))),
+          (read_more c.args.text.now c.parts.parts c.in-Some.part here c.parts.rest.now c.in-Some.after.now c.parts.invariant.1 is_part
+          split
+          (not_empty (length c.parts.rest.now) (sym c.is_empty.ensures ∙ c.parts-test.true))),
     )

@@ -1,4 +1,4 @@
-use Rattle.std.proofs.Common.{◌/◌, ◌%◌, ◌-◌, ◌+◌, ◌<◌, arith, ap, ◌∙◌, ◌++◌}
+use Rattle.std.proofs.Common.{◌%◌, ◌-◌, ◌+◌, ◌<◌, arith, ap, ◌∙◌, ◌++◌}
 use Rattle.std.specs.String.{string_bytes}
 use Rattle.bib_keys.proofs.SuffixFacts.{more_suffix, no_suffix}
 use Rattle.bib_keys.proofs.suffixes.+push_suffix.Goals as goal

@@ -3,7 +3,7 @@ use Rattle.std.specs.Prelude.{◌==◌}
 use Rattle.std.specs.List.{filter, slice_split}
 use Rattle.std.proofs.lemmas.Iterator.Consumers.{YieldsList-end}
 use Rattle.std.proofs.lemmas.Iterator.Splits.{YieldsList-from_str_split}
-use Rattle.bib_keys.specs.Letters.{plain}
+use Rattle.bib_keys.specs.Letters.{key_letters}
 use Rattle.bib_keys.specs.Words.{is_significant}
 use Rattle.bib_keys.proofs.WordFacts.{filter_skipped}
 use Rattle.bib_keys.proofs.titles.first_words.Goals as goal
@@ -25,4 +25,4 @@ returns c =
     ∙ ap (take c.args.count)
     (c.words.invariant
     ∙ ap (filter is_significant)
-    (all.0 ∙ ap (slice_split (λ b. b == 32)) (c.deref.ensures ∙ c.in_ok-plain.ensures ∙ ap plain title)))
+    (all.0 ∙ ap (slice_split (λ b. b == 32)) (c.deref.ensures ∙ c.in_ok-letters.ensures ∙ ap key_letters title)))

@@ -1,7 +1,7 @@
-use Rattle.std.proofs.Common.{◌≡◌, ◌∙◌, ◌+◌, ◌<◌, ap, drop, sym, subst, take, true, inr, length}
+use Rattle.std.proofs.Common.{◌≡◌, ◌∙◌, ◌<◌, ap, drop, sym, subst, take, true, length}
 use Rattle.std.specs.Prelude.{IsAscii}
-use Rattle.bib_keys.specs.Years.{begins_with_year, four_digits}
-use Rattle.bib_keys.proofs.YearFacts.{begins_there, four_more, year_ascii, year_ends, year_found, year_length, year_skipped}
+use Rattle.bib_keys.specs.Years.{begins_with_year}
+use Rattle.bib_keys.proofs.YearFacts.{begins_there, four_more, year_ascii, year_ends, year_found, year_skipped}
 use Rattle.bib_keys.proofs.years.four_digits.Goals as goal
 
 pub range-requires-clause-end_boundary : goal.range-requires-clause-end_boundary
