@@ -12,7 +12,13 @@ use Rattle.bib_select.specs.declared.errors.SelectionErrorKind.TheVariants as ki
 pub error_of_more : {Has More : List ℕ → ℕ → Type 0} (e : SelectionError) → ((source : List ℕ) (at : ℕ) → Has source at → More source at)
     → IsCompileError Has e → IsCompileError More e
 error_of_more OutOfMemory more is = tt
-error_of_more (Malformed (kind.Regex cause) at) more is = record { source = is.source; here = more is.source at is.here; failure = is.failure; no_memory = is.no_memory; no_internal = is.no_internal }
+error_of_more (Malformed (kind.Regex cause) at) more is = record {
+  source = is.source;
+  here = more is.source at is.here;
+  failure = is.failure;
+  no_memory = is.no_memory;
+  no_internal = is.no_internal;
+}
 error_of_more (Malformed kind.UnclosedQuote at) more is = is
 error_of_more (Malformed kind.MissingTest at) more is = is
 error_of_more (Malformed kind.MissingField at) more is = is

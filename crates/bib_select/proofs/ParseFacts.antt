@@ -7,9 +7,9 @@ use Rattle.bib_select.specs.Conditions.{QuestionAsked, SubjectAsked, TermAsked, 
 use Rattle.bib_select.specs.Conditions.TestAsked.{has}
 use Rattle.bib_select.specs.Conditions.SubjectAsked.{the_type, the_key, the_year, the_field}
 use Rattle.bib_select.specs.Conditions.QuestionAsked.{is_type, is_other_type, compares_key, compares_field, compares_year}
-use Rattle.bib_select.specs.Parsed.{IsConditionRead, IsParseError, IsSyntaxError, whole_text}
+use Rattle.bib_select.specs.Parsed.{IsConditionRead, IsParseError, IsErrorOfText, whole_text}
 use Rattle.bib_select.specs.Scanning.{IsReadError}
-use Rattle.bib_select.specs.Segments.{Segment, ◌>>=◌, error_at, first_as, first_token, if_ended, opens_with, segments_of, token_text, try_map, without_first}
+use Rattle.bib_select.specs.Segments.{Segment, and_then, failure_at, first_as, first_token, if_ended, opens_with, segments_of, text_in_token, try_map, without_first}
 use Rattle.bib_select.specs.Tokens.{Placed, AreTokens}
 use Rattle.bib_select.proofs.OneCutFacts.{one_cut}
 use Rattle.bib_select.specs.declared.errors.SelectionError.{SelectionError}
@@ -37,16 +37,18 @@ FailsByTokens (Err (Malformed kind at)) = IsTokenKind kind
 FailsByTokens (Err OutOfMemory) = ⊥
 
 then_fails : {A B : Type 0} (r : Result A SelectionError) (next : A → Result B SelectionError) → FailsByTokens r
-    → ((a : A) → FailsByTokens (next a)) → FailsByTokens (r >>= next)
+    → ((a : A) → FailsByTokens (next a)) → FailsByTokens (and_then r next)
 then_fails (Ok a) next first others = others a
 then_fails (Err (Malformed kind at)) next first others = first
 then_fails (Err OutOfMemory) next first others = first
 
-either_fails : {A : Type 0} (b : Bool) (r s : Result A SelectionError) → FailsByTokens r → FailsByTokens s → FailsByTokens (if b then r else s)
+either_fails : {A : Type 0} (b : Bool) (r s : Result A SelectionError) → FailsByTokens r → FailsByTokens s
+    → FailsByTokens (if b then r else s)
 either_fails true r s first second = first
 either_fails false r s first second = second
 
-option_fails : {A : Type 0} (o : Option A) (kind : SelectionErrorKind) (at : ℕ) → IsTokenKind kind → FailsByTokens (ok_or o (Malformed kind at))
+option_fails : {A : Type 0} (o : Option A) (kind : SelectionErrorKind) (at : ℕ) → IsTokenKind kind
+    → FailsByTokens (ok_or o (Malformed kind at))
 option_fails None kind at is = is
 option_fails (Some a) kind at is = tt
 
@@ -55,7 +57,7 @@ first_fails : {A : Type 0} (reading : Placed → Option A) (kind : SelectionErro
 first_fails reading kind s is = option_fails _ kind _ is
 
 ended_fails : {A : Type 0} (a : A) (s : Segment) → FailsByTokens (if_ended a s)
-ended_fails a s = cases a (first_token s) (error_at MissingJoint s) tt
+ended_fails a s = cases a (first_token s) (failure_at MissingJoint s) tt
   where
     cases : {A : Type 0} (a : A) (o : Option Placed) (e : SelectionError) → FailsByTokens {A = A} (Err e)
         → FailsByTokens (option_map_or (λ placed. Err e) o (Ok a))
@@ -79,18 +81,20 @@ operator_is (the_field name) = tt
 
 answer_fails : (question : QuestionAsked) (s : Segment) → FailsByTokens (answer_test question s)
 answer_fails question s =
-    then_fails _ _ (first_fails (asked_at question) (missing_text question) s (missing_is question)) (λ asked. ended_fails asked (without_first s))
+    then_fails _ _ (first_fails (asked_at question) (missing_text question) s (missing_is question))
+    (λ asked. ended_fails asked (without_first s))
 
 operator_fails : (subject : SubjectAsked) (s : Segment) → FailsByTokens (operator_test subject s)
 operator_fails subject s =
-    then_fails _ _ (first_fails (question_at subject) (missing_operator subject) s (operator_is subject)) (λ question. answer_fails question (without_first s))
+    then_fails _ _ (first_fails (question_at subject) (missing_operator subject) s (operator_is subject))
+    (λ question. answer_fails question (without_first s))
 
 subject_fails : (s : Segment) → FailsByTokens (subject_test s)
 subject_fails s = then_fails _ _ (first_fails subject_at MissingTest s tt) (λ subject. operator_fails subject (without_first s))
 
 has_fails : (s : Segment) → FailsByTokens (has_test s)
 has_fails s =
-    then_fails _ _ (first_fails (λ placed. token_text placed.token) MissingField s tt) (λ name. ended_fails (has name) (without_first s))
+    then_fails _ _ (first_fails (λ placed. text_in_token placed.token) MissingField s tt) (λ name. ended_fails (has name) (without_first s))
 
 test_fails : (s : Segment) → FailsByTokens (test_asked s)
 test_fails s = either_fails (opens_with (codes "has") s) _ _ (has_fails (without_first s)) (subject_fails s)
@@ -101,7 +105,8 @@ term_fails s =
     (then_fails _ _ (test_fails (without_first s)) (λ asked. tt))
     (then_fails _ _ (test_fails s) (λ asked. tt))
 
-each_fails : {A B : Type 0} (f : A → Result B SelectionError) → ((a : A) → FailsByTokens (f a)) → (xs : List A) → FailsByTokens (try_map f xs)
+each_fails : {A B : Type 0} (f : A → Result B SelectionError) → ((a : A) → FailsByTokens (f a)) → (xs : List A)
+    → FailsByTokens (try_map f xs)
 each_fails f fails [] = tt
 each_fails f fails (x ∷ xs) = then_fails _ _ (fails x) (λ b. then_fails _ _ (each_fails f fails xs) (λ bs. tt))
 
@@ -129,7 +134,9 @@ refused_by_tokens text tokens cut (Malformed MissingJoint at) is = record { toke
 pub one_condition : (text : List ℕ) (asked others : Result (List (List TermAsked)) SelectionError) → IsConditionRead text asked
     → IsConditionRead text others → asked ≡ others
 one_condition text asked others first second =
-    sym first.reads ∙ ap (λ tokens. alternatives_asked (whole_text text tokens)) (same_list (Ok first.tokens) refl (one_cut first.cut second.cut)) ∙ second.reads
+    sym first.reads
+    ∙ ap (λ tokens. alternatives_asked (whole_text text tokens)) (same_list (Ok first.tokens) refl (one_cut first.cut second.cut))
+    ∙ second.reads
   where
     same_list : {a b : List Placed} (r : Result (List Placed) ℕ) → r ≡ Ok a → r ≡ Ok b → a ≡ b
     same_list r is other = cc
@@ -139,7 +146,7 @@ not_both is = cc
 
 -- a condition has no error of its text
 pub no_error : (text : List ℕ) (asked : List (List TermAsked)) (e : SelectionError) → IsConditionRead text (Ok asked)
-    → IsParseError text e → IsSyntaxError e → ⊥
+    → IsParseError text e → IsErrorOfText e → ⊥
 no_error text asked OutOfMemory reads refused syntax = syntax
 no_error text asked (Malformed (Regex cause) at) reads refused syntax = syntax
 no_error text asked (Malformed UnclosedQuote at) reads refused syntax = not_both (one_cut reads.cut refused)

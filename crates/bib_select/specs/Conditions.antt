@@ -6,7 +6,7 @@ use Rattle.bib_text.specs.Enums.{value_named}
 use Rattle.bib_values.specs.Numbers.{decimal_of}
 use Rattle.bib_select.specs.Tokens.{Token, Placed}
 use Rattle.bib_select.specs.Tokens.Token.{word, quoted, sign}
-use Rattle.bib_select.specs.Segments.{Segment, ◌>>=◌, first_as, if_ended, is_keyword, opens_with, segments_of, token_text, try_map, without_first}
+use Rattle.bib_select.specs.Segments.{Segment, and_then, first_as, if_ended, is_keyword, opens_with, segments_of, text_in_token, try_map, without_first}
 use Rattle.bib_select.specs.declared.errors.SelectionError.{SelectionError}
 use Rattle.bib_select.specs.declared.errors.SelectionErrorKind.{SelectionErrorKind}
 use Rattle.bib_select.specs.declared.errors.SelectionErrorKind.TheVariants.{MissingTest, MissingField, MissingOperator, MissingTypeOperator, MissingYearOperator, MissingText, MissingYear}
@@ -56,7 +56,7 @@ subject_at placed =
     if is_keyword (codes "type") placed.token then Some the_type
     else if is_keyword (codes "key") placed.token then Some the_key
     else if is_keyword (codes "year") placed.token then Some the_year
-    else option_map the_field (token_text placed.token)
+    else option_map the_field (text_in_token placed.token)
 
 -- the signs of comparisons
 abbrev pub comparison_signs : List (List ℕ × Comparison)
@@ -110,7 +110,7 @@ answered_with (compares_year comparison) at text = option_map (year comparison) 
 
 -- the test that a question and the text of a token are
 abbrev pub asked_at : QuestionAsked → Placed → Option TestAsked
-asked_at question placed = option_and_then (answered_with question placed.at) (token_text placed.token)
+asked_at question placed = option_and_then (answered_with question placed.at) (text_in_token placed.token)
 
 -- what is missing after a question without a text that answers it
 abbrev pub missing_text : QuestionAsked → SelectionErrorKind
@@ -119,15 +119,13 @@ missing_text other = MissingText
 
 -- the test after `has`: the name of a field
 abbrev pub has_test : Segment → Result TestAsked SelectionError
-has_test s = do
-  name ← first_as (λ placed. token_text placed.token) MissingField s
-  if_ended (has name) (without_first s)
+has_test s =
+    and_then (first_as (λ placed. text_in_token placed.token) MissingField s) (λ name. if_ended (has name) (without_first s))
 
 -- the test that a question and the text after it are
 abbrev pub answer_test : QuestionAsked → Segment → Result TestAsked SelectionError
-answer_test question s = do
-  asked ← first_as (asked_at question) (missing_text question) s
-  if_ended asked (without_first s)
+answer_test question s =
+    and_then (first_as (asked_at question) (missing_text question) s) (λ asked. if_ended asked (without_first s))
 
 -- what is missing after a subject without an operator for it
 abbrev pub missing_operator : SubjectAsked → SelectionErrorKind
@@ -137,15 +135,12 @@ missing_operator other = MissingOperator
 
 -- the test that a subject and the operator and the text after it are
 abbrev pub operator_test : SubjectAsked → Segment → Result TestAsked SelectionError
-operator_test subject s = do
-  question ← first_as (question_at subject) (missing_operator subject) s
-  answer_test question (without_first s)
+operator_test subject s =
+    and_then (first_as (question_at subject) (missing_operator subject) s) (λ question. answer_test question (without_first s))
 
 -- the test that a subject, an operator and a text are
 abbrev pub subject_test : Segment → Result TestAsked SelectionError
-subject_test s = do
-  subject ← first_as subject_at MissingTest s
-  operator_test subject (without_first s)
+subject_test s = and_then (first_as subject_at MissingTest s) (λ subject. operator_test subject (without_first s))
 
 -- the test that all tokens of a segment are
 abbrev pub test_asked : Segment → Result TestAsked SelectionError
@@ -153,9 +148,7 @@ test_asked s = if opens_with (codes "has") s then has_test (without_first s) els
 
 -- the term of a test
 abbrev pub term_with : Bool → Result TestAsked SelectionError → Result TermAsked SelectionError
-term_with negated test = do
-  asked ← test
-  Ok (record { negated = negated; asked = asked })
+term_with negated test = and_then test (λ asked. Ok (record { negated = negated; asked = asked }))
 
 -- the term that all tokens of a segment are: a test, or `not` and a test
 abbrev pub term_asked : Segment → Result TermAsked SelectionError

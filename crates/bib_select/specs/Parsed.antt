@@ -43,7 +43,7 @@ IsParseError text (Malformed (Regex cause) at) = IsExpressionRefused text (Malfo
 IsParseError text (Malformed other at) = IsConditionRead text (Err (Malformed other at))
 
 -- an error of the text, and not of a regular expression or of memory
-abbrev pub IsSyntaxError : SelectionError → Type 0
-IsSyntaxError OutOfMemory = ⊥
-IsSyntaxError (Malformed (Regex cause) at) = ⊥
-IsSyntaxError (Malformed other at) = ⊤
+abbrev pub IsErrorOfText : SelectionError → Type 0
+IsErrorOfText OutOfMemory = ⊥
+IsErrorOfText (Malformed (Regex cause) at) = ⊥
+IsErrorOfText (Malformed other at) = ⊤

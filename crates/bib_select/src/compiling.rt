@@ -1,8 +1,10 @@
 //! Compiles a condition: its regular expressions, the names of entry types, and the names of fields in lower case.
 
-ghost use Rattle.std.specs.Prelude.{◌≡◌, map, IfOk, IfErr};
+ghost use Rattle.std.specs.Prelude.{◌≡◌, ◌≢◌, ℕ, List, map, IfOk, IfErr};
 ghost use Rattle.std.specs.List.{AllZip};
 ghost use Rattle.std.specs.Str.{str_to_ascii_lowercase};
+ghost use Rattle.regex.specs.Strings.{IsDefaultFailure};
+ghost use Rattle.regex.specs.declared.error.Error.TheVariants as regex_error;
 ghost use Rattle.bib_select.specs.Compiled.{HasAnyExpression, HasExpression, HasTermExpression, HasText, HasTextExpression, IsCompileError, IsCompiledFrom, IsTermOf, IsTestOf, IsTextTestOf};
 ghost use Rattle.bib_select.specs.Views.{asked_of, asked_term_of, asked_terms_of, text_asked_of};
 
@@ -15,6 +17,20 @@ use bib_text::text::Text;
 use regex::Regex;
 use std::alloc::{AllocError, Global};
 
+// Returns the error for a regular expression at a byte offset.
+fn expression_error(cause: regex::Error, at: usize) -> SelectionError
+    requires { cause ≢ regex_error.Internal }
+    ensures { (source : List ℕ) → IsDefaultFailure source cause → IsCompileError (HasText source at) result }
+{
+    match cause {
+        regex::Error::OutOfMemory => SelectionError::OutOfMemory,
+        _ => SelectionError::Malformed {
+            kind: SelectionErrorKind::Regex(cause),
+            at,
+        },
+    }
+}
+
 // Compiles a regular expression at a byte offset.
 fn expression(alloc: Global, source: &str, at: usize) -> Result<Regex, SelectionError>
     ensures found { IfOk result (IsCompiledFrom source.now) }
@@ -22,11 +38,7 @@ fn expression(alloc: Global, source: &str, at: usize) -> Result<Regex, Selection
 {
     match Regex::new(alloc, source) {
         Ok(regex) => Ok(regex),
-        Err(regex::Error::OutOfMemory) => Err(SelectionError::OutOfMemory),
-        Err(cause) => Err(SelectionError::Malformed {
-            kind: SelectionErrorKind::Regex(cause),
-            at,
-        }),
+        Err(cause) => Err(expression_error(cause, at)),
     }
 }
 

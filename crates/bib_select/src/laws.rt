@@ -3,7 +3,7 @@
 ghost use Rattle.std.specs.Prelude.{◌≡◌, ℕ, List, Result, Ok};
 ghost use Rattle.bib_text.specs.Places.{Place};
 ghost use Rattle.bib_select.specs.Conditions.{TermAsked};
-ghost use Rattle.bib_select.specs.Parsed.{IsConditionRead, IsParseError, IsSyntaxError};
+ghost use Rattle.bib_select.specs.Parsed.{IsConditionRead, IsParseError, IsErrorOfText};
 ghost use Rattle.bib_select.specs.Tokens.{Placed, AreTokens};
 ghost use Rattle.bib_select.specs.declared.errors.SelectionError.{SelectionError};
 
@@ -15,5 +15,5 @@ pub fn a_text_is_one_condition()
     ensures condition { (text : List ℕ) (asked others : Result (List (List TermAsked)) SelectionError) →
         IsConditionRead text asked → IsConditionRead text others → asked ≡ others }
     ensures no_error { (text : List ℕ) (asked : List (List TermAsked)) (error : SelectionError) →
-        IsConditionRead text (Ok asked) → IsParseError text error → IsSyntaxError error → ⊥ }
+        IsConditionRead text (Ok asked) → IsParseError text error → IsErrorOfText error → ⊥ }
 {}

@@ -10,7 +10,8 @@ returns-in_err-test-clause-refused c =
     let p = err_from_is_err_and c.from_residual.result c.from_residual.ensures.1 in
     rw (p.1, p.2)
     (error_of_more _
-    (λ source at has. some_at (λ term. HasExpression term.asked source at) asked_term_of c.args.asked.now c.terms.term-index _ c.terms-test.true has)
+    (λ source at has.
+    some_at (λ term. HasExpression term.asked source at) asked_term_of c.args.asked.now c.terms.term-index _ c.terms-test.true has)
     c.in_err-test.ensures.refused)
 
 pub terms-preserved : goal.terms-preserved

@@ -15,4 +15,5 @@ returns-in_err-terms-clause-refused c =
 pub segments-preserved : goal.segments-preserved
 segments-preserved c =
     let so = left_is (ap (segments_left (codes "or")) c.in-Some.is ∙ c.cut.ensures.cut) c.segments.invariant in
-    rw (c.in_ok-push.ensures.items, map-append asked_terms_of _ _) (read_more (asked_terms_of c.in_ok-terms.field-0) so c.in_ok-terms.ensures.found)
+    rw (c.in_ok-push.ensures.items, map-append asked_terms_of _ _)
+    (read_more (asked_terms_of c.in_ok-terms.field-0) so c.in_ok-terms.ensures.found)

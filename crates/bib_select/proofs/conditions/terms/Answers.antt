@@ -15,4 +15,5 @@ returns-in_err-term-clause-refused c =
 pub segments-preserved : goal.segments-preserved
 segments-preserved c =
     let so = left_is (ap (segments_left (codes "and")) c.in-Some.is ∙ c.cut.ensures.cut) c.segments.invariant in
-    rw (c.in_ok-push.ensures.items, map-append asked_term_of _ _) (read_more (asked_term_of c.in_ok-term.field-0) so (sym c.in_ok-term.ensures))
+    rw (c.in_ok-push.ensures.items, map-append asked_term_of _ _)
+    (read_more (asked_term_of c.in_ok-term.field-0) so (sym c.in_ok-term.ensures))
