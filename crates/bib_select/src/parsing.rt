@@ -21,8 +21,8 @@ impl Selection {
             tokens: &tokens,
             end: text.len(),
         };
-        let asked = conditions::alternatives(alloc, whole)?;
-        let alternatives = compiling::alternatives(alloc, &asked)?;
+        let raw = conditions::alternatives(alloc, whole)?;
+        let alternatives = compiling::alternatives(alloc, &raw)?;
         Ok(Selection { alternatives })
     }
 }
