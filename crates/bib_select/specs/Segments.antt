@@ -69,15 +69,15 @@ opens_with keyword s = option_map_or (λ placed. is_keyword keyword placed.token
 abbrev pub failure_at : SelectionErrorKind → Segment → SelectionError
 failure_at kind s = Malformed kind (option_map_or (λ placed. placed.at) (first_token s) s.end)
 
--- the first token as `reading` reads it, or an error of this kind if it doesn't
+-- the value that `reading` gives for the first token, or an error of this kind if it gives none
 abbrev pub first_as : {A : Type 0} → (Placed → Option A) → SelectionErrorKind → Segment → Result A SelectionError
 first_as reading kind s = ok_or (option_and_then reading (first_token s)) (failure_at kind s)
 
--- a value, if a segment has no token; or an error at its first one
+-- the value, if a segment has no token, or an error at its first token
 abbrev pub if_ended : {A : Type 0} → A → Segment → Result A SelectionError
 if_ended a s = option_map_or (λ placed. Err (failure_at MissingJoint s)) (first_token s) (Ok a)
 
--- the next step of parsing, which takes the value of the first one; an error of the first one is kept
+-- the next step of parsing, which takes the value of the first step; an error of the first step is the result
 abbrev pub and_then : {A B : Type 0} → Result A SelectionError → (A → Result B SelectionError) → Result B SelectionError
 and_then (Ok a) next = next a
 and_then (Err e) next = Err e

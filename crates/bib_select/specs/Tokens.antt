@@ -1,5 +1,5 @@
 -- Meaning: words of public contracts.
--- The tokens of a condition: words, texts between quotes, and signs, with white space between them where they need it.
+-- The tokens of a condition: words, texts between quotes, and signs. White space only separates them.
 use Rattle.std.specs.Prelude.{◌≡◌, ℕ, Bool, true, not, ◌&&◌, ◌||◌, ◌==◌, List, [], ◌∷◌, ◌++◌, Result, Ok, Err}
 use Rattle.std.specs.Char.{is_whitespace}
 use Rattle.bib_text.specs.Places.{Place, CharAt, Longest, AtEnd, between}

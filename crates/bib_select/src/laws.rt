@@ -7,8 +7,8 @@ ghost use Rattle.bib_select.specs.Parsed.{IsConditionRead, IsParseError, IsError
 ghost use Rattle.bib_select.specs.Tokens.{Placed, AreTokens};
 ghost use Rattle.bib_select.specs.declared.errors.SelectionError.{SelectionError};
 
-/// A text has one list of tokens or one quote that isn't closed, is one condition at most, and no condition has an error except that
-/// of one of its regular expressions.
+/// A text has one list of tokens, or one first quote that isn't closed. It is at most one condition. A condition has no error except
+/// those of its regular expressions.
 pub fn a_text_is_one_condition()
     ensures tokens { (place : Place) (tokens others : Result (List Placed) ℕ) → AreTokens place tokens →
         AreTokens place others → tokens ≡ others }
