@@ -1,9 +1,9 @@
--- Compiling a condition: the tests so far are those that are asked, and an error is that of one of the regular expressions.
+-- Compiling a condition: the tests so far are those of the text, and an error is that of one of the regular expressions.
 use Rattle.std.proofs.Common.{◌≡◌, ◌<◌, ◌+◌, ℕ, List, [], ◌∷◌, ◌++◌, length, take, get_or, map, refl, sym, ap, subst, ◌∙◌, arith}
 use Rattle.std.specs.List.{Any, AllZip}
 use Rattle.std.proofs.lemmas.List.{map_more, length-map, get_or-map}
 use Rattle.bib_select.specs.Compiled.{HasText, HasTextExpression, IsCompileError, IsExpressionError}
-use Rattle.bib_select.specs.Conditions.{TextAsked}
+use Rattle.bib_select.specs.Conditions.{TextReading}
 use Rattle.bib_select.specs.declared.errors.SelectionError.{SelectionError}
 use Rattle.bib_select.specs.declared.errors.SelectionError.TheVariants.{Malformed, OutOfMemory}
 use Rattle.bib_select.specs.declared.errors.SelectionErrorKind.TheVariants as kind
@@ -12,7 +12,13 @@ use Rattle.bib_select.specs.declared.errors.SelectionErrorKind.TheVariants as ki
 pub error_of_more : {Has More : List ℕ → ℕ → Type 0} (e : SelectionError) → ((source : List ℕ) (at : ℕ) → Has source at → More source at)
     → IsCompileError Has e → IsCompileError More e
 error_of_more OutOfMemory more is = tt
-error_of_more (Malformed (kind.Regex cause) at) more is = record { source = is.source; here = more is.source at is.here; failure = is.failure; no_memory = is.no_memory; no_internal = is.no_internal }
+error_of_more (Malformed (kind.Regex cause) at) more is = record {
+  source = is.source;
+  here = more is.source at is.here;
+  failure = is.failure;
+  no_memory = is.no_memory;
+  no_internal = is.no_internal;
+}
 error_of_more (Malformed kind.UnclosedQuote at) more is = is
 error_of_more (Malformed kind.MissingTest at) more is = is
 error_of_more (Malformed kind.MissingField at) more is = is

@@ -80,7 +80,8 @@ one_token (a_sign char is run) (a_sign char' is' run') = run_same sign run run'
 one_token (a_sign char is run) (a_quoted_text char' is' inside closing) = absurd (clash sign_no_quote char is char' is')
 one_token (a_quoted_text char is inside closing) (a_word char' is' run') = absurd (clash word_no_quote char' is' char is)
 one_token (a_quoted_text char is inside closing) (a_sign char' is' run') = absurd (clash sign_no_quote char' is' char is)
-one_token (a_quoted_text char is inside closing) (a_quoted_text char' is' inside' closing') = quotes_same char inside closing char' inside' closing'
+one_token (a_quoted_text char is inside closing) (a_quoted_text char' is' inside' closing') =
+    quotes_same char inside closing char' inside' closing'
 
 -- a quote that isn't closed is no token
 no_token : {u v : Place} {t : Token} → IsUnclosed u → IsToken u t v → ⊥
@@ -113,7 +114,8 @@ one_cut (tokens.none white end) (tokens.next white' token rest) =
     absurd (token_no_end (after_white AtEnd white' white end) token)
 one_cut (tokens.none white end) (tokens.unclosed white' quote) = absurd (quote_no_end (after_white AtEnd white' white end) quote)
 one_cut (tokens.next white token rest) (tokens.none white' end) = absurd (token_no_end (after_white AtEnd white white' end) token)
-one_cut (tokens.next {v = v} {w = w} {t = t} {rest = r} white token rest) (tokens.next {v = v'} {w = w'} {t = t'} {rest = r'} white' token' rest') =
+one_cut (tokens.next {v = v} {w = w} {t = t} {rest = r} white token rest)
+    (tokens.next {v = v'} {w = w'} {t = t'} {rest = r'} white' token' rest') =
     let here : v ≡ v' = longest_same white white' in
     let same : (t ≡ t') × (w ≡ w') = one_token token (subst (λ p. IsToken p t' w') (sym here) token') in
     let more : r ≡ r' = one_cut rest (subst (λ p. AreTokens p r') (sym same.1) rest') in

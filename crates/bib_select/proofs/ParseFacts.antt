@@ -3,13 +3,13 @@ use Rattle.std.proofs.Common.{◌≡◌, ℕ, Bool, true, false, List, [], ◌�
 use Rattle.std.specs.Prelude.{Result, Ok, Err, codes, if◌then◌else◌}
 use Rattle.std.specs.Option.{ok_or, option_map_or}
 use Rattle.bib_text.specs.Places.{place}
-use Rattle.bib_select.specs.Conditions.{QuestionAsked, SubjectAsked, TermAsked, TestAsked, alternatives_asked, answer_test, has_test, missing_operator, missing_text, operator_test, subject_test, term_asked, term_with, terms_asked, test_asked, asked_at, question_at, subject_at}
-use Rattle.bib_select.specs.Conditions.TestAsked.{has}
-use Rattle.bib_select.specs.Conditions.SubjectAsked.{the_type, the_key, the_year, the_field}
-use Rattle.bib_select.specs.Conditions.QuestionAsked.{is_type, is_other_type, compares_key, compares_field, compares_year}
-use Rattle.bib_select.specs.Parsed.{IsConditionRead, IsParseError, IsSyntaxError, whole_text}
+use Rattle.bib_select.specs.Conditions.{QuestionReading, SubjectReading, TermReading, TestReading, alternatives_reading, answer_test, has_test, missing_operator, missing_text, operator_test, subject_test, term_reading, term_with, terms_reading, test_reading, reading_at, question_at, subject_at}
+use Rattle.bib_select.specs.Conditions.TestReading.{has}
+use Rattle.bib_select.specs.Conditions.SubjectReading.{the_type, the_key, the_year, the_field}
+use Rattle.bib_select.specs.Conditions.QuestionReading.{is_type, is_other_type, compares_key, compares_field, compares_year}
+use Rattle.bib_select.specs.Parsed.{IsConditionRead, IsParseError, IsErrorOfText, whole_text}
 use Rattle.bib_select.specs.Scanning.{IsReadError}
-use Rattle.bib_select.specs.Segments.{Segment, ◌>>=◌, error_at, first_as, first_token, if_ended, opens_with, segments_of, token_text, try_map, without_first}
+use Rattle.bib_select.specs.Segments.{Segment, and_then, failure_at, first_as, first_token, if_ended, opens_with, segments_of, text_in_token, try_map, without_first}
 use Rattle.bib_select.specs.Tokens.{Placed, AreTokens}
 use Rattle.bib_select.proofs.OneCutFacts.{one_cut}
 use Rattle.bib_select.specs.declared.errors.SelectionError.{SelectionError}
@@ -37,16 +37,18 @@ FailsByTokens (Err (Malformed kind at)) = IsTokenKind kind
 FailsByTokens (Err OutOfMemory) = ⊥
 
 then_fails : {A B : Type 0} (r : Result A SelectionError) (next : A → Result B SelectionError) → FailsByTokens r
-    → ((a : A) → FailsByTokens (next a)) → FailsByTokens (r >>= next)
+    → ((a : A) → FailsByTokens (next a)) → FailsByTokens (and_then r next)
 then_fails (Ok a) next first others = others a
 then_fails (Err (Malformed kind at)) next first others = first
 then_fails (Err OutOfMemory) next first others = first
 
-either_fails : {A : Type 0} (b : Bool) (r s : Result A SelectionError) → FailsByTokens r → FailsByTokens s → FailsByTokens (if b then r else s)
+either_fails : {A : Type 0} (b : Bool) (r s : Result A SelectionError) → FailsByTokens r → FailsByTokens s
+    → FailsByTokens (if b then r else s)
 either_fails true r s first second = first
 either_fails false r s first second = second
 
-option_fails : {A : Type 0} (o : Option A) (kind : SelectionErrorKind) (at : ℕ) → IsTokenKind kind → FailsByTokens (ok_or o (Malformed kind at))
+option_fails : {A : Type 0} (o : Option A) (kind : SelectionErrorKind) (at : ℕ) → IsTokenKind kind
+    → FailsByTokens (ok_or o (Malformed kind at))
 option_fails None kind at is = is
 option_fails (Some a) kind at is = tt
 
@@ -55,21 +57,21 @@ first_fails : {A : Type 0} (reading : Placed → Option A) (kind : SelectionErro
 first_fails reading kind s is = option_fails _ kind _ is
 
 ended_fails : {A : Type 0} (a : A) (s : Segment) → FailsByTokens (if_ended a s)
-ended_fails a s = cases a (first_token s) (error_at MissingJoint s) tt
+ended_fails a s = cases a (first_token s) (failure_at MissingJoint s) tt
   where
     cases : {A : Type 0} (a : A) (o : Option Placed) (e : SelectionError) → FailsByTokens {A = A} (Err e)
         → FailsByTokens (option_map_or (λ placed. Err e) o (Ok a))
     cases a None e is = tt
     cases a (Some placed) e is = is
 
-missing_is : (question : QuestionAsked) → IsTokenKind (missing_text question)
+missing_is : (question : QuestionReading) → IsTokenKind (missing_text question)
 missing_is is_type = tt
 missing_is is_other_type = tt
 missing_is (compares_key operator) = tt
 missing_is (compares_field name operator) = tt
 missing_is (compares_year comparison) = tt
 
-operator_is : (subject : SubjectAsked) → IsTokenKind (missing_operator subject)
+operator_is : (subject : SubjectReading) → IsTokenKind (missing_operator subject)
 operator_is the_type = tt
 operator_is the_key = tt
 operator_is the_year = tt
@@ -77,40 +79,43 @@ operator_is (the_field name) = tt
 
 -- ---- parsing fails by tokens
 
-answer_fails : (question : QuestionAsked) (s : Segment) → FailsByTokens (answer_test question s)
+answer_fails : (question : QuestionReading) (s : Segment) → FailsByTokens (answer_test question s)
 answer_fails question s =
-    then_fails _ _ (first_fails (asked_at question) (missing_text question) s (missing_is question)) (λ asked. ended_fails asked (without_first s))
+    then_fails _ _ (first_fails (reading_at question) (missing_text question) s (missing_is question))
+    (λ test. ended_fails test (without_first s))
 
-operator_fails : (subject : SubjectAsked) (s : Segment) → FailsByTokens (operator_test subject s)
+operator_fails : (subject : SubjectReading) (s : Segment) → FailsByTokens (operator_test subject s)
 operator_fails subject s =
-    then_fails _ _ (first_fails (question_at subject) (missing_operator subject) s (operator_is subject)) (λ question. answer_fails question (without_first s))
+    then_fails _ _ (first_fails (question_at subject) (missing_operator subject) s (operator_is subject))
+    (λ question. answer_fails question (without_first s))
 
 subject_fails : (s : Segment) → FailsByTokens (subject_test s)
 subject_fails s = then_fails _ _ (first_fails subject_at MissingTest s tt) (λ subject. operator_fails subject (without_first s))
 
 has_fails : (s : Segment) → FailsByTokens (has_test s)
 has_fails s =
-    then_fails _ _ (first_fails (λ placed. token_text placed.token) MissingField s tt) (λ name. ended_fails (has name) (without_first s))
+    then_fails _ _ (first_fails (λ placed. text_in_token placed.token) MissingField s tt) (λ name. ended_fails (has name) (without_first s))
 
-test_fails : (s : Segment) → FailsByTokens (test_asked s)
+test_fails : (s : Segment) → FailsByTokens (test_reading s)
 test_fails s = either_fails (opens_with (codes "has") s) _ _ (has_fails (without_first s)) (subject_fails s)
 
-term_fails : (s : Segment) → FailsByTokens (term_asked s)
+term_fails : (s : Segment) → FailsByTokens (term_reading s)
 term_fails s =
-    either_fails (opens_with (codes "not") s) (term_with true (test_asked (without_first s))) (term_with false (test_asked s))
-    (then_fails _ _ (test_fails (without_first s)) (λ asked. tt))
-    (then_fails _ _ (test_fails s) (λ asked. tt))
+    either_fails (opens_with (codes "not") s) (term_with true (test_reading (without_first s))) (term_with false (test_reading s))
+    (then_fails _ _ (test_fails (without_first s)) (λ test. tt))
+    (then_fails _ _ (test_fails s) (λ test. tt))
 
-each_fails : {A B : Type 0} (f : A → Result B SelectionError) → ((a : A) → FailsByTokens (f a)) → (xs : List A) → FailsByTokens (try_map f xs)
+each_fails : {A B : Type 0} (f : A → Result B SelectionError) → ((a : A) → FailsByTokens (f a)) → (xs : List A)
+    → FailsByTokens (try_map f xs)
 each_fails f fails [] = tt
 each_fails f fails (x ∷ xs) = then_fails _ _ (fails x) (λ b. then_fails _ _ (each_fails f fails xs) (λ bs. tt))
 
-all_fails : (s : Segment) → FailsByTokens (alternatives_asked s)
-all_fails s = each_fails terms_asked (λ t. each_fails term_asked term_fails (segments_of (codes "and") t)) (segments_of (codes "or") s)
+all_fails : (s : Segment) → FailsByTokens (alternatives_reading s)
+all_fails s = each_fails terms_reading (λ t. each_fails term_reading term_fails (segments_of (codes "and") t)) (segments_of (codes "or") s)
 
 -- an error of the tokens of a text is one of parsing the text
 pub refused_by_tokens : (text : List ℕ) (tokens : List Placed) → AreTokens (place text 0) (Ok tokens) → (e : SelectionError)
-    → IsReadError (alternatives_asked (whole_text text tokens)) e → IsParseError text e
+    → IsReadError (alternatives_reading (whole_text text tokens)) e → IsParseError text e
 refused_by_tokens text tokens cut OutOfMemory is = tt
 refused_by_tokens text tokens cut (Malformed UnclosedQuote at) is = absurd (subst FailsByTokens is (all_fails (whole_text text tokens)))
 refused_by_tokens text tokens cut (Malformed (Regex cause) at) is = absurd (subst FailsByTokens is (all_fails (whole_text text tokens)))
@@ -126,10 +131,12 @@ refused_by_tokens text tokens cut (Malformed MissingJoint at) is = record { toke
 -- ---- a text is one condition
 
 -- the tokens of a text are the same wherever they are read
-pub one_condition : (text : List ℕ) (asked others : Result (List (List TermAsked)) SelectionError) → IsConditionRead text asked
-    → IsConditionRead text others → asked ≡ others
-one_condition text asked others first second =
-    sym first.reads ∙ ap (λ tokens. alternatives_asked (whole_text text tokens)) (same_list (Ok first.tokens) refl (one_cut first.cut second.cut)) ∙ second.reads
+pub one_condition : (text : List ℕ) (condition others : Result (List (List TermReading)) SelectionError) → IsConditionRead text condition
+    → IsConditionRead text others → condition ≡ others
+one_condition text condition others first second =
+    sym first.reads
+    ∙ ap (λ tokens. alternatives_reading (whole_text text tokens)) (same_list (Ok first.tokens) refl (one_cut first.cut second.cut))
+    ∙ second.reads
   where
     same_list : {a b : List Placed} (r : Result (List Placed) ℕ) → r ≡ Ok a → r ≡ Ok b → a ≡ b
     same_list r is other = cc
@@ -138,16 +145,16 @@ not_both : {A E : Type 0} {a : A} {e : E} → Ok a ≡ Err e → ⊥
 not_both is = cc
 
 -- a condition has no error of its text
-pub no_error : (text : List ℕ) (asked : List (List TermAsked)) (e : SelectionError) → IsConditionRead text (Ok asked)
-    → IsParseError text e → IsSyntaxError e → ⊥
-no_error text asked OutOfMemory reads refused syntax = syntax
-no_error text asked (Malformed (Regex cause) at) reads refused syntax = syntax
-no_error text asked (Malformed UnclosedQuote at) reads refused syntax = not_both (one_cut reads.cut refused)
-no_error text asked (Malformed MissingTest at) reads refused syntax = not_both (one_condition text _ _ reads refused)
-no_error text asked (Malformed MissingField at) reads refused syntax = not_both (one_condition text _ _ reads refused)
-no_error text asked (Malformed MissingOperator at) reads refused syntax = not_both (one_condition text _ _ reads refused)
-no_error text asked (Malformed MissingTypeOperator at) reads refused syntax = not_both (one_condition text _ _ reads refused)
-no_error text asked (Malformed MissingYearOperator at) reads refused syntax = not_both (one_condition text _ _ reads refused)
-no_error text asked (Malformed MissingText at) reads refused syntax = not_both (one_condition text _ _ reads refused)
-no_error text asked (Malformed MissingYear at) reads refused syntax = not_both (one_condition text _ _ reads refused)
-no_error text asked (Malformed MissingJoint at) reads refused syntax = not_both (one_condition text _ _ reads refused)
+pub no_error : (text : List ℕ) (condition : List (List TermReading)) (e : SelectionError) → IsConditionRead text (Ok condition)
+    → IsParseError text e → IsErrorOfText e → ⊥
+no_error text condition OutOfMemory reads refused syntax = syntax
+no_error text condition (Malformed (Regex cause) at) reads refused syntax = syntax
+no_error text condition (Malformed UnclosedQuote at) reads refused syntax = not_both (one_cut reads.cut refused)
+no_error text condition (Malformed MissingTest at) reads refused syntax = not_both (one_condition text _ _ reads refused)
+no_error text condition (Malformed MissingField at) reads refused syntax = not_both (one_condition text _ _ reads refused)
+no_error text condition (Malformed MissingOperator at) reads refused syntax = not_both (one_condition text _ _ reads refused)
+no_error text condition (Malformed MissingTypeOperator at) reads refused syntax = not_both (one_condition text _ _ reads refused)
+no_error text condition (Malformed MissingYearOperator at) reads refused syntax = not_both (one_condition text _ _ reads refused)
+no_error text condition (Malformed MissingText at) reads refused syntax = not_both (one_condition text _ _ reads refused)
+no_error text condition (Malformed MissingYear at) reads refused syntax = not_both (one_condition text _ _ reads refused)
+no_error text condition (Malformed MissingJoint at) reads refused syntax = not_both (one_condition text _ _ reads refused)

@@ -5,13 +5,18 @@ use Rattle.std.proofs.lemmas.Bool.{cond-true, cond-false}
 use Rattle.std.proofs.lemmas.List.{map-append, append-nil, take_more, take_all, drop_all}
 use Rattle.std.proofs.Math.Seq.{drop-cons}
 use Rattle.bib_select.specs.Tokens.{Placed}
-use Rattle.bib_select.specs.Segments.{Segment, ◌>>=◌, is_keyword, segments_between, try_map, with_token}
+use Rattle.bib_select.specs.Segments.{Segment, and_then, is_keyword, segments_between, try_map, with_token}
 use Rattle.bib_select.specs.Scanning.{IsReadError}
 use Rattle.bib_select.specs.Views.{placed_of, token_of}
 use Rattle.bib_select.specs.declared.errors.SelectionError.{SelectionError}
 use Rattle.bib_select.specs.declared.errors.SelectionError.TheVariants.{Malformed, OutOfMemory}
 use Rattle.bib_select.specs.declared.segments.Segment as segments
 use Rattle.bib_select.specs.declared.tokens.Placed as declared
+
+-- the next step, as an operator
+infixl 10 ◌>>=◌
+abbrev pub ◌>>=◌ : {A B : Type 0} → Result A SelectionError → (A → Result B SelectionError) → Result B SelectionError
+r >>= next = and_then r next
 
 -- ---- cutting at a word
 
@@ -76,8 +81,11 @@ cut_here joint end tokens index d so within here =
     ∙ ap (λ l. with_tokens (map placed_of (take index tokens)) (segments_between joint end (map placed_of l)))
     (left_at tokens index d within)
     ∙ ap (with_tokens (map placed_of (take index tokens))) (cond-true _ _ _ here)
-    ∙ before_none (map placed_of (take index tokens)) (get_or tokens index d).at (segments_between joint end (map placed_of (drop (index + 1) tokens)))
-    ∙ ap (λ l. record { tokens = map placed_of (take index tokens); end = (get_or tokens index d).at } ∷ segments_between joint end (map placed_of l))
+    ∙ before_none (map placed_of (take index tokens)) (get_or tokens index d).at
+    (segments_between joint end (map placed_of (drop (index + 1) tokens)))
+    ∙ ap
+    (λ l. record { tokens = map placed_of (take index tokens); end = (get_or tokens index d).at }
+    ∷ segments_between joint end (map placed_of l))
     (sym (to_end tokens (index + 1)))
 
 -- without such a word, there is one segment
@@ -138,7 +146,8 @@ pub read_end : {A B : Type 0} {f : A → Result B SelectionError} {whole : List 
 read_end {f = f} so = ap (try_map f) (so.split ∙ append-nil so.done) ∙ so.read
 
 -- the first error is the result
-pub read_failed : {A B : Type 0} {f : A → Result B SelectionError} {whole : List A} {values : List B} {x : A} {rest : List A} (e : SelectionError)
+pub read_failed : {A B : Type 0} {f : A → Result B SelectionError} {whole : List A} {values : List B} {x : A} {rest : List A}
+    (e : SelectionError)
     → ReadSoFar f whole values (x ∷ rest) → f x ≡ Err e → try_map f whole ≡ Err e
 read_failed {f = f} {values = values} {x = x} {rest = rest} e so is =
     ap (try_map f) so.split
@@ -152,7 +161,8 @@ refused_with OutOfMemory is = tt
 refused_with (Malformed kind at) is = is
 
 -- the error of the first segment that fails is that of all
-pub read_refused : {A B : Type 0} {f : A → Result B SelectionError} {whole : List A} {values : List B} {x : A} {rest : List A} (e : SelectionError)
+pub read_refused : {A B : Type 0} {f : A → Result B SelectionError} {whole : List A} {values : List B} {x : A} {rest : List A}
+    (e : SelectionError)
     → ReadSoFar f whole values (x ∷ rest) → IsReadError (f x) e → IsReadError (try_map f whole) e
 read_refused OutOfMemory so refused = tt
 read_refused (Malformed kind at) so refused = read_failed (Malformed kind at) so refused

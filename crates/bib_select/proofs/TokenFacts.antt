@@ -14,7 +14,8 @@ use Rattle.bib_select.specs.Scanning.{IsNextToken, IsTokenError, IsTokensError}
 use Rattle.bib_select.specs.declared.errors.SelectionError.{SelectionError}
 
 -- a scanner that takes the character at its place is after this character
-pub moved_past : {u v w : Place} {q : ℕ} (eaten : Option ℕ) → CharAt u q w → MatchOption eaten (AtEnd u × (v ≡ u)) (λ c. CharAt u c v) → CharAt u q v
+pub moved_past : {u v w : Place} {q : ℕ} (eaten : Option ℕ) → CharAt u q w
+    → MatchOption eaten (AtEnd u × (v ≡ u)) (λ c. CharAt u c v) → CharAt u q v
 moved_past None here ended = absurd (no_char_at_end ended.0 here)
 moved_past {u} {v} (Some c) here char = subst (λ x. CharAt u x v) (same_char char here).0 char
 
@@ -57,8 +58,10 @@ in_word c = all_false (is_whitespace c) (is_sign_character c) (is_quote c)
 
 -- the text after a token is shorter than the text at the white space before it
 pub token_smaller : {u v w : Place} {t : Token} → Longest is_whitespace u v → IsToken v t w → length w.text - w.at < length u.text - u.at
-token_smaller white (a_word char passes longest) = left_smaller (ahead_run white.run) char (ahead_run (run_rest longest.run longest.stops char passes))
-token_smaller white (a_sign char passes longest) = left_smaller (ahead_run white.run) char (ahead_run (run_rest longest.run longest.stops char passes))
+token_smaller white (a_word char passes longest) =
+    left_smaller (ahead_run white.run) char (ahead_run (run_rest longest.run longest.stops char passes))
+token_smaller white (a_sign char passes longest) =
+    left_smaller (ahead_run white.run) char (ahead_run (run_rest longest.run longest.stops char passes))
 token_smaller white (a_quoted_text opening quote inside closing) =
     left_smaller (ahead_run white.run) opening (ahead_then (ahead_run inside.run) (ahead_char closing))
 
@@ -88,7 +91,8 @@ tokens_more {start} {u} {w} before placed so (v, white, at, token) = record {
       (subst (λ p. AreTokens start (with_prefix before (with_prefix (p ∷ []) rest))) (sym here) all);
 }
 
-pub tokens_end : {start u : Place} (w : Place) (before : List Placed) → TokensSoFar start before u → IsNextToken u None w → AreTokens start (Ok before)
+pub tokens_end : {start u : Place} (w : Place) (before : List Placed) → TokensSoFar start before u
+    → IsNextToken u None w → AreTokens start (Ok before)
 tokens_end {start} w before so (v, white, end) =
     subst (λ l. AreTokens start (Ok l)) (append-nil before) (so.with_rest (Ok []) (tokens.none white end))
 

@@ -9,8 +9,8 @@ use Rattle.regex.specs.Strings.{regex_source, regex_config, IsReadFromSource, Is
 use Rattle.regex.specs.declared.string.regex.Regex.{Regex}
 use Rattle.regex.specs.declared.error.Error as regex
 use Rattle.regex.specs.declared.error.Error.TheVariants as cause_kind
-use Rattle.bib_select.specs.Conditions.{TermAsked, TestAsked, TextAsked}
-use Rattle.bib_select.specs.Conditions.TestAsked.{has, of_type, of_other_type, key, field, year}
+use Rattle.bib_select.specs.Conditions.{TermReading, TestReading, TextReading}
+use Rattle.bib_select.specs.Conditions.TestReading.{has, of_type, of_other_type, key, field, year}
 use Rattle.bib_select.specs.declared.errors.SelectionError.{SelectionError}
 use Rattle.bib_select.specs.declared.errors.SelectionError.TheVariants.{Malformed, OutOfMemory}
 use Rattle.bib_select.specs.declared.errors.SelectionErrorKind.TheVariants as kind
@@ -28,52 +28,52 @@ pub record IsCompiledFrom (text : List ℕ) (regex : Regex) : Type 0 where
   pub pattern : IsReadFromSource regex
 
 -- a test of a text has this operator and this text
-abbrev pub IsTextTestOf : TextAsked → TextTest → Type 0
-IsTextTestOf asked (text_test.Is text) = (asked.operator ≡ operator.Is) × (asked.text ≡ text)
-IsTextTestOf asked (text_test.IsNot text) = (asked.operator ≡ operator.IsNot) × (asked.text ≡ text)
-IsTextTestOf asked (text_test.Contains text) = (asked.operator ≡ operator.Contains) × (asked.text ≡ text)
-IsTextTestOf asked (text_test.Matches regex) = (asked.operator ≡ operator.Matches) × IsCompiledFrom asked.text regex
+abbrev pub IsTextTestOf : TextReading → TextTest → Type 0
+IsTextTestOf reading (text_test.Is text) = (reading.operator ≡ operator.Is) × (reading.text ≡ text)
+IsTextTestOf reading (text_test.IsNot text) = (reading.operator ≡ operator.IsNot) × (reading.text ≡ text)
+IsTextTestOf reading (text_test.Contains text) = (reading.operator ≡ operator.Contains) × (reading.text ≡ text)
+IsTextTestOf reading (text_test.Matches regex) = (reading.operator ≡ operator.Matches) × IsCompiledFrom reading.text regex
 
--- a test is the one that is written so
-abbrev pub IsTestOf : TestAsked → Test → Type 0
+-- `t` is the test with this reading
+abbrev pub IsTestOf : TestReading → Test → Type 0
 IsTestOf (has name) t = t ≡ test.Has (str_to_ascii_lowercase name)
 IsTestOf (of_type name) t = t ≡ test.OfType (entry_type_of name)
 IsTestOf (of_other_type name) t = t ≡ test.OfOtherType (entry_type_of name)
-IsTestOf (key asked) t = (text : TextTest) × (t ≡ test.Key text) × IsTextTestOf asked text
-IsTestOf (field name asked) t = (text : TextTest) × (t ≡ test.Field (str_to_ascii_lowercase name) text) × IsTextTestOf asked text
+IsTestOf (key reading) t = (text : TextTest) × (t ≡ test.Key text) × IsTextTestOf reading text
+IsTestOf (field name reading) t = (text : TextTest) × (t ≡ test.Field (str_to_ascii_lowercase name) text) × IsTextTestOf reading text
 IsTestOf (year comparison number) t = t ≡ test.Year comparison number
 
--- a term is the one that is written so
-pub record IsTermOf (asked : TermAsked) (term : Term) : Type 0 where
-  pub negated : term.negated ≡ asked.negated
-  pub test : IsTestOf asked.asked term.test
+-- a term has this reading
+pub record IsTermOf (reading : TermReading) (term : Term) : Type 0 where
+  pub negated : term.negated ≡ reading.negated
+  pub test : IsTestOf reading.test term.test
 
--- these are the text and the byte offset
+-- `source` is this text, and `at` is this byte offset
 abbrev pub HasText : List ℕ → ℕ → List ℕ → ℕ → Type 0
 HasText text place source at = (text ≡ source) × (place ≡ at)
 
--- a text in a test is a regular expression, with this text and at this byte offset
-abbrev pub HasTextExpression : TextAsked → List ℕ → ℕ → Type 0
-HasTextExpression asked source at = (asked.operator ≡ operator.Matches) × HasText asked.text asked.at source at
+-- the text of a test is a regular expression; `source` is the text, and `at` its byte offset
+abbrev pub HasTextExpression : TextReading → List ℕ → ℕ → Type 0
+HasTextExpression reading source at = (reading.operator ≡ operator.Matches) × HasText reading.text reading.at source at
 
--- a test has a regular expression with this text at this byte offset
-abbrev pub HasExpression : TestAsked → List ℕ → ℕ → Type 0
+-- a test has the regular expression `source` at the byte offset `at`
+abbrev pub HasExpression : TestReading → List ℕ → ℕ → Type 0
 HasExpression (has name) source at = ⊥
 HasExpression (of_type name) source at = ⊥
 HasExpression (of_other_type name) source at = ⊥
-HasExpression (key asked) source at = HasTextExpression asked source at
-HasExpression (field name asked) source at = HasTextExpression asked source at
+HasExpression (key reading) source at = HasTextExpression reading source at
+HasExpression (field name reading) source at = HasTextExpression reading source at
 HasExpression (year comparison number) source at = ⊥
 
--- a term has one
-abbrev pub HasTermExpression : List TermAsked → List ℕ → ℕ → Type 0
-HasTermExpression terms source at = Any (λ term. HasExpression term.asked source at) terms
+-- one of these terms has the regular expression `source` at the byte offset `at`
+abbrev pub HasTermExpression : List TermReading → List ℕ → ℕ → Type 0
+HasTermExpression terms source at = Any (λ term. HasExpression term.test source at) terms
 
--- a condition has one
-abbrev pub HasAnyExpression : List (List TermAsked) → List ℕ → ℕ → Type 0
+-- a condition has the regular expression `source` at the byte offset `at`
+abbrev pub HasAnyExpression : List (List TermReading) → List ℕ → ℕ → Type 0
 HasAnyExpression alternatives source at = Any (λ terms. HasTermExpression terms source at) alternatives
 
--- the error of the crate `regex` for the text at this byte offset, which is never out of memory or an internal error
+-- `cause` is an error of the crate `regex` for the expression at a byte offset; it is never out of memory or an internal error
 pub record IsExpressionError (Has : List ℕ → ℕ → Type 0) (cause : regex.Error) (at : ℕ) : Type 0 where
   pub source : List ℕ
   pub here : Has source at
@@ -81,7 +81,7 @@ pub record IsExpressionError (Has : List ℕ → ℕ → Type 0) (cause : regex.
   pub no_memory : cause ≢ cause_kind.OutOfMemory
   pub no_internal : cause ≢ cause_kind.Internal
 
--- the error of compiling a condition that has these regular expressions: that of one of them, or out of memory
+-- an error of compiling a condition with these regular expressions: that of one of them, or out of memory
 abbrev pub IsCompileError : (List ℕ → ℕ → Type 0) → SelectionError → Type 0
 IsCompileError Has OutOfMemory = ⊤
 IsCompileError Has (Malformed (kind.Regex cause) at) = IsExpressionError Has cause at

@@ -6,7 +6,7 @@ use Rattle.bib_text.specs.Enums.{value_named}
 use Rattle.bib_values.specs.Numbers.{decimal_of}
 use Rattle.bib_select.specs.Tokens.{Token, Placed}
 use Rattle.bib_select.specs.Tokens.Token.{word, quoted, sign}
-use Rattle.bib_select.specs.Segments.{Segment, ◌>>=◌, first_as, if_ended, is_keyword, opens_with, segments_of, token_text, try_map, without_first}
+use Rattle.bib_select.specs.Segments.{Segment, and_then, first_as, if_ended, is_keyword, opens_with, segments_of, text_in_token, try_map, without_first}
 use Rattle.bib_select.specs.declared.errors.SelectionError.{SelectionError}
 use Rattle.bib_select.specs.declared.errors.SelectionErrorKind.{SelectionErrorKind}
 use Rattle.bib_select.specs.declared.errors.SelectionErrorKind.TheVariants.{MissingTest, MissingField, MissingOperator, MissingTypeOperator, MissingYearOperator, MissingText, MissingYear}
@@ -16,47 +16,47 @@ use Rattle.bib_select.specs.declared.terms.Operator.{Operator}
 use Rattle.bib_select.specs.declared.terms.Operator.TheVariants.{Is, IsNot, Contains, Matches}
 
 -- a text in a test: its operator, and the byte offset of its token
-pub record TextAsked : Type 0 where
+pub record TextReading : Type 0 where
   pub operator : Operator
   pub text : List ℕ
   pub at : ℕ
 
 -- a test as it is written: `has` a field, a type, no such type, the key, a field, or the year
-pub data TestAsked : Type 0 where
-  has : List ℕ → TestAsked
-  of_type : List ℕ → TestAsked
-  of_other_type : List ℕ → TestAsked
-  key : TextAsked → TestAsked
-  field : List ℕ → TextAsked → TestAsked
-  year : Comparison → ℤ → TestAsked
+pub data TestReading : Type 0 where
+  has : List ℕ → TestReading
+  of_type : List ℕ → TestReading
+  of_other_type : List ℕ → TestReading
+  key : TextReading → TestReading
+  field : List ℕ → TextReading → TestReading
+  year : Comparison → ℤ → TestReading
 
 -- a term as it is written: a test, and whether `not` is before it
-pub record TermAsked : Type 0 where
+pub record TermReading : Type 0 where
   pub negated : Bool
-  pub asked : TestAsked
+  pub test : TestReading
 
 -- what a test is about: `type`, `key`, `year`, or the field with another name; a name between quotes is always that of a field
-pub data SubjectAsked : Type 0 where
-  the_type : SubjectAsked
-  the_key : SubjectAsked
-  the_year : SubjectAsked
-  the_field : List ℕ → SubjectAsked
+pub data SubjectReading : Type 0 where
+  the_type : SubjectReading
+  the_key : SubjectReading
+  the_year : SubjectReading
+  the_field : List ℕ → SubjectReading
 
 -- a subject with its operator
-pub data QuestionAsked : Type 0 where
-  is_type : QuestionAsked
-  is_other_type : QuestionAsked
-  compares_key : Operator → QuestionAsked
-  compares_field : List ℕ → Operator → QuestionAsked
-  compares_year : Comparison → QuestionAsked
+pub data QuestionReading : Type 0 where
+  is_type : QuestionReading
+  is_other_type : QuestionReading
+  compares_key : Operator → QuestionReading
+  compares_field : List ℕ → Operator → QuestionReading
+  compares_year : Comparison → QuestionReading
 
 -- the subject that a token is
-abbrev pub subject_at : Placed → Option SubjectAsked
+abbrev pub subject_at : Placed → Option SubjectReading
 subject_at placed =
     if is_keyword (codes "type") placed.token then Some the_type
     else if is_keyword (codes "key") placed.token then Some the_key
     else if is_keyword (codes "year") placed.token then Some the_year
-    else option_map the_field (token_text placed.token)
+    else option_map the_field (text_in_token placed.token)
 
 -- the signs of comparisons
 abbrev pub comparison_signs : List (List ℕ × Comparison)
@@ -84,88 +84,81 @@ operator_at placed =
     if is_keyword (codes "contains") placed.token then Some Contains else signed_value operator_signs placed.token
 
 -- the question that an operator asks about the type
-abbrev pub type_question : Operator → Option QuestionAsked
+abbrev pub type_question : Operator → Option QuestionReading
 type_question Is = Some is_type
 type_question IsNot = Some is_other_type
 type_question other = None
 
 -- the question that a subject and the operator of a token are
-abbrev pub question_at : SubjectAsked → Placed → Option QuestionAsked
+abbrev pub question_at : SubjectReading → Placed → Option QuestionReading
 question_at the_type placed = option_and_then type_question (operator_at placed)
 question_at the_key placed = option_map compares_key (operator_at placed)
 question_at (the_field name) placed = option_map (compares_field name) (operator_at placed)
 question_at the_year placed = option_map compares_year (comparison_at placed)
 
 -- the text of a test at a byte offset
-abbrev pub asked_text : Operator → ℕ → List ℕ → TextAsked
-asked_text operator at text = record { operator = operator; text = text; at = at }
+abbrev pub text_reading : Operator → ℕ → List ℕ → TextReading
+text_reading operator at text = record { operator = operator; text = text; at = at }
 
 -- the test that a question and a text are; the text for a year is a decimal number
-abbrev pub answered_with : QuestionAsked → ℕ → List ℕ → Option TestAsked
-answered_with is_type at text = Some (of_type text)
-answered_with is_other_type at text = Some (of_other_type text)
-answered_with (compares_key operator) at text = Some (key (asked_text operator at text))
-answered_with (compares_field name operator) at text = Some (field name (asked_text operator at text))
-answered_with (compares_year comparison) at text = option_map (year comparison) (decimal_of text)
+abbrev pub answer_reading : QuestionReading → ℕ → List ℕ → Option TestReading
+answer_reading is_type at text = Some (of_type text)
+answer_reading is_other_type at text = Some (of_other_type text)
+answer_reading (compares_key operator) at text = Some (key (text_reading operator at text))
+answer_reading (compares_field name operator) at text = Some (field name (text_reading operator at text))
+answer_reading (compares_year comparison) at text = option_map (year comparison) (decimal_of text)
 
 -- the test that a question and the text of a token are
-abbrev pub asked_at : QuestionAsked → Placed → Option TestAsked
-asked_at question placed = option_and_then (answered_with question placed.at) (token_text placed.token)
+abbrev pub reading_at : QuestionReading → Placed → Option TestReading
+reading_at question placed = option_and_then (answer_reading question placed.at) (text_in_token placed.token)
 
 -- what is missing after a question without a text that answers it
-abbrev pub missing_text : QuestionAsked → SelectionErrorKind
+abbrev pub missing_text : QuestionReading → SelectionErrorKind
 missing_text (compares_year comparison) = MissingYear
 missing_text other = MissingText
 
 -- the test after `has`: the name of a field
-abbrev pub has_test : Segment → Result TestAsked SelectionError
-has_test s = do
-  name ← first_as (λ placed. token_text placed.token) MissingField s
-  if_ended (has name) (without_first s)
+abbrev pub has_test : Segment → Result TestReading SelectionError
+has_test s =
+    and_then (first_as (λ placed. text_in_token placed.token) MissingField s) (λ name. if_ended (has name) (without_first s))
 
 -- the test that a question and the text after it are
-abbrev pub answer_test : QuestionAsked → Segment → Result TestAsked SelectionError
-answer_test question s = do
-  asked ← first_as (asked_at question) (missing_text question) s
-  if_ended asked (without_first s)
+abbrev pub answer_test : QuestionReading → Segment → Result TestReading SelectionError
+answer_test question s =
+    and_then (first_as (reading_at question) (missing_text question) s) (λ test. if_ended test (without_first s))
 
 -- what is missing after a subject without an operator for it
-abbrev pub missing_operator : SubjectAsked → SelectionErrorKind
+abbrev pub missing_operator : SubjectReading → SelectionErrorKind
 missing_operator the_type = MissingTypeOperator
 missing_operator the_year = MissingYearOperator
 missing_operator other = MissingOperator
 
 -- the test that a subject and the operator and the text after it are
-abbrev pub operator_test : SubjectAsked → Segment → Result TestAsked SelectionError
-operator_test subject s = do
-  question ← first_as (question_at subject) (missing_operator subject) s
-  answer_test question (without_first s)
+abbrev pub operator_test : SubjectReading → Segment → Result TestReading SelectionError
+operator_test subject s =
+    and_then (first_as (question_at subject) (missing_operator subject) s) (λ question. answer_test question (without_first s))
 
 -- the test that a subject, an operator and a text are
-abbrev pub subject_test : Segment → Result TestAsked SelectionError
-subject_test s = do
-  subject ← first_as subject_at MissingTest s
-  operator_test subject (without_first s)
+abbrev pub subject_test : Segment → Result TestReading SelectionError
+subject_test s = and_then (first_as subject_at MissingTest s) (λ subject. operator_test subject (without_first s))
 
 -- the test that all tokens of a segment are
-abbrev pub test_asked : Segment → Result TestAsked SelectionError
-test_asked s = if opens_with (codes "has") s then has_test (without_first s) else subject_test s
+abbrev pub test_reading : Segment → Result TestReading SelectionError
+test_reading s = if opens_with (codes "has") s then has_test (without_first s) else subject_test s
 
 -- the term of a test
-abbrev pub term_with : Bool → Result TestAsked SelectionError → Result TermAsked SelectionError
-term_with negated test = do
-  asked ← test
-  Ok (record { negated = negated; asked = asked })
+abbrev pub term_with : Bool → Result TestReading SelectionError → Result TermReading SelectionError
+term_with negated result = and_then result (λ test. Ok (record { negated = negated; test = test }))
 
 -- the term that all tokens of a segment are: a test, or `not` and a test
-abbrev pub term_asked : Segment → Result TermAsked SelectionError
-term_asked s =
-    if opens_with (codes "not") s then term_with true (test_asked (without_first s)) else term_with false (test_asked s)
+abbrev pub term_reading : Segment → Result TermReading SelectionError
+term_reading s =
+    if opens_with (codes "not") s then term_with true (test_reading (without_first s)) else term_with false (test_reading s)
 
 -- the alternative that a segment is: terms joined by `and`
-abbrev pub terms_asked : Segment → Result (List TermAsked) SelectionError
-terms_asked s = try_map term_asked (segments_of (codes "and") s)
+abbrev pub terms_reading : Segment → Result (List TermReading) SelectionError
+terms_reading s = try_map term_reading (segments_of (codes "and") s)
 
 -- the condition that a segment is: alternatives joined by `or`
-abbrev pub alternatives_asked : Segment → Result (List (List TermAsked)) SelectionError
-alternatives_asked s = try_map terms_asked (segments_of (codes "or") s)
+abbrev pub alternatives_reading : Segment → Result (List (List TermReading)) SelectionError
+alternatives_reading s = try_map terms_reading (segments_of (codes "or") s)

@@ -4,7 +4,7 @@ use Rattle.std.specs.Prelude.{◌≡◌, ℕ, List, length, Result, Ok, Err, ⊤
 use Rattle.std.specs.List.{AllZip}
 use Rattle.bib_text.specs.Places.{place}
 use Rattle.bib_select.specs.Compiled.{HasAnyExpression, IsCompileError, IsTermOf}
-use Rattle.bib_select.specs.Conditions.{TermAsked, alternatives_asked}
+use Rattle.bib_select.specs.Conditions.{TermReading, alternatives_reading}
 use Rattle.bib_select.specs.Segments.{Segment}
 use Rattle.bib_select.specs.Tokens.{Placed, AreTokens}
 use Rattle.bib_select.specs.declared.errors.SelectionError.{SelectionError}
@@ -17,22 +17,22 @@ abbrev pub whole_text : List ℕ → List Placed → Segment
 whole_text text tokens = record { tokens = tokens; end = length text }
 
 -- the result of parsing the tokens of a text: the alternatives of the condition, or the error
-pub record IsConditionRead (text : List ℕ) (outcome : Result (List (List TermAsked)) SelectionError) : Type 0 where
+pub record IsConditionRead (text : List ℕ) (outcome : Result (List (List TermReading)) SelectionError) : Type 0 where
   pub tokens : List Placed
   pub cut : AreTokens (place text 0) (Ok tokens)
-  pub reads : alternatives_asked (whole_text text tokens) ≡ outcome
+  pub reads : alternatives_reading (whole_text text tokens) ≡ outcome
 
 -- the selection is the condition that the text is
 pub record IsParsed (text : List ℕ) (selection : Selection) : Type 0 where
-  pub asked : List (List TermAsked)
-  pub reads : IsConditionRead text (Ok asked)
-  pub compiled : AllZip (AllZip IsTermOf) asked selection.alternatives
+  pub condition : List (List TermReading)
+  pub reads : IsConditionRead text (Ok condition)
+  pub compiled : AllZip (AllZip IsTermOf) condition selection.alternatives
 
 -- the text is a condition, and the error is that of one of its regular expressions
 pub record IsExpressionRefused (text : List ℕ) (error : SelectionError) : Type 0 where
-  pub asked : List (List TermAsked)
-  pub reads : IsConditionRead text (Ok asked)
-  pub refused : IsCompileError (HasAnyExpression asked) error
+  pub condition : List (List TermReading)
+  pub reads : IsConditionRead text (Ok condition)
+  pub refused : IsCompileError (HasAnyExpression condition) error
 
 -- the error of parsing a text: a quote that isn't closed, the error of a regular expression, the first token that doesn't fit, or
 -- out of memory
@@ -43,7 +43,7 @@ IsParseError text (Malformed (Regex cause) at) = IsExpressionRefused text (Malfo
 IsParseError text (Malformed other at) = IsConditionRead text (Err (Malformed other at))
 
 -- an error of the text, and not of a regular expression or of memory
-abbrev pub IsSyntaxError : SelectionError → Type 0
-IsSyntaxError OutOfMemory = ⊥
-IsSyntaxError (Malformed (Regex cause) at) = ⊥
-IsSyntaxError (Malformed other at) = ⊤
+abbrev pub IsErrorOfText : SelectionError → Type 0
+IsErrorOfText OutOfMemory = ⊥
+IsErrorOfText (Malformed (Regex cause) at) = ⊥
+IsErrorOfText (Malformed other at) = ⊤

@@ -22,10 +22,10 @@ is_keyword keyword (quoted text) = false
 is_keyword keyword (sign text) = false
 
 -- the text of a word, or of a quoted text
-abbrev pub token_text : Token → Option (List ℕ)
-token_text (word text) = Some text
-token_text (quoted text) = Some text
-token_text (sign text) = None
+abbrev pub text_in_token : Token → Option (List ℕ)
+text_in_token (word text) = Some text
+text_in_token (quoted text) = Some text
+text_in_token (sign text) = None
 
 -- the segments with a token before the first of them
 abbrev pub with_token : Placed → List Segment → List Segment
@@ -66,27 +66,23 @@ abbrev pub opens_with : List ℕ → Segment → Bool
 opens_with keyword s = option_map_or (λ placed. is_keyword keyword placed.token) (first_token s) false
 
 -- an error of this kind at the first token, or at the end of a segment without tokens
-abbrev pub error_at : SelectionErrorKind → Segment → SelectionError
-error_at kind s = Malformed kind (option_map_or (λ placed. placed.at) (first_token s) s.end)
+abbrev pub failure_at : SelectionErrorKind → Segment → SelectionError
+failure_at kind s = Malformed kind (option_map_or (λ placed. placed.at) (first_token s) s.end)
 
--- the first token as `reading` reads it, or an error of this kind if it doesn't
+-- the value that `reading` gives for the first token, or an error of this kind if it gives none
 abbrev pub first_as : {A : Type 0} → (Placed → Option A) → SelectionErrorKind → Segment → Result A SelectionError
-first_as reading kind s = ok_or (option_and_then reading (first_token s)) (error_at kind s)
+first_as reading kind s = ok_or (option_and_then reading (first_token s)) (failure_at kind s)
 
--- a value, if a segment has no token; or an error at its first one
+-- the value, if a segment has no token, or an error at its first token
 abbrev pub if_ended : {A : Type 0} → A → Segment → Result A SelectionError
-if_ended a s = option_map_or (λ placed. Err (error_at MissingJoint s)) (first_token s) (Ok a)
+if_ended a s = option_map_or (λ placed. Err (failure_at MissingJoint s)) (first_token s) (Ok a)
 
--- the next step of parsing, which takes the value of the first one; an error of the first one is kept
-infixl 10 ◌>>=◌
-abbrev pub ◌>>=◌ : {A B : Type 0} → Result A SelectionError → (A → Result B SelectionError) → Result B SelectionError
-Ok a >>= next = next a
-Err e >>= next = Err e
+-- the next step of parsing, which takes the value of the first step; an error of the first step is the result
+abbrev pub and_then : {A B : Type 0} → Result A SelectionError → (A → Result B SelectionError) → Result B SelectionError
+and_then (Ok a) next = next a
+and_then (Err e) next = Err e
 
 -- the value for each element, or the first error
 abbrev pub try_map : {A B : Type 0} → (A → Result B SelectionError) → List A → Result (List B) SelectionError
 try_map f [] = Ok []
-try_map f (x ∷ rest) = do
-  first ← f x
-  others ← try_map f rest
-  Ok (first ∷ others)
+try_map f (x ∷ rest) = and_then (f x) (λ first. and_then (try_map f rest) (λ others. Ok (first ∷ others)))

@@ -33,7 +33,7 @@ passes_text_test (IsNot wanted) text = not (bytes_eq text wanted)
 passes_text_test (Contains wanted) text = has_part wanted text
 passes_text_test (Matches regex) text = is_some (find_str (regex_pattern regex) text 0)
 
--- whether two numbers compare so
+-- whether a comparison holds for two numbers
 abbrev pub compares_so : Comparison → ℤ → ℤ → Bool
 compares_so Less number other = is_lt (int_cmp number other)
 compares_so AtMost number other = is_le (int_cmp number other)

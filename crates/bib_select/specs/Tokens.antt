@@ -1,5 +1,5 @@
 -- Meaning: words of public contracts.
--- The tokens of a condition: words, texts between quotes, and signs, with white space between them where they need it.
+-- The tokens of a condition: words, texts between quotes, and signs. White space only separates them.
 use Rattle.std.specs.Prelude.{◌≡◌, ℕ, Bool, true, not, ◌&&◌, ◌||◌, ◌==◌, List, [], ◌∷◌, ◌++◌, Result, Ok, Err}
 use Rattle.std.specs.Char.{is_whitespace}
 use Rattle.bib_text.specs.Places.{Place, CharAt, Longest, AtEnd, between}
@@ -37,8 +37,10 @@ is_word_character c = not (is_whitespace c) && not (is_sign_character c) && not 
 -- the token between two places. A word and a run of signs are as long as possible. Between two equal quotes each other character
 -- stands for itself
 pub data IsToken : Place → Token → Place → Type 0 where
-  a_word : {u v w : Place} {c : ℕ} → CharAt u c w → is_word_character c ≡ true → Longest is_word_character u v → IsToken u (word (between u v)) v
-  a_sign : {u v w : Place} {c : ℕ} → CharAt u c w → is_sign_character c ≡ true → Longest is_sign_character u v → IsToken u (sign (between u v)) v
+  a_word : {u v w : Place} {c : ℕ} → CharAt u c w → is_word_character c ≡ true → Longest is_word_character u v
+      → IsToken u (word (between u v)) v
+  a_sign : {u v w : Place} {c : ℕ} → CharAt u c w → is_sign_character c ≡ true → Longest is_sign_character u v
+      → IsToken u (sign (between u v)) v
   a_quoted_text : {u v w x : Place} {q : ℕ} → CharAt u q v → is_quote q ≡ true → Longest (λ c. not (c == q)) v w → CharAt w q x
       → IsToken u (quoted (between v w)) x
 

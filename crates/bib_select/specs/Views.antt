@@ -6,17 +6,17 @@ use Rattle.bib_select.specs.Tokens as spec
 use Rattle.bib_select.specs.Tokens.{Token as token}
 use Rattle.bib_select.specs.Segments as segments
 use Rattle.bib_select.specs.Segments.{segments_of}
-use Rattle.bib_select.specs.Conditions.{TermAsked, TestAsked, TextAsked, SubjectAsked, QuestionAsked}
-use Rattle.bib_select.specs.Conditions.{TestAsked as test, SubjectAsked as subject, QuestionAsked as question}
+use Rattle.bib_select.specs.Conditions.{TermReading, TestReading, TextReading, SubjectReading, QuestionReading}
+use Rattle.bib_select.specs.Conditions.{TestReading as test, SubjectReading as subject, QuestionReading as question}
 use Rattle.bib_select.specs.declared.errors.SelectionError.{SelectionError}
 use Rattle.bib_select.specs.declared.tokens.Token.{Token}
 use Rattle.bib_select.specs.declared.tokens.Token.TheVariants.{Word, Quoted, Sign}
 use Rattle.bib_select.specs.declared.tokens.Placed.{Placed}
 use Rattle.bib_select.specs.declared.segments.Segment.{Segment}
-use Rattle.bib_select.specs.declared.terms.Sought.{Sought}
-use Rattle.bib_select.specs.declared.terms.Asked.{Asked}
-use Rattle.bib_select.specs.declared.terms.Asked.TheVariants as asked
-use Rattle.bib_select.specs.declared.terms.AskedTerm.{AskedTerm}
+use Rattle.bib_select.specs.declared.terms.RawText.{RawText}
+use Rattle.bib_select.specs.declared.terms.RawTest.{RawTest}
+use Rattle.bib_select.specs.declared.terms.RawTest.TheVariants as raw
+use Rattle.bib_select.specs.declared.terms.RawTerm.{RawTerm}
 use Rattle.bib_select.specs.declared.terms.Subject.{Subject}
 use Rattle.bib_select.specs.declared.terms.Subject.TheVariants as subjects
 use Rattle.bib_select.specs.declared.terms.Question.{Question}
@@ -42,31 +42,31 @@ segments_left joint None = []
 segments_left joint (Some rest) = segments_of joint (segment_of rest)
 
 -- a text with its operator and its offset
-abbrev pub text_asked_of : Sought → TextAsked
-text_asked_of sought = record { operator = sought.operator; text = sought.text.now; at = sought.at }
+abbrev pub text_reading_of : RawText → TextReading
+text_reading_of text = record { operator = text.operator; text = text.text.now; at = text.at }
 
 -- a test as it is written
-abbrev pub asked_of : Asked → TestAsked
-asked_of (asked.Has name) = test.has name.now
-asked_of (asked.OfType name) = test.of_type name.now
-asked_of (asked.OfOtherType name) = test.of_other_type name.now
-asked_of (asked.Key sought) = test.key (text_asked_of sought)
-asked_of (asked.Field name sought) = test.field name.now (text_asked_of sought)
-asked_of (asked.Year comparison number) = test.year comparison number
+abbrev pub test_reading_of : RawTest → TestReading
+test_reading_of (raw.Has name) = test.has name.now
+test_reading_of (raw.OfType name) = test.of_type name.now
+test_reading_of (raw.OfOtherType name) = test.of_other_type name.now
+test_reading_of (raw.Key text) = test.key (text_reading_of text)
+test_reading_of (raw.Field name text) = test.field name.now (text_reading_of text)
+test_reading_of (raw.Year comparison number) = test.year comparison number
 
 -- a term as it is written
-abbrev pub asked_term_of : AskedTerm → TermAsked
-asked_term_of term = record { negated = term.negated; asked = asked_of term.asked }
+abbrev pub term_reading_of : RawTerm → TermReading
+term_reading_of term = record { negated = term.negated; test = test_reading_of term.test }
 
 -- what a test is about
-abbrev pub subject_of : Subject → SubjectAsked
+abbrev pub subject_of : Subject → SubjectReading
 subject_of subjects.EntryType = subject.the_type
 subject_of subjects.Key = subject.the_key
 subject_of subjects.Year = subject.the_year
 subject_of (subjects.Field name) = subject.the_field name.now
 
 -- a subject with its operator
-abbrev pub question_of : Question → QuestionAsked
+abbrev pub question_of : Question → QuestionReading
 question_of questions.OfType = question.is_type
 question_of questions.OfOtherType = question.is_other_type
 question_of (questions.Key operator) = question.compares_key operator
@@ -74,15 +74,15 @@ question_of (questions.Field name operator) = question.compares_field name.now o
 question_of (questions.Year comparison) = question.compares_year comparison
 
 -- the result of parsing a test
-abbrev pub asked_read : Result Asked SelectionError → Result TestAsked SelectionError
-asked_read (Ok asked) = Ok (asked_of asked)
-asked_read (Err error) = Err error
+abbrev pub test_result : Result RawTest SelectionError → Result TestReading SelectionError
+test_result (Ok test) = Ok (test_reading_of test)
+test_result (Err error) = Err error
 
 -- the result of parsing a term
-abbrev pub term_read : Result AskedTerm SelectionError → Result TermAsked SelectionError
-term_read (Ok term) = Ok (asked_term_of term)
-term_read (Err error) = Err error
+abbrev pub term_result : Result RawTerm SelectionError → Result TermReading SelectionError
+term_result (Ok term) = Ok (term_reading_of term)
+term_result (Err error) = Err error
 
 -- the terms of an alternative
-abbrev pub asked_terms_of : Vec AskedTerm → List TermAsked
-asked_terms_of terms = map asked_term_of terms.items
+abbrev pub terms_reading_of : Vec RawTerm → List TermReading
+terms_reading_of terms = map term_reading_of terms.items

@@ -3,18 +3,18 @@
 ghost use Rattle.std.specs.Prelude.{◌≡◌, Ok, map, IfOk, IfErr};
 ghost use Rattle.bib_select.specs.Conditions as conditions;
 ghost use Rattle.bib_select.specs.Scanning.{IsReadError};
-ghost use Rattle.bib_select.specs.Views.{asked_terms_of, segment_of};
+ghost use Rattle.bib_select.specs.Views.{terms_reading_of, segment_of};
 
 use crate::errors::SelectionError;
 use crate::segments::Segment;
-use crate::terms::{AskedTerm, term};
+use crate::terms::{RawTerm, term};
 use std::alloc::Global;
 
 // Returns the terms of an alternative.
-fn terms<'s>(alloc: Global, segment: Segment<'_, 's>) -> Result<Vec<AskedTerm<'s>>, SelectionError>
+fn terms<'s>(alloc: Global, segment: Segment<'_, 's>) -> Result<Vec<RawTerm<'s>>, SelectionError>
     ensures found { IfOk result (λ terms.
-        conditions.terms_asked (segment_of segment.entry) ≡ Ok (asked_terms_of terms)) }
-    ensures refused { IfErr result (IsReadError (conditions.terms_asked (segment_of segment.entry))) }
+        conditions.terms_reading (segment_of segment.entry) ≡ Ok (terms_reading_of terms)) }
+    ensures refused { IfErr result (IsReadError (conditions.terms_reading (segment_of segment.entry))) }
 {
     let mut terms = Vec::new(alloc);
     let mut left = Some(segment);
@@ -30,10 +30,10 @@ fn terms<'s>(alloc: Global, segment: Segment<'_, 's>) -> Result<Vec<AskedTerm<'s
 pub(crate) fn alternatives<'s>(
     alloc: Global,
     segment: Segment<'_, 's>,
-) -> Result<Vec<Vec<AskedTerm<'s>>>, SelectionError>
+) -> Result<Vec<Vec<RawTerm<'s>>>, SelectionError>
     ensures found { IfOk result (λ alternatives.
-        conditions.alternatives_asked (segment_of segment.entry) ≡ Ok (map asked_terms_of alternatives.items)) }
-    ensures refused { IfErr result (IsReadError (conditions.alternatives_asked (segment_of segment.entry))) }
+        conditions.alternatives_reading (segment_of segment.entry) ≡ Ok (map terms_reading_of alternatives.items)) }
+    ensures refused { IfErr result (IsReadError (conditions.alternatives_reading (segment_of segment.entry))) }
 {
     let mut alternatives = Vec::new(alloc);
     let mut left = Some(segment);

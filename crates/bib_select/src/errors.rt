@@ -7,7 +7,7 @@ use std::alloc::{AllocError, AllocFailed};
 use std::fmt;
 use thiserror::Error;
 
-/// The reason why a text is no condition.
+/// The kind of an error in the text of a condition.
 #[derive(Debug, Clone, Copy, PartialEq, Eq)]
 pub enum SelectionErrorKind {
     /// A quote isn't closed.
@@ -60,7 +60,7 @@ pub enum SelectionError {
     /// The text is no condition.
     #[error("{kind} at byte {at}")]
     Malformed {
-        /// The reason.
+        /// The kind of the error.
         kind: SelectionErrorKind,
         /// The byte offset of the token that doesn't fit, or the length of the text if it ends too early.
         at: usize,

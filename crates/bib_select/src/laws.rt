@@ -2,18 +2,18 @@
 
 ghost use Rattle.std.specs.Prelude.{◌≡◌, ℕ, List, Result, Ok};
 ghost use Rattle.bib_text.specs.Places.{Place};
-ghost use Rattle.bib_select.specs.Conditions.{TermAsked};
-ghost use Rattle.bib_select.specs.Parsed.{IsConditionRead, IsParseError, IsSyntaxError};
+ghost use Rattle.bib_select.specs.Conditions.{TermReading};
+ghost use Rattle.bib_select.specs.Parsed.{IsConditionRead, IsParseError, IsErrorOfText};
 ghost use Rattle.bib_select.specs.Tokens.{Placed, AreTokens};
 ghost use Rattle.bib_select.specs.declared.errors.SelectionError.{SelectionError};
 
-/// A text has one list of tokens or one quote that isn't closed, is one condition at most, and no condition has an error except that
-/// of one of its regular expressions.
+/// A text has one list of tokens, or one first quote that isn't closed. It is at most one condition. A condition has no error except
+/// those of its regular expressions.
 pub fn a_text_is_one_condition()
     ensures tokens { (place : Place) (tokens others : Result (List Placed) ℕ) → AreTokens place tokens →
         AreTokens place others → tokens ≡ others }
-    ensures condition { (text : List ℕ) (asked others : Result (List (List TermAsked)) SelectionError) →
-        IsConditionRead text asked → IsConditionRead text others → asked ≡ others }
-    ensures no_error { (text : List ℕ) (asked : List (List TermAsked)) (error : SelectionError) →
-        IsConditionRead text (Ok asked) → IsParseError text error → IsSyntaxError error → ⊥ }
+    ensures condition { (text : List ℕ) (condition others : Result (List (List TermReading)) SelectionError) →
+        IsConditionRead text condition → IsConditionRead text others → condition ≡ others }
+    ensures no_error { (text : List ℕ) (condition : List (List TermReading)) (error : SelectionError) →
+        IsConditionRead text (Ok condition) → IsParseError text error → IsErrorOfText error → ⊥ }
 {}

@@ -11,7 +11,8 @@ use crate::{compiling, conditions};
 use std::alloc::Global;
 
 impl Selection {
-    /// Parses a condition. The error has the byte offset of the token that doesn't fit, or is out of memory.
+    /// Parses a condition. The error is out of memory, or has the byte offset of the first token that doesn't fit, of a quote that isn't
+    /// closed, or of a malformed regular expression.
     pub fn parse(alloc: Global, text: &str) -> Result<Selection, SelectionError>
         ensures found { IfOk result (IsParsed text.now) }
         ensures refused { IfErr result (IsParseError text.now) }
@@ -21,8 +22,8 @@ impl Selection {
             tokens: &tokens,
             end: text.len(),
         };
-        let asked = conditions::alternatives(alloc, whole)?;
-        let alternatives = compiling::alternatives(alloc, &asked)?;
+        let raw = conditions::alternatives(alloc, whole)?;
+        let alternatives = compiling::alternatives(alloc, &raw)?;
         Ok(Selection { alternatives })
     }
 }

@@ -73,7 +73,7 @@ impl<'t, 's> Segment<'t, 's> {
 
     /// Returns an error of this kind at the first token, or at the end of the segment if it has none.
     pub(crate) fn error(&self, kind: SelectionErrorKind) -> SelectionError
-        ensures { result ≡ spec.error_at kind (segment_of self.now) }
+        ensures { result ≡ spec.failure_at kind (segment_of self.now) }
     {
         let at = match self.first() {
             Some(first) => first.at,

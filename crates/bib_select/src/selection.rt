@@ -62,20 +62,20 @@ pub enum Test {
     Key(TextTest),
     /// The entry has a field with this name, and the text of the field passes the test.
     Field(Text, TextTest),
-    /// The entry has a date that can be parsed, and its year compares so with this one.
+    /// The entry has a date that can be parsed, and the comparison holds for its year and this one.
     Year(Comparison, i64),
 }
 
 /// A test of an entry, or its negation.
 #[derive(Drop)]
 pub struct Term {
-    /// Whether an entry meets the term if it doesn't pass the test.
+    /// Whether the word `not` is before the test: an entry meets the term if it doesn't pass the test.
     pub negated: bool,
     /// The test.
     pub test: Test,
 }
 
-/// A parsed condition: an entry meets it if it meets all terms of one of the alternatives.
+/// A parsed condition. An entry meets it if it meets all terms of one of the alternatives.
 #[derive(Drop)]
 pub struct Selection {
     /// The alternatives.
@@ -112,7 +112,7 @@ impl TextTest {
 }
 
 impl Comparison {
-    // Returns whether two numbers compare so.
+    // Returns whether the comparison holds for two numbers.
     fn compares(self, number: i64, other: i64) -> bool
         ensures { result ≡ compares_so self number other }
     {
@@ -145,7 +145,7 @@ fn field_passes(
     test.passes(alloc, text.as_str())
 }
 
-// Returns whether an entry has a year that compares so with `other`.
+// Returns whether an entry has a year for which the comparison with `other` holds.
 fn year_compares(
     alloc: Global,
     entry: &Entry,

@@ -5,7 +5,7 @@ ghost use Rattle.std.specs.Option.{option_map};
 ghost use Rattle.bib_values.specs.Numbers.{decimal_of};
 ghost use Rattle.bib_select.specs.Conditions as conditions;
 ghost use Rattle.bib_select.specs.Segments.{if_ended};
-ghost use Rattle.bib_select.specs.Views.{asked_of, asked_read, placed_of, question_of, segment_of, subject_of, term_read};
+ghost use Rattle.bib_select.specs.Views.{test_reading_of, test_result, placed_of, question_of, segment_of, subject_of, term_result};
 
 use crate::errors::{SelectionError, SelectionErrorKind};
 use crate::segments::Segment;
@@ -27,7 +27,7 @@ pub(crate) enum Operator {
 
 /// The text of a test with its operator and its byte offset.
 #[derive(Clone, Copy)]
-pub(crate) struct Sought<'s> {
+pub(crate) struct RawText<'s> {
     /// The operator.
     pub(crate) operator: Operator,
     /// The text.
@@ -38,7 +38,7 @@ pub(crate) struct Sought<'s> {
 
 /// A test as it is written.
 #[derive(Clone, Copy)]
-pub(crate) enum Asked<'s> {
+pub(crate) enum RawTest<'s> {
     /// The entry has a field.
     Has(&'s str),
     /// The entry is of a type.
@@ -46,20 +46,20 @@ pub(crate) enum Asked<'s> {
     /// The entry isn't of a type.
     OfOtherType(&'s str),
     /// The key is compared with a text.
-    Key(Sought<'s>),
+    Key(RawText<'s>),
     /// A field is compared with a text.
-    Field(&'s str, Sought<'s>),
+    Field(&'s str, RawText<'s>),
     /// The year is compared with a number.
     Year(Comparison, i64),
 }
 
 /// A term as it is written.
 #[derive(Clone, Copy)]
-pub(crate) struct AskedTerm<'s> {
+pub(crate) struct RawTerm<'s> {
     /// Whether the word `not` is before the test.
     pub(crate) negated: bool,
     /// The test.
-    pub(crate) asked: Asked<'s>,
+    pub(crate) test: RawTest<'s>,
 }
 
 /// What a test is about.
@@ -167,17 +167,20 @@ fn question_at<'s>(subject: Subject<'s>, placed: &Placed<'_>) -> Option<Question
 }
 
 // Returns the test that a question and the text of a token are.
-fn asked_at<'s>(question: Question<'s>, placed: &Placed<'s>) -> Option<Asked<'s>>
-    ensures { option_map asked_of result ≡ conditions.asked_at (question_of question.entry) (placed_of placed.now) }
+fn raw_test_at<'s>(question: Question<'s>, placed: &Placed<'s>) -> Option<RawTest<'s>>
+    ensures { option_map test_reading_of result ≡ conditions.reading_at (question_of question.entry) (placed_of placed.now) }
 {
     let text = placed.text()?;
     let at = placed.at;
     match question {
-        Question::OfType => Some(Asked::OfType(text)),
-        Question::OfOtherType => Some(Asked::OfOtherType(text)),
-        Question::Key(operator) => Some(Asked::Key(Sought { operator, text, at })),
-        Question::Field(name, operator) => Some(Asked::Field(name, Sought { operator, text, at })),
-        Question::Year(comparison) => Some(Asked::Year(comparison, decimal(text)?)),
+        Question::OfType => Some(RawTest::OfType(text)),
+        Question::OfOtherType => Some(RawTest::OfOtherType(text)),
+        Question::Key(operator) => Some(RawTest::Key(RawText { operator, text, at })),
+        Question::Field(name, operator) => Some(RawTest::Field(
+            name,
+            RawText { operator, text, at },
+        )),
+        Question::Year(comparison) => Some(RawTest::Year(comparison, decimal(text)?)),
     }
 }
 
@@ -209,12 +212,12 @@ fn missing_text(question: Question<'_>) -> SelectionErrorKind
     }
 }
 
-// Returns `asked`, or an error if the segment has a token.
-fn if_ended<'s>(asked: Asked<'s>, segment: Segment<'_, 's>) -> Result<Asked<'s>, SelectionError>
-    ensures { asked_read result ≡ if_ended (asked_of asked.entry) (segment_of segment.entry) }
+// Returns `test`, or an error if the segment has a token.
+fn if_ended<'s>(test: RawTest<'s>, segment: Segment<'_, 's>) -> Result<RawTest<'s>, SelectionError>
+    ensures { test_result result ≡ if_ended (test_reading_of test.entry) (segment_of segment.entry) }
 {
     if segment.tokens.is_empty() {
-        return Ok(asked);
+        return Ok(test);
     }
     Err(segment.error(SelectionErrorKind::MissingJoint))
 }
@@ -223,25 +226,25 @@ fn if_ended<'s>(asked: Asked<'s>, segment: Segment<'_, 's>) -> Result<Asked<'s>,
 fn answer_test<'s>(
     question: Question<'s>,
     segment: Segment<'_, 's>,
-) -> Result<Asked<'s>, SelectionError>
-    ensures { asked_read result ≡
+) -> Result<RawTest<'s>, SelectionError>
+    ensures { test_result result ≡
         conditions.answer_test (question_of question.entry) (segment_of segment.entry) }
 {
     let Some(first) = segment.first() else {
         return Err(segment.error(missing_text(question)));
     };
-    let Some(asked) = asked_at(question, &first) else {
+    let Some(test) = raw_test_at(question, &first) else {
         return Err(segment.error(missing_text(question)));
     };
-    if_ended(asked, segment.rest())
+    if_ended(test, segment.rest())
 }
 
 // Returns the test that a subject and the operator and the text after it are.
 fn operator_test<'s>(
     subject: Subject<'s>,
     segment: Segment<'_, 's>,
-) -> Result<Asked<'s>, SelectionError>
-    ensures { asked_read result ≡
+) -> Result<RawTest<'s>, SelectionError>
+    ensures { test_result result ≡
         conditions.operator_test (subject_of subject.entry) (segment_of segment.entry) }
 {
     let Some(first) = segment.first() else {
@@ -254,8 +257,8 @@ fn operator_test<'s>(
 }
 
 // Returns the test that a subject, an operator and a text are.
-fn subject_test<'s>(segment: Segment<'_, 's>) -> Result<Asked<'s>, SelectionError>
-    ensures { asked_read result ≡ conditions.subject_test (segment_of segment.entry) }
+fn subject_test<'s>(segment: Segment<'_, 's>) -> Result<RawTest<'s>, SelectionError>
+    ensures { test_result result ≡ conditions.subject_test (segment_of segment.entry) }
 {
     let Some(first) = segment.first() else {
         return Err(segment.error(SelectionErrorKind::MissingTest));
@@ -267,8 +270,8 @@ fn subject_test<'s>(segment: Segment<'_, 's>) -> Result<Asked<'s>, SelectionErro
 }
 
 // Returns the test after `has`.
-fn has_test<'s>(segment: Segment<'_, 's>) -> Result<Asked<'s>, SelectionError>
-    ensures { asked_read result ≡ conditions.has_test (segment_of segment.entry) }
+fn has_test<'s>(segment: Segment<'_, 's>) -> Result<RawTest<'s>, SelectionError>
+    ensures { test_result result ≡ conditions.has_test (segment_of segment.entry) }
 {
     let Some(first) = segment.first() else {
         return Err(segment.error(SelectionErrorKind::MissingField));
@@ -276,12 +279,12 @@ fn has_test<'s>(segment: Segment<'_, 's>) -> Result<Asked<'s>, SelectionError>
     let Some(name) = first.text() else {
         return Err(segment.error(SelectionErrorKind::MissingField));
     };
-    if_ended(Asked::Has(name), segment.rest())
+    if_ended(RawTest::Has(name), segment.rest())
 }
 
 // Returns the test that all tokens of a segment are.
-fn test<'s>(segment: Segment<'_, 's>) -> Result<Asked<'s>, SelectionError>
-    ensures { asked_read result ≡ conditions.test_asked (segment_of segment.entry) }
+fn test<'s>(segment: Segment<'_, 's>) -> Result<RawTest<'s>, SelectionError>
+    ensures { test_result result ≡ conditions.test_reading (segment_of segment.entry) }
 {
     if segment.opens_with("has") {
         return has_test(segment.rest());
@@ -290,19 +293,19 @@ fn test<'s>(segment: Segment<'_, 's>) -> Result<Asked<'s>, SelectionError>
 }
 
 /// Returns the term that all tokens of a segment are: a test, or `not` and a test.
-pub(crate) fn term<'s>(segment: Segment<'_, 's>) -> Result<AskedTerm<'s>, SelectionError>
-    ensures { term_read result ≡ conditions.term_asked (segment_of segment.entry) }
+pub(crate) fn term<'s>(segment: Segment<'_, 's>) -> Result<RawTerm<'s>, SelectionError>
+    ensures { term_result result ≡ conditions.term_reading (segment_of segment.entry) }
 {
     if segment.opens_with("not") {
-        let asked = test(segment.rest())?;
-        return Ok(AskedTerm {
+        let test = test(segment.rest())?;
+        return Ok(RawTerm {
             negated: true,
-            asked,
+            test,
         });
     }
-    let asked = test(segment)?;
-    Ok(AskedTerm {
+    let test = test(segment)?;
+    Ok(RawTerm {
         negated: false,
-        asked,
+        test,
     })
 }

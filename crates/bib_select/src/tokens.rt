@@ -47,7 +47,7 @@ impl<'s> Placed<'s> {
 
     /// Returns the text of a word or between quotes.
     pub(crate) fn text(&self) -> Option<&'s str>
-        ensures { option_map (λ text. text.now) result ≡ segments.token_text (token_of self.now.token) }
+        ensures { option_map (λ text. text.now) result ≡ segments.text_in_token (token_of self.now.token) }
     {
         match self.token {
             Token::Word(text) | Token::Quoted(text) => Some(text),

@@ -2,7 +2,7 @@ use Rattle.std.proofs.Common.{ap, ◌∙◌}
 use Rattle.std.specs.Prelude.{codes}
 use Rattle.std.proofs.lemmas.List.{map-append}
 use Rattle.std.proofs.lemmas.Result.{err_from_is_err_and}
-use Rattle.bib_select.specs.Views.{asked_terms_of, segments_left}
+use Rattle.bib_select.specs.Views.{terms_reading_of, segments_left}
 use Rattle.bib_select.proofs.SegmentFacts.{left_is, read_more, read_refused}
 use Rattle.bib_select.proofs.conditions.alternatives.Goals as goal
 
@@ -15,4 +15,5 @@ returns-in_err-terms-clause-refused c =
 pub segments-preserved : goal.segments-preserved
 segments-preserved c =
     let so = left_is (ap (segments_left (codes "or")) c.in-Some.is ∙ c.cut.ensures.cut) c.segments.invariant in
-    rw (c.in_ok-push.ensures.items, map-append asked_terms_of _ _) (read_more (asked_terms_of c.in_ok-terms.field-0) so c.in_ok-terms.ensures.found)
+    rw (c.in_ok-push.ensures.items, map-append terms_reading_of _ _)
+    (read_more (terms_reading_of c.in_ok-terms.field-0) so c.in_ok-terms.ensures.found)

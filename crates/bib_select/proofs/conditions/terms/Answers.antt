@@ -2,7 +2,7 @@ use Rattle.std.proofs.Common.{ap, sym, ◌∙◌}
 use Rattle.std.specs.Prelude.{codes}
 use Rattle.std.proofs.lemmas.List.{map-append}
 use Rattle.std.proofs.lemmas.Result.{err_from_is_err_and}
-use Rattle.bib_select.specs.Views.{asked_term_of, segments_left}
+use Rattle.bib_select.specs.Views.{term_reading_of, segments_left}
 use Rattle.bib_select.proofs.SegmentFacts.{left_is, read_failed, read_more, refused_with}
 use Rattle.bib_select.proofs.conditions.terms.Goals as goal
 
@@ -15,4 +15,5 @@ returns-in_err-term-clause-refused c =
 pub segments-preserved : goal.segments-preserved
 segments-preserved c =
     let so = left_is (ap (segments_left (codes "and")) c.in-Some.is ∙ c.cut.ensures.cut) c.segments.invariant in
-    rw (c.in_ok-push.ensures.items, map-append asked_term_of _ _) (read_more (asked_term_of c.in_ok-term.field-0) so (sym c.in_ok-term.ensures))
+    rw (c.in_ok-push.ensures.items, map-append term_reading_of _ _)
+    (read_more (term_reading_of c.in_ok-term.field-0) so (sym c.in_ok-term.ensures))
