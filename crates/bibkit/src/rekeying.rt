@@ -24,12 +24,20 @@ pub struct Rekeying<'a> {
     pub is_check: bool,
 }
 
+// Returns the error of a pattern, or fails if out of memory.
+fn unless_out_of_memory(error: PatternError) -> Result<PatternError, AllocError> {
+    match error {
+        PatternError::OutOfMemory => Err(AllocError),
+        error => Ok(error),
+    }
+}
+
 // Parses a pattern. Fails with a message and status 2 for a text that is no pattern.
 fn parsed(alloc: Global, pattern: &str) -> Result<KeyPattern, Stop> {
     match KeyPattern::parse(alloc, pattern) {
         Ok(pattern) => Ok(pattern),
-        Err(PatternError::OutOfMemory) => Err(Stop::OutOfMemory),
         Err(error) => {
+            let error = unless_out_of_memory(error)?;
             let said = format!(in alloc; "bibkit: --pattern `{pattern}`: {error}\n")?;
             Err(Stop::Said(said, 2))
         }

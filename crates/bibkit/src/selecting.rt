@@ -33,14 +33,22 @@ pub struct Printed {
     pub has_keys: bool,
 }
 
+// Returns the error of a condition, or fails if out of memory.
+fn unless_out_of_memory(error: SelectionError) -> Result<SelectionError, AllocError> {
+    match error {
+        SelectionError::OutOfMemory => Err(AllocError),
+        error => Ok(error),
+    }
+}
+
 // Parses conditions. Fails with a message and status 2 for a text that is no condition.
 fn parsed(alloc: Global, conditions: &[&str]) -> Result<Vec<Selection>, Stop> {
     let mut selections = Vec::new(alloc);
     'conditions: for condition in conditions {
         match Selection::parse(alloc, *condition) {
             Ok(selection) => selections.push(selection)?,
-            Err(SelectionError::OutOfMemory) => return Err(Stop::OutOfMemory),
             Err(error) => {
+                let error = unless_out_of_memory(error)?;
                 let said = format!(in alloc; "bibkit: --where `{condition}`: {error}\n")?;
                 return Err(Stop::Said(said, 2));
             }

@@ -44,7 +44,8 @@ module _ (f g : List ℕ → List ℕ → Option (List ℕ)) (same : (field name
     (keys : ℕ → Option (List ℕ)) where
   value_same : (x : FieldReading) → renamed_value f x ≡ renamed_value g x
   value_same x =
-      ap (λ t. if is_reference_field x.name.text then t else None) (text_same (f x.name.text) (g x.name.text) (same x.name.text) x.value.pieces)
+      ap (λ t. if is_reference_field x.name.text then t else None)
+      (text_same (f x.name.text) (g x.name.text) (same x.name.text) x.value.pieces)
 
   references_same : (fields : List FieldReading) → reference_changes f fields ≡ reference_changes g fields
   references_same [] = refl

@@ -29,7 +29,8 @@ index_for_word indices name = get_by_text indices (str_to_ascii_lowercase name)
 abbrev pub index_of : Names → List ℕ → List ℕ → Option ℕ
 index_of names field name =
     first_found (index_for names.exact name)
-    (if is_word field (codes "crossref") then unless_other (index_for_word names.in_lowercase name) (index_for names.aliases name) else None)
+    (if is_word field (codes "crossref")
+    then unless_other (index_for_word names.in_lowercase name) (index_for names.aliases name) else None)
 
 -- the new key of the entry that a name in a field means, if the entry gets one
 abbrev pub name_for : Names → List ℕ → List ℕ → Option (List ℕ)

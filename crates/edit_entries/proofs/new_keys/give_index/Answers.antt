@@ -9,5 +9,6 @@ returns-then-contains_key c = λ other.
 
 pub returns : goal.returns
 returns c = λ other.
-    gets_index c.args.indices.now c.insert.new.self c.args.name.now other c.args.index (sym c.contains_key.ensures ∙ c.if-contains_key.false)
+    gets_index c.args.indices.now c.insert.new.self c.args.name.now other c.args.index
+    (sym c.contains_key.ensures ∙ c.if-contains_key.false)
     (btree_map_updates_str c.args.name.now c.args.indices.now c.insert.new.self _ c.in_ok-insert.ensures.updates other)

@@ -12,4 +12,5 @@ invariant-entries l =
     (map edit_of l.edits.items
     ≡ map (change_edit l.text) (renaming (name_for l.names) (keys_of l.names.keys) 0 (map entry_reading_of (take l.index l.entries))))
     × AllByRecursion CanBeMade (renaming (name_for l.names) (keys_of l.names.keys) 0 (map entry_reading_of (take l.index l.entries)))
-    × AllByRecursion (EndsInWhite l.text) (renaming (name_for l.names) (keys_of l.names.keys) 0 (map entry_reading_of (take l.index l.entries)))
+    × AllByRecursion (EndsInWhite l.text)
+    (renaming (name_for l.names) (keys_of l.names.keys) 0 (map entry_reading_of (take l.index l.entries)))

@@ -50,9 +50,11 @@ entries-preserved c =
                 ap (λ s. holds_name (contains_text s) name) w.set-is ∙ w.in_ok-insert_key.ensures.inserted name
                 ∙ ap (λ b. is_word key name || b) (before.0 name)
                 ∙ sym
-                (key_more entry_reading_of keys c.args.entries.now i entry c.entries-test.true c.index-entries-index.is staying key gets name),
+                (key_more entry_reading_of keys c.args.entries.now i entry c.entries-test.true c.index-entries-index.is staying key
+                gets name),
             keys_more (λ k new. has_word (staying ++ new_keys keys 0 (take k entries)) new ≡ false) keys i before.1
-                (λ new own. subst (λ n. has_word (staying ++ new_keys keys 0 (take i entries)) n ≡ false) (some_same (sym gets ∙ own)) free),
+                (λ new own.
+                subst (λ n. has_word (staying ++ new_keys keys 0 (take i entries)) n ≡ false) (some_same (sym gets ∙ own)) free),
           )
       | in_default w ↦
           let none : keys i ≡ None = sym c.at.ensures ∙ ap (option_map (λ k. k.now)) w.in_default.is in (
