@@ -8,7 +8,7 @@ use Rattle.bib_syntax.specs.Reading.{EntryReading, FieldReading}
 use Rattle.edit_entries.specs.Changes.{EntryChange, FieldChange, braced_field, edits_of_entry, edits_of_fields, field_before, name_edit}
 use Rattle.edit_entries.specs.Edits.{Edit}
 use Rattle.edit_entries.specs.Documents.{CanBeName, Document, IsDocument, has_name}
-use Rattle.edit_entries.specs.FieldEdits.{HasFitValue, edit_name, entry_edited_by, has_field, name_change, names_changed, new_field_first, selected_edited, unchanged}
+use Rattle.edit_entries.specs.FieldEdits.{HasFitValue, edit_name, entry_edited_by, has_named, name_change, names_changed, new_field_first, selected_edited, unchanged}
 use Rattle.edit_entries.specs.FieldTexts.{HaveFieldsPlaced}
 use Rattle.edit_entries.specs.Placed.{IsNamePlaced, IsPlaced}
 use Rattle.edit_entries.specs.Setting.{CanBeNewName, CanBeValue, values_set, white_before}
@@ -64,14 +64,14 @@ either_can e false x y first second = second
 edited_can : (text : List ℕ) (edit : FieldEdit) (e : EntryReading) → AllByRecursion (IsNamePlaced text) e.fields
     → CanBeNewName (edit_name edit) → HasFitValue edit → CanEntryChange e (entry_edited_by text edit e)
 edited_can text (Set name value) e placed can_name can_value =
-    either_can e (has_field name.now e) (values_set name.now value.now e) (new_field_first text name.now value.now e.fields)
+    either_can e (has_named name.now e) (values_set name.now value.now e) (new_field_first text name.now value.now e.fields)
     (set_can name.now value.now e (λ there. can_value))
     (field_first_can text name.now value.now e e.fields refl placed can_name can_value)
 edited_can text (Add name value) e placed can_name can_value =
-    either_can e (has_field name.now e) unchanged (new_field_first text name.now value.now e.fields) (unchanged_can e)
+    either_can e (has_named name.now e) unchanged (new_field_first text name.now value.now e.fields) (unchanged_can e)
     (field_first_can text name.now value.now e e.fields refl placed can_name can_value)
 edited_can text (Rename old new) e placed can_name can_value =
-    either_can e (has_field new.now e) unchanged (names_changed old.now new.now e) (unchanged_can e)
+    either_can e (has_named new.now e) unchanged (names_changed old.now new.now e) (unchanged_can e)
     (record { kind = λ name is. absurd (cc); fields = names_can old.now new.now e.fields can_name.name })
 
 -- ---- the edits
@@ -87,8 +87,8 @@ field_first_edits text name value fs first others are =
     ∙ ap (λ es. name_edit first lead ∷ es) (no_edits text others)
 
 -- an entry that has the new name of a field gets no edits
-pub names_kept : (text old new : List ℕ) (e : EntryReading) (edits : List Edit) → has_field new e ≡ true
-    → edits ≡ edits ++ edits_of_entry text e (cond (has_field new e) unchanged (names_changed old new e))
+pub names_kept : (text old new : List ℕ) (e : EntryReading) (edits : List Edit) → has_named new e ≡ true
+    → edits ≡ edits ++ edits_of_entry text e (cond (has_named new e) unchanged (names_changed old new e))
 names_kept text old new e edits has =
     sym
     (ap (λ b. edits ++ edits_of_entry text e (cond b unchanged (names_changed old new e))) has

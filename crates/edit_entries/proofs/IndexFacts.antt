@@ -63,8 +63,8 @@ gets_index old new name other index none same =
     (λ is. ap (λ n. is_some (index_for old n)) (sym ((bytes_eq-Decides name other).0 is)) ∙ none) same
 
 -- the same for names in lowercase
-pub has_word_index : {A : Type 0} (indices : BTreeMap (String A) ℕ) (low name other : List ℕ) (index : ℕ) → low ≡ str_to_ascii_lowercase name
-    → is_some (get_by_text indices low) ≡ true
+pub has_word_index : {A : Type 0} (indices : BTreeMap (String A) ℕ) (low name other : List ℕ) (index : ℕ)
+    → low ≡ str_to_ascii_lowercase name → is_some (get_by_text indices low) ≡ true
     → index_for_word indices other ≡ first_found (index_for_word indices other) (cond (is_word name other) (Some index) None)
 has_word_index indices low name other index lower some =
     stays (is_word name other) (index_for_word indices other) index
@@ -73,8 +73,8 @@ has_word_index indices low name other index lower some =
     (sym ((bytes_eq-Decides (str_to_ascii_lowercase name) (str_to_ascii_lowercase other)).0 is) ∙ sym lower)
     ∙ some)
 
-pub gets_word_index : {A : Type 0} (old new : BTreeMap (String A) ℕ) (low name other : List ℕ) (index : ℕ) → low ≡ str_to_ascii_lowercase name
-    → is_some (get_by_text old low) ≡ false
+pub gets_word_index : {A : Type 0} (old new : BTreeMap (String A) ℕ) (low name other : List ℕ) (index : ℕ)
+    → low ≡ str_to_ascii_lowercase name → is_some (get_by_text old low) ≡ false
     → index_for_word new other ≡ cond (bytes_eq low (str_to_ascii_lowercase other)) (Some index) (index_for_word old other)
     → index_for_word new other ≡ first_found (index_for_word old other) (cond (is_word name other) (Some index) None)
 gets_word_index old new low name other index lower none same =

@@ -8,8 +8,8 @@ use Rattle.bib_syntax.specs.Grammar.{is_word}
 use Rattle.bib_syntax.specs.Reading.{EntryReading, FieldReading, Piece}
 use Rattle.bib_syntax.specs.Reading.Piece.{abbreviation, literal}
 use Rattle.edit_entries.specs.Documents.{first_position, is_keyed}
-use Rattle.edit_entries.specs.NewKeys.{index_for, index_for_word, index_of, keys_of, name_for}
-use Rattle.edit_entries.specs.References.{between_white, elements_of, first_found, has_alias, has_key_word, is_renamed, key_change, key_renaming, new_name, reference_changes, renamed_element, renamed_list, renamed_text, renamed_value, renamed_where_listed, renaming, unless_other, value_change}
+use Rattle.edit_entries.specs.NewKeys.{index_for, index_for_word, index_in_names, key_for, name_for}
+use Rattle.edit_entries.specs.References.{between_white, elements_of, first_found, has_alias, has_key_word, is_renamed, key_change, key_renaming, new_reference, reference_changes, renamed_element, renamed_list, renamed_text, renamed_value, renamed_where_listed, renaming, unless_other, value_change}
 use Rattle.edit_entries.specs.declared.new_keys.Names.{Names}
 use Rattle.edit_entries.specs.declared.new_keys.NewKeys.{NewKeys}
 use Rattle.edit_entries.proofs.NameSetFacts.{any_same}
@@ -58,20 +58,20 @@ module _ (f g : List ℕ → List ℕ → Option (List ℕ)) (same : (field name
 
 -- the changes that give entries new keys, by the new names as they are looked up
 pub renaming_by : (names : Names) (keys : NewKeys) (entries : List EntryReading) → names.keys ≡ keys
-    → ((field name : List ℕ) → name_for names field name ≡ new_name entries (keys_of keys) field name)
-    → renaming (name_for names) (keys_of names.keys) 0 entries ≡ key_renaming (keys_of keys) entries
+    → ((field name : List ℕ) → name_for names field name ≡ new_reference entries (key_for keys) field name)
+    → renaming (name_for names) (key_for names.keys) 0 entries ≡ key_renaming (key_for keys) entries
 renaming_by names keys entries own same =
-    ap (λ k. renaming (name_for names) (keys_of k) 0 entries) own
-    ∙ renaming_same (name_for names) (new_name entries (keys_of keys)) same (keys_of keys) 0 entries
+    ap (λ k. renaming (name_for names) (key_for k) 0 entries) own
+    ∙ renaming_same (name_for names) (new_reference entries (key_for keys)) same (key_for keys) 0 entries
 
 -- a name that means an entry, by the indices that are found
 pub name_known : (names : Names) (entries : List EntryReading) (keys : NewKeys) (field name : List ℕ) → names.keys ≡ keys
     → index_for names.exact name ≡ first_position (is_keyed name) entries
     → index_for_word names.in_lowercase name ≡ first_position (has_key_word name) entries
     → index_for names.aliases name ≡ first_position (has_alias name) entries
-    → name_for names field name ≡ new_name entries (keys_of keys) field name
+    → name_for names field name ≡ new_reference entries (key_for keys) field name
 name_known names entries keys field name own exact words aliases =
     let crossref : Bool = is_word field (codes "crossref") in
-    ap (λ k. option_and_then (keys_of k) (index_of names field name)) own
-    ∙ ap (option_and_then (keys_of keys))
+    ap (λ k. option_and_then (key_for k) (index_in_names names field name)) own
+    ∙ ap (option_and_then (key_for keys))
     (ap₂ (λ i o. first_found i (if crossref then o else None)) exact (ap₂ unless_other words aliases))

@@ -13,7 +13,7 @@ use Rattle.bib_syntax.proofs.FieldFacts.{ahead_elements, ahead_field, ahead_gap,
 use Rattle.bib_syntax.proofs.FileFacts.{ahead_block, ahead_head, ahead_line_comment}
 use Rattle.edit_entries.specs.Edits.{edited_all}
 use Rattle.edit_entries.specs.Documents.{Document, HasEntry, IsDocument, IsEdited, first_position, is_keyed, next_index}
-use Rattle.edit_entries.specs.References.{CanBeMade, Change, KeyRenamed, KeysAreRefused, KeysRenamed, CanGetKeys, MayGetNewKeys, RenameIsRefused, change_edit, key_change, key_renaming, new_name, only, reference_changes, renamed_value, renaming, value_change}
+use Rattle.edit_entries.specs.References.{CanBeMade, Change, KeyRenamed, KeysAreRefused, KeysRenamed, CanGetKeys, MayGetNewKeys, RenameIsRefused, change_edit, key_change, key_renaming, new_reference, only, reference_changes, renamed_value, renaming, value_change}
 use Rattle.edit_entries.specs.Stretches.{AreChangesInOrder, AreEntriesPlaced, EndsInWhite, change_end, change_start}
 use Rattle.edit_entries.specs.declared.errors.EditError.{EditError}
 use Rattle.edit_entries.specs.declared.errors.EditError.TheVariants.{UnknownKey, KeyIsThere, NotAKey, NotAName, NotInBraces, DefinitionIsThere, NoFieldLeft, OutOfMemory}
@@ -179,14 +179,14 @@ have_keys d keys read can k e new here gets = key_some d k e read here (can k e 
 pieces_known : (d : Document) (keys : ℕ → Option (List ℕ)) → IsDocument d → MayGetNewKeys d.says.entries keys
     → AllByRecursion (IsPieceOf d) (key_renaming keys d.says.entries)
 pieces_known d keys read can =
-    renaming_pieces d (new_name d.says.entries keys) keys 0 d.says.entries
+    renaming_pieces d (new_reference d.says.entries keys) keys 0 d.says.entries
     (λ i x found. let same : i ≡ 0 + i = omega arith in subst (λ n. slice_get d.says.entries n ≡ Some x) same found)
     (have_keys d keys read can)
 
 pub apart_known : (d : Document) (keys : ℕ → Option (List ℕ)) → IsDocument d → MayGetNewKeys d.says.entries keys
     → AreChangesInOrder d.text 0 (key_renaming keys d.says.entries)
 apart_known d keys read can =
-    let order = file_ordered (new_name d.says.entries keys) keys 0 read in
+    let order = file_ordered (new_reference d.says.entries keys) keys 0 read in
     apart_of d 0 order.0 (key_renaming keys d.says.entries) read (pieces_known d keys read can) order.1
 
 pub entries_placed : (d : Document) → IsDocument d → AreEntriesPlaced d.text d.says.entries

@@ -24,8 +24,8 @@ new_field_first text name value [] = unchanged
 new_field_first text name value (first ∷ others) = field_put text name value first
 
 -- whether an entry has a field with a name, in any ASCII case
-abbrev pub has_field : List ℕ → EntryReading → Bool
-has_field name e = list_any (has_name name) e.fields
+abbrev pub has_named : List ℕ → EntryReading → Bool
+has_named name e = list_any (has_name name) e.fields
 
 -- the change of a field that gets a new name if it has the old one
 abbrev pub name_change : List ℕ → List ℕ → FieldReading → FieldChange
@@ -39,9 +39,9 @@ names_changed old new e = record { kind = None; fields = map (name_change old ne
 -- no field has the name; each field with the old name gets the new one, unless a field has the new name already
 abbrev pub entry_edited_by : List ℕ → FieldEdit → EntryReading → EntryChange
 entry_edited_by text (Set name value) e =
-    if has_field name.now e then values_set name.now value.now e else new_field_first text name.now value.now e.fields
-entry_edited_by text (Add name value) e = if has_field name.now e then unchanged else new_field_first text name.now value.now e.fields
-entry_edited_by text (Rename old new) e = if has_field new.now e then unchanged else names_changed old.now new.now e
+    if has_named name.now e then values_set name.now value.now e else new_field_first text name.now value.now e.fields
+entry_edited_by text (Add name value) e = if has_named name.now e then unchanged else new_field_first text name.now value.now e.fields
+entry_edited_by text (Rename old new) e = if has_named new.now e then unchanged else names_changed old.now new.now e
 
 -- the changes of entries by an edit of those with the keys of a set
 abbrev pub selected_edited : List ℕ → BTreeSet (Bor (List ℕ)) → FieldEdit → EntryReading → EntryChange

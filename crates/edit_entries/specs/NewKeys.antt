@@ -13,9 +13,9 @@ use Rattle.edit_entries.specs.declared.new_keys.NewKeys.{NewKeys}
 use Rattle.edit_entries.specs.declared.new_keys.NewKeys.TheVariants.{Each, One}
 
 -- the new keys of entries by their indices
-abbrev pub keys_of : NewKeys → ℕ → Option (List ℕ)
-keys_of (One index key) = only index key.now
-keys_of (Each keys) = given_keys keys.now
+abbrev pub key_for : NewKeys → ℕ → Option (List ℕ)
+key_for (One index key) = only index key.now
+key_for (Each keys) = given_keys keys.now
 
 -- the index that a map has for a name, if there is one
 abbrev pub index_for : BTreeMap (Bor (List ℕ)) ℕ → List ℕ → Option ℕ
@@ -26,12 +26,12 @@ abbrev pub index_for_word : {A : Type 0} → BTreeMap (String A) ℕ → List �
 index_for_word indices name = get_by_text indices (str_to_ascii_lowercase name)
 
 -- the index of the entry that a name in a field means
-abbrev pub index_of : Names → List ℕ → List ℕ → Option ℕ
-index_of names field name =
+abbrev pub index_in_names : Names → List ℕ → List ℕ → Option ℕ
+index_in_names names field name =
     first_found (index_for names.exact name)
     (if is_word field (codes "crossref")
     then unless_other (index_for_word names.in_lowercase name) (index_for names.aliases name) else None)
 
 -- the new key of the entry that a name in a field means, if the entry gets one
 abbrev pub name_for : Names → List ℕ → List ℕ → Option (List ℕ)
-name_for names field name = option_and_then (keys_of names.keys) (index_of names field name)
+name_for names field name = option_and_then (key_for names.keys) (index_in_names names field name)

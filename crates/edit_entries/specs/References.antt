@@ -54,8 +54,8 @@ meant_index entries field name =
     (if is_word field (codes "crossref") then index_in_any_case entries name else None)
 
 -- the new key of the entry that a name in a field means, if the entry gets one
-abbrev pub new_name : List EntryReading → (ℕ → Option (List ℕ)) → List ℕ → List ℕ → Option (List ℕ)
-new_name entries keys field name = option_and_then keys (meant_index entries field name)
+abbrev pub new_reference : List EntryReading → (ℕ → Option (List ℕ)) → List ℕ → List ℕ → Option (List ℕ)
+new_reference entries keys field name = option_and_then keys (meant_index entries field name)
 
 -- ---- references with new names
 
@@ -134,7 +134,7 @@ renaming names keys index (e ∷ rest) =
 
 -- the changes that give entries new keys, also in each reference to them
 abbrev pub key_renaming : (ℕ → Option (List ℕ)) → List EntryReading → List Change
-key_renaming keys entries = renaming (new_name entries keys) keys 0 entries
+key_renaming keys entries = renaming (new_reference entries keys) keys 0 entries
 
 -- the document after changes, made from the last to the first, so that the others keep their byte offsets
 pub data Changed (d : Document) : List Change → Document → Type 0 where

@@ -10,7 +10,7 @@ ghost use Rattle.edit_entries.specs.Documents.{Document, EntriesAdded, EntriesAr
 ghost use Rattle.edit_entries.specs.NewNames.{HaveNewKeys, IsFirstUnsafeKey};
 ghost use Rattle.edit_entries.specs.Changes.{IsChanged};
 ghost use Rattle.edit_entries.specs.FieldEdits.{FieldEditIsRefused, selected_edited};
-ghost use Rattle.edit_entries.specs.NewKeys.{keys_of};
+ghost use Rattle.edit_entries.specs.NewKeys.{key_for};
 ghost use Rattle.edit_entries.specs.References.{KeyRenamed, KeysAreRefused, KeysRenamed, RenameIsRefused, given_keys};
 ghost use Rattle.edit_entries.specs.Setting.{FieldSet, SetIsRefused};
 
@@ -133,8 +133,8 @@ impl<'s> RawDocument<'s> {
 
     // Returns the text with new keys of entries, also in each reference to them.
     fn with_keys(&self, alloc: Global, keys: NewKeys<'_>) -> Result<String, EditError>
-        ensures renamed { IfOk result (λ text. IsEdited (KeysRenamed self.now (keys_of keys.entry)) (string_bytes text)) }
-        ensures refused { IfErr result (KeysAreRefused self.now (keys_of keys.entry)) }
+        ensures renamed { IfOk result (λ text. IsEdited (KeysRenamed self.now (key_for keys.entry)) (string_bytes text)) }
+        ensures refused { IfErr result (KeysAreRefused self.now (key_for keys.entry)) }
     {
         let entries = &self.raw.entries;
         if !may_get_keys(entries, &keys) {

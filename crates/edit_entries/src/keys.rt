@@ -3,7 +3,7 @@
 ghost use Rattle.std.specs.Prelude.{◌≡◌, ℕ, List, MatchBool, MatchOption, Some, map, option_map};
 ghost use Rattle.bib_syntax.specs.Views.{entry_reading_of};
 ghost use Rattle.edit_entries.specs.NewNames as spec;
-ghost use Rattle.edit_entries.specs.NewKeys.{keys_of};
+ghost use Rattle.edit_entries.specs.NewKeys.{key_for};
 ghost use Rattle.edit_entries.specs.NewNames.{CanBeNewKey, HaveNewKeys, IsFirstUnsafeKey};
 ghost use Rattle.edit_entries.specs.References.{IsNoNewKey, MayGetKey, MayGetNewKeys};
 
@@ -82,8 +82,8 @@ fn may_get_key(entry: &Spanned<RawEntry<'_>>, new: Option<&str>) -> bool
 // Returns whether each entry that gets a new key may get it.
 pub(crate) fn may_get_keys(entries: &[Spanned<RawEntry<'_>>], keys: &NewKeys<'_>) -> bool
     ensures { MatchBool result
-        (MayGetNewKeys (map entry_reading_of entries.now) (keys_of keys.now))
-        (IsNoNewKey (map entry_reading_of entries.now) (keys_of keys.now)) }
+        (MayGetNewKeys (map entry_reading_of entries.now) (key_for keys.now))
+        (IsNoNewKey (map entry_reading_of entries.now) (key_for keys.now)) }
 {
     'entries: for (index, entry) in entries.iter().enumerate() {
         let may = may_get_key(entry, keys.at(index));

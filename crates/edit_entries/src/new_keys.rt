@@ -5,10 +5,10 @@ ghost use Rattle.bib_queries.specs.Needed.{is_listed};
 ghost use Rattle.bib_syntax.specs.Grammar.{is_word};
 ghost use Rattle.bib_syntax.specs.Views.{entry_reading_of};
 ghost use Rattle.edit_entries.specs.Documents.{first_position, is_keyed};
-ghost use Rattle.edit_entries.specs.NewKeys.{index_for, index_for_word, keys_of, name_for};
+ghost use Rattle.edit_entries.specs.NewKeys.{index_for, index_for_word, key_for, name_for};
 ghost use Rattle.edit_entries.specs.NewKeys as spec;
 ghost use Rattle.edit_entries.specs.References as references;
-ghost use Rattle.edit_entries.specs.References.{first_found, has_alias, has_key_word, new_name};
+ghost use Rattle.edit_entries.specs.References.{first_found, has_alias, has_key_word, new_reference};
 
 use bib_queries::names::entry_names;
 use bib_syntax::raw::{RawEntry, is_word};
@@ -28,7 +28,7 @@ pub(crate) enum NewKeys<'k> {
 impl<'k> NewKeys<'k> {
     // Returns the new key of the entry at an index, if it gets one.
     pub(crate) fn at(&self, index: usize) -> Option<&'k str>
-        ensures { option_map (λ k. k.now) result ≡ keys_of self.now index }
+        ensures { option_map (λ k. k.now) result ≡ key_for self.now index }
     {
         match self {
             NewKeys::One(renamed, key) => { if index == *renamed { Some(*key) } else { None } }
@@ -180,7 +180,7 @@ impl<'k, 's> Names<'k, 's> {
     ) -> Result<Self, AllocError>
         ensures keys { IfOk result (λ names. names.keys ≡ keys.entry) }
         ensures names { IfOk result (λ names. (field name : List ℕ) →
-            name_for names field name ≡ new_name (map entry_reading_of entries.now) (keys_of keys.entry) field name) }
+            name_for names field name ≡ new_reference (map entry_reading_of entries.now) (key_for keys.entry) field name) }
     {
         Ok(Names {
             keys,
@@ -192,7 +192,7 @@ impl<'k, 's> Names<'k, 's> {
 
     // Returns the index of the entry that a name in a field means, if there is one.
     fn index_of(&self, alloc: Global, field: &str, name: &str) -> Result<Option<usize>, AllocError>
-        ensures { IfOk result (λ index. index ≡ spec.index_of self.now field.now name.now) }
+        ensures { IfOk result (λ index. index ≡ spec.index_in_names self.now field.now name.now) }
     {
         if let Some(index) = self.exact.get(name) {
             return Ok(Some(*index));

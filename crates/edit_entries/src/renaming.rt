@@ -9,7 +9,7 @@ ghost use Rattle.edit_entries.specs.Edits as spec;
 ghost use Rattle.edit_entries.specs.Placed.{IsPlaced};
 ghost use Rattle.edit_entries.specs.References.{CanBeMade, Change, change_edit, key_change, key_renaming, reference_changes, renamed_value, renaming, value_change};
 ghost use Rattle.edit_entries.specs.EditList.{edit_of};
-ghost use Rattle.edit_entries.specs.NewKeys.{keys_of, name_for};
+ghost use Rattle.edit_entries.specs.NewKeys.{key_for, name_for};
 ghost use Rattle.edit_entries.specs.Stretches.{AreChangesInOrder, AreEntriesPlaced, AreValuesPlaced, EndsInWhite};
 ghost use Rattle.edit_entries.specs.declared.errors.EditError.TheVariants.{NotInBraces, OutOfMemory};
 
@@ -120,13 +120,13 @@ fn renaming_edits(
     names: &Names<'_, '_>,
 ) -> Result<Vec<Edit>, EditError>
     requires placed { AreEntriesPlaced text.now (map entry_reading_of entries.now) }
-    requires keys { (k : ℕ) (new : List ℕ) → k < length entries.now → keys_of names.now.keys k ≡ Some new → CanBeKey new }
+    requires keys { (k : ℕ) (new : List ℕ) → k < length entries.now → key_for names.now.keys k ≡ Some new → CanBeKey new }
     ensures edits { IfOk result (λ edits. map edit_of edits.items ≡
-        map (change_edit text.now) (renaming (name_for names.now) (keys_of names.now.keys) 0 (map entry_reading_of entries.now))) }
-    ensures can { OnOk result (AllByRecursion CanBeMade (renaming (name_for names.now) (keys_of names.now.keys) 0 (map entry_reading_of entries.now))) }
-    ensures white { OnOk result (AllByRecursion (EndsInWhite text.now) (renaming (name_for names.now) (keys_of names.now.keys) 0 (map entry_reading_of entries.now))) }
+        map (change_edit text.now) (renaming (name_for names.now) (key_for names.now.keys) 0 (map entry_reading_of entries.now))) }
+    ensures can { OnOk result (AllByRecursion CanBeMade (renaming (name_for names.now) (key_for names.now.keys) 0 (map entry_reading_of entries.now))) }
+    ensures white { OnOk result (AllByRecursion (EndsInWhite text.now) (renaming (name_for names.now) (key_for names.now.keys) 0 (map entry_reading_of entries.now))) }
     ensures refused { IfErr result (λ e. (e ≡ OutOfMemory) ⊎ ((e ≡ NotInBraces) ×
-        (AllByRecursion CanBeMade (renaming (name_for names.now) (keys_of names.now.keys) 0 (map entry_reading_of entries.now)) → ⊥))) }
+        (AllByRecursion CanBeMade (renaming (name_for names.now) (key_for names.now.keys) 0 (map entry_reading_of entries.now)) → ⊥))) }
 {
     let mut edits = Vec::new(alloc);
     'entries: for (index, entry) in entries.iter().enumerate() {
@@ -144,14 +144,14 @@ pub(crate) fn with_new_keys(
     keys: NewKeys<'_>,
 ) -> Result<String, EditError>
     requires placed { AreEntriesPlaced text.now (map entry_reading_of entries.now) }
-    requires keys { (k : ℕ) (new : List ℕ) → k < length entries.now → keys_of keys k ≡ Some new → CanBeKey new }
-    requires apart { AreChangesInOrder text.now 0 (key_renaming (keys_of keys) (map entry_reading_of entries.now)) }
+    requires keys { (k : ℕ) (new : List ℕ) → k < length entries.now → key_for keys k ≡ Some new → CanBeKey new }
+    requires apart { AreChangesInOrder text.now 0 (key_renaming (key_for keys) (map entry_reading_of entries.now)) }
     ensures text { IfOk result (λ made. string_bytes made ≡
-        spec.edited_all (map (change_edit text.now) (key_renaming (keys_of keys.entry) (map entry_reading_of entries.now))) text.now) }
-    ensures can { OnOk result (AllByRecursion CanBeMade (key_renaming (keys_of keys.entry) (map entry_reading_of entries.now))) }
-    ensures white { OnOk result (AllByRecursion (EndsInWhite text.now) (key_renaming (keys_of keys.entry) (map entry_reading_of entries.now))) }
+        spec.edited_all (map (change_edit text.now) (key_renaming (key_for keys.entry) (map entry_reading_of entries.now))) text.now) }
+    ensures can { OnOk result (AllByRecursion CanBeMade (key_renaming (key_for keys.entry) (map entry_reading_of entries.now))) }
+    ensures white { OnOk result (AllByRecursion (EndsInWhite text.now) (key_renaming (key_for keys.entry) (map entry_reading_of entries.now))) }
     ensures refused { IfErr result (λ e. (e ≡ OutOfMemory) ⊎ ((e ≡ NotInBraces) ×
-        (AllByRecursion CanBeMade (key_renaming (keys_of keys.entry) (map entry_reading_of entries.now)) → ⊥))) }
+        (AllByRecursion CanBeMade (key_renaming (key_for keys.entry) (map entry_reading_of entries.now)) → ⊥))) }
 {
     let names = Names::new(alloc, entries, keys)?;
     let edits = renaming_edits(alloc, text, entries, &names)?;

@@ -5,7 +5,7 @@ ghost use Rattle.std.specs.BTreeSet.{contains_text};
 ghost use Rattle.bib_syntax.specs.Grammar.{is_word};
 ghost use Rattle.bib_syntax.specs.Views.{entry_reading_of};
 ghost use Rattle.edit_entries.specs.NameSets.{holds_name};
-ghost use Rattle.edit_entries.specs.NewKeys.{keys_of};
+ghost use Rattle.edit_entries.specs.NewKeys.{key_for};
 ghost use Rattle.edit_entries.specs.NewNames.{IsNewKeyTaken, has_word, kept_names, staying_names};
 
 use crate::joining::insert_names;
@@ -40,7 +40,7 @@ fn staying_set(
     keys: &NewKeys<'_>,
 ) -> Result<BTreeSet<String>, AllocError>
     ensures { IfOk result (λ set. (name : List ℕ) → holds_name (contains_text set) name ≡
-        has_word (staying_names (keys_of keys.now) 0 (map entry_reading_of entries.now)) name) }
+        has_word (staying_names (key_for keys.now) 0 (map entry_reading_of entries.now)) name) }
 {
     let mut set = BTreeSet::new(alloc);
     'entries: for (index, entry) in entries.iter().enumerate() {
@@ -66,8 +66,8 @@ pub(crate) fn is_new_key_taken(
     keys: &NewKeys<'_>,
 ) -> Result<bool, AllocError>
     ensures { IfOk result (λ taken. MatchBool taken
-        (IsNewKeyTaken (map entry_reading_of entries.now) (keys_of keys.now))
-        (IsNewKeyTaken (map entry_reading_of entries.now) (keys_of keys.now) → ⊥)) }
+        (IsNewKeyTaken (map entry_reading_of entries.now) (key_for keys.now))
+        (IsNewKeyTaken (map entry_reading_of entries.now) (key_for keys.now) → ⊥)) }
 {
     let mut set = staying_set(alloc, entries, keys)?;
     'entries: for (index, _) in entries.iter().enumerate() {

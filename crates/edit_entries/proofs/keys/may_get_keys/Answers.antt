@@ -1,7 +1,7 @@
 use Rattle.std.proofs.Common.{◌≡◌, ◌∙◌, ℕ, List, Some, map, sym, arith}
 use Rattle.std.proofs.lemmas.List.{length-map}
 use Rattle.bib_syntax.specs.Views.{entry_reading_of}
-use Rattle.edit_entries.specs.NewKeys.{keys_of}
+use Rattle.edit_entries.specs.NewKeys.{key_for}
 use Rattle.edit_entries.specs.References.{MayGetKey}
 use Rattle.edit_entries.proofs.KeyFacts.{on_no, on_yes}
 use Rattle.edit_entries.proofs.PositionFacts.{slice_get-map}
@@ -24,7 +24,7 @@ returns-then-not-may c =
 pub entries-preserved : goal.entries-preserved
 entries-preserved c =
     let known = on_yes _ _ c.may_get_key-may.result c.if-not-may.false c.may_get_key-may.ensures in
-    each_more (λ k e. (new : List ℕ) → keys_of c.args.keys.now k ≡ Some new → MayGetKey e new) entry_reading_of
+    each_more (λ k e. (new : List ℕ) → key_for c.args.keys.now k ≡ Some new → MayGetKey e new) entry_reading_of
     c.args.entries.now c.entries.index c.index-entries-index.result c.entries-test.true c.index-entries-index.is
     c.entries.invariant (λ new gets. known new (c.at.ensures ∙ gets))
 

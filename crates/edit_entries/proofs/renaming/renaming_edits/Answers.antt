@@ -2,7 +2,7 @@ use Rattle.std.proofs.Common.{◌++◌, map, take, sym, ap, ◌∙◌, subst}
 use Rattle.std.specs.List.{AllByRecursion}
 use Rattle.std.proofs.lemmas.Result.{err_from_is_err_and}
 use Rattle.bib_syntax.specs.Views.{entry_reading_of, field_of}
-use Rattle.edit_entries.specs.NewKeys.{keys_of, name_for}
+use Rattle.edit_entries.specs.NewKeys.{key_for, name_for}
 use Rattle.edit_entries.specs.References.{CanBeMade, change_edit, key_change, reference_changes, renaming}
 use Rattle.edit_entries.specs.EditList.{edit_of}
 use Rattle.edit_entries.specs.Stretches.{AreValuesPlaced, EndsInWhite}
@@ -24,7 +24,7 @@ returns-in_err-push_reference_edits-clause-refused c =
     let p = err_from_is_err_and c.from_residual-in_err-push_reference_edits.result c.from_residual-in_err-push_reference_edits.ensures.1 in
     let entry = c.index-entries-index.result in
     let names = name_for c.args.names.now in
-    let keys = keys_of c.args.names.now.keys in
+    let keys = key_for c.args.names.now.keys in
     let part =
     λ (all : AllByRecursion CanBeMade (renaming names keys 0 (map entry_reading_of c.args.entries.now))).
     subst (λ fs. AllByRecursion CanBeMade (reference_changes names (map field_of fs))) (sym c.deref.ensures.value)
@@ -38,7 +38,7 @@ returns-in_err-push_reference_edits-clause-refused c =
 pub entries-preserved : goal.entries-preserved
 entries-preserved c =
     let names = name_for c.args.names.now in
-    let keys = keys_of c.args.names.now.keys in
+    let keys = key_for c.args.names.now.keys in
     let text = c.args.text.now in
     let entry = c.index-entries-index.result in
     let e = entry_reading_of entry in

@@ -4,7 +4,7 @@ use Rattle.std.proofs.lemmas.Result.{err_from_is_err_and}
 use Rattle.bib_syntax.specs.Views.{entry_reading_of}
 use Rattle.edit_entries.specs.EditList.{AreEditsInOrder, edit_of}
 use Rattle.edit_entries.specs.Edits.{edited_all}
-use Rattle.edit_entries.specs.NewKeys.{keys_of, name_for}
+use Rattle.edit_entries.specs.NewKeys.{key_for, name_for}
 use Rattle.edit_entries.specs.References.{CanBeMade, change_edit, key_renaming, renaming}
 use Rattle.edit_entries.specs.Stretches.{AreChangesInOrder, EndsInWhite}
 use Rattle.edit_entries.proofs.ChangeListFacts.{in_order, refused_more}
@@ -13,7 +13,7 @@ use Rattle.edit_entries.proofs.renaming.with_new_keys.Goals as goal
 
 pub renaming_edits-requires-clause-keys : goal.renaming_edits-requires-clause-keys
 renaming_edits-requires-clause-keys c = λ k new below gets.
-    c.requires.keys k new below (sym (ap (λ keys. keys_of keys k) c.in_ok-names.ensures.keys) ∙ gets)
+    c.requires.keys k new below (sym (ap (λ keys. key_for keys k) c.in_ok-names.ensures.keys) ∙ gets)
 
 pub returns-in_err-edits-clause-refused : goal.returns-in_err-edits-clause-refused
 returns-in_err-edits-clause-refused c =
@@ -21,14 +21,14 @@ returns-in_err-edits-clause-refused c =
     let entries = map entry_reading_of c.args.entries.now in
     let same = renaming_by c.in_ok-names.names c.args.keys entries c.in_ok-names.ensures.keys c.in_ok-names.ensures.names in
     rw (p.1, p.2) (refused_more
-    (AllByRecursion CanBeMade (renaming (name_for c.in_ok-names.names) (keys_of c.in_ok-names.names.keys) 0 entries))
-    (AllByRecursion CanBeMade (key_renaming (keys_of c.args.keys) entries)) _
+    (AllByRecursion CanBeMade (renaming (name_for c.in_ok-names.names) (key_for c.in_ok-names.names.keys) 0 entries))
+    (AllByRecursion CanBeMade (key_renaming (key_for c.args.keys) entries)) _
     (subst (AllByRecursion CanBeMade) (sym same)) c.in_err-edits.ensures.refused)
 
 pub edited_all-requires : goal.edited_all-requires
 edited_all-requires c =
     let entries = map entry_reading_of c.args.entries.now in
-    let changes = renaming (name_for c.in_ok-names.names) (keys_of c.in_ok-names.names.keys) 0 entries in
+    let changes = renaming (name_for c.in_ok-names.names) (key_for c.in_ok-names.names.keys) 0 entries in
     let same = renaming_by c.in_ok-names.names c.args.keys entries c.in_ok-names.ensures.keys c.in_ok-names.ensures.names in
     subst (AreEditsInOrder c.args.text.now 0) (sym (ap (map edit_of) c.deref.ensures.value ∙ c.in_ok-edits.ensures.edits))
     (in_order c.args.text.now 0 changes (subst (AreChangesInOrder c.args.text.now 0) (sym same) c.requires.apart)

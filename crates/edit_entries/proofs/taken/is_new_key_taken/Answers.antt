@@ -6,7 +6,7 @@ use Rattle.bib_text.proofs.ListFacts.{some_same}
 use Rattle.bib_syntax.specs.Grammar.{is_word}
 use Rattle.bib_syntax.specs.Views.{entry_reading_of}
 use Rattle.edit_entries.specs.NameSets.{holds_name}
-use Rattle.edit_entries.specs.NewKeys.{keys_of}
+use Rattle.edit_entries.specs.NewKeys.{key_for}
 use Rattle.edit_entries.specs.NewNames.{has_word, new_keys, staying_names}
 use Rattle.edit_entries.proofs.PositionFacts.{slice_get-map}
 use Rattle.edit_entries.proofs.TakenFacts.{key_more, keys_more, no_key_more, none_taken}
@@ -15,7 +15,7 @@ use Rattle.edit_entries.proofs.taken.is_new_key_taken.Goals.{in-Some+in_ok-inser
 
 pub returns-then-branch : goal.returns-then-branch
 returns-then-branch c =
-    let keys = keys_of c.args.keys.now in
+    let keys = key_for c.args.keys.now in
     let staying = staying_names keys 0 (map entry_reading_of c.args.entries.now) in
     let i = c.entries.index in
     record {
@@ -32,7 +32,7 @@ returns-then-branch c =
 
 pub entries-preserved : goal.entries-preserved
 entries-preserved c =
-    let keys = keys_of c.args.keys.now in
+    let keys = key_for c.args.keys.now in
     let entries = map entry_reading_of c.args.entries.now in
     let staying = staying_names keys 0 entries in
     let i = c.entries.index in
@@ -69,6 +69,6 @@ entries-preserved c =
 
 pub returns : goal.returns
 returns c =
-    none_taken (map entry_reading_of c.args.entries.now) (keys_of c.args.keys.now)
+    none_taken (map entry_reading_of c.args.entries.now) (key_for c.args.keys.now)
     (λ k new below gets.
     c.entries.invariant.1 k new (omega (arith, below, length-map c.args.entries.now entry_reading_of)) gets)

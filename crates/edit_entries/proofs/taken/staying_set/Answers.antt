@@ -1,7 +1,7 @@
 use Rattle.std.proofs.Common.{◌∙◌, ◌||◌, ap, ap₂, sym}
 use Rattle.std.specs.Prelude.{is_some}
 use Rattle.bib_syntax.specs.Views.{entry_reading_of}
-use Rattle.edit_entries.specs.NewKeys.{keys_of}
+use Rattle.edit_entries.specs.NewKeys.{key_for}
 use Rattle.edit_entries.specs.NewNames.{has_word, kept_names}
 use Rattle.edit_entries.proofs.IndexFacts.{some_map}
 use Rattle.edit_entries.proofs.TakenFacts.{staying_more}
@@ -14,5 +14,5 @@ entries-preserved c = λ name.
     c.in_ok-insert_staying.ensures name
     ∙ ap₂ (λ b o. has_word (kept_names b e) name || o) gets (c.entries.invariant name)
     ∙ sym
-    (staying_more entry_reading_of (keys_of c.args.keys.now) c.args.entries.now c.entries.index c.index-entries-index.result
+    (staying_more entry_reading_of (key_for c.args.keys.now) c.args.entries.now c.entries.index c.index-entries-index.result
     c.entries-test.true c.index-entries-index.is name)

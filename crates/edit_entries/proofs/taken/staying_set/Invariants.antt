@@ -2,7 +2,7 @@ use Rattle.std.proofs.Common.{◌≡◌, ℕ, List, map, take}
 use Rattle.std.specs.BTreeSet.{contains_text}
 use Rattle.bib_syntax.specs.Views.{entry_reading_of}
 use Rattle.edit_entries.specs.NameSets.{holds_name}
-use Rattle.edit_entries.specs.NewKeys.{keys_of}
+use Rattle.edit_entries.specs.NewKeys.{key_for}
 use Rattle.edit_entries.specs.NewNames.{has_word, staying_names}
 use Rattle.edit_entries.proofs.taken.staying_set.Given as goal
 
@@ -10,4 +10,4 @@ use Rattle.edit_entries.proofs.taken.staying_set.Given as goal
 abbrev pub invariant-entries : goal.invariant-entries
 invariant-entries l =
     (name : List ℕ) → holds_name (contains_text l.set) name
-    ≡ has_word (staying_names (keys_of l.keys) 0 (map entry_reading_of (take l.index l.entries))) name
+    ≡ has_word (staying_names (key_for l.keys) 0 (map entry_reading_of (take l.index l.entries))) name

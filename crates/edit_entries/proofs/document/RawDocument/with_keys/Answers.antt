@@ -4,7 +4,7 @@ use Rattle.std.specs.String.{string_bytes}
 use Rattle.std.proofs.lemmas.List.{length-map}
 use Rattle.bib_syntax.specs.Views.{entry_reading_of, file_of}
 use Rattle.edit_entries.specs.Documents.{Document, IsEdited}
-use Rattle.edit_entries.specs.NewKeys.{keys_of}
+use Rattle.edit_entries.specs.NewKeys.{key_for}
 use Rattle.edit_entries.specs.NewNames.{IsNewKeyTaken}
 use Rattle.edit_entries.specs.References.{CanGetKeys, KeysAreRefused, KeysRenamed, MayGetNewKeys, key_renaming}
 use Rattle.edit_entries.specs.Stretches.{AreChangesInOrder, AreEntriesPlaced}
@@ -22,8 +22,8 @@ with_new_keys-requires-clause-placed c =
 pub with_new_keys-requires-clause-keys : goal.with_new_keys-requires-clause-keys
 with_new_keys-requires-clause-keys c = λ k new below gets.
     let d : Document = record { text = c.self.inside.text.now; says = file_of c.self.inside.raw } in
-    let may : MayGetNewKeys d.says.entries (keys_of c.args.keys) =
-    subst (λ es. MayGetNewKeys (map entry_reading_of es) (keys_of c.args.keys)) c.deref.ensures.value c.if-not-may_get_keys.ensures in
+    let may : MayGetNewKeys d.says.entries (key_for c.args.keys) =
+    subst (λ es. MayGetNewKeys (map entry_reading_of es) (key_for c.args.keys)) c.deref.ensures.value c.if-not-may_get_keys.ensures in
     let size = ap length c.deref-3.ensures.value in
     let found =
     found_at d.says.entries k (omega (arith, below, size, length-map c.self.inside.raw.entries.items entry_reading_of)) in
@@ -32,23 +32,23 @@ with_new_keys-requires-clause-keys c = λ k new below gets.
 pub with_new_keys-requires-clause-apart : goal.with_new_keys-requires-clause-apart
 with_new_keys-requires-clause-apart c =
     let d : Document = record { text = c.self.inside.text.now; says = file_of c.self.inside.raw } in
-    let may : MayGetNewKeys d.says.entries (keys_of c.args.keys) =
-    subst (λ es. MayGetNewKeys (map entry_reading_of es) (keys_of c.args.keys)) c.deref.ensures.value c.if-not-may_get_keys.ensures in
-    subst (λ es. AreChangesInOrder c.self.inside.text.now 0 (key_renaming (keys_of c.args.keys) (map entry_reading_of es)))
-    (sym c.deref-3.ensures.value) (apart_known d (keys_of c.args.keys) c.self.invariant may)
+    let may : MayGetNewKeys d.says.entries (key_for c.args.keys) =
+    subst (λ es. MayGetNewKeys (map entry_reading_of es) (key_for c.args.keys)) c.deref.ensures.value c.if-not-may_get_keys.ensures in
+    subst (λ es. AreChangesInOrder c.self.inside.text.now 0 (key_renaming (key_for c.args.keys) (map entry_reading_of es)))
+    (sym c.deref-3.ensures.value) (apart_known d (key_for c.args.keys) c.self.invariant may)
 
 pub returns-clause-renamed : goal.returns-clause-renamed
 returns-clause-renamed c =
     let d : Document = record { text = c.self.inside.text.now; says = file_of c.self.inside.raw } in
     let seen : d ≡ c.args.self.now = c.self.view_is in
-    let can : CanGetKeys d.says.entries (keys_of c.args.keys) = record {
-      may = subst (λ es. MayGetNewKeys (map entry_reading_of es) (keys_of c.args.keys)) c.deref.ensures.value c.if-not-may_get_keys.ensures;
+    let can : CanGetKeys d.says.entries (key_for c.args.keys) = record {
+      may = subst (λ es. MayGetNewKeys (map entry_reading_of es) (key_for c.args.keys)) c.deref.ensures.value c.if-not-may_get_keys.ensures;
       free =
-          subst (λ es. IsNewKeyTaken (map entry_reading_of es) (keys_of c.args.keys) → ⊥) c.deref-2.ensures.value
+          subst (λ es. IsNewKeyTaken (map entry_reading_of es) (key_for c.args.keys) → ⊥) c.deref-2.ensures.value
           (on_no _ _ c.in_ok-is_new_key_taken.field-0 c.if-branch.false c.in_ok-is_new_key_taken.ensures);
     } in
-    subst (λ x. IfOk c.with_new_keys.result (λ text. IsEdited (KeysRenamed x (keys_of c.args.keys)) (string_bytes text))) seen
-    (renamed_answer string_bytes d (map entry_reading_of c.deref-3.result.now) (keys_of c.args.keys) c.with_new_keys.result
+    subst (λ x. IfOk c.with_new_keys.result (λ text. IsEdited (KeysRenamed x (key_for c.args.keys)) (string_bytes text))) seen
+    (renamed_answer string_bytes d (map entry_reading_of c.deref-3.result.now) (key_for c.args.keys) c.with_new_keys.result
     c.self.invariant (ap (map entry_reading_of) c.deref-3.ensures.value) can
     c.with_new_keys.ensures.text c.with_new_keys.ensures.can c.with_new_keys.ensures.white)
 
@@ -56,12 +56,12 @@ pub returns-clause-refused : goal.returns-clause-refused
 returns-clause-refused c =
     let d : Document = record { text = c.self.inside.text.now; says = file_of c.self.inside.raw } in
     let seen : d ≡ c.args.self.now = c.self.view_is in
-    let can : CanGetKeys d.says.entries (keys_of c.args.keys) = record {
-      may = subst (λ es. MayGetNewKeys (map entry_reading_of es) (keys_of c.args.keys)) c.deref.ensures.value c.if-not-may_get_keys.ensures;
+    let can : CanGetKeys d.says.entries (key_for c.args.keys) = record {
+      may = subst (λ es. MayGetNewKeys (map entry_reading_of es) (key_for c.args.keys)) c.deref.ensures.value c.if-not-may_get_keys.ensures;
       free =
-          subst (λ es. IsNewKeyTaken (map entry_reading_of es) (keys_of c.args.keys) → ⊥) c.deref-2.ensures.value
+          subst (λ es. IsNewKeyTaken (map entry_reading_of es) (key_for c.args.keys) → ⊥) c.deref-2.ensures.value
           (on_no _ _ c.in_ok-is_new_key_taken.field-0 c.if-branch.false c.in_ok-is_new_key_taken.ensures);
     } in
-    subst (λ x. IfErr c.with_new_keys.result (KeysAreRefused x (keys_of c.args.keys))) seen
-    (renamed_refusal d (map entry_reading_of c.deref-3.result.now) (keys_of c.args.keys) c.with_new_keys.result
+    subst (λ x. IfErr c.with_new_keys.result (KeysAreRefused x (key_for c.args.keys))) seen
+    (renamed_refusal d (map entry_reading_of c.deref-3.result.now) (key_for c.args.keys) c.with_new_keys.result
     (ap (map entry_reading_of) c.deref-3.ensures.value) can c.with_new_keys.ensures.refused)
