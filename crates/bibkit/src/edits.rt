@@ -214,7 +214,12 @@ fn refusal_message(
             after_mark(bytes),
             *definition,
         ),
-        Refusal::Unresolved { entry, .. } => unresolved_line(alloc, name, after_mark(bytes), *entry),
+        Refusal::Unresolved { entry, .. } => unresolved_line(
+            alloc,
+            name,
+            after_mark(bytes),
+            *entry,
+        ),
         Refusal::OutOfMemory => String::from_str(alloc, "bibkit: out of memory\n"),
     }
 }
