@@ -12,11 +12,7 @@ pub struct Resolutions;
 // Why a text is refused.
 fn refusal(alloc: Global, error: ResolveError) -> Result<String, AllocError> {
     match error {
-        ResolveError::File(error) => {
-            format!(in alloc; "refused: {}..{} {}", error.span.start, error.span.end, error.kind)
-        }
-        ResolveError::Differs { entry, name } => format!(in alloc; "refused: entry {} differs in {}", entry, name.as_str()),
-        ResolveError::Unlike => String::from_str(alloc, "refused: unlike"),
+        ResolveError::Cycle(index) => format!(in alloc; "refused: cycle at entry {}", index),
         ResolveError::OutOfMemory => Err(AllocError),
     }
 }

@@ -17,9 +17,9 @@ use Rattle.bib_collections.proofs.Work.{as_one, times_from_contains}
 use Rattle.bib_syntax.specs.Reading.{EntryReading}
 use Rattle.edit_resolve.specs.Errors.{resolve_error}
 use Rattle.edit_resolve.specs.Inheritance.{read_name}
-use Rattle.edit_resolve.specs.Parents.{entry_at, no_entry, parent_graph, parents, type_of}
+use Rattle.edit_resolve.specs.Parents.{entry_at, no_reading, parent_graph, parents, type_of}
 use Rattle.edit_resolve.specs.Resolved.{IsResolveError, Named, as_itself, fields_along, new_fields, offers}
-use Rattle.edit_resolve.specs.Working.{AreAlong, fields_at, lists_of, named_of, with_inherited}
+use Rattle.edit_resolve.specs.Working.{AreAlong, fields_at, parent_lists, named_of, with_inherited}
 use Rattle.edit_resolve.specs.declared.errors.ResolveError.{ResolveError}
 use Rattle.edit_resolve.specs.declared.gathering.Named.{Named as NamedField}
 use Rattle.edit_resolve.specs.declared.parents.Parent.{Parent}
@@ -52,7 +52,7 @@ IsAlongTo entries order k fields = (i most : ℕ) → Contains (take k order) i 
 module _ (entries : List EntryReading) (order : List ℕ) (sorted : IsTopologicalOrder (parent_graph entries) order) where
   graph_row : (index : ℕ) → index < length entries
       → refs_of (parent_graph entries) index ≡ map (λ p. p.index) (parents entries (entry_at entries index))
-  graph_row index within = map_at (λ e. map (λ p. p.index) (parents entries e)) entries index no_entry [] within
+  graph_row index within = map_at (λ e. map (λ p. p.index) (parents entries e)) entries index no_reading [] within
 
   -- each index of the order is that of an entry
   pub turn_within : (k : ℕ) → k < length order → get_or order k 0 < length entries
@@ -145,12 +145,12 @@ row_kept (x ∷ xs) (suc index) row (suc i) other = row_kept xs index row i (λ 
 
 -- the parents of the entry at an index, in the vectors of the code
 pub row_found : (entries : List EntryReading) (rows : List (Vec Parent)) (i : ℕ)
-    → lists_of rows ≡ map (parents entries) entries → i < length entries
-    → get_or (lists_of rows) i [] ≡ parents entries (entry_at entries i)
+    → parent_lists rows ≡ map (parents entries) entries → i < length entries
+    → get_or (parent_lists rows) i [] ≡ parents entries (entry_at entries i)
 row_found entries rows i are within =
-    ap (λ l. get_or l i []) are ∙ map_at (parents entries) entries i no_entry [] within
+    ap (λ l. get_or l i []) are ∙ map_at (parents entries) entries i no_reading [] within
 
-pub rows_count : (entries : List EntryReading) (rows : List (Vec Parent)) → lists_of rows ≡ map (parents entries) entries
+pub rows_count : (entries : List EntryReading) (rows : List (Vec Parent)) → parent_lists rows ≡ map (parents entries) entries
     → length rows ≡ length entries
 rows_count entries rows are =
     sym (length-map rows (λ r. r.items)) ∙ ap length are ∙ length-map entries (parents entries)

@@ -8,14 +8,14 @@ use Rattle.std.proofs.lemmas.List.Sums.{sum_by-cons}
 use Rattle.bib_syntax.specs.Reading.{FieldReading}
 use Rattle.edit_entries.specs.Changes.{FieldChange, edits_of_field, edits_of_fields}
 use Rattle.edit_entries.specs.Edits.{Edit}
-use Rattle.edit_resolve.specs.Resolved.{Named, as_itself, field_change, field_changes, last_change}
+use Rattle.edit_resolve.specs.Resolved.{Named, as_itself, field_resolution, field_resolutions, last_change}
 use Rattle.edit_resolve.specs.Working.{last_or_removed, named_of}
 use Rattle.edit_resolve.specs.declared.gathering.Named.{Named as NamedField}
 
 module _ (text : List ℕ) (resolved : FieldReading → Bool) (new : List Named) where
   -- the edits of fields
   abbrev pub edits_from : List FieldReading → List Edit
-  edits_from fs = edits_of_fields text fs (field_changes text resolved new fs)
+  edits_from fs = edits_of_fields text fs (field_resolutions text resolved new fs)
 
   -- one of some fields passes a test exactly if more than none does
   any_counted : {A : Type 0} (fs : List FieldReading) (x y : A)
@@ -39,7 +39,7 @@ module _ (text : List ℕ) (resolved : FieldReading → Bool) (new : List Named)
 
   -- the change of a resolved reference, by the number of those that follow
   pub change_is : (f : FieldReading) (following : List FieldReading) (left : ℕ) → resolved f ≡ true → left ≡ count_by resolved following
-      → field_change text resolved new f following ≡ last_or_removed text (left == 0) new f following
+      → field_resolution text resolved new f following ≡ last_or_removed text (left == 0) new f following
   change_is f following left is count =
       ap (λ b. cond b (cond (list_any resolved following) FieldChange.removed (last_change text new f following)) FieldChange.kept) is
       ∙ any_counted following FieldChange.removed (last_change text new f following)
@@ -54,7 +54,7 @@ module _ (text : List ℕ) (resolved : FieldReading → Bool) (new : List Named)
 
   -- a field that is kept has no edit
   pub kept_is : (f : FieldReading) (following : List FieldReading) → resolved f ≡ false
-      → [] ≡ edits_of_field text f following (field_change text resolved new f following)
+      → [] ≡ edits_of_field text f following (field_resolution text resolved new f following)
   kept_is f following is =
       ap
       (λ b.
@@ -65,14 +65,14 @@ module _ (text : List ℕ) (resolved : FieldReading → Bool) (new : List Named)
   pub edits_step : {A : Type 0} (view : A → FieldReading) (xs : List A) (i : ℕ) (x : A) → i < length xs → x ≡ get_or xs i x
       → (old now all : List Edit)
       → now ≡ old ++ edits_of_field text (view x) (map view (drop (i + 1) xs))
-      (field_change text resolved new (view x) (map view (drop (i + 1) xs)))
+      (field_resolution text resolved new (view x) (map view (drop (i + 1) xs)))
       → old ++ edits_from (map view (drop i xs)) ≡ all → now ++ edits_from (map view (drop (i + 1) xs)) ≡ all
   edits_step view xs i x within is old now all added so_far =
       let rest : List FieldReading = map view (drop (i + 1) xs) in
       let left : map view (drop i xs) ≡ view x ∷ rest =
       ap (map view) (drop_more xs i x within ∙ ap (λ y. y ∷ drop (i + 1) xs) (sym is)) in
       ap (λ l. l ++ edits_from rest) added
-      ∙ append_assoc old (edits_of_field text (view x) rest (field_change text resolved new (view x) rest)) (edits_from rest)
+      ∙ append_assoc old (edits_of_field text (view x) rest (field_resolution text resolved new (view x) rest)) (edits_from rest)
       ∙ ap (λ l. old ++ edits_from l) (sym left) ∙ so_far
 
 -- the inherited fields are those after the own ones
@@ -81,4 +81,5 @@ pub new_part : (all : List NamedField) (fs : List FieldReading) (inherits : List
 new_part all [] inherits n is size = ap (λ m. map named_of (drop m all)) size ∙ is
 new_part [] (f ∷ fs) inherits n is size = absurd (cc)
 new_part (a ∷ as') (f ∷ fs) inherits n is size =
-    ap (λ m. map named_of (drop m (a ∷ as'))) size ∙ new_part as' fs inherits (length fs) (let tails : map named_of as' ≡ map as_itself fs ++ inherits = cc in tails) refl
+    ap (λ m. map named_of (drop m (a ∷ as'))) size
+    ∙ new_part as' fs inherits (length fs) (let tails : map named_of as' ≡ map as_itself fs ++ inherits = cc in tails) refl

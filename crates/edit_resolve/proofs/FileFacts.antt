@@ -9,7 +9,7 @@ use Rattle.bib_tables.specs.Requirements.{is_container}
 use Rattle.bib_tables.specs.declared.mechanics.EntryType.{EntryType}
 use Rattle.edit_entries.specs.Documents.{first_position, is_keyed, next_index}
 use Rattle.edit_entries.specs.References.{has_alias}
-use Rattle.edit_resolve.specs.Parents.{container_index, entry_at, entry_index, first_index, no_entry, parent_index, type_of}
+use Rattle.edit_resolve.specs.Parents.{container_index, entry_at, entry_index, first_index, no_reading, parent_index, type_of}
 use Rattle.edit_resolve.specs.declared.parents.Link.{Link}
 use Rattle.edit_resolve.specs.declared.parents.Link.TheVariants.{Crossref, Xdata}
 use Rattle.edit_resolve.proofs.ListFacts.{seen_more}
@@ -126,4 +126,4 @@ container_found entries o i b found is =
 -- the type of an entry among the types of all
 pub kind_found : (entries : List EntryReading) (kinds : List EntryType) (i : ℕ) (kind : EntryType) → kinds ≡ map type_of entries
     → i < length entries → kind ≡ get_or kinds i kind → kind ≡ type_of (entry_at entries i)
-kind_found entries kinds i kind are within is = is ∙ ap (λ ks. get_or ks i kind) are ∙ get_or-map type_of entries i no_entry kind within
+kind_found entries kinds i kind are within is = is ∙ ap (λ ks. get_or ks i kind) are ∙ get_or-map type_of entries i no_reading kind within

@@ -14,9 +14,9 @@ use Rattle.edit_resolve.specs.Inheritance.{read_name, rival_names}
 use Rattle.bib_syntax.specs.Reading.{EntryReading}
 use Rattle.bib_tables.specs.declared.mechanics.EntryType.{EntryType}
 use Rattle.edit_resolve.specs.Parents.{entry_at, type_of}
-use Rattle.edit_resolve.specs.Resolved.{Named, is_taken, new_fields, offers, renamed}
+use Rattle.edit_resolve.specs.Resolved.{Named, is_ruled_out, new_fields, offers, renamed}
 use Rattle.edit_resolve.specs.declared.parents.Parent.{Parent}
-use Rattle.edit_resolve.specs.Working.{IsGathered, Offered, is_taken_in, kind_at, named_of, offered_by, read_names}
+use Rattle.edit_resolve.specs.Working.{IsGathered, Offered, is_ruled_out_in, kind_at, named_of, offered_at, read_names}
 use Rattle.edit_resolve.specs.declared.gathering.Named.{Named as NamedField}
 use Rattle.edit_resolve.specs.declared.gathering.Gathered.{Gathered}
 use Rattle.edit_resolve.proofs.ListFacts.{any_same, seen_more}
@@ -26,7 +26,7 @@ pub new_append : (taken : List (List ℕ)) (xs ys : List Named)
     → new_fields taken (xs ++ ys) ≡ new_fields taken xs ++ new_fields (taken ++ read_names (new_fields taken xs)) ys
 new_append taken [] ys = ap (λ t. new_fields t ys) (sym (append-nil taken))
 new_append taken (x ∷ xs) ys =
-    by_case (is_taken taken (read_name x.name)) (new_append taken xs ys) (new_append (taken ++ read_name x.name ∷ []) xs ys)
+    by_case (is_ruled_out taken (read_name x.name)) (new_append taken xs ys) (new_append (taken ++ read_name x.name ∷ []) xs ys)
   where
     by_case : (b : Bool)
         → new_fields taken (xs ++ ys) ≡ new_fields taken xs ++ new_fields (taken ++ read_names (new_fields taken xs)) ys
@@ -83,11 +83,11 @@ offered_more each joins all i x a b c within is before now =
 
 -- a name is in the set exactly if it is taken
 pub taken_known : (taken : List (List ℕ)) (has : List ℕ → Bool) (name : List ℕ)
-    → ((q : List ℕ) → has q ≡ is_listed taken q) → is_taken_in has name ≡ is_taken taken name
+    → ((q : List ℕ) → has q ≡ is_listed taken q) → is_ruled_out_in has name ≡ is_ruled_out taken name
 taken_known taken has name known = any_same has (is_listed taken) known (name ∷ unwrap_or (value_named rival_names name) [])
 
 -- one field is offered: it is new if its name isn't taken
-pub one_new : (taken : List (List ℕ)) (n : Named) (b : Bool) → is_taken taken (read_name n.name) ≡ b
+pub one_new : (taken : List (List ℕ)) (n : Named) (b : Bool) → is_ruled_out taken (read_name n.name) ≡ b
     → new_fields taken (n ∷ []) ≡ cond b [] (n ∷ [])
 one_new taken n b is = ap (λ t. cond t [] (n ∷ [])) is
 
@@ -106,14 +106,14 @@ listed_more taken name q has known =
 
 -- a field whose name isn't taken is added
 pub pushed : (taken : List (List ℕ)) (fields : List Named) (n : Named) (old new : Gathered) (low : List ℕ) → low ≡ read_name n.name
-    → is_taken_in (contains_text old.names) low ≡ false
+    → is_ruled_out_in (contains_text old.names) low ≡ false
     → ((q : List ℕ) → contains_text new.names q ≡ cond (bytes_eq low q) true (contains_text old.names q))
     → map named_of new.fields.items ≡ map named_of old.fields.items ++ n ∷ [] → IsGathered taken fields old
     → IsGathered (taken ++ read_names (new_fields taken (n ∷ []))) (fields ++ new_fields taken (n ∷ [])) new
 pushed taken fields n old new low read free added lists is =
     let new_is : new_fields taken (n ∷ []) ≡ n ∷ [] =
     one_new taken n false
-    (ap (is_taken taken) (sym read) ∙ sym (taken_known taken (contains_text old.names) low is.names) ∙ free) in
+    (ap (is_ruled_out taken) (sym read) ∙ sym (taken_known taken (contains_text old.names) low is.names) ∙ free) in
     let all : IsGathered (taken ++ read_name n.name ∷ []) (fields ++ n ∷ []) new = record {
       names = λ q.
           added q ∙ listed_more taken low q (contains_text old.names q) (is.names q)
@@ -162,25 +162,25 @@ kind_is (e ∷ es) (suc i) = kind_is es i
 -- what parents offer, by the types of all entries
 pub offered_is : (entries : List EntryReading) (kinds : List EntryType) (child : EntryType) (fields : ℕ → List Named) (ps : List Parent)
     → kinds ≡ map type_of entries
-    → offered_by kinds child fields ps
+    → offered_at kinds child fields ps
     ≡ flat_map (λ p. offers p.link (type_of (entry_at entries p.index)) child (fields p.index)) ps
 offered_is entries kinds child fields [] are = refl
 offered_is entries kinds child fields (p ∷ ps) are =
-    ap (λ k. offers p.link k child (fields p.index) ++ offered_by kinds child fields ps)
+    ap (λ k. offers p.link k child (fields p.index) ++ offered_at kinds child fields ps)
     (ap (λ ks. kind_at ks p.index) are ∙ kind_is entries p.index)
     ∙ ap (λ l. offers p.link (type_of (entry_at entries p.index)) child (fields p.index) ++ l)
     (offered_is entries kinds child fields ps are)
 
 -- one more parent
 pub parents_more : (kinds : List EntryType) (child : EntryType) (fields : ℕ → List Named) (ps : List Parent) (i : ℕ) (d : Parent)
-    (a b c : Gathered) → i < length ps → Offered a (offered_by kinds child fields (take i ps)) b
+    (a b c : Gathered) → i < length ps → Offered a (offered_at kinds child fields (take i ps)) b
     → Offered b (offers (get_or ps i d).link (kind_at kinds (get_or ps i d).index) child (fields (get_or ps i d).index)) c
-    → Offered a (offered_by kinds child fields (take (i + 1) ps)) c
+    → Offered a (offered_at kinds child fields (take (i + 1) ps)) c
 parents_more kinds child fields ps i d a b c within before now =
     let each = λ (q : Parent). offers q.link (kind_at kinds q.index) child (fields q.index) in
     let p : Parent = get_or ps i d in
     offered_same a c _ _
-    (ap (λ l. offered_by kinds child fields (take i ps) ++ l) (sym (append-nil (each p)))
+    (ap (λ l. offered_at kinds child fields (take i ps) ++ l) (sym (append-nil (each p)))
     ∙ sym (flat_map-append each (take i ps) (p ∷ []))
     ∙ ap (flat_map each) (sym (take_more ps i d within)))
     (offered_then a b c _ _ before now)

@@ -5,15 +5,15 @@ use Rattle.bib_text.proofs.ListFacts.{all_append}
 use Rattle.bib_syntax.specs.Reading.{EntryReading, FieldReading}
 use Rattle.bib_tables.specs.declared.mechanics.EntryType.{EntryType}
 use Rattle.edit_entries.proofs.AllFacts.{OfFields}
-use Rattle.edit_resolve.specs.Inheritance.{keeps_name, new_name, passes_on, read_name}
+use Rattle.edit_resolve.specs.Inheritance.{keeps_name, name_by_crossref, passes_on, read_name}
 use Rattle.edit_resolve.specs.Parents.{entry_at, parents, type_of}
-use Rattle.edit_resolve.specs.Resolved.{Named, as_itself, fields_along, inherited, inherited_by, is_taken, new_fields, offers, renamed}
+use Rattle.edit_resolve.specs.Resolved.{Named, as_itself, fields_along, inherited, inherited_by, is_ruled_out, new_fields, offers, renamed}
 use Rattle.edit_resolve.specs.declared.parents.Link.{Link}
 use Rattle.edit_resolve.specs.declared.parents.Link.TheVariants.{Crossref, Xdata}
 use Rattle.edit_resolve.specs.declared.parents.Parent.{Parent}
 
 module _ (P : Named → Type 0)
-    (again : (n : Named) (type child : EntryType) (name : List ℕ) → P n → new_name type child (read_name n.name) ≡ Some name
+    (again : (n : Named) (type child : EntryType) (name : List ℕ) → P n → name_by_crossref type child (read_name n.name) ≡ Some name
     → P (record { name = name; field = n.field })) where
   all_filter : (test : Named → Bool) (ns : List Named) → AllByRecursion P ns → AllByRecursion P (filter test ns)
   all_filter test [] all = tt
@@ -26,7 +26,7 @@ module _ (P : Named → Type 0)
   all_new : (taken : List (List ℕ)) (ns : List Named) → AllByRecursion P ns → AllByRecursion P (new_fields taken ns)
   all_new taken [] all = tt
   all_new taken (n ∷ ns) all =
-      by_case (is_taken taken (read_name n.name)) (all_new taken ns all.1) (all_new (taken ++ read_name n.name ∷ []) ns all.1)
+      by_case (is_ruled_out taken (read_name n.name)) (all_new taken ns all.1) (all_new (taken ++ read_name n.name ∷ []) ns all.1)
     where
       by_case : (b : Bool) → AllByRecursion P (new_fields taken ns)
           → AllByRecursion P (new_fields (taken ++ read_name n.name ∷ []) ns)
@@ -35,11 +35,11 @@ module _ (P : Named → Type 0)
       by_case false same more = (all.0, more)
 
   all_renamed : (type child : EntryType) (ns : List Named) → AllByRecursion P ns
-      → AllByRecursion P (flat_map (λ n. renamed n (new_name type child (read_name n.name))) ns)
+      → AllByRecursion P (flat_map (λ n. renamed n (name_by_crossref type child (read_name n.name))) ns)
   all_renamed type child [] all = tt
   all_renamed type child (n ∷ ns) all =
-      all_append P (renamed n (new_name type child (read_name n.name))) _
-      (by_case (new_name type child (read_name n.name)) (λ name is. again n type child name all.0 is))
+      all_append P (renamed n (name_by_crossref type child (read_name n.name))) _
+      (by_case (name_by_crossref type child (read_name n.name)) (λ name is. again n type child name all.0 is))
       (all_renamed type child ns all.1)
     where
       by_case : (o : Option (List ℕ)) → ((name : List ℕ) → o ≡ Some name → P (record { name = name; field = n.field }))
@@ -50,7 +50,7 @@ module _ (P : Named → Type 0)
   all_offers : (link : Link) (type child : EntryType) (ns : List Named) → AllByRecursion P ns → AllByRecursion P (offers link type child ns)
   all_offers Xdata type child ns all = all_filter (λ n. passes_on (read_name n.name)) ns all
   all_offers Crossref type child ns all =
-      all_append P (flat_map (λ n. renamed n (new_name type child (read_name n.name))) ns)
+      all_append P (flat_map (λ n. renamed n (name_by_crossref type child (read_name n.name))) ns)
       (filter (λ n. keeps_name type child (read_name n.name)) ns) (all_renamed type child ns all)
       (all_filter (λ n. keeps_name type child (read_name n.name)) ns all)
 

@@ -18,7 +18,7 @@ use Rattle.edit_entries.proofs.SplitFacts.{split_fields, split_file}
 use Rattle.edit_entries.proofs.StandsFacts.{Stands, copied, copy_frame}
 use Rattle.edit_entries.proofs.ZoneFacts.{char_there, inside_between, run_there, there}
 use Rattle.edit_strings.proofs.NameFacts.{plain_can}
-use Rattle.edit_resolve.specs.Inheritance.{author_name, has_book_author, new_name, title_name, title_names, titles_in}
+use Rattle.edit_resolve.specs.Inheritance.{author_name, has_book_author, name_by_crossref, title_name, title_names, titles_in}
 use Rattle.edit_resolve.specs.declared.inheritance.Titles.{Titles}
 use Rattle.edit_resolve.specs.declared.inheritance.Titles.TheVariants.{Main, Volume, Journal}
 
@@ -95,7 +95,7 @@ title_can None name new is = absurd (cc)
 title_can (Some titles) name new is = row_can (title_names titles) name new (rows_can titles) is
 
 -- a new name can be a name
-pub new_name_can : (type child : EntryType) (name new : List ℕ) → new_name type child name ≡ Some new → CanBeName new
+pub new_name_can : (type child : EntryType) (name new : List ℕ) → name_by_crossref type child name ≡ Some new → CanBeName new
 new_name_can type child name new is =
     by_case (bytes_eq name (codes "author")) is
   where

@@ -9,7 +9,7 @@ use Rattle.bib_collections.specs.Graph.{IsInRange}
 use Rattle.bib_collections.specs.Rows.{rows}
 use Rattle.bib_syntax.specs.Reading.{EntryReading, FieldReading}
 use Rattle.edit_resolve.specs.Parents.{field_keys, field_parents, linked, parent, parent_graph, parent_index, parents}
-use Rattle.edit_resolve.specs.Working.{lists_of}
+use Rattle.edit_resolve.specs.Working.{parent_lists}
 use Rattle.edit_resolve.specs.declared.parents.Link.{Link}
 use Rattle.edit_resolve.specs.declared.parents.Link.TheVariants.{Crossref, Xdata}
 use Rattle.edit_resolve.specs.declared.parents.Parent.{Parent}
@@ -64,10 +64,11 @@ module _ (entries : List EntryReading) where
   graph_in_range =
       subst (λ n. All (λ refs. All (λ r. r < n) refs) (parent_graph entries)) (sym graph_size)
       (All-map (λ refs. All (λ r. r < length entries) refs) (λ e. map (λ p. p.index) (parents entries e)) entries
-      (λ k d within. All-map (λ r. r < length entries) (λ p. p.index) (parents entries (get_or entries k d)) (parents_within (get_or entries k d))))
+      (λ k d within.
+      All-map (λ r. r < length entries) (λ p. p.index) (parents entries (get_or entries k d)) (parents_within (get_or entries k d))))
 
   -- the rows of the code are the graph of the parents
-  pub graph_known : (found lent : List (Vec Parent)) (refs shown : List (Vec ℕ)) → lists_of found ≡ map (parents entries) entries
+  pub graph_known : (found lent : List (Vec Parent)) (refs shown : List (Vec ℕ)) → parent_lists found ≡ map (parents entries) entries
       → lent ≡ found → rows refs ≡ map (λ ps. map (λ p. p.index) ps.items) lent → shown ≡ refs → rows shown ≡ parent_graph entries
   graph_known found lent refs shown are same refer shown_is =
       ap rows shown_is ∙ refer

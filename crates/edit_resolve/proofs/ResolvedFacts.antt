@@ -16,8 +16,8 @@ use Rattle.edit_entries.proofs.WhiteBeforeFacts.{before_white}
 use Rattle.edit_strings.proofs.ElementFacts.{IsElement, IsValue, can_be_read, file_stands, is_cut}
 use Rattle.edit_resolve.specs.Inheritance.{read_name}
 use Rattle.edit_resolve.specs.Parents.{is_resolved}
-use Rattle.edit_resolve.specs.Resolved.{Named, as_itself, field_changes, inherited, last_change, new_field, resolution}
-use Rattle.edit_resolve.specs.Working.{AreCut, IsStretch}
+use Rattle.edit_resolve.specs.Resolved.{Named, as_itself, field_resolutions, inherited, last_change, new_field, resolution}
+use Rattle.edit_resolve.specs.Working.{AreFieldsCut, IsNamedCut}
 use Rattle.edit_resolve.proofs.InheritedFacts.{all_inherited}
 use Rattle.edit_resolve.proofs.NameFacts.{names_can, new_name_can}
 
@@ -43,14 +43,14 @@ module _ (d : Document) (read : IsDocument d) where
   values = (file_stands d.text refl read).entries
 
   -- the fields of a document may be cut out of its text
-  pub document_cut : AreCut d.text d.says.entries
+  pub document_cut : AreFieldsCut d.text d.says.entries
   document_cut =
-      fields_weaker (IsStretch d.text) (IsValue d.text) (λ f. IsStretch d.text f × ArePiecesCut d.text f)
+      fields_weaker (IsNamedCut d.text) (IsValue d.text) (λ f. IsNamedCut d.text f × ArePiecesCut d.text f)
       (λ f stretch value. (
         stretch,
         all_weaker (IsElement d.text) (IsPieceCut d.text) (is_cut d.text) f.value.pieces value.all,
       )) d.says.entries
-      (fields_weaker (IsPlaced d.text) (IsNamed d.text) (IsStretch d.text) (λ f placed name. record { placed = placed; name = name })
+      (fields_weaker (IsPlaced d.text) (IsNamed d.text) (IsNamedCut d.text) (λ f placed name. record { placed = placed; name = name })
       d.says.entries (all_placed d read) named) values
 
   -- ---- fields
@@ -68,7 +68,8 @@ module _ (d : Document) (read : IsDocument d) where
   given : (e : EntryReading) → AllByRecursion CanBeGiven (inherited d.says.entries e)
   given e =
       all_inherited CanBeGiven
-      (λ n type child name can is. record { name = new_name_can type child (read_name n.name) name is; value = can.value }) d.says.entries own_given e
+      (λ n type child name can is.
+      record { name = new_name_can type child (read_name n.name) name is; value = can.value }) d.says.entries own_given e
 
   -- ---- changes
 
@@ -95,7 +96,7 @@ module _ (d : Document) (read : IsDocument d) where
       by_case false = last_can new f (g ∷ gs) all name
 
   changes_can : (resolved : FieldReading → Bool) (new : List Named) (fs : List FieldReading) → AllByRecursion CanBeGiven new
-      → AllByRecursion (IsNamed d.text) fs → CanFieldsChange fs (field_changes d.text resolved new fs)
+      → AllByRecursion (IsNamed d.text) fs → CanFieldsChange fs (field_resolutions d.text resolved new fs)
   changes_can resolved new [] all names = tt
   changes_can resolved new (f ∷ fs) all names =
       (change_can resolved (resolved f) new f fs all names.0, changes_can resolved new fs all names.1)

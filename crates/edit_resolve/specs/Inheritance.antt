@@ -55,13 +55,13 @@ is_collection_part SuppCollection = true
 is_collection_part _ = false
 
 -- a collection or a work of reference, or one of their parts
-abbrev pub is_collection : EntryType → Bool
-is_collection Collection = true
-is_collection Reference = true
-is_collection InCollection = true
-is_collection InReference = true
-is_collection SuppCollection = true
-is_collection _ = false
+abbrev pub is_any_collection : EntryType → Bool
+is_any_collection Collection = true
+is_any_collection Reference = true
+is_any_collection InCollection = true
+is_any_collection InReference = true
+is_any_collection SuppCollection = true
+is_any_collection _ = false
 
 -- proceedings, or an article in them
 abbrev pub is_proceedings : EntryType → Bool
@@ -87,8 +87,8 @@ titles_if titles passes = if passes then Some titles else None
 -- the new names that the titles of an entry of the first type have in an entry of the second type, if they have new ones
 abbrev pub titles_in : EntryType → EntryType → Option Titles
 titles_in MvBook child = titles_if Main (is_book child)
-titles_in MvCollection child = titles_if Main (is_collection child)
-titles_in MvReference child = titles_if Main (is_collection child)
+titles_in MvCollection child = titles_if Main (is_any_collection child)
+titles_in MvReference child = titles_if Main (is_any_collection child)
 titles_in MvProceedings child = titles_if Main (is_proceedings child)
 titles_in Book child = titles_if Volume (is_book_part child)
 titles_in Collection child = titles_if Volume (is_collection_part child)
@@ -99,10 +99,13 @@ titles_in _ child = None
 
 -- the new names of titles
 abbrev pub title_names : Titles → List (List ℕ × List ℕ)
-title_names Main = (codes "title", codes "maintitle") ∷ (codes "subtitle", codes "mainsubtitle") ∷ (codes "titleaddon", codes "maintitleaddon") ∷ []
-title_names Volume = (codes "title", codes "booktitle") ∷ (codes "subtitle", codes "booksubtitle") ∷ (codes "titleaddon", codes "booktitleaddon") ∷ []
+title_names Main =
+    (codes "title", codes "maintitle") ∷ (codes "subtitle", codes "mainsubtitle") ∷ (codes "titleaddon", codes "maintitleaddon") ∷ []
+title_names Volume =
+    (codes "title", codes "booktitle") ∷ (codes "subtitle", codes "booksubtitle") ∷ (codes "titleaddon", codes "booktitleaddon") ∷ []
 title_names Journal =
-    (codes "title", codes "journaltitle") ∷ (codes "subtitle", codes "journalsubtitle") ∷ (codes "titleaddon", codes "journaltitleaddon") ∷ []
+    (codes "title", codes "journaltitle") ∷ (codes "subtitle", codes "journalsubtitle")
+    ∷ (codes "titleaddon", codes "journaltitleaddon") ∷ []
 
 -- the new name of a title, if titles have new names
 abbrev pub title_name : Option Titles → List ℕ → Option (List ℕ)
@@ -122,8 +125,8 @@ author_name parent child = if has_book_author parent child then Some (codes "boo
 -- ---- fields
 
 -- the new name of a field of an entry of the first type in an entry of the second type that refers to it by `crossref`, if it has one
-abbrev pub new_name : EntryType → EntryType → List ℕ → Option (List ℕ)
-new_name parent child name =
+abbrev pub name_by_crossref : EntryType → EntryType → List ℕ → Option (List ℕ)
+name_by_crossref parent child name =
     if bytes_eq name (codes "author") then author_name parent child else title_name (titles_in parent child) name
 
 -- the fields that aren't inherited under their own names if titles get new ones

@@ -30,12 +30,12 @@ abbrev pub entry_index : List EntryReading → List ℕ → Option ℕ
 entry_index entries name = first_index (first_position (is_keyed name) entries) (first_position (has_alias name) entries)
 
 -- an entry without a type, a key and fields
-abbrev pub no_entry : EntryReading
-no_entry = record { key = text_at 0 []; kind = text_at 0 []; fields = []; start = 0; end = 0 }
+abbrev pub no_reading : EntryReading
+no_reading = record { key = text_at 0 []; kind = text_at 0 []; fields = []; start = 0; end = 0 }
 
 -- the entry at an index
 abbrev pub entry_at : List EntryReading → ℕ → EntryReading
-entry_at entries index = slice_index_or entries index no_entry
+entry_at entries index = slice_index_or entries index no_reading
 
 -- the type of an entry
 abbrev pub type_of : EntryReading → EntryType
@@ -59,14 +59,14 @@ link_name Crossref = codes "crossref"
 link_name Xdata = codes "xdata"
 
 -- the keys in the text of a reference: `crossref` has one key, and `xdata` a list of keys with commas between them
-abbrev pub keys_in : Link → List ℕ → List (List ℕ)
-keys_in Crossref text = name_if_filled (trim text)
-keys_in Xdata text = comma_parts text
+abbrev pub named_keys : Link → List ℕ → List (List ℕ)
+named_keys Crossref text = name_if_filled (trim text)
+named_keys Xdata text = comma_parts text
 
 -- the keys in the value of a reference; none if the value isn't one literal
 abbrev pub value_keys : Link → Option (List ℕ) → List (List ℕ)
 value_keys link None = []
-value_keys link (Some text) = keys_in link text
+value_keys link (Some text) = named_keys link text
 
 -- the keys in a field; none if the field is no such reference
 abbrev pub field_keys : Link → FieldReading → List (List ℕ)

@@ -11,7 +11,7 @@ use Rattle.edit_entries.specs.Changes.{EntryChange, FieldChange, IsChanged, NewF
 use Rattle.edit_entries.specs.Documents.{Document}
 use Rattle.edit_entries.specs.Setting.{white_before}
 use Rattle.edit_strings.specs.Expanded.{laid_out}
-use Rattle.edit_resolve.specs.Inheritance.{keeps_name, new_name, passes_on, read_name, rival_names}
+use Rattle.edit_resolve.specs.Inheritance.{keeps_name, name_by_crossref, passes_on, read_name, rival_names}
 use Rattle.edit_resolve.specs.Parents.{entry_at, is_resolved, parent_graph, parents, type_of}
 use Rattle.edit_resolve.specs.declared.errors.ResolveError.{ResolveError}
 use Rattle.edit_resolve.specs.declared.errors.ResolveError.TheVariants.{Cycle, OutOfMemory}
@@ -38,20 +38,20 @@ renamed n (Some name) = record { name = name; field = n.field } ∷ []
 abbrev pub offers : Link → EntryType → EntryType → List Named → List Named
 offers Xdata type child fields = filter (λ n. passes_on (read_name n.name)) fields
 offers Crossref type child fields =
-    flat_map (λ n. renamed n (new_name type child (read_name n.name))) fields
+    flat_map (λ n. renamed n (name_by_crossref type child (read_name n.name))) fields
     ++ filter (λ n. keeps_name type child (read_name n.name)) fields
 
 -- ---- what an entry inherits
 
 -- whether a field can't be inherited, since there is one with this name, or with a name that excludes it
-abbrev pub is_taken : List (List ℕ) → List ℕ → Bool
-is_taken taken name = list_any (is_listed taken) (name ∷ unwrap_or (value_named rival_names name) [])
+abbrev pub is_ruled_out : List (List ℕ) → List ℕ → Bool
+is_ruled_out taken name = list_any (is_listed taken) (name ∷ unwrap_or (value_named rival_names name) [])
 
 -- the offered fields that are inherited: each whose name isn't taken by an own field or by an offered field before it
 abbrev pub new_fields : List (List ℕ) → List Named → List Named
 new_fields taken [] = []
 new_fields taken (n ∷ offered) =
-    if is_taken taken (read_name n.name) then new_fields taken offered
+    if is_ruled_out taken (read_name n.name) then new_fields taken offered
     else n ∷ new_fields (taken ++ read_name n.name ∷ []) offered
 
 -- the fields that an entry is offered, if its parents have these fields
@@ -87,25 +87,26 @@ last_change text [] f [] = FieldChange.kept
 last_change text [] f (g ∷ gs) = FieldChange.removed
 
 -- the change of a field before other fields: each other resolved reference is removed, and all other fields are kept
-abbrev pub field_change : List ℕ → (FieldReading → Bool) → List Named → FieldReading → List FieldReading → FieldChange
-field_change text resolved new f following =
+abbrev pub field_resolution : List ℕ → (FieldReading → Bool) → List Named → FieldReading → List FieldReading → FieldChange
+field_resolution text resolved new f following =
     if resolved f then (if list_any resolved following then FieldChange.removed else last_change text new f following)
     else FieldChange.kept
 
 -- the changes of fields
-abbrev pub field_changes : List ℕ → (FieldReading → Bool) → List Named → List FieldReading → List FieldChange
-field_changes text resolved new [] = []
-field_changes text resolved new (f ∷ fs) = field_change text resolved new f fs ∷ field_changes text resolved new fs
+abbrev pub field_resolutions : List ℕ → (FieldReading → Bool) → List Named → List FieldReading → List FieldChange
+field_resolutions text resolved new [] = []
+field_resolutions text resolved new (f ∷ fs) = field_resolution text resolved new f fs ∷ field_resolutions text resolved new fs
 
 -- the change of an entry
 abbrev pub resolution : List ℕ → List EntryReading → EntryReading → EntryChange
-resolution text entries e = record { kind = None; fields = field_changes text (is_resolved entries) (inherited entries e) e.fields }
+resolution text entries e = record { kind = None; fields = field_resolutions text (is_resolved entries) (inherited entries e) e.fields }
 
 -- a text is a document's with inherited fields written out, and reads so
 abbrev pub IsResolved : Document → List ℕ → Type 0
 IsResolved d text = IsChanged (resolution d.text d.says.entries) d text
 
--- why resolving entries fails: the entry at this index is the first that inherits from itself, directly or through others, or memory ran out
+-- why resolving entries fails: the entry at this index is the first that inherits from itself, directly or through others, or memory ran
+-- out
 abbrev pub IsResolveError : List EntryReading → ResolveError → Type 0
 IsResolveError entries (Cycle index) = IsFirstOnCycle (parent_graph entries) index
 IsResolveError entries OutOfMemory = ⊤

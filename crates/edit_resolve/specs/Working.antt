@@ -31,28 +31,28 @@ use Rattle.edit_resolve.specs.declared.parents.Parent.{Parent}
 -- ---- the file
 
 -- the index that a map has for a name
-abbrev pub index_in : BTreeMap (Bor (List ℕ)) ℕ → List ℕ → Option ℕ
-index_in indices name = get_by (λ k. slice_cmp nat_cmp name k.now) indices
+abbrev pub name_index : BTreeMap (Bor (List ℕ)) ℕ → List ℕ → Option ℕ
+name_index indices name = get_by (λ k. slice_cmp nat_cmp name k.now) indices
 
 -- the readings of the entries of a file
 abbrev pub readings : File → List EntryReading
 readings file = map entry_reading_of file.entries.now
 
 -- the names and the types of a file are those of its entries
-pub record IsKnown (file : File) : Type 0 where
-  pub keys : (name : List ℕ) → index_in file.keys name ≡ first_position (is_keyed name) (readings file)
-  pub aliases : (name : List ℕ) → index_in file.aliases name ≡ first_position (has_alias name) (readings file)
+pub record HasNames (file : File) : Type 0 where
+  pub keys : (name : List ℕ) → name_index file.keys name ≡ first_position (is_keyed name) (readings file)
+  pub aliases : (name : List ℕ) → name_index file.aliases name ≡ first_position (has_alias name) (readings file)
   pub kinds : file.kinds.items ≡ map type_of (readings file)
 
 -- the parents in the vectors of the code
-abbrev pub lists_of : List (Vec Parent) → List (List Parent)
-lists_of rows = map (λ row. row.items) rows
+abbrev pub parent_lists : List (Vec Parent) → List (List Parent)
+parent_lists rows = map (λ row. row.items) rows
 
 -- ---- gathered fields
 
 -- whether a name is in a set, or one that excludes it
-abbrev pub is_taken_in : (List ℕ → Bool) → List ℕ → Bool
-is_taken_in has name = list_any has (name ∷ unwrap_or (value_named rival_names name) [])
+abbrev pub is_ruled_out_in : (List ℕ → Bool) → List ℕ → Bool
+is_ruled_out_in has name = list_any has (name ∷ unwrap_or (value_named rival_names name) [])
 
 -- the field that a value of the code represents
 abbrev pub named_of : NamedField → Named
@@ -82,8 +82,8 @@ abbrev pub kind_at : List EntryType → ℕ → EntryType
 kind_at kinds index = slice_index_or kinds index (entry_type_of [])
 
 -- the fields that an entry of a type is offered by these parents
-abbrev pub offered_by : List EntryType → EntryType → (ℕ → List Named) → List Parent → List Named
-offered_by kinds child fields parents = flat_map (λ p. offers p.link (kind_at kinds p.index) child (fields p.index)) parents
+abbrev pub offered_at : List EntryType → EntryType → (ℕ → List Named) → List Parent → List Named
+offered_at kinds child fields parents = flat_map (λ p. offers p.link (kind_at kinds p.index) child (fields p.index)) parents
 
 -- the fields of the entry at an index, and those that it inherits from these parents
 abbrev pub with_inherited : List EntryReading → (ℕ → List Named) → List Parent → ℕ → List Named
@@ -101,13 +101,13 @@ AreAlong entries fields =
 -- ---- edits
 
 -- the name and the value of a field may be cut out of a text
-pub record IsStretch (text : List ℕ) (f : FieldReading) : Type 0 where
+pub record IsNamedCut (text : List ℕ) (f : FieldReading) : Type 0 where
   pub placed : IsPlaced text f
   pub name : IsCharBoundary text f.name.start
 
 -- the fields of entries and the literals of their values may be cut out of a text
-abbrev pub AreCut : List ℕ → List EntryReading → Type 0
-AreCut text entries = AllByRecursion (λ e. AllByRecursion (λ f. IsStretch text f × ArePiecesCut text f) e.fields) entries
+abbrev pub AreFieldsCut : List ℕ → List EntryReading → Type 0
+AreFieldsCut text entries = AllByRecursion (λ e. AllByRecursion (λ f. IsNamedCut text f × ArePiecesCut text f) e.fields) entries
 
 -- the change of a resolved reference
 abbrev pub last_or_removed : List ℕ → Bool → List Named → FieldReading → List FieldReading → FieldChange

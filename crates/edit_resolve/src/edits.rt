@@ -7,8 +7,8 @@ ghost use Rattle.edit_entries.specs.Changes.{edits_of_entries, edits_of_entry, e
 ghost use Rattle.edit_entries.specs.Cuts.{ArePiecesCut};
 ghost use Rattle.edit_entries.specs.EditList.{edit_of};
 ghost use Rattle.edit_resolve.specs.Parents as parents;
-ghost use Rattle.edit_resolve.specs.Resolved.{as_itself, field_changes, inherited, last_change, resolution};
-ghost use Rattle.edit_resolve.specs.Working.{AreCut, AreAlong, IsKnown, IsStretch, fields_at, last_or_removed, named_of, readings};
+ghost use Rattle.edit_resolve.specs.Resolved.{as_itself, field_resolutions, inherited, last_change, resolution};
+ghost use Rattle.edit_resolve.specs.Working.{AreFieldsCut, AreAlong, HasNames, IsNamedCut, fields_at, last_or_removed, named_of, readings};
 
 use crate::file::File;
 use crate::gathering::Named;
@@ -49,7 +49,7 @@ fn push_last(
     field: &Pair<'_>,
     following: &[Pair<'_>],
 ) -> Result<(), AllocError>
-    requires field { IsStretch text.now (field_of field.now) }
+    requires field { IsNamedCut text.now (field_of field.now) }
     requires new { AllByRecursion (λ n. ArePiecesCut text.now n.field) (map named_of new.now) }
     ensures { OnOk result (map edit_of edits.new.items ≡ map edit_of edits.old.items ++
         edits_of_field text.now (field_of field.now) (map field_of following.now)
@@ -77,7 +77,7 @@ fn push_reference(
     field: &Pair<'_>,
     following: &[Pair<'_>],
 ) -> Result<(), AllocError>
-    requires field { IsStretch text.now (field_of field.now) }
+    requires field { IsNamedCut text.now (field_of field.now) }
     requires new { AllByRecursion (λ n. ArePiecesCut text.now n.field) (map named_of new.now) }
     ensures { OnOk result (map edit_of edits.new.items ≡ map edit_of edits.old.items ++
         edits_of_field text.now (field_of field.now) (map field_of following.now)
@@ -96,7 +96,7 @@ fn count_resolved(
     file: &File<'_, '_>,
     fields: &[Pair<'_>],
 ) -> Result<usize, AllocError>
-    requires { IsKnown file.now }
+    requires { HasNames file.now }
     ensures { IfOk result (λ count. count ≡ count_by (parents.is_resolved (readings file.now)) (map field_of fields.now)) }
 {
     let mut count = 0usize;
@@ -117,12 +117,12 @@ fn push_field_edits(
     new: &[Named<'_, '_>],
     fields: &[Pair<'_>],
 ) -> Result<(), AllocError>
-    requires known { IsKnown file.now }
-    requires fields { AllByRecursion (IsStretch text.now) (map field_of fields.now) }
+    requires known { HasNames file.now }
+    requires fields { AllByRecursion (IsNamedCut text.now) (map field_of fields.now) }
     requires new { AllByRecursion (λ n. ArePiecesCut text.now n.field) (map named_of new.now) }
     ensures { OnOk result (map edit_of edits.new.items ≡ map edit_of edits.old.items ++
         edits_of_fields text.now (map field_of fields.now)
-        (field_changes text.now (parents.is_resolved (readings file.now)) (map named_of new.now) (map field_of fields.now))) }
+        (field_resolutions text.now (parents.is_resolved (readings file.now)) (map named_of new.now) (map field_of fields.now))) }
 {
     let mut left = count_resolved(alloc, file, fields)?;
     'fields: for (at, field) in fields.iter().enumerate() {
@@ -151,8 +151,8 @@ fn push_entry_edits(
     entry: &Spanned<RawEntry<'_>>,
     all: &[Named<'_, '_>],
 ) -> Result<(), AllocError>
-    requires known { IsKnown file.now }
-    requires own { AllByRecursion (λ f. IsStretch text.now f × ArePiecesCut text.now f) (entry_reading_of entry.now).fields }
+    requires known { HasNames file.now }
+    requires own { AllByRecursion (λ f. IsNamedCut text.now f × ArePiecesCut text.now f) (entry_reading_of entry.now).fields }
     requires all { map named_of all.now ≡
         map as_itself (entry_reading_of entry.now).fields ++ inherited (readings file.now) (entry_reading_of entry.now) }
     requires new { AllByRecursion (λ n. ArePiecesCut text.now n.field) (inherited (readings file.now) (entry_reading_of entry.now)) }
@@ -179,10 +179,10 @@ pub(crate) fn edits(
     text: &str,
     fields: &[Vec<Named<'_, '_>>],
 ) -> Result<Vec<Edit>, AllocError>
-    requires known { IsKnown file.now }
+    requires known { HasNames file.now }
     requires length { length fields.now ≡ length file.now.entries.now }
     requires along { AreAlong (readings file.now) (fields_at fields.now) }
-    requires cut { AreCut text.now (readings file.now) }
+    requires cut { AreFieldsCut text.now (readings file.now) }
     ensures { IfOk result (λ made. map edit_of made.items ≡ edits_of_entries (resolution text.now (readings file.now)) text.now (readings file.now)) }
 {
     let mut edits = Vec::new(alloc);

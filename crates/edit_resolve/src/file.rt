@@ -8,7 +8,7 @@ ghost use Rattle.edit_entries.specs.Documents.{first_position, is_keyed};
 ghost use Rattle.edit_entries.specs.References.{has_alias};
 ghost use Rattle.edit_resolve.specs.Parents as spec;
 ghost use Rattle.edit_resolve.specs.Parents.{first_index, type_of};
-ghost use Rattle.edit_resolve.specs.Working.{IsKnown, index_in, readings};
+ghost use Rattle.edit_resolve.specs.Working.{HasNames, name_index, readings};
 
 use crate::parents::Link;
 use bib_queries::names::entry_names;
@@ -37,8 +37,8 @@ fn add_new<'s>(
     name: &'s str,
     index: usize,
 ) -> Result<(), AllocError>
-    ensures { OnOk result ((other : List ℕ) → index_in indices.new other ≡
-        first_index (index_in indices.old other) (if bytes_eq name.now other then Some index else None)) }
+    ensures { OnOk result ((other : List ℕ) → name_index indices.new other ≡
+        first_index (name_index indices.old other) (if bytes_eq name.now other then Some index else None)) }
 {
     if indices.contains_key(name) {
         return Ok(());
@@ -53,8 +53,8 @@ fn add_all_new<'s>(
     names: &[&'s str],
     index: usize,
 ) -> Result<(), AllocError>
-    ensures { OnOk result ((other : List ℕ) → index_in indices.new other ≡
-        first_index (index_in indices.old other) (if is_listed (map (λ n. n.now) names.now) other then Some index else None)) }
+    ensures { OnOk result ((other : List ℕ) → name_index indices.new other ≡
+        first_index (name_index indices.old other) (if is_listed (map (λ n. n.now) names.now) other then Some index else None)) }
 {
     'names: for name in names {
         add_new(indices, *name, index)?;
@@ -67,7 +67,7 @@ fn key_indices<'s>(
     alloc: Global,
     entries: &[Spanned<RawEntry<'s>>],
 ) -> Result<BTreeMap<&'s str, usize>, AllocError>
-    ensures { IfOk result (λ indices. (name : List ℕ) → index_in indices name ≡
+    ensures { IfOk result (λ indices. (name : List ℕ) → name_index indices name ≡
         first_position (is_keyed name) (map entry_reading_of entries.now)) }
 {
     let mut indices = BTreeMap::new(alloc);
@@ -89,7 +89,7 @@ fn alias_indices<'s>(
     alloc: Global,
     entries: &[Spanned<RawEntry<'s>>],
 ) -> Result<BTreeMap<&'s str, usize>, AllocError>
-    ensures { IfOk result (λ indices. (name : List ℕ) → index_in indices name ≡
+    ensures { IfOk result (λ indices. (name : List ℕ) → name_index indices name ≡
         first_position (has_alias name) (map entry_reading_of entries.now)) }
 {
     let mut indices = BTreeMap::new(alloc);
@@ -125,7 +125,7 @@ impl<'a, 's> File<'a, 's> {
         entries: &'a [Spanned<RawEntry<'s>>],
     ) -> Result<Self, AllocError>
         ensures entries { IfOk result (λ file. file.entries.now ≡ entries.now) }
-        ensures known { IfOk result IsKnown }
+        ensures known { IfOk result HasNames }
     {
         Ok(File {
             entries,
@@ -137,7 +137,7 @@ impl<'a, 's> File<'a, 's> {
 
     // Returns the index of the entry that Biber finds by a name.
     fn entry_index(&self, name: &str) -> Option<usize>
-        requires { IsKnown self.now }
+        requires { HasNames self.now }
         ensures { result ≡ spec.entry_index (readings self.now) name.now }
     {
         match self.keys.get(name) {
@@ -148,7 +148,7 @@ impl<'a, 's> File<'a, 's> {
 
     // Returns the index of the entry of type `xdata` that Biber finds by a name.
     fn container_index(&self, name: &str) -> Option<usize>
-        requires { IsKnown self.now }
+        requires { HasNames self.now }
         ensures { result ≡ spec.container_index (readings self.now) (spec.entry_index (readings self.now) name.now) }
     {
         let index = self.entry_index(name)?;
@@ -161,7 +161,7 @@ impl<'a, 's> File<'a, 's> {
 
     // Returns the index of the parent that a reference finds by a key.
     pub(crate) fn parent_index(&self, link: Link, key: &str) -> Option<usize>
-        requires { IsKnown self.now }
+        requires { HasNames self.now }
         ensures { result ≡ spec.parent_index (readings self.now) link key.now }
     {
         match link {

@@ -5,14 +5,14 @@ ghost use Rattle.std.specs.BTreeSet.{contains_text};
 ghost use Rattle.std.specs.List.{All, flat_map};
 ghost use Rattle.bib_queries.specs.Needed.{is_listed};
 ghost use Rattle.bib_syntax.specs.Views.{entry_reading_of, field_of};
-ghost use Rattle.edit_resolve.specs.Inheritance.{keeps_name, new_name, passes_on, read_name};
+ghost use Rattle.edit_resolve.specs.Inheritance.{keeps_name, name_by_crossref, passes_on, read_name};
 ghost use Rattle.edit_resolve.specs.Resolved.{Named, as_itself, inherited_by, offers, renamed};
 ghost use Rattle.edit_resolve.specs.Working as spec;
-ghost use Rattle.edit_resolve.specs.Working.{IsKnown, Offered, fields_at, kind_at, named_of, readings};
+ghost use Rattle.edit_resolve.specs.Working.{HasNames, Offered, fields_at, kind_at, named_of, readings};
 
 use crate::file::File;
-use crate::inheritance::{keeps_name, new_name, passes_on};
-use crate::names::{is_taken, read_name};
+use crate::inheritance::{keeps_name, name_by_crossref, passes_on};
+use crate::names::{is_ruled_out, read_name};
 use crate::parents::{Link, Parent};
 use bib_syntax::raw::Pair;
 use bib_tables::mechanics::EntryType;
@@ -44,7 +44,7 @@ fn push_new<'a, 's>(
     ensures { OnOk result (Offered gathered.old (named_of offered.entry ∷ []) gathered.new) }
 {
     let name = read_name(alloc, offered.name)?;
-    if is_taken(&gathered.names, &name) {
+    if is_ruled_out(&gathered.names, &name) {
         return Ok(());
     }
     gathered.names.insert(name)?;
@@ -76,10 +76,10 @@ fn push_renamed<'a, 's>(
     named: Named<'a, 's>,
 ) -> Result<(), AllocError>
     ensures { OnOk result (Offered gathered.old
-        (renamed (named_of named.entry) (new_name parent.now child.now (read_name (named_of named.entry).name))) gathered.new) }
+        (renamed (named_of named.entry) (name_by_crossref parent.now child.now (read_name (named_of named.entry).name))) gathered.new) }
 {
     let name = read_name(alloc, named.name)?;
-    let Some(name) = new_name(parent, child, &name) else {
+    let Some(name) = name_by_crossref(parent, child, &name) else {
         return Ok(());
     };
     let field = named.field;
@@ -127,7 +127,7 @@ fn push_all_renamed<'a, 's>(
     fields: &[Named<'a, 's>],
 ) -> Result<(), AllocError>
     ensures { OnOk result (Offered gathered.old
-        (flat_map (λ n. renamed n (new_name parent.now child.now (read_name n.name))) (map named_of fields.now)) gathered.new) }
+        (flat_map (λ n. renamed n (name_by_crossref parent.now child.now (read_name n.name))) (map named_of fields.now)) gathered.new) }
 {
     'fields: for named in fields {
         push_renamed(gathered, alloc, parent, child, *named)?;
@@ -236,7 +236,7 @@ fn push_parents<'a, 's>(
 ) -> Result<(), AllocError>
     requires as_many { length kinds.now ≡ length found.now }
     requires within { All (λ p. p.index < length found.now) parents.now }
-    ensures { OnOk result (Offered gathered.old (spec.offered_by kinds.now child.now (fields_at found.now) parents.now) gathered.new) }
+    ensures { OnOk result (Offered gathered.old (spec.offered_at kinds.now child.now (fields_at found.now) parents.now) gathered.new) }
 {
     'parents: for parent in parents {
         push_parent(gathered, alloc, kinds, child, *parent, found)?;
@@ -252,7 +252,7 @@ pub(crate) fn with_inherited<'a, 's>(
     parents: &[Parent],
     found: &[Vec<Named<'a, 's>>],
 ) -> Result<Vec<Named<'a, 's>>, AllocError>
-    requires known { IsKnown file.now }
+    requires known { HasNames file.now }
     requires index { index < length file.now.entries.now }
     requires as_many { length found.now ≡ length file.now.entries.now }
     requires within { All (λ p. p.index < length found.now) parents.now }

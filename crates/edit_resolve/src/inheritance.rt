@@ -67,8 +67,8 @@ fn is_collection_part(child: &EntryType) -> bool
 }
 
 // Returns whether a type is that of a collection, of a work of reference or of one of their parts.
-fn is_collection(child: &EntryType) -> bool
-    ensures { result ≡ spec.is_collection child.now }
+fn is_any_collection(child: &EntryType) -> bool
+    ensures { result ≡ spec.is_any_collection child.now }
 {
     matches!(
         child,
@@ -115,7 +115,7 @@ fn titles_in(parent: &EntryType, child: &EntryType) -> Option<Titles>
     match parent {
         EntryType::MvBook => titles_if(Titles::Main, is_book(child)),
         EntryType::MvCollection | EntryType::MvReference => {
-            titles_if(Titles::Main, is_collection(child))
+            titles_if(Titles::Main, is_any_collection(child))
         }
         EntryType::MvProceedings => titles_if(Titles::Main, is_proceedings(child)),
         EntryType::Book => titles_if(Titles::Volume, is_book_part(child)),
@@ -198,8 +198,12 @@ fn author_name(parent: &EntryType, child: &EntryType) -> Option<&'static str>
 }
 
 // Returns the new name of a field of a parent in an entry of the type `child` that refers to it by `crossref`, if it has one.
-pub(crate) fn new_name(parent: &EntryType, child: &EntryType, name: &str) -> Option<&'static str>
-    ensures { option_map (λ new. new.now) result ≡ spec.new_name parent.now child.now name.now }
+pub(crate) fn name_by_crossref(
+    parent: &EntryType,
+    child: &EntryType,
+    name: &str,
+) -> Option<&'static str>
+    ensures { option_map (λ new. new.now) result ≡ spec.name_by_crossref parent.now child.now name.now }
 {
     if name == "author" {
         return author_name(parent, child);

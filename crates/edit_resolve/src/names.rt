@@ -4,7 +4,7 @@ ghost use Rattle.std.specs.Prelude.{◌≡◌, IfOk, IsTrue};
 ghost use Rattle.std.specs.BTreeSet.{contains_text};
 ghost use Rattle.std.specs.String.{string_bytes};
 ghost use Rattle.edit_resolve.specs.Inheritance as inheritance;
-ghost use Rattle.edit_resolve.specs.Working.{is_taken_in};
+ghost use Rattle.edit_resolve.specs.Working.{is_ruled_out_in};
 
 use crate::inheritance::biber_name;
 use std::alloc::{AllocError, Global};
@@ -19,8 +19,8 @@ pub(crate) fn read_name(alloc: Global, name: &str) -> Result<String, AllocError>
 }
 
 // Returns whether a set has a name, or one that excludes it.
-pub(crate) fn is_taken(names: &BTreeSet<String>, name: &str) -> bool
-    ensures { result ≡ is_taken_in (contains_text names.now) name.now }
+pub(crate) fn is_ruled_out(names: &BTreeSet<String>, name: &str) -> bool
+    ensures { result ≡ is_ruled_out_in (contains_text names.now) name.now }
 {
     if names.contains(name) {
         return true;

@@ -9,7 +9,7 @@ ghost use Rattle.bib_queries.specs.Texts.{text_list};
 ghost use Rattle.bib_syntax.specs.Views.{entry_reading_of, field_of, piece_of};
 ghost use Rattle.edit_strings.specs.Collected as texts;
 ghost use Rattle.edit_resolve.specs.Parents as spec;
-ghost use Rattle.edit_resolve.specs.Working.{IsKnown, lists_of, readings};
+ghost use Rattle.edit_resolve.specs.Working.{HasNames, parent_lists, readings};
 
 use crate::file::File;
 use bib_syntax::raw::{Pair, RawChunk, RawEntry, is_word};
@@ -66,8 +66,8 @@ fn push_parts<'s>(keys: &mut Vec<&'s str>, list: &'s str) -> Result<(), AllocErr
 }
 
 // Returns the keys in the text of a reference.
-fn keys_in<'s>(alloc: Global, link: Link, text: &'s str) -> Result<Vec<&'s str>, AllocError>
-    ensures { IfOk result (λ keys. text_list keys ≡ spec.keys_in link text.now) }
+fn named_keys<'s>(alloc: Global, link: Link, text: &'s str) -> Result<Vec<&'s str>, AllocError>
+    ensures { IfOk result (λ keys. text_list keys ≡ spec.named_keys link text.now) }
 {
     let mut keys = Vec::new(alloc);
     match link {
@@ -98,7 +98,7 @@ fn field_keys<'s>(alloc: Global, link: Link, field: &Pair<'s>) -> Result<Vec<&'s
         return Ok(Vec::new(alloc));
     }
     match single_text(&field.value.v) {
-        Some(text) => keys_in(alloc, link, text),
+        Some(text) => named_keys(alloc, link, text),
         None => Ok(Vec::new(alloc)),
     }
 }
@@ -110,7 +110,7 @@ fn push_parent(
     link: Link,
     key: &str,
 ) -> Result<(), AllocError>
-    requires { IsKnown file.now }
+    requires { HasNames file.now }
     ensures { OnOk result (parents.new.items ≡ parents.old.items ++
         map (spec.parent link) (filter_map (spec.parent_index (readings file.now) link) (key.now ∷ []))) }
 {
@@ -127,7 +127,7 @@ fn push_found(
     link: Link,
     keys: &[&str],
 ) -> Result<(), AllocError>
-    requires { IsKnown file.now }
+    requires { HasNames file.now }
     ensures { OnOk result (parents.new.items ≡ parents.old.items ++
         map (spec.parent link) (filter_map (spec.parent_index (readings file.now) link) (map (λ key. key.now) keys.now))) }
 {
@@ -145,7 +145,7 @@ fn push_field_parents(
     link: Link,
     field: &Pair<'_>,
 ) -> Result<(), AllocError>
-    requires { IsKnown file.now }
+    requires { HasNames file.now }
     ensures { OnOk result (parents.new.items ≡ parents.old.items ++ spec.field_parents (readings file.now) link (field_of field.now)) }
 {
     let keys = field_keys(alloc, link, field)?;
@@ -160,7 +160,7 @@ fn push_linked(
     link: Link,
     fields: &[Pair<'_>],
 ) -> Result<(), AllocError>
-    requires { IsKnown file.now }
+    requires { HasNames file.now }
     ensures { OnOk result (parents.new.items ≡ parents.old.items ++ spec.linked (readings file.now) link (map field_of fields.now)) }
 {
     'fields: for field in fields {
@@ -175,7 +175,7 @@ fn parents(
     file: &File<'_, '_>,
     entry: &Spanned<RawEntry<'_>>,
 ) -> Result<Vec<Parent>, AllocError>
-    requires { IsKnown file.now }
+    requires { HasNames file.now }
     ensures { IfOk result (λ found. found.items ≡ spec.parents (readings file.now) (entry_reading_of entry.now)) }
 {
     let mut found = Vec::new(alloc);
@@ -190,8 +190,8 @@ pub(crate) fn all_parents(
     alloc: Global,
     file: &File<'_, '_>,
 ) -> Result<Vec<Vec<Parent>>, AllocError>
-    requires { IsKnown file.now }
-    ensures { IfOk result (λ found. lists_of found.items ≡ map (spec.parents (readings file.now)) (readings file.now)) }
+    requires { HasNames file.now }
+    ensures { IfOk result (λ found. parent_lists found.items ≡ map (spec.parents (readings file.now)) (readings file.now)) }
 {
     let mut found = Vec::with_capacity(alloc, file.entries.len())?;
     'entries: for entry in file.entries {
@@ -220,7 +220,7 @@ pub(crate) fn graph(alloc: Global, parents: &[Vec<Parent>]) -> Result<Vec<Vec<us
 
 // Returns whether there are keys, and a parent is found by each of them.
 fn are_found(file: &File<'_, '_>, link: Link, keys: &[&str]) -> bool
-    requires { IsKnown file.now }
+    requires { HasNames file.now }
     ensures { result ≡ spec.are_found (readings file.now) link (map (λ key. key.now) keys.now) }
 {
     'keys: for key in keys {
@@ -237,7 +237,7 @@ pub(crate) fn is_resolved(
     file: &File<'_, '_>,
     field: &Pair<'_>,
 ) -> Result<bool, AllocError>
-    requires { IsKnown file.now }
+    requires { HasNames file.now }
     ensures { IfOk result (λ resolved. resolved ≡ spec.is_resolved (readings file.now) (field_of field.now)) }
 {
     let keys = field_keys(alloc, Link::Crossref, field)?;

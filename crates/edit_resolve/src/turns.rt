@@ -6,7 +6,7 @@ ghost use Rattle.bib_collections.specs.Rows.{rows};
 ghost use Rattle.edit_resolve.specs.Parents as spec;
 ghost use Rattle.edit_resolve.specs.Parents.{parent_graph};
 ghost use Rattle.edit_resolve.specs.Resolved.{IsResolveError};
-ghost use Rattle.edit_resolve.specs.Working.{AreAlong, IsKnown, fields_at, lists_of, readings};
+ghost use Rattle.edit_resolve.specs.Working.{AreAlong, HasNames, fields_at, parent_lists, readings};
 
 use crate::errors::ResolveError;
 use crate::file::File;
@@ -30,7 +30,7 @@ fn empty_lists<'a, 's>(alloc: Global, count: usize) -> Result<Vec<Vec<Named<'a, 
 // Returns the parents of the entry at an index.
 fn parents_at(parents: &[Vec<Parent>], index: usize) -> &[Parent]
     requires { index < length parents.now }
-    ensures { result.now ≡ slice_index_or (lists_of parents.now) index [] }
+    ensures { result.now ≡ slice_index_or (parent_lists parents.now) index [] }
 {
     &parents[index]
 }
@@ -42,8 +42,8 @@ fn fields_in_order<'a, 's>(
     parents: &[Vec<Parent>],
     order: &[usize],
 ) -> Result<Vec<Vec<Named<'a, 's>>>, AllocError>
-    requires known { IsKnown file.now }
-    requires parents { lists_of parents.now ≡ map (spec.parents (readings file.now)) (readings file.now) }
+    requires known { HasNames file.now }
+    requires parents { parent_lists parents.now ≡ map (spec.parents (readings file.now)) (readings file.now) }
     requires order { IsTopologicalOrder (parent_graph (readings file.now)) order.now }
     ensures length { IfOk result (λ fields. length fields.items ≡ length file.now.entries.now) }
     ensures fields { IfOk result (λ fields. AreAlong (readings file.now) (fields_at fields.items)) }
@@ -60,7 +60,7 @@ pub(crate) fn all_fields<'a, 's>(
     alloc: Global,
     file: &File<'a, 's>,
 ) -> Result<Vec<Vec<Named<'a, 's>>>, ResolveError>
-    requires { IsKnown file.now }
+    requires { HasNames file.now }
     ensures length { IfOk result (λ fields. length fields.items ≡ length file.now.entries.now) }
     ensures fields { IfOk result (λ fields. AreAlong (readings file.now) (fields_at fields.items)) }
     ensures no_cycle { OnOk result (HasNoCycle (parent_graph (readings file.now))) }

@@ -10,15 +10,15 @@ use Rattle.edit_entries.specs.EditList.{edit_of}
 use Rattle.edit_entries.specs.Edits.{Edit}
 use Rattle.edit_entries.proofs.AllFacts.{all_weaker}
 use Rattle.edit_resolve.specs.Parents.{is_resolved}
-use Rattle.edit_resolve.specs.Resolved.{field_changes, inherited}
-use Rattle.edit_resolve.specs.Working.{IsStretch, named_of, readings}
+use Rattle.edit_resolve.specs.Resolved.{field_resolutions, inherited}
+use Rattle.edit_resolve.specs.Working.{IsNamedCut, named_of, readings}
 use Rattle.edit_resolve.proofs.ChangeFacts.{new_part}
 use Rattle.edit_resolve.proofs.edits.push_entry_edits.Goals as goal
 
 pub push_field_edits-requires-clause-fields : goal.push_field_edits-requires-clause-fields
 push_field_edits-requires-clause-fields c =
-    subst (λ l. AllByRecursion (IsStretch c.args.text.now) (map field_of l)) (sym c.deref.ensures.value)
-    (all_weaker (λ f. IsStretch c.args.text.now f × ArePiecesCut c.args.text.now f) (IsStretch c.args.text.now) (λ f both. both.0)
+    subst (λ l. AllByRecursion (IsNamedCut c.args.text.now) (map field_of l)) (sym c.deref.ensures.value)
+    (all_weaker (λ f. IsNamedCut c.args.text.now f × ArePiecesCut c.args.text.now f) (IsNamedCut c.args.text.now) (λ f both. both.0)
     (entry_reading_of c.args.entry.now).fields c.requires.own)
 
 pub push_field_edits-requires-clause-new : goal.push_field_edits-requires-clause-new
@@ -43,12 +43,13 @@ returns c =
     let resolved = is_resolved (readings c.args.file.now) in
     let now : List Edit = map edit_of c.push_field_edits.new.edits.items in
     let old : List Edit = map edit_of c.args.edits.now.items in
-    subst (λ l. OnOk c.push_field_edits.result (now ≡ old ++ edits_of_fields text e.fields (field_changes text resolved l e.fields))) part
+    subst (λ l. OnOk c.push_field_edits.result (now
+    ≡ old ++ edits_of_fields text e.fields (field_resolutions text resolved l e.fields))) part
     (subst
     (λ l.
     OnOk c.push_field_edits.result
     (now
     ≡ old
     ++ edits_of_fields text (map field_of l)
-    (field_changes text resolved (map named_of c.without_first-new.result.now) (map field_of l)))) c.deref.ensures.value
+    (field_resolutions text resolved (map named_of c.without_first-new.result.now) (map field_of l)))) c.deref.ensures.value
     c.push_field_edits.ensures)

@@ -9,7 +9,7 @@ use Rattle.edit_entries.specs.EditList.{edit_of}
 use Rattle.edit_entries.specs.Edits.{Edit}
 use Rattle.edit_strings.proofs.ListFacts.{all_step}
 use Rattle.edit_resolve.specs.Parents.{is_resolved}
-use Rattle.edit_resolve.specs.Working.{IsStretch, last_or_removed, named_of, readings}
+use Rattle.edit_resolve.specs.Working.{IsNamedCut, last_or_removed, named_of, readings}
 use Rattle.edit_resolve.proofs.ChangeFacts.{change_is, count_step, edits_from, edits_step, kept_is}
 use Rattle.edit_resolve.proofs.edits.push_field_edits.Goals as goal
 use Rattle.edit_resolve.proofs.edits.push_field_edits.Goals.{then-branch+in_ok-push_reference, else-branch}
@@ -28,7 +28,7 @@ fields-preserved c =
     let old = map edit_of c.fields.edits.items in
     let count = c.fields.invariant.left ∙ count_step text resolved new field_of xs i x c.fields-test.true c.index-fields-at.is in
     let placed =
-    (all_step field_of xs i x c.fields-test.true c.index-fields-at.is (IsStretch text) c.fields.invariant.placed).1 in
+    (all_step field_of xs i x c.fields-test.true c.index-fields-at.is (IsNamedCut text) c.fields.invariant.placed).1 in
     let known = sym c.in_ok-is_resolved.ensures in
     let more : List Edit = edits_from text resolved new rest in
     let all : List Edit = map edit_of c.args.edits.now.items ++ edits_from text resolved new (map field_of xs) in

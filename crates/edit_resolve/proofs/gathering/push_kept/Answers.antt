@@ -9,4 +9,5 @@ pub returns : goal.returns
 returns c =
     subst (λ l. OnOk c.push_new.result (Offered c.args.gathered.now l c.push_new.new.gathered))
     (passed (named_of c.args.named) (keeps_name c.args.parent.now c.args.child.now (read_name c.args.named.name.now))
-    (ap (keeps_name c.args.parent.now c.args.child.now) (sym (c.deref.ensures ∙ c.in_ok-name.ensures)) ∙ sym c.keeps_name.ensures ∙ c.if-not-keeps_name.false)) c.push_new.ensures
+    (ap (keeps_name c.args.parent.now c.args.child.now) (sym (c.deref.ensures ∙ c.in_ok-name.ensures))
+    ∙ sym c.keeps_name.ensures ∙ c.if-not-keeps_name.false)) c.push_new.ensures

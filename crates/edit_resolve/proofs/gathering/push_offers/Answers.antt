@@ -10,7 +10,8 @@ returns-in-Xdata c =
     subst
     (λ link.
     OnOk c.push_all_passed.result
-    (Offered c.args.gathered.now (offers link c.args.parent.now c.args.child.now (map named_of c.args.fields.now)) c.push_all_passed.new.gathered))
+    (Offered c.args.gathered.now (offers link c.args.parent.now c.args.child.now (map named_of c.args.fields.now))
+    c.push_all_passed.new.gathered))
     (sym c.in-Xdata.is) c.push_all_passed.ensures
 
 pub returns-in_ok-push_all_renamed-in-Crossref : goal.returns-in_ok-push_all_renamed-in-Crossref
@@ -18,7 +19,8 @@ returns-in_ok-push_all_renamed-in-Crossref c =
     subst
     (λ link.
     OnOk c.push_all_kept.result
-    (Offered c.args.gathered.now (offers link c.args.parent.now c.args.child.now (map named_of c.args.fields.now)) c.push_all_kept.new.gathered))
+    (Offered c.args.gathered.now (offers link c.args.parent.now c.args.child.now (map named_of c.args.fields.now))
+    c.push_all_kept.new.gathered))
     (sym c.in-Crossref.is)
     (on_ok c.push_all_kept.result
     (λ kept.

@@ -5,9 +5,9 @@ use Rattle.bib_syntax.specs.Reading.{EntryReading, FieldReading}
 use Rattle.bib_syntax.specs.Views.{entry_reading_of, field_of}
 use Rattle.bib_tables.specs.declared.mechanics.EntryType.{EntryType}
 use Rattle.edit_resolve.specs.Inheritance.{read_name}
-use Rattle.edit_resolve.specs.Parents.{entry_at, no_entry, type_of}
+use Rattle.edit_resolve.specs.Parents.{entry_at, no_reading, type_of}
 use Rattle.edit_resolve.specs.Resolved.{Named, as_itself, new_fields, offers}
-use Rattle.edit_resolve.specs.Working.{fields_at, offered_by, readings}
+use Rattle.edit_resolve.specs.Working.{fields_at, offered_at, readings}
 use Rattle.edit_resolve.proofs.FileFacts.{kind_found}
 use Rattle.edit_resolve.proofs.GatheringFacts.{offered_is}
 use Rattle.edit_resolve.proofs.gathering.with_inherited.Goals as goal
@@ -19,7 +19,7 @@ returns c =
     let item = c.index-file-index.result in
     let e : EntryReading = entry_at es i in
     let e_is : e ≡ entry_reading_of (get_or c.args.file.now.entries.now i item) =
-    get_or-map entry_reading_of c.args.file.now.entries.now i item no_entry c.requires.index in
+    get_or-map entry_reading_of c.args.file.now.entries.now i item no_reading c.requires.index in
     let within : i < length es = omega (arith, c.requires.index, length-map c.args.file.now.entries.now entry_reading_of) in
     let own : List FieldReading = map field_of c.deref.result.now in
     let own_is : own ≡ e.fields = ap (map field_of) c.deref.ensures.value ∙ ap (λ x. x.fields) (sym e_is) in
@@ -27,10 +27,11 @@ returns c =
     let same_is : same ≡ e.fields = ap (map field_of) c.deref-2.ensures.value ∙ ap (λ x. x.fields) (sym e_is) in
     let read = λ (fs : List FieldReading). map (λ f. read_name f.name.text) fs in
     let fields = fields_at c.args.found.now in
-    let offered : List Named = offered_by c.deref-3.result.now c.index.result.now fields c.args.parents.now in
+    let offered : List Named = offered_at c.deref-3.result.now c.index.result.now fields c.args.parents.now in
     let kind_is : c.index.result.now ≡ type_of e =
     kind_found es c.args.file.now.kinds.items i c.index.result.now c.requires.known.kinds within c.index.ensures in
-    let all = λ (child : EntryType). flat_map (λ p. offers p.link (type_of (entry_at es p.index)) child (fields p.index)) c.args.parents.now in
+    let all = λ (child : EntryType).
+    flat_map (λ p. offers p.link (type_of (entry_at es p.index)) child (fields p.index)) c.args.parents.now in
     let offered_are : offered ≡ all (type_of e) =
     offered_is es c.deref-3.result.now c.index.result.now fields c.args.parents.now (c.deref-3.ensures.value ∙ c.requires.known.kinds)
     ∙ ap all kind_is in

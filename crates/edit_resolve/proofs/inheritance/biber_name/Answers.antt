@@ -10,4 +10,13 @@ returns-in_default c =
     c.biblatex_name.ensures
     ∙ sym
     (ap (λ found. unwrap_or found (biblatex_name c.args.lower.now))
-    (named_none biber_names c.args.lower.now (c.in_default.not-annote, (c.in_default.not-archiveprefix, (c.in_default.not-primaryclass, (c.in_default.not-key, (c.in_default.not-pdf, tt)))))))
+    (named_none biber_names c.args.lower.now (
+      c.in_default.not-annote,
+      (
+        c.in_default.not-archiveprefix,
+        (
+          c.in_default.not-primaryclass,
+          (c.in_default.not-key, (c.in_default.not-pdf, tt)),
+        ),
+      ),
+    )))

@@ -11,7 +11,7 @@ use Rattle.edit_entries.specs.Edits.{edited_all}
 use Rattle.edit_entries.proofs.ChangesFacts.{changed_read, changes_in_order}
 use Rattle.edit_resolve.specs.Parents.{parent_graph}
 use Rattle.edit_resolve.specs.Resolved.{IsResolveError, resolution}
-use Rattle.edit_resolve.specs.Working.{AreCut, readings}
+use Rattle.edit_resolve.specs.Working.{AreFieldsCut, readings}
 use Rattle.edit_resolve.proofs.ResolvedFacts.{document_cut, resolution_can}
 use Rattle.edit_resolve.proofs.resolving.resolve.Goals as goal
 
@@ -28,8 +28,8 @@ edits-requires-clause-cut c =
     let d : Document = c.args.document.now in
     let es : readings c.in_ok-file.file ≡ d.says.entries =
     ap (map entry_reading_of) (c.in_ok-file.ensures.entries ∙ c.deref.ensures.value) ∙ ap (λ f. f.entries) c.raw-raw.ensures.says in
-    subst (λ t. AreCut t (readings c.in_ok-file.file)) (sym c.text.ensures)
-    (subst (AreCut d.text) (sym es) (document_cut d c.raw-raw.ensures.read))
+    subst (λ t. AreFieldsCut t (readings c.in_ok-file.file)) (sym c.text.ensures)
+    (subst (AreFieldsCut d.text) (sym es) (document_cut d c.raw-raw.ensures.read))
 
 pub edited_all-requires : goal.edited_all-requires
 edited_all-requires c =
