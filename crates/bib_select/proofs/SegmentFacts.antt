@@ -26,13 +26,13 @@ with_tokens [] segments = segments
 with_tokens (placed ∷ rest) segments = with_token placed (with_tokens rest segments)
 
 -- one more token
-with_one_more : (before : List Placed) (placed : Placed) (segments : List Segment)
+pub with_one_more : (before : List Placed) (placed : Placed) (segments : List Segment)
     → with_tokens before (with_token placed segments) ≡ with_tokens (before ++ placed ∷ []) segments
 with_one_more [] placed segments = refl
 with_one_more (first ∷ before) placed segments = ap (with_token first) (with_one_more before placed segments)
 
 -- tokens before a segment without tokens
-before_none : (before : List Placed) (end : ℕ) (segments : List Segment)
+pub before_none : (before : List Placed) (end : ℕ) (segments : List Segment)
     → with_tokens before (record { tokens = []; end = end } ∷ segments) ≡ record { tokens = before; end = end } ∷ segments
 before_none [] end segments = refl
 before_none (first ∷ before) end segments = ap (with_token first) (before_none before end segments)
