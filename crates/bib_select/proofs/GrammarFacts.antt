@@ -3,12 +3,12 @@ use Rattle.std.proofs.Common.{◌≡◌, ℕ, Bool, true, false, List, [], ◌�
 use Rattle.std.specs.Prelude.{codes, Result, Ok, Err, if◌then◌else◌, ◌↔◌}
 use Rattle.std.specs.Option.{ok_or}
 use Rattle.std.proofs.lemmas.Bool.{cond-true, cond-false}
-use Rattle.bib_select.specs.Conditions.{TermReading, TestReading, answer_test, has_test, missing_operator, missing_text, operator_test, question_at, reading_at, subject_at, subject_test, term_reading, term_with, test_reading}
+use Rattle.bib_select.specs.Conditions.{TermReading, TestReading, answer_test, has_test, missing_operator, missing_text, operator_test, subject_test, term_reading, term_with, test_reading}
 use Rattle.bib_select.specs.Conditions.TestReading.{has}
 use Rattle.bib_select.specs.Grammar.{IsTerm, IsTest}
 use Rattle.bib_select.specs.Grammar.IsTest.{field_test, comparison}
 use Rattle.bib_select.specs.Grammar.IsTerm.{plain_test, negated_test}
-use Rattle.bib_select.specs.Segments.{Segment, and_then, failure_at, if_ended, is_keyword, text_in_token}
+use Rattle.bib_select.specs.Segments.{Segment, and_then, failure_at, if_ended, is_keyword}
 use Rattle.bib_select.specs.Tokens.{Placed}
 use Rattle.bib_select.specs.declared.errors.SelectionError.{SelectionError}
 use Rattle.bib_select.specs.declared.errors.SelectionErrorKind.TheVariants.{MissingTest, MissingField}
@@ -23,7 +23,8 @@ test_of_grammar : (end : ℕ) {tokens : List Placed} {test : TestReading} → Is
 test_of_grammar end (field_test {first = first} {name = name} is text) =
     cond-true (is_keyword (codes "has") first.token) _ _ is
     ∙ ap (λ o. and_then (ok_or o (failure_at MissingField (up_to end (name ∷ [])))) (λ n. if_ended (has n) (up_to end []))) text
-test_of_grammar end (comparison {first = first} {operator = operator} {text = text} {subject = subject} {question = question} is about asks gives) =
+test_of_grammar end
+    (comparison {first = first} {operator = operator} {text = text} {subject = subject} {question = question} is about asks gives) =
     cond-false (is_keyword (codes "has") first.token) _ _ is
     ∙ ap
     (λ o. and_then (ok_or o (failure_at MissingTest (up_to end (first ∷ operator ∷ text ∷ []))))
@@ -105,7 +106,8 @@ term_read end [] term read =
 term_read end (first ∷ rest) term read = cases (is_keyword (codes "not") first.token) refl read
   where
     cases : (b : Bool) → is_keyword (codes "not") first.token ≡ b
-        → (if b then term_with true (test_reading (up_to end rest)) else term_with false (test_reading (up_to end (first ∷ rest)))) ≡ Ok term
+        → (if b then term_with true (test_reading (up_to end rest)) else term_with false (test_reading (up_to end (first ∷ rest))))
+        ≡ Ok term
         → IsTerm (first ∷ rest) term
     cases true is read =
         let (test, tested, same) = steps _ (λ t. Ok (record { negated = true; test = t })) term read in

@@ -1,6 +1,6 @@
 -- Meaning: words of public contracts.
 -- The grammar of conditions: which lists of tokens are tests, terms, alternatives and conditions.
-use Rattle.std.specs.Prelude.{◌≡◌, ℕ, true, false, List, [], ◌∷◌, ◌++◌, codes, Option, Some}
+use Rattle.std.specs.Prelude.{◌≡◌, ℕ, true, false, List, [], ◌∷◌, ◌++◌, codes, Some}
 use Rattle.std.specs.List.{list_any}
 use Rattle.bib_select.specs.Conditions.{QuestionReading, SubjectReading, TermReading, TestReading, question_at, reading_at, subject_at}
 use Rattle.bib_select.specs.Conditions.TestReading.{has}
@@ -27,15 +27,15 @@ abbrev pub LacksWord : List ℕ → List Placed → Type 0
 LacksWord joint tokens = list_any (λ placed. is_keyword joint placed.token) tokens ≡ false
 
 -- parts with the word `joint` between them; no part contains this word, and `Is` holds for each part and its reading
-pub data AreJoined {A : Type 0} (joint : List ℕ) (Is : List Placed → A → Type 0) : List Placed → List A → Type 0 where
-  one_part : {tokens : List Placed} {a : A} → LacksWord joint tokens → Is tokens a → AreJoined joint Is tokens (a ∷ [])
+pub data AreJoinedBy {A : Type 0} (joint : List ℕ) (Is : List Placed → A → Type 0) : List Placed → List A → Type 0 where
+  one_part : {tokens : List Placed} {a : A} → LacksWord joint tokens → Is tokens a → AreJoinedBy joint Is tokens (a ∷ [])
   more_parts : {tokens rest : List Placed} (placed : Placed) {a : A} {others : List A} → LacksWord joint tokens → Is tokens a
-      → is_keyword joint placed.token ≡ true → AreJoined joint Is rest others → AreJoined joint Is (tokens ++ placed ∷ rest) (a ∷ others)
+      → is_keyword joint placed.token ≡ true → AreJoinedBy joint Is rest others → AreJoinedBy joint Is (tokens ++ placed ∷ rest) (a ∷ others)
 
 -- an alternative is terms joined by `and`
 abbrev pub IsAlternative : List Placed → List TermReading → Type 0
-IsAlternative = AreJoined (codes "and") IsTerm
+IsAlternative = AreJoinedBy (codes "and") IsTerm
 
 -- a condition is alternatives joined by `or`
 abbrev pub IsCondition : List Placed → List (List TermReading) → Type 0
-IsCondition = AreJoined (codes "or") IsAlternative
+IsCondition = AreJoinedBy (codes "or") IsAlternative
