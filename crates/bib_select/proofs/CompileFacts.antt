@@ -1,9 +1,8 @@
 -- Compiling a condition: the tests so far are those of the text, and an error is that of one of the regular expressions.
-use Rattle.std.proofs.Common.{◌≡◌, ◌<◌, ◌+◌, ℕ, List, [], ◌∷◌, ◌++◌, length, take, get_or, map, refl, sym, ap, subst, ◌∙◌, arith}
+use Rattle.std.proofs.Common.{◌<◌, ◌+◌, ℕ, List, [], ◌∷◌, ◌++◌, length, take, get_or, map, sym, subst}
 use Rattle.std.specs.List.{Any, AllZip}
 use Rattle.std.proofs.lemmas.List.{map_more, length-map, get_or-map}
-use Rattle.bib_select.specs.Compiled.{HasText, HasTextExpression, IsCompileError, IsExpressionError}
-use Rattle.bib_select.specs.Conditions.{TextReading}
+use Rattle.bib_select.specs.Compiled.{IsCompileError}
 use Rattle.bib_select.specs.declared.errors.SelectionError.{SelectionError}
 use Rattle.bib_select.specs.declared.errors.SelectionError.TheVariants.{Malformed, OutOfMemory}
 use Rattle.bib_select.specs.declared.errors.SelectionErrorKind.TheVariants as kind

@@ -1,4 +1,6 @@
 pub mod CompileFacts
+pub mod GrammarFacts
+pub mod JoinedFacts
 pub mod OneCutFacts
 pub mod ParseFacts
 pub mod SegmentFacts

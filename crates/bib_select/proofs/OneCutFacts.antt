@@ -1,6 +1,6 @@
 -- A text is cut into tokens in one way.
 use Rattle.std.proofs.Common.{◌≡◌, ℕ, Bool, true, false, List, [], ◌∷◌, refl, sym, ap, subst, ◌∙◌, ◌⊎◌, inl, inr, ⊎_elim}
-use Rattle.std.specs.Prelude.{◌==◌, not, ◌&&◌, ◌||◌, Result, Ok, Err}
+use Rattle.std.specs.Prelude.{◌==◌, not, ◌&&◌, ◌||◌, Result, Err}
 use Rattle.std.specs.Char.{is_whitespace}
 use Rattle.std.proofs.lemmas.Bool.{eqb-true}
 use Rattle.bib_text.specs.Places.{Place, CharAt, Longest, AtEnd, between}

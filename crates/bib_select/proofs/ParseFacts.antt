@@ -3,14 +3,17 @@ use Rattle.std.proofs.Common.{◌≡◌, ℕ, Bool, true, false, List, [], ◌�
 use Rattle.std.specs.Prelude.{Result, Ok, Err, codes, if◌then◌else◌}
 use Rattle.std.specs.Option.{ok_or, option_map_or}
 use Rattle.bib_text.specs.Places.{place}
-use Rattle.bib_select.specs.Conditions.{QuestionReading, SubjectReading, TermReading, TestReading, alternatives_reading, answer_test, has_test, missing_operator, missing_text, operator_test, subject_test, term_reading, term_with, terms_reading, test_reading, reading_at, question_at, subject_at}
+use Rattle.bib_select.specs.Compiled.{HasAnyExpression, IsCompileError}
+use Rattle.bib_select.specs.Conditions.{QuestionReading, SubjectReading, TermReading, alternatives_reading, answer_test, has_test, missing_operator, missing_text, operator_test, subject_test, term_reading, term_with, terms_reading, test_reading, reading_at, question_at, subject_at}
 use Rattle.bib_select.specs.Conditions.TestReading.{has}
 use Rattle.bib_select.specs.Conditions.SubjectReading.{the_type, the_key, the_year, the_field}
 use Rattle.bib_select.specs.Conditions.QuestionReading.{is_type, is_other_type, compares_key, compares_field, compares_year}
-use Rattle.bib_select.specs.Parsed.{IsConditionRead, IsParseError, IsErrorOfText, whole_text}
+use Rattle.bib_select.specs.Parsed.{IsConditionText, IsErrorOfText, IsNoCondition, IsParseError, whole_text}
 use Rattle.bib_select.specs.Scanning.{IsReadError}
 use Rattle.bib_select.specs.Segments.{Segment, and_then, failure_at, first_as, first_token, if_ended, opens_with, segments_of, text_in_token, try_map, without_first}
 use Rattle.bib_select.specs.Tokens.{Placed, AreTokens}
+use Rattle.bib_select.proofs.GrammarFacts.{ok_same}
+use Rattle.bib_select.proofs.JoinedFacts.{conditions_by_grammar}
 use Rattle.bib_select.proofs.OneCutFacts.{one_cut}
 use Rattle.bib_select.specs.declared.errors.SelectionError.{SelectionError}
 use Rattle.bib_select.specs.declared.errors.SelectionError.TheVariants.{Malformed, OutOfMemory}
@@ -130,31 +133,70 @@ refused_by_tokens text tokens cut (Malformed MissingJoint at) is = record { toke
 
 -- ---- a text is one condition
 
--- the tokens of a text are the same wherever they are read
-pub one_condition : (text : List ℕ) (condition others : Result (List (List TermReading)) SelectionError) → IsConditionRead text condition
-    → IsConditionRead text others → condition ≡ others
-one_condition text condition others first second =
-    sym first.reads
-    ∙ ap (λ tokens. alternatives_reading (whole_text text tokens)) (same_list (Ok first.tokens) refl (one_cut first.cut second.cut))
-    ∙ second.reads
-  where
-    same_list : {a b : List Placed} (r : Result (List Placed) ℕ) → r ≡ Ok a → r ≡ Ok b → a ≡ b
-    same_list r is other = cc
+-- the tokens of a text that is a condition are parsed as this condition
+read_of_text : {text : List ℕ} {condition : List (List TermReading)} (is : IsConditionText text condition)
+    → alternatives_reading (whole_text text is.tokens) ≡ Ok condition
+read_of_text {text} {condition} is = (conditions_by_grammar (whole_text text is.tokens) condition).1 is.grammar
+
+-- a text whose tokens are parsed as a condition is this condition
+pub text_of_read : (text : List ℕ) (tokens : List Placed) (condition : List (List TermReading)) → AreTokens (place text 0) (Ok tokens)
+    → alternatives_reading (whole_text text tokens) ≡ Ok condition → IsConditionText text condition
+text_of_read text tokens condition cut read = record {
+  tokens = tokens;
+  cut = cut;
+  grammar = (conditions_by_grammar (whole_text text tokens) condition).0 read;
+}
+
+-- the error of an expression of a condition is one of parsing its text
+pub refused_by_expression : (text : List ℕ) (condition : List (List TermReading)) (e : SelectionError) → IsConditionText text condition
+    → IsCompileError (HasAnyExpression condition) e → IsParseError text e
+refused_by_expression text condition OutOfMemory is refused = tt
+refused_by_expression text condition (Malformed (Regex cause) at) is refused = record { condition = condition; is = is; refused = refused }
+refused_by_expression text condition (Malformed UnclosedQuote at) is refused = absurd refused
+refused_by_expression text condition (Malformed MissingTest at) is refused = absurd refused
+refused_by_expression text condition (Malformed MissingField at) is refused = absurd refused
+refused_by_expression text condition (Malformed MissingOperator at) is refused = absurd refused
+refused_by_expression text condition (Malformed MissingTypeOperator at) is refused = absurd refused
+refused_by_expression text condition (Malformed MissingYearOperator at) is refused = absurd refused
+refused_by_expression text condition (Malformed MissingText at) is refused = absurd refused
+refused_by_expression text condition (Malformed MissingYear at) is refused = absurd refused
+refused_by_expression text condition (Malformed MissingJoint at) is refused = absurd refused
+
+-- two lists of tokens of a text are the same
+same_tokens : {text : List ℕ} {a b : List Placed} → AreTokens (place text 0) (Ok a) → AreTokens (place text 0) (Ok b) → a ≡ b
+same_tokens {a = a} first second = ok_same (Ok a) refl (one_cut first second)
+
+-- two results of parsing one text are the same
+same_result : (text : List ℕ) {a b : List Placed} {r s : Result (List (List TermReading)) SelectionError}
+    → AreTokens (place text 0) (Ok a) → AreTokens (place text 0) (Ok b) → alternatives_reading (whole_text text a) ≡ r
+    → alternatives_reading (whole_text text b) ≡ s → r ≡ s
+same_result text first second is other =
+    sym is ∙ ap (λ tokens. alternatives_reading (whole_text text tokens)) (same_tokens first second) ∙ other
+
+pub one_condition : (text : List ℕ) (condition other : List (List TermReading)) → IsConditionText text condition
+    → IsConditionText text other → condition ≡ other
+one_condition text condition other first second =
+    ok_same (Ok condition) refl (same_result text first.cut second.cut (read_of_text first) (read_of_text second))
 
 not_both : {A E : Type 0} {a : A} {e : E} → Ok a ≡ Err e → ⊥
 not_both is = cc
 
+-- the tokens of a condition have no error
+no_misfit : (text : List ℕ) {condition : List (List TermReading)} {e : SelectionError} → IsConditionText text condition
+    → IsNoCondition text e → ⊥
+no_misfit text is refused = not_both (same_result text is.cut refused.cut (read_of_text is) refused.reads)
+
 -- a condition has no error of its text
-pub no_error : (text : List ℕ) (condition : List (List TermReading)) (e : SelectionError) → IsConditionRead text (Ok condition)
+pub no_error : (text : List ℕ) (condition : List (List TermReading)) (e : SelectionError) → IsConditionText text condition
     → IsParseError text e → IsErrorOfText e → ⊥
-no_error text condition OutOfMemory reads refused syntax = syntax
-no_error text condition (Malformed (Regex cause) at) reads refused syntax = syntax
-no_error text condition (Malformed UnclosedQuote at) reads refused syntax = not_both (one_cut reads.cut refused)
-no_error text condition (Malformed MissingTest at) reads refused syntax = not_both (one_condition text _ _ reads refused)
-no_error text condition (Malformed MissingField at) reads refused syntax = not_both (one_condition text _ _ reads refused)
-no_error text condition (Malformed MissingOperator at) reads refused syntax = not_both (one_condition text _ _ reads refused)
-no_error text condition (Malformed MissingTypeOperator at) reads refused syntax = not_both (one_condition text _ _ reads refused)
-no_error text condition (Malformed MissingYearOperator at) reads refused syntax = not_both (one_condition text _ _ reads refused)
-no_error text condition (Malformed MissingText at) reads refused syntax = not_both (one_condition text _ _ reads refused)
-no_error text condition (Malformed MissingYear at) reads refused syntax = not_both (one_condition text _ _ reads refused)
-no_error text condition (Malformed MissingJoint at) reads refused syntax = not_both (one_condition text _ _ reads refused)
+no_error text condition OutOfMemory is refused syntax = syntax
+no_error text condition (Malformed (Regex cause) at) is refused syntax = syntax
+no_error text condition (Malformed UnclosedQuote at) is refused syntax = not_both (one_cut is.cut refused)
+no_error text condition (Malformed MissingTest at) is refused syntax = no_misfit text is refused
+no_error text condition (Malformed MissingField at) is refused syntax = no_misfit text is refused
+no_error text condition (Malformed MissingOperator at) is refused syntax = no_misfit text is refused
+no_error text condition (Malformed MissingTypeOperator at) is refused syntax = no_misfit text is refused
+no_error text condition (Malformed MissingYearOperator at) is refused syntax = no_misfit text is refused
+no_error text condition (Malformed MissingText at) is refused syntax = no_misfit text is refused
+no_error text condition (Malformed MissingYear at) is refused syntax = no_misfit text is refused
+no_error text condition (Malformed MissingJoint at) is refused syntax = no_misfit text is refused

@@ -1,6 +1,6 @@
 -- Segments of a condition: cutting the tokens at a word, and parsing one segment after another.
-use Rattle.std.proofs.Common.{◌≡◌, ◌<◌, ◌≤◌, ◌+◌, ◌-◌, ℕ, Bool, true, false, cond, List, [], ◌∷◌, ◌++◌, length, take, drop, get_or, refl, sym, ap, subst, ◌∙◌, append_assoc, arith, map, Option, Some, None, add-one, length-drop}
-use Rattle.std.specs.Prelude.{Result, Ok, Err, if◌then◌else◌}
+use Rattle.std.proofs.Common.{◌≡◌, ◌<◌, ◌≤◌, ◌+◌, ◌-◌, ℕ, true, false, List, [], ◌∷◌, ◌++◌, length, take, drop, get_or, refl, sym, ap, subst, ◌∙◌, append_assoc, arith, map, Option, Some, None, add-one, length-drop}
+use Rattle.std.specs.Prelude.{Result, Ok, Err}
 use Rattle.std.proofs.lemmas.Bool.{cond-true, cond-false}
 use Rattle.std.proofs.lemmas.List.{map-append, append-nil, take_more, take_all, drop_all}
 use Rattle.std.proofs.Math.Seq.{drop-cons}
@@ -26,13 +26,13 @@ with_tokens [] segments = segments
 with_tokens (placed ∷ rest) segments = with_token placed (with_tokens rest segments)
 
 -- one more token
-with_one_more : (before : List Placed) (placed : Placed) (segments : List Segment)
+pub with_one_more : (before : List Placed) (placed : Placed) (segments : List Segment)
     → with_tokens before (with_token placed segments) ≡ with_tokens (before ++ placed ∷ []) segments
 with_one_more [] placed segments = refl
 with_one_more (first ∷ before) placed segments = ap (with_token first) (with_one_more before placed segments)
 
 -- tokens before a segment without tokens
-before_none : (before : List Placed) (end : ℕ) (segments : List Segment)
+pub before_none : (before : List Placed) (end : ℕ) (segments : List Segment)
     → with_tokens before (record { tokens = []; end = end } ∷ segments) ≡ record { tokens = before; end = end } ∷ segments
 before_none [] end segments = refl
 before_none (first ∷ before) end segments = ap (with_token first) (before_none before end segments)

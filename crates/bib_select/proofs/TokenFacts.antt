@@ -1,11 +1,11 @@
 -- Tokens of a text: each one comes from the characters at its place, and all of them are read from left to right.
-use Rattle.std.proofs.Common.{◌≡◌, ◌<◌, ◌-◌, ℕ, Bool, true, false, List, [], ◌∷◌, ◌++◌, length, refl, sym, ap, subst, ◌∙◌, inl, inr, append_assoc, Option, Some, None, MatchOption, map}
+use Rattle.std.proofs.Common.{◌≡◌, ◌<◌, ◌-◌, ℕ, Bool, true, false, List, [], ◌∷◌, ◌++◌, length, refl, sym, ap, subst, inl, inr, append_assoc, Option, Some, None, MatchOption}
 use Rattle.std.specs.Prelude.{◌==◌, not, ◌&&◌, Result, Ok, Err}
 use Rattle.std.specs.Char.{is_whitespace}
 use Rattle.std.proofs.lemmas.Bool.{eqb-true}
-use Rattle.std.proofs.lemmas.List.{map-append, append-nil}
+use Rattle.std.proofs.lemmas.List.{append-nil}
 use Rattle.bib_text.specs.Places.{Place, CharAt, Longest, AtEnd, EndsOr, Stops, between}
-use Rattle.bib_text.proofs.PlaceFacts.{same_char, no_char_at_end, ahead_run, ahead_char, ahead_then, ahead_here, run_rest, left_smaller, Ahead}
+use Rattle.bib_text.proofs.PlaceFacts.{same_char, no_char_at_end, ahead_run, ahead_char, ahead_then, run_rest, left_smaller}
 use Rattle.bib_select.specs.Tokens.{Token, Placed, AreTokens, IsToken, IsUnclosed, is_quote, is_sign_character, is_word_character, with_prefix}
 use Rattle.bib_select.specs.Tokens.Token.{word, quoted, sign}
 use Rattle.bib_select.specs.Tokens.IsToken.{a_word, a_sign, a_quoted_text}

@@ -1,7 +1,7 @@
 -- Meaning: words of public contracts.
 -- A parsed condition has the tests of its text. Its regular expressions are compiled, and its names are in lower case.
-use Rattle.std.specs.Prelude.{◌≡◌, ◌≢◌, ◌⊎◌, ℕ, List, Result, Ok, Err, ⊤}
-use Rattle.std.specs.List.{Any, AllZip}
+use Rattle.std.specs.Prelude.{◌≡◌, ◌≢◌, ℕ, List, ⊤}
+use Rattle.std.specs.List.{Any}
 use Rattle.std.specs.Str.{str_to_ascii_lowercase}
 use Rattle.bib_tables.specs.EntryType.{entry_type_of}
 use Rattle.regex.specs.Patterns.{default_config}

@@ -1,6 +1,6 @@
 -- Meaning: words of public contracts.
 -- Conditions: what a test, a term and a condition are as lists of tokens, and the place of the first token that doesn't fit.
-use Rattle.std.specs.Prelude.{ℕ, ℤ, Bool, true, false, if◌then◌else◌, List, [], ◌∷◌, codes, bytes_eq, Option, Some, None, Result, Ok, Err}
+use Rattle.std.specs.Prelude.{ℕ, ℤ, Bool, true, false, if◌then◌else◌, List, [], ◌∷◌, codes, Option, Some, None, Result, Ok}
 use Rattle.std.specs.Option.{option_map, option_and_then}
 use Rattle.bib_text.specs.Enums.{value_named}
 use Rattle.bib_values.specs.Numbers.{decimal_of}

@@ -1,6 +1,7 @@
 pub mod Tokens
 pub mod Segments
 pub mod Conditions
+pub mod Grammar
 pub mod Compiled
 pub mod Parsed
 pub mod Selected

@@ -1,10 +1,11 @@
 -- Meaning: words of public contracts.
 -- Parsing a condition: which condition a text is, and what error it gives if it is none.
-use Rattle.std.specs.Prelude.{◌≡◌, ℕ, List, length, Result, Ok, Err, ⊤}
+use Rattle.std.specs.Prelude.{◌≡◌, ℕ, List, length, Ok, Err, ⊤}
 use Rattle.std.specs.List.{AllZip}
 use Rattle.bib_text.specs.Places.{place}
 use Rattle.bib_select.specs.Compiled.{HasAnyExpression, IsCompileError, IsTermOf}
 use Rattle.bib_select.specs.Conditions.{TermReading, alternatives_reading}
+use Rattle.bib_select.specs.Grammar.{IsCondition}
 use Rattle.bib_select.specs.Segments.{Segment}
 use Rattle.bib_select.specs.Tokens.{Placed, AreTokens}
 use Rattle.bib_select.specs.declared.errors.SelectionError.{SelectionError}
@@ -16,22 +17,28 @@ use Rattle.bib_select.specs.declared.selection.Selection.{Selection}
 abbrev pub whole_text : List ℕ → List Placed → Segment
 whole_text text tokens = record { tokens = tokens; end = length text }
 
--- the result of parsing the tokens of a text: the alternatives of the condition, or the error
-pub record IsConditionRead (text : List ℕ) (outcome : Result (List (List TermReading)) SelectionError) : Type 0 where
+-- the text is this condition: so are its tokens
+pub record IsConditionText (text : List ℕ) (condition : List (List TermReading)) : Type 0 where
   pub tokens : List Placed
   pub cut : AreTokens (place text 0) (Ok tokens)
-  pub reads : alternatives_reading (whole_text text tokens) ≡ outcome
+  pub grammar : IsCondition tokens condition
+
+-- the tokens of the text are no condition: parsing them has this error
+pub record IsNoCondition (text : List ℕ) (error : SelectionError) : Type 0 where
+  pub tokens : List Placed
+  pub cut : AreTokens (place text 0) (Ok tokens)
+  pub reads : alternatives_reading (whole_text text tokens) ≡ Err error
 
 -- the selection is the condition that the text is
 pub record IsParsed (text : List ℕ) (selection : Selection) : Type 0 where
   pub condition : List (List TermReading)
-  pub reads : IsConditionRead text (Ok condition)
+  pub is : IsConditionText text condition
   pub compiled : AllZip (AllZip IsTermOf) condition selection.alternatives
 
 -- the text is a condition, and the error is that of one of its regular expressions
 pub record IsExpressionRefused (text : List ℕ) (error : SelectionError) : Type 0 where
   pub condition : List (List TermReading)
-  pub reads : IsConditionRead text (Ok condition)
+  pub is : IsConditionText text condition
   pub refused : IsCompileError (HasAnyExpression condition) error
 
 -- the error of parsing a text: a quote that isn't closed, the error of a regular expression, the first token that doesn't fit, or
@@ -40,7 +47,7 @@ abbrev pub IsParseError : List ℕ → SelectionError → Type 0
 IsParseError text OutOfMemory = ⊤
 IsParseError text (Malformed UnclosedQuote at) = AreTokens (place text 0) (Err at)
 IsParseError text (Malformed (Regex cause) at) = IsExpressionRefused text (Malformed (Regex cause) at)
-IsParseError text (Malformed other at) = IsConditionRead text (Err (Malformed other at))
+IsParseError text (Malformed other at) = IsNoCondition text (Malformed other at)
 
 -- an error of the text, and not of a regular expression or of memory
 abbrev pub IsErrorOfText : SelectionError → Type 0

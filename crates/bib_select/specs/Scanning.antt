@@ -1,12 +1,11 @@
 -- Machinery: words of private contracts.
 -- The next token of a text, and the errors of parsing without regular expressions.
-use Rattle.std.specs.Prelude.{◌≡◌, ℕ, List, Option, Some, None, Result, Ok, Err, ⊤}
+use Rattle.std.specs.Prelude.{◌≡◌, ℕ, Option, Some, None, Result, Err, ⊤}
 use Rattle.std.specs.Char.{is_whitespace}
 use Rattle.bib_text.specs.Places.{Place, Longest, AtEnd}
 use Rattle.bib_select.specs.Tokens.{Placed, AreTokens, IsToken, IsUnclosed}
 use Rattle.bib_select.specs.declared.errors.SelectionError.{SelectionError}
 use Rattle.bib_select.specs.declared.errors.SelectionError.TheVariants.{Malformed, OutOfMemory}
-use Rattle.bib_select.specs.declared.errors.SelectionErrorKind.{SelectionErrorKind}
 use Rattle.bib_select.specs.declared.errors.SelectionErrorKind.TheVariants.{UnclosedQuote}
 
 -- the error for a quote at this offset that isn't closed

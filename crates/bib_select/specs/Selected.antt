@@ -1,6 +1,6 @@
 -- Meaning: words of public contracts.
 -- Whether an entry meets a condition.
-use Rattle.std.specs.Prelude.{ℕ, ℤ, Bool, true, false, not, if◌then◌else◌, List, [], codes, bytes_eq, Option, Some, None, is_some}
+use Rattle.std.specs.Prelude.{ℕ, ℤ, Bool, false, not, if◌then◌else◌, List, [], codes, bytes_eq, Option, Some, None, is_some}
 use Rattle.std.specs.FinMap as by_name
 use Rattle.std.specs.List.{list_all, list_any}
 use Rattle.std.specs.Option.{option_and_then, option_map, option_map_or}

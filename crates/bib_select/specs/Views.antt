@@ -1,6 +1,6 @@
 -- Machinery: words of private contracts.
 -- Tokens, segments and tests of the code as those of the definitions.
-use Rattle.std.specs.Prelude.{ℕ, List, [], ◌∷◌, map, Option, Some, None, Result, Ok, Err}
+use Rattle.std.specs.Prelude.{ℕ, List, [], map, Option, Some, None, Result, Ok, Err}
 use Rattle.std.specs.Global.{Vec}
 use Rattle.bib_select.specs.Tokens as spec
 use Rattle.bib_select.specs.Tokens.{Token as token}

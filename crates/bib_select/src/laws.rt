@@ -1,9 +1,11 @@
-//! A law of conditions. The function has no code: its clauses are theorems about the definitions.
+//! Laws of conditions. The functions have no code: their clauses are theorems about the definitions.
 
-ghost use Rattle.std.specs.Prelude.{◌≡◌, ℕ, List, Result, Ok};
+ghost use Rattle.std.specs.Prelude.{◌≡◌, ◌↔◌, ℕ, List, Result, Ok};
 ghost use Rattle.bib_text.specs.Places.{Place};
-ghost use Rattle.bib_select.specs.Conditions.{TermReading};
-ghost use Rattle.bib_select.specs.Parsed.{IsConditionRead, IsParseError, IsErrorOfText};
+ghost use Rattle.bib_select.specs.Conditions.{TermReading, alternatives_reading};
+ghost use Rattle.bib_select.specs.Grammar.{IsCondition};
+ghost use Rattle.bib_select.specs.Parsed.{IsConditionText, IsErrorOfText, IsParseError};
+ghost use Rattle.bib_select.specs.Segments.{Segment};
 ghost use Rattle.bib_select.specs.Tokens.{Placed, AreTokens};
 ghost use Rattle.bib_select.specs.declared.errors.SelectionError.{SelectionError};
 
@@ -12,8 +14,14 @@ ghost use Rattle.bib_select.specs.declared.errors.SelectionError.{SelectionError
 pub fn a_text_is_one_condition()
     ensures tokens { (place : Place) (tokens others : Result (List Placed) ℕ) → AreTokens place tokens →
         AreTokens place others → tokens ≡ others }
-    ensures condition { (text : List ℕ) (condition others : Result (List (List TermReading)) SelectionError) →
-        IsConditionRead text condition → IsConditionRead text others → condition ≡ others }
+    ensures condition { (text : List ℕ) (condition other : List (List TermReading)) →
+        IsConditionText text condition → IsConditionText text other → condition ≡ other }
     ensures no_error { (text : List ℕ) (condition : List (List TermReading)) (error : SelectionError) →
-        IsConditionRead text (Ok condition) → IsParseError text error → IsErrorOfText error → ⊥ }
+        IsConditionText text condition → IsParseError text error → IsErrorOfText error → ⊥ }
+{}
+
+/// The tokens that are parsed as a condition are exactly those of the grammar.
+pub fn conditions_have_a_grammar()
+    ensures { (segment : Segment) (condition : List (List TermReading)) →
+        (alternatives_reading segment ≡ Ok condition) ↔ IsCondition segment.tokens condition }
 {}

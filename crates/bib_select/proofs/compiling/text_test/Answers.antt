@@ -1,4 +1,3 @@
-use Rattle.std.proofs.Common.{sym}
 use Rattle.std.proofs.lemmas.Result.{err_from_is_err_and}
 use Rattle.bib_select.proofs.CompileFacts.{error_of_more}
 use Rattle.bib_select.proofs.compiling.text_test.Goals as goal

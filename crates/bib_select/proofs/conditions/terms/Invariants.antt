@@ -1,4 +1,3 @@
-use Rattle.std.proofs.Common.{length}
 use Rattle.std.specs.Prelude.{codes}
 use Rattle.bib_select.specs.Conditions.{term_reading}
 use Rattle.bib_select.specs.Segments.{segments_of}

@@ -1,11 +1,7 @@
-use Rattle.std.proofs.Common.{sym, subst, map, ◌∙◌, Some, None}
 use Rattle.std.proofs.lemmas.List.{map-append}
 use Rattle.std.proofs.lemmas.Result.{err_from_is_err_and}
-use Rattle.std.specs.Option.{option_map}
-use Rattle.bib_text.specs.Places.{place}
-use Rattle.bib_select.specs.Scanning.{IsNextToken}
 use Rattle.bib_select.specs.Views.{placed_of}
-use Rattle.bib_select.proofs.TokenFacts.{TokensSoFar, next_smaller, tokens_end, tokens_more, tokens_refused}
+use Rattle.bib_select.proofs.TokenFacts.{next_smaller, tokens_end, tokens_more, tokens_refused}
 use Rattle.bib_select.proofs.tokens.tokens.Goals as goal
 
 pub returns-in_err-placed-clause-refused : goal.returns-in_err-placed-clause-refused
