@@ -6,7 +6,7 @@ use Rattle.std.specs.Global.{Vec}
 use Rattle.std.proofs.lemmas.Bool.{cases_lt, le-ltb, lt-ltb}
 use Rattle.std.proofs.lemmas.Bool.Decides.{eqb_tells}
 use Rattle.std.proofs.lemmas.List.{length-map, take_more, take_all}
-use Rattle.std.proofs.lemmas.List.Elements.{All-contains, Contains-append_cases, Contains-get_or}
+use Rattle.std.proofs.lemmas.List.Elements.{All-contains, All-map, Contains-append_cases, Contains-get_or}
 use Rattle.bib_text.proofs.ListFacts.{cons_cases, contains_more}
 use Rattle.bib_collections.specs.Graph.{Graph, IsTopologicalOrder, refs_of}
 use Rattle.bib_collections.specs.Rows.{IsOrderError}
@@ -18,13 +18,14 @@ use Rattle.bib_syntax.specs.Reading.{EntryReading}
 use Rattle.edit_resolve.specs.Errors.{resolve_error}
 use Rattle.edit_resolve.specs.Inheritance.{read_name}
 use Rattle.edit_resolve.specs.Parents.{entry_at, no_reading, parent_graph, parents, type_of}
-use Rattle.edit_resolve.specs.Resolved.{IsResolveError, Named, as_itself, fields_along, new_fields, offers}
+use Rattle.edit_resolve.specs.Resolved.{IsResolveError, Named, all_fields, fields_along, given_by, in_place, inherited_by, new_fields, offers}
 use Rattle.edit_resolve.specs.Working.{AreAlong, fields_at, parent_lists, named_of, with_inherited}
 use Rattle.edit_resolve.specs.declared.errors.ResolveError.{ResolveError}
 use Rattle.edit_resolve.specs.declared.gathering.Named.{Named as NamedField}
 use Rattle.edit_resolve.specs.declared.parents.Parent.{Parent}
+use Rattle.edit_resolve.proofs.GivenFacts.{given_alike}
 use Rattle.edit_resolve.proofs.OrderFacts.{order_within}
-use Rattle.edit_resolve.proofs.ParentFacts.{graph_size}
+use Rattle.edit_resolve.proofs.ParentFacts.{graph_size, parents_within}
 
 -- parents with the same fields offer the same fields
 offered_alike : (entries : List EntryReading) (e : EntryReading) (fields others : ℕ → List Named) (ps : List Parent)
@@ -75,13 +76,19 @@ module _ (entries : List EntryReading) (order : List ℕ) (sorted : IsTopologica
   next_along k index fields before is within known zero some = absurd (omega (arith, some))
   next_along k index fields before is within known (suc most) some =
       let e = entry_at entries index in
-      ap (λ l. map as_itself e.fields ++ new_fields (map (λ f. read_name f.name.text) e.fields) l)
-      (offered_alike entries e fields (fields_along entries most) (parents entries e)
-      (λ i there.
+      let same : (i : ℕ) → Contains (map (λ p. p.index) (parents entries e)) i → fields i ≡ fields_along entries most i =
+      λ i there.
       known i most
       (All-contains (λ r. Contains (take k order) r) (map (λ p. p.index) (parents entries e)) i
       (subst (λ l. All (λ r. Contains (take k order) r) l) (ap (refs_of (parent_graph entries)) is ∙ graph_row index within)
-      (sorted.in_order k before)) there) (omega (arith, some))))
+      (sorted.in_order k before)) there) (omega (arith, some)) in
+      ap (λ g. map (in_place g) e.fields ++ inherited_by entries fields e)
+      (given_alike fields (fields_along entries most) (parents entries e) same)
+      ∙ ap
+      (λ l.
+      map (in_place (given_by (fields_along entries most) (parents entries e))) e.fields
+      ++ new_fields (map (λ f. read_name f.name.text) e.fields) l)
+      (offered_alike entries e fields (fields_along entries most) (parents entries e) same)
 
   -- one more entry has its fields
   pub along_more : (k index : ℕ) (fields others : ℕ → List Named) → k < length order → index ≡ get_or order k index
@@ -165,3 +172,14 @@ graph_error entries graph (Err x) e same gives known =
     by_case : (o : OrderError) → IsOrderError (parent_graph entries) o → IsResolveError entries (resolve_error o)
     by_case order.OutOfMemory at = tt
     by_case (order.Cycle index) at = at
+
+-- the fields that the parents of an entry give, if these are the fields of all entries
+pub giving_known : (entries : List EntryReading) (fields : ℕ → List Named) (ps : List Parent) (e : EntryReading)
+    → ps ≡ parents entries e → AreAlong entries fields → given_by fields ps ≡ given_by (all_fields entries) (parents entries e)
+giving_known entries fields ps e are known =
+    ap (given_by fields) are
+    ∙ given_alike fields (all_fields entries) (parents entries e)
+    (λ i there.
+    known i (length entries)
+    (All-contains (λ n. n < length entries) (map (λ p. p.index) (parents entries e)) i
+    (All-map (λ n. n < length entries) (λ p. p.index) (parents entries e) (parents_within entries e)) there) (omega arith))

@@ -7,10 +7,12 @@ use Rattle.bib_tables.specs.declared.mechanics.EntryType.{EntryType}
 use Rattle.edit_entries.proofs.AllFacts.{OfFields}
 use Rattle.edit_resolve.specs.Inheritance.{keeps_name, name_by_crossref, passes_on, read_name}
 use Rattle.edit_resolve.specs.Parents.{entry_at, parents, type_of}
-use Rattle.edit_resolve.specs.Resolved.{Named, as_itself, fields_along, inherited, inherited_by, is_ruled_out, new_fields, offers, renamed}
+use Rattle.std.specs.Prelude.{unwrap_or}
+use Rattle.edit_resolve.specs.Resolved.{Named, all_fields, as_itself, fields_along, given, given_by, in_place, inherited, inherited_by, is_read_as, is_ruled_out, new_fields, offers, renamed, replacement, substitute}
 use Rattle.edit_resolve.specs.declared.parents.Link.{Link}
 use Rattle.edit_resolve.specs.declared.parents.Link.TheVariants.{Crossref, Xdata}
 use Rattle.edit_resolve.specs.declared.parents.Parent.{Parent}
+use Rattle.edit_resolve.proofs.GivenFacts.{all_found}
 
 module _ (P : Named → Type 0)
     (again : (n : Named) (type child : EntryType) (name : List ℕ) → P n → name_by_crossref type child (read_name n.name) ≡ Some name
@@ -59,11 +61,33 @@ module _ (P : Named → Type 0)
     all_own [] all = tt
     all_own (f ∷ fs) all = (all.0, all_own fs all.1)
 
-    own_at : (es : List EntryReading) (index : ℕ) → OfFields (λ f. P (as_itself f)) es
-        → AllByRecursion P (map as_itself (entry_at es index).fields)
-    own_at [] index all = tt
-    own_at (e ∷ es) zero all = all_own e.fields all.0
-    own_at (e ∷ es) (suc index) all = own_at es index all.1
+    all_given : (fields : ℕ → List Named) (ps : List Parent) → ((i : ℕ) → AllByRecursion P (fields i))
+        → AllByRecursion P (given_by fields ps)
+    all_given fields [] all = tt
+    all_given fields (p ∷ ps) all =
+        all_append P (given p.link (fields p.index)) _ (by_link p.link (fields p.index) (all p.index)) (all_given fields ps all)
+      where
+        by_link : (link : Link) (ns : List Named) → AllByRecursion P ns → AllByRecursion P (given link ns)
+        by_link Xdata ns is = all_filter (λ n. passes_on (read_name n.name)) ns is
+        by_link Crossref ns is = tt
+
+    all_in_place : (instead : List Named) (fs : List FieldReading) → AllByRecursion P instead → AllByRecursion (λ f. P (as_itself f)) fs
+        → AllByRecursion P (map (in_place instead) fs)
+    all_in_place instead [] given all = tt
+    all_in_place instead (f ∷ fs) given all = (
+      by_case (substitute instead f) (λ n is. all_found P (is_read_as (read_name f.name.text)) instead n given is),
+      all_in_place instead fs given all.1,
+    )
+      where
+        by_case : (o : Option Named) → ((n : Named) → o ≡ Some n → P n) → P (unwrap_or o (as_itself f))
+        by_case (Some n) holds = holds n refl
+        by_case None holds = all.0
+
+    entry_own : (es : List EntryReading) (index : ℕ) → OfFields (λ f. P (as_itself f)) es
+        → AllByRecursion (λ f. P (as_itself f)) (entry_at es index).fields
+    entry_own [] index all = tt
+    entry_own (e ∷ es) zero all = all.0
+    entry_own (e ∷ es) (suc index) all = entry_own es index all.1
 
     all_offered : (fields : ℕ → List Named) (child : EntryType) (ps : List Parent) → ((i : ℕ) → AllByRecursion P (fields i))
         → AllByRecursion P (flat_map (λ p. offers p.link (type_of (entry_at entries p.index)) child (fields p.index)) ps)
@@ -78,10 +102,16 @@ module _ (P : Named → Type 0)
         all_new (map (λ f. read_name f.name.text) e.fields) _ (all_offered fields (type_of e) (parents entries e) all)
 
     all_along : (most index : ℕ) → AllByRecursion P (fields_along entries most index)
-    all_along zero index = own_at entries index own
+    all_along zero index = all_own (entry_at entries index).fields (entry_own entries index own)
     all_along (suc most) index =
-        all_append P (map as_itself (entry_at entries index).fields) _ (own_at entries index own)
-        (all_by (fields_along entries most) (entry_at entries index) (λ i. all_along most i))
+        let e = entry_at entries index in
+        all_append P (map (in_place (given_by (fields_along entries most) (parents entries e))) e.fields) _
+        (all_in_place (given_by (fields_along entries most) (parents entries e)) e.fields
+        (all_given (fields_along entries most) (parents entries e) (λ i. all_along most i)) (entry_own entries index own))
+        (all_by (fields_along entries most) e (λ i. all_along most i))
 
     pub all_inherited : (e : EntryReading) → AllByRecursion P (inherited entries e)
-    all_inherited e = all_by (fields_along entries (length entries)) e (λ i. all_along (length entries) i)
+    all_inherited e = all_by (all_fields entries) e (λ i. all_along (length entries) i)
+
+    pub all_giving : (e : EntryReading) → AllByRecursion P (given_by (all_fields entries) (parents entries e))
+    all_giving e = all_given (all_fields entries) (parents entries e) (λ i. all_along (length entries) i)

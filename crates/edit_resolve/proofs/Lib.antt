@@ -2,6 +2,7 @@ mod AlongFacts
 mod ChangeFacts
 mod FileFacts
 mod GatheringFacts
+mod GivenFacts
 mod InheritedFacts
 mod ListFacts
 mod NameFacts

@@ -20,6 +20,11 @@ any_same f g same [] = refl
 any_same f g same (x ∷ xs) =
     ap (λ b. b || list_any f xs) (same x) ∙ ap (λ b. g x || b) (any_same f g same xs)
 
+-- functions with the same values make the same list
+pub map_same : {A B : Type 0} (f g : A → B) → ((x : A) → f x ≡ g x) → (xs : List A) → map f xs ≡ map g xs
+map_same f g same [] = refl
+map_same f g same (x ∷ xs) = ap (λ y. y ∷ map f xs) (same x) ∙ ap (λ l. g x ∷ l) (map_same f g same xs)
+
 -- a name is none of some names that differ from it
 pub one_of_none : (names : List (List ℕ)) (name : List ℕ) → IsNoneOf names name → is_one_of names name ≡ false
 one_of_none [] name none = refl

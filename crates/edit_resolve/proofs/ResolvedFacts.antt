@@ -1,5 +1,5 @@
 -- The changes of a resolved document can be made.
-use Rattle.std.proofs.Common.{ℕ, Bool, true, false, cond, List, [], ◌∷◌, map, refl}
+use Rattle.std.proofs.Common.{◌≡◌, ℕ, Bool, true, false, cond, List, [], ◌∷◌, map, refl, Option, Some, None}
 use Rattle.std.specs.Prelude.{◌||◌}
 use Rattle.std.specs.List.{AllByRecursion, list_any}
 use Rattle.std.specs.Str.{IsCharBoundary}
@@ -14,11 +14,13 @@ use Rattle.edit_entries.proofs.NewFieldFacts.{CanBePut}
 use Rattle.edit_entries.proofs.PartFacts.{AreEntriesIn, AreFieldsIn, file_in}
 use Rattle.edit_entries.proofs.WhiteBeforeFacts.{before_white}
 use Rattle.edit_strings.proofs.ElementFacts.{IsElement, IsValue, can_be_read, file_stands, is_cut}
-use Rattle.edit_resolve.specs.Inheritance.{read_name}
-use Rattle.edit_resolve.specs.Parents.{is_resolved}
-use Rattle.edit_resolve.specs.Resolved.{Named, as_itself, field_resolutions, inherited, last_change, new_field, resolution}
+use Rattle.bib_tables.specs.declared.mechanics.EntryType.{EntryType}
+use Rattle.edit_resolve.specs.Inheritance.{name_by_crossref, read_name}
+use Rattle.edit_resolve.specs.Parents.{is_resolved, parents}
+use Rattle.edit_resolve.specs.Resolved.{Named, all_fields, as_itself, field_resolutions, given_by, inherited, is_read_as, last_change, new_field, own_change, replacement, resolution}
 use Rattle.edit_resolve.specs.Working.{AreFieldsCut, IsNamedCut}
-use Rattle.edit_resolve.proofs.InheritedFacts.{all_inherited}
+use Rattle.edit_resolve.proofs.GivenFacts.{all_found}
+use Rattle.edit_resolve.proofs.InheritedFacts.{all_giving, all_inherited}
 use Rattle.edit_resolve.proofs.NameFacts.{names_can, new_name_can}
 
 -- ---- places
@@ -65,11 +67,17 @@ module _ (d : Document) (read : IsDocument d) where
       (λ f name value. record { name = name; value = can_be_read d.text f.value.pieces value.some value.all }) d.says.entries
       (names_can d read) values
 
-  given : (e : EntryReading) → AllByRecursion CanBeGiven (inherited d.says.entries e)
-  given e =
-      all_inherited CanBeGiven
-      (λ n type child name can is.
-      record { name = new_name_can type child (read_name n.name) name is; value = can.value }) d.says.entries own_given e
+  again : (n : Named) (type child : EntryType) (name : List ℕ) → CanBeGiven n → name_by_crossref type child (read_name n.name) ≡ Some name
+      → CanBeGiven (record { name = name; field = n.field })
+  again n type child name can is = record { name = new_name_can type child (read_name n.name) name is; value = can.value }
+
+  new_given : (e : EntryReading) → AllByRecursion CanBeGiven (inherited d.says.entries e)
+  new_given e = all_inherited CanBeGiven again d.says.entries own_given e
+
+  replacing : (e : EntryReading) (f : FieldReading) (n : Named) → replacement d.says.entries e f ≡ Some n → CanBeGiven n
+  replacing e f n is =
+      all_found CanBeGiven (is_read_as (read_name f.name.text)) (given_by (all_fields d.says.entries) (parents d.says.entries e)) n
+      (all_giving CanBeGiven again d.says.entries own_given e) is
 
   -- ---- changes
 
@@ -83,23 +91,29 @@ module _ (d : Document) (read : IsDocument d) where
   last_can [] f [] all name = tt
   last_can [] f (g ∷ gs) all name = (g, gs, refl)
 
-  change_can : (resolved : FieldReading → Bool) (b : Bool) (new : List Named) (f : FieldReading) (following : List FieldReading)
-      → AllByRecursion CanBeGiven new → IsNamed d.text f
+  own_can : (o : Option Named) (following : List FieldReading) → ((n : Named) → o ≡ Some n → CanBeGiven n)
+      → CanChange following (own_change d.text o)
+  own_can None following can = tt
+  own_can (Some n) following can = (can n refl, tt, tt)
+
+  change_can : (resolved : FieldReading → Bool) (b : Bool) (own : Option Named) (new : List Named) (f : FieldReading)
+      (following : List FieldReading) → AllByRecursion CanBeGiven new → ((n : Named) → own ≡ Some n → CanBeGiven n) → IsNamed d.text f
       → CanChange following
-      (cond b (cond (list_any resolved following) FieldChange.removed (last_change d.text new f following)) FieldChange.kept)
-  change_can resolved false new f following all name = tt
-  change_can resolved true new f [] all name = last_can new f [] all name
-  change_can resolved true new f (g ∷ gs) all name = by_case (resolved g || list_any resolved gs)
+      (cond b (cond (list_any resolved following) FieldChange.removed (last_change d.text new f following)) (own_change d.text own))
+  change_can resolved false own new f following all can name = own_can own following can
+  change_can resolved true own new f [] all can name = last_can new f [] all name
+  change_can resolved true own new f (g ∷ gs) all can name = by_case (resolved g || list_any resolved gs)
     where
       by_case : (more : Bool) → CanChange (g ∷ gs) (cond more FieldChange.removed (last_change d.text new f (g ∷ gs)))
       by_case true = (g, gs, refl)
       by_case false = last_can new f (g ∷ gs) all name
 
-  changes_can : (resolved : FieldReading → Bool) (new : List Named) (fs : List FieldReading) → AllByRecursion CanBeGiven new
-      → AllByRecursion (IsNamed d.text) fs → CanFieldsChange fs (field_resolutions d.text resolved new fs)
-  changes_can resolved new [] all names = tt
-  changes_can resolved new (f ∷ fs) all names =
-      (change_can resolved (resolved f) new f fs all names.0, changes_can resolved new fs all names.1)
+  changes_can : (resolved : FieldReading → Bool) (instead : FieldReading → Option Named) (new : List Named) (fs : List FieldReading)
+      → AllByRecursion CanBeGiven new → ((f : FieldReading) (n : Named) → instead f ≡ Some n → CanBeGiven n)
+      → AllByRecursion (IsNamed d.text) fs → CanFieldsChange fs (field_resolutions d.text resolved instead new fs)
+  changes_can resolved instead new [] all can names = tt
+  changes_can resolved instead new (f ∷ fs) all can names =
+      (change_can resolved (resolved f) (instead f) new f fs all (can f) names.0, changes_can resolved instead new fs all can names.1)
 
   -- the changes of a document's entries can be made
   pub resolution_can : AllByRecursion (λ e. CanEntryChange e (resolution d.text d.says.entries e)) d.says.entries
@@ -107,5 +121,7 @@ module _ (d : Document) (read : IsDocument d) where
       all_weaker (λ e. AllByRecursion (IsNamed d.text) e.fields) (λ e. CanEntryChange e (resolution d.text d.says.entries e))
       (λ e names. record {
         kind = λ name is. let none : ⊥ = cc in absurd none;
-        fields = changes_can (is_resolved d.says.entries) (inherited d.says.entries e) e.fields (given e) names;
+        fields =
+            changes_can (is_resolved d.says.entries) (replacement d.says.entries e) (inherited d.says.entries e) e.fields (new_given e)
+            (replacing e) names;
       }) d.says.entries named

@@ -1,7 +1,7 @@
 -- Meaning: words of public contracts.
 -- A file with inherited fields written out.
-use Rattle.std.specs.Prelude.{ℕ, zero, suc, Bool, if◌then◌else◌, List, [], ◌∷◌, ◌++◌, length, map, filter, Option, Some, None, unwrap_or, ⊤}
-use Rattle.std.specs.List.{flat_map, list_any}
+use Rattle.std.specs.Prelude.{ℕ, zero, suc, Bool, if◌then◌else◌, List, [], ◌∷◌, ◌++◌, bytes_eq, length, map, filter, Option, Some, None, unwrap_or, ⊤}
+use Rattle.std.specs.List.{find, flat_map, list_any}
 use Rattle.bib_text.specs.Enums.{value_named}
 use Rattle.bib_collections.specs.Graph.{IsFirstOnCycle}
 use Rattle.bib_queries.specs.Needed.{is_listed}
@@ -17,6 +17,7 @@ use Rattle.edit_resolve.specs.declared.errors.ResolveError.{ResolveError}
 use Rattle.edit_resolve.specs.declared.errors.ResolveError.TheVariants.{Cycle, OutOfMemory}
 use Rattle.edit_resolve.specs.declared.parents.Link.{Link}
 use Rattle.edit_resolve.specs.declared.parents.Link.TheVariants.{Crossref, Xdata}
+use Rattle.edit_resolve.specs.declared.parents.Parent.{Parent}
 
 -- ---- what a parent offers
 
@@ -41,6 +42,29 @@ offers Crossref type child fields =
     flat_map (λ n. renamed n (name_by_crossref type child (read_name n.name))) fields
     ++ filter (λ n. keeps_name type child (read_name n.name)) fields
 
+-- ---- what takes the place of own fields
+
+-- whether Biber reads a field under this name
+abbrev pub is_read_as : List ℕ → Named → Bool
+is_read_as name n = bytes_eq (read_name n.name) name
+
+-- the fields that a parent gives: Biber reads the fields of the entries that `xdata` names instead of own ones
+abbrev pub given : Link → List Named → List Named
+given Xdata fields = filter (λ n. passes_on (read_name n.name)) fields
+given Crossref fields = []
+
+-- the fields that parents give, if they have these fields
+abbrev pub given_by : (ℕ → List Named) → List Parent → List Named
+given_by fields parents = flat_map (λ p. given p.link (fields p.index)) parents
+
+-- the given field that takes the place of an own field: the first one with its name
+abbrev pub substitute : List Named → FieldReading → Option Named
+substitute fields f = find (is_read_as (read_name f.name.text)) fields
+
+-- the field that takes the place of an own field, or else the own field itself
+abbrev pub in_place : List Named → FieldReading → Named
+in_place fields f = unwrap_or (substitute fields f) (as_itself f)
+
 -- ---- what an entry inherits
 
 -- whether a field can't be inherited, since there is one with this name, or with a name that excludes it
@@ -63,15 +87,26 @@ offered_by entries fields e =
 abbrev pub inherited_by : List EntryReading → (ℕ → List Named) → EntryReading → List Named
 inherited_by entries fields e = new_fields (map (λ f. read_name f.name.text) e.fields) (offered_by entries fields e)
 
--- all fields of the entry at an index: its own ones, and those that it inherits along at most so many references one after another
+-- the fields of an entry, if its parents have these fields: its own ones, or those that take their places, and those that it inherits
+abbrev pub fields_by : List EntryReading → (ℕ → List Named) → EntryReading → List Named
+fields_by entries fields e = map (in_place (given_by fields (parents entries e))) e.fields ++ inherited_by entries fields e
+
+-- the fields of the entry at an index, along at most so many references one after another
 abbrev pub fields_along : List EntryReading → ℕ → ℕ → List Named
 fields_along entries zero index = map as_itself (entry_at entries index).fields
-fields_along entries (suc most) index =
-    map as_itself (entry_at entries index).fields ++ inherited_by entries (fields_along entries most) (entry_at entries index)
+fields_along entries (suc most) index = fields_by entries (fields_along entries most) (entry_at entries index)
 
--- the fields that an entry inherits. Without a cycle, there are fewer references one after another than entries.
+-- the fields of the entry at an index. Without a cycle, there are fewer references one after another than entries.
+abbrev pub all_fields : List EntryReading → ℕ → List Named
+all_fields entries index = fields_along entries (length entries) index
+
+-- the fields that an entry inherits
 abbrev pub inherited : List EntryReading → EntryReading → List Named
-inherited entries e = inherited_by entries (fields_along entries (length entries)) e
+inherited entries e = inherited_by entries (all_fields entries) e
+
+-- the field that takes the place of an own field of an entry
+abbrev pub replacement : List EntryReading → EntryReading → FieldReading → Option Named
+replacement entries e f = substitute (given_by (all_fields entries) (parents entries e)) f
 
 -- ---- the text
 
@@ -86,20 +121,31 @@ last_change text (n ∷ ns) f following = FieldChange.replaced (new_field text n
 last_change text [] f [] = FieldChange.kept
 last_change text [] f (g ∷ gs) = FieldChange.removed
 
--- the change of a field before other fields: each other resolved reference is removed, and all other fields are kept
-abbrev pub field_resolution : List ℕ → (FieldReading → Bool) → List Named → FieldReading → List FieldReading → FieldChange
-field_resolution text resolved new f following =
+-- the change of an own field: the field that takes its place replaces it, if there is one
+abbrev pub own_change : List ℕ → Option Named → FieldChange
+own_change text None = FieldChange.kept
+own_change text (Some n) = FieldChange.replaced (new_field text n) [] []
+
+-- the change of a field before other fields: each other resolved reference is removed
+abbrev pub field_resolution : List ℕ → (FieldReading → Bool) → (FieldReading → Option Named) → List Named → FieldReading
+    → List FieldReading → FieldChange
+field_resolution text resolved instead new f following =
     if resolved f then (if list_any resolved following then FieldChange.removed else last_change text new f following)
-    else FieldChange.kept
+    else own_change text (instead f)
 
 -- the changes of fields
-abbrev pub field_resolutions : List ℕ → (FieldReading → Bool) → List Named → List FieldReading → List FieldChange
-field_resolutions text resolved new [] = []
-field_resolutions text resolved new (f ∷ fs) = field_resolution text resolved new f fs ∷ field_resolutions text resolved new fs
+abbrev pub field_resolutions : List ℕ → (FieldReading → Bool) → (FieldReading → Option Named) → List Named → List FieldReading
+    → List FieldChange
+field_resolutions text resolved instead new [] = []
+field_resolutions text resolved instead new (f ∷ fs) =
+    field_resolution text resolved instead new f fs ∷ field_resolutions text resolved instead new fs
 
 -- the change of an entry
 abbrev pub resolution : List ℕ → List EntryReading → EntryReading → EntryChange
-resolution text entries e = record { kind = None; fields = field_resolutions text (is_resolved entries) (inherited entries e) e.fields }
+resolution text entries e = record {
+  kind = None;
+  fields = field_resolutions text (is_resolved entries) (replacement entries e) (inherited entries e) e.fields;
+}
 
 -- a text is a document's with inherited fields written out, and reads so
 abbrev pub IsResolved : Document → List ℕ → Type 0

@@ -1,12 +1,13 @@
 -- Machinery: words of private contracts.
 -- The file, the parents and the gathered fields, in the types of the code.
-use Rattle.std.specs.Prelude.{◌≡◌, ℕ, ◌<◌, ◌≤◌, Bool, if◌then◌else◌, List, [], ◌∷◌, ◌++◌, length, map, slice_index_or, Option, unwrap_or}
+use Rattle.std.specs.Prelude.{◌≡◌, ℕ, String, ◌<◌, ◌≤◌, Bool, if◌then◌else◌, List, [], ◌∷◌, ◌++◌, length, map, slice_index_or, Option, Some, unwrap_or}
 use Rattle.std.specs.Borrow.{Bor}
-use Rattle.std.specs.BTreeMap.{BTreeMap, get_by}
+use Rattle.std.specs.BTreeMap.{BTreeMap, get_by, get_by_text}
 use Rattle.std.specs.BTreeSet.{contains_text}
 use Rattle.std.specs.Cmp.Lexicographic.{slice_cmp}
 use Rattle.std.specs.Global.{Vec}
-use Rattle.std.specs.List.{AllByRecursion, flat_map, list_any}
+use Rattle.std.specs.List.{AllByRecursion, find, flat_map, list_any}
+use Rattle.std.specs.Option.{option_map, option_or}
 use Rattle.std.specs.Ordering.{nat_cmp}
 use Rattle.std.specs.Str.{IsCharBoundary}
 use Rattle.bib_text.specs.Enums.{value_named}
@@ -22,7 +23,7 @@ use Rattle.edit_entries.specs.Placed.{IsPlaced}
 use Rattle.edit_entries.specs.References.{has_alias}
 use Rattle.edit_resolve.specs.Inheritance.{read_name, rival_names}
 use Rattle.edit_resolve.specs.Parents.{entry_at, type_of}
-use Rattle.edit_resolve.specs.Resolved.{Named, as_itself, fields_along, last_change, new_fields, offers}
+use Rattle.edit_resolve.specs.Resolved.{Named, as_itself, fields_along, given_by, in_place, is_read_as, last_change, new_fields, offers}
 use Rattle.edit_resolve.specs.declared.file.File.{File}
 use Rattle.edit_resolve.specs.declared.gathering.Named.{Named as NamedField}
 use Rattle.edit_resolve.specs.declared.gathering.Gathered.{Gathered}
@@ -77,6 +78,18 @@ Offered old offered new =
 abbrev pub fields_at : List (Vec NamedField) → ℕ → List Named
 fields_at found index = slice_index_or (map (λ row. map named_of row.items) found) index []
 
+-- the given field that a map has for a name
+abbrev pub given_at : {A : Type 0} → BTreeMap (String A) NamedField → List ℕ → Option Named
+given_at given name = option_map named_of (get_by_text given name)
+
+-- the first map becomes the second one by adding each of these fields whose name it doesn't have
+abbrev pub Gives : {A : Type 0} → BTreeMap (String A) NamedField → List Named → BTreeMap (String A) NamedField → Type 0
+Gives old fields new = (name : List ℕ) → given_at new name ≡ option_or (given_at old name) (find (is_read_as name) fields)
+
+-- the field that a map has instead of an own field
+abbrev pub instead_at : {A : Type 0} → BTreeMap (String A) NamedField → FieldReading → Option Named
+instead_at given f = given_at given (read_name f.name.text)
+
 -- the type at an index
 abbrev pub kind_at : List EntryType → ℕ → EntryType
 kind_at kinds index = slice_index_or kinds index (entry_type_of [])
@@ -85,11 +98,11 @@ kind_at kinds index = slice_index_or kinds index (entry_type_of [])
 abbrev pub offered_at : List EntryType → EntryType → (ℕ → List Named) → List Parent → List Named
 offered_at kinds child fields parents = flat_map (λ p. offers p.link (kind_at kinds p.index) child (fields p.index)) parents
 
--- the fields of the entry at an index, and those that it inherits from these parents
+-- the fields of the entry at an index, or those that take their places, and those that it inherits from these parents
 abbrev pub with_inherited : List EntryReading → (ℕ → List Named) → List Parent → ℕ → List Named
 with_inherited entries fields parents index =
     let e = entry_at entries index in
-    map as_itself e.fields
+    map (in_place (given_by fields parents)) e.fields
     ++ new_fields (map (λ f. read_name f.name.text) e.fields)
     (flat_map (λ p. offers p.link (type_of (entry_at entries p.index)) (type_of e) (fields p.index)) parents)
 
@@ -108,6 +121,10 @@ pub record IsNamedCut (text : List ℕ) (f : FieldReading) : Type 0 where
 -- the fields of entries and the literals of their values may be cut out of a text
 abbrev pub AreFieldsCut : List ℕ → List EntryReading → Type 0
 AreFieldsCut text entries = AllByRecursion (λ e. AllByRecursion (λ f. IsNamedCut text f × ArePiecesCut text f) e.fields) entries
+
+-- the values of the fields in a map may be cut out of a text
+abbrev pub AreGivenCut : {A : Type 0} → List ℕ → BTreeMap (String A) NamedField → Type 0
+AreGivenCut text given = (name : List ℕ) (n : Named) → given_at given name ≡ Some n → ArePiecesCut text n.field
 
 -- the change of a resolved reference
 abbrev pub last_or_removed : List ℕ → Bool → List Named → FieldReading → List FieldReading → FieldChange

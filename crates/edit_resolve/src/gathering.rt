@@ -1,23 +1,24 @@
 //! The fields that an entry inherits from its parents.
 
-ghost use Rattle.std.specs.Prelude.{◌≡◌, ◌++◌, ◌∷◌, [], ◌<◌, ℕ, List, length, map, filter, IfOk, OnOk, slice_index_or};
+ghost use Rattle.std.specs.Prelude.{◌≡◌, ◌++◌, ◌∷◌, [], ◌<◌, ℕ, List, length, map, filter, unwrap_or, IfOk, OnOk};
 ghost use Rattle.std.specs.BTreeSet.{contains_text};
 ghost use Rattle.std.specs.List.{All, flat_map};
 ghost use Rattle.bib_queries.specs.Needed.{is_listed};
 ghost use Rattle.bib_syntax.specs.Views.{entry_reading_of, field_of};
 ghost use Rattle.edit_resolve.specs.Inheritance.{keeps_name, name_by_crossref, passes_on, read_name};
-ghost use Rattle.edit_resolve.specs.Resolved.{Named, as_itself, inherited_by, offers, renamed};
+ghost use Rattle.edit_resolve.specs.Resolved.{as_itself, offers, renamed};
 ghost use Rattle.edit_resolve.specs.Working as spec;
-ghost use Rattle.edit_resolve.specs.Working.{HasNames, Offered, fields_at, kind_at, named_of, readings};
+ghost use Rattle.edit_resolve.specs.Working.{HasNames, Offered, fields_at, instead_at, kind_at, named_of, readings};
 
 use crate::file::File;
+use crate::giving::{given, substitute};
 use crate::inheritance::{keeps_name, name_by_crossref, passes_on};
 use crate::names::{is_ruled_out, read_name};
 use crate::parents::{Link, Parent};
 use bib_syntax::raw::Pair;
 use bib_tables::mechanics::EntryType;
 use std::alloc::{AllocError, Global};
-use std::collections::BTreeSet;
+use std::collections::{BTreeMap, BTreeSet};
 
 // A name, and the field of the file that has the value.
 #[derive(Clone, Copy)]
@@ -184,19 +185,30 @@ fn own_names(alloc: Global, fields: &[Pair<'_>]) -> Result<BTreeSet<String>, All
     Ok(names)
 }
 
-// Returns fields under their own names.
+// Returns the field that takes the place of an own field, or else the own field itself.
+fn own_field<'a, 's>(
+    alloc: Global,
+    given: &BTreeMap<String, Named<'a, 's>>,
+    field: &'a Pair<'s>,
+) -> Result<Named<'a, 's>, AllocError>
+    ensures { IfOk result (λ own. named_of own ≡ unwrap_or (instead_at given.now (field_of field.now)) (as_itself (field_of field.now))) }
+{
+    let name = field.key.v;
+    Ok(substitute(given, alloc, field)?.unwrap_or(Named { name, field }))
+}
+
+// Returns own fields, or those that take their places.
 fn own_fields<'a, 's>(
     alloc: Global,
+    given: &BTreeMap<String, Named<'a, 's>>,
     fields: &'a [Pair<'s>],
 ) -> Result<Vec<Named<'a, 's>>, AllocError>
-    ensures { IfOk result (λ own. map named_of own.items ≡ map as_itself (map field_of fields.now)) }
+    ensures { IfOk result (λ own. map named_of own.items ≡
+        map (λ f. unwrap_or (instead_at given.now f) (as_itself f)) (map field_of fields.now)) }
 {
     let mut own = Vec::with_capacity(alloc, fields.len())?;
     'fields: for field in fields {
-        own.push(Named {
-            name: field.key.v,
-            field,
-        })?;
+        own.push(own_field(alloc, given, field)?)?;
     }
     Ok(own)
 }
@@ -244,7 +256,7 @@ fn push_parents<'a, 's>(
     Ok(())
 }
 
-// Returns the fields of an entry, and those that it inherits from its parents, which have these fields.
+// Returns the fields of an entry, or those that take their places, and those that it inherits from its parents, which have these fields.
 pub(crate) fn with_inherited<'a, 's>(
     alloc: Global,
     file: &File<'a, 's>,
@@ -260,9 +272,10 @@ pub(crate) fn with_inherited<'a, 's>(
         spec.with_inherited (readings file.now) (fields_at found.now) parents.now index) }
 {
     let fields = &file.entries[index].v.fields;
+    let given = given(alloc, parents, found)?;
     let mut gathered = Gathered {
         names: own_names(alloc, fields)?,
-        fields: own_fields(alloc, fields)?,
+        fields: own_fields(alloc, &given, fields)?,
     };
     push_parents(
         &mut gathered,

@@ -3,7 +3,8 @@
 //! The parents of an entry are found by the keys in its `crossref` and `xdata` (`index`, `parents`). The references form a graph over the
 //! indices of the entries. The entries are taken in a topological order of this graph, so that the fields of an entry's parents are known
 //! when it inherits from them (`turns`). `inheritance` has the tables of BibLaTeX: which field of a parent becomes which field of an entry.
-//! `gathering` keeps the offered fields that the entry lacks. `edits` replaces the references by them.
+//! `giving` finds the fields that take the places of own ones, and `gathering` the offered fields that the entry lacks. `edits` replaces
+//! own fields and references by them.
 //!
 //! The new text isn't parsed again. The edits are *changes of entries* of `edit_entries`, whose theorem states the reading of the text.
 #![tactic(auto)]
@@ -12,6 +13,7 @@ mod edits;
 pub mod errors;
 mod file;
 mod gathering;
+mod giving;
 pub mod inheritance;
 mod names;
 pub mod parents;

@@ -1,6 +1,6 @@
 //! The parents of entries: the entries that they inherit from.
 
-ghost use Rattle.std.specs.Prelude.{◌≡◌, ◌++◌, ◌∷◌, [], ℕ, List, map, IfOk, OnOk};
+ghost use Rattle.std.specs.Prelude.{◌≡◌, ◌++◌, ◌∷◌, ◌<◌, [], ℕ, List, length, map, slice_index_or, IfOk, OnOk};
 ghost use Rattle.std.specs.List.{filter_map, flat_map, list_all};
 ghost use Rattle.std.specs.Option.{option_map};
 ghost use Rattle.bib_collections.specs.Rows.{rows};
@@ -198,6 +198,14 @@ pub(crate) fn all_parents(
         found.push(parents(alloc, file, entry)?)?;
     }
     Ok(found)
+}
+
+// Returns the parents of the entry at an index.
+pub(crate) fn parents_at(parents: &[Vec<Parent>], index: usize) -> &[Parent]
+    requires { index < length parents.now }
+    ensures { result.now ≡ slice_index_or (parent_lists parents.now) index [] }
+{
+    &parents[index]
 }
 
 // Returns the indices of parents.

@@ -9,6 +9,7 @@ ghost use Rattle.edit_resolve.specs.Resolved.{IsResolved, ResolveIsRefused};
 use crate::edits::edits;
 use crate::errors::ResolveError;
 use crate::file::File;
+use crate::parents::all_parents;
 use crate::turns::all_fields;
 use edit_entries::document::RawDocument;
 use edit_entries::editing::edited_all;
@@ -22,14 +23,15 @@ use std::alloc::Global;
 ///
 /// **Fields.** By `xdata` an entry inherits all fields except `ids`, `options` and references. By `crossref` the titles of the parent get
 /// other names, such as `booktitle`, if the types of both entries have such a rule. `ids`, `xref`, `related`, `label`, `options`,
-/// `shorthand`, `sortkey` and other fields of the parent itself aren't inherited, and all other fields keep their names. An own field is
-/// never replaced. Names are compared as Biber reads them: in any ASCII case, and `address`, `journal` or `school` as `location`,
-/// `journaltitle` or `institution`. An entry with `date` inherits neither `year` nor `month`, and one with `year` no `date`.
+/// `shorthand`, `sortkey` and other fields of the parent itself aren't inherited, and all other fields keep their names. A field of an
+/// `xdata` parent takes the place of an own field with its name; by `crossref` no own field is replaced. Names are compared as Biber reads
+/// them: in any ASCII case, and `address`, `journal` or `school` as `location`, `journaltitle` or `institution`. An entry with `date`
+/// inherits neither `year` nor `month`, and one with `year` no `date`.
 ///
 /// **Text.** The inherited fields replace the last reference of their entry, and its other references are removed, with the text up to
 /// the next field. Each value is written as its parent has it, with ` # ` between joined pieces. If nothing is inherited, the last
-/// reference is removed too, or kept if no field follows it. A reference with a key that finds no entry is kept, and so is every other
-/// byte of the file.
+/// reference is removed too, or kept if no field follows it. A field that takes the place of an own field is written there. A reference
+/// with a key that finds no entry is kept, and so is every other byte of the file.
 ///
 /// # Errors
 ///
@@ -41,7 +43,8 @@ pub fn resolve(alloc: Global, document: &RawDocument<'_>) -> Result<String, Reso
 {
     let raw = document.raw();
     let file = File::of(alloc, &raw.entries)?;
-    let fields = all_fields(alloc, &file)?;
-    let edits = edits(alloc, &file, document.text(), &fields)?;
+    let parents = all_parents(alloc, &file)?;
+    let fields = all_fields(alloc, &file, &parents)?;
+    let edits = edits(alloc, &file, document.text(), &parents, &fields)?;
     Ok(edited_all(alloc, document.text(), &edits)?)
 }

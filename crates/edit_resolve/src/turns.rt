@@ -1,6 +1,6 @@
 //! The fields of all entries, with inherited ones.
 
-ghost use Rattle.std.specs.Prelude.{◌≡◌, ◌<◌, [], length, map, slice_index_or, IfErr, IfOk, OnOk};
+ghost use Rattle.std.specs.Prelude.{◌≡◌, length, map, IfErr, IfOk, OnOk};
 ghost use Rattle.bib_collections.specs.Graph.{HasNoCycle, IsInRange, IsTopologicalOrder};
 ghost use Rattle.bib_collections.specs.Rows.{rows};
 ghost use Rattle.edit_resolve.specs.Parents as spec;
@@ -11,7 +11,7 @@ ghost use Rattle.edit_resolve.specs.Working.{AreAlong, HasNames, fields_at, pare
 use crate::errors::ResolveError;
 use crate::file::File;
 use crate::gathering::{Named, with_inherited};
-use crate::parents::{Parent, all_parents, graph};
+use crate::parents::{Parent, graph, parents_at};
 use bib_collections::worklist::topological_order;
 use std::alloc::{AllocError, Global};
 
@@ -25,14 +25,6 @@ fn empty_lists<'a, 's>(alloc: Global, count: usize) -> Result<Vec<Vec<Named<'a, 
         lists.push(list)?;
     }
     Ok(lists)
-}
-
-// Returns the parents of the entry at an index.
-fn parents_at(parents: &[Vec<Parent>], index: usize) -> &[Parent]
-    requires { index < length parents.now }
-    ensures { result.now ≡ slice_index_or (parent_lists parents.now) index [] }
-{
-    &parents[index]
 }
 
 // Returns the fields of each entry, with the inherited ones. In `order`, each entry comes after its parents.
@@ -55,19 +47,20 @@ fn fields_in_order<'a, 's>(
     Ok(fields)
 }
 
-// Returns the fields of each entry, with the inherited ones.
+// Returns the fields of each entry, with the inherited ones. The entries have these parents.
 pub(crate) fn all_fields<'a, 's>(
     alloc: Global,
     file: &File<'a, 's>,
+    parents: &[Vec<Parent>],
 ) -> Result<Vec<Vec<Named<'a, 's>>>, ResolveError>
-    requires { HasNames file.now }
+    requires known { HasNames file.now }
+    requires parents { parent_lists parents.now ≡ map (spec.parents (readings file.now)) (readings file.now) }
     ensures length { IfOk result (λ fields. length fields.items ≡ length file.now.entries.now) }
     ensures fields { IfOk result (λ fields. AreAlong (readings file.now) (fields_at fields.items)) }
     ensures no_cycle { OnOk result (HasNoCycle (parent_graph (readings file.now))) }
     ensures refused { IfErr result (IsResolveError (readings file.now)) }
 {
-    let parents = all_parents(alloc, file)?;
-    let refs = graph(alloc, &parents)?;
+    let refs = graph(alloc, parents)?;
     let order = topological_order(alloc, &refs)?;
-    Ok(fields_in_order(alloc, file, &parents, &order)?)
+    Ok(fields_in_order(alloc, file, parents, &order)?)
 }

@@ -9,10 +9,10 @@ use Rattle.edit_entries.specs.Cuts.{ArePiecesCut}
 use Rattle.edit_entries.specs.EditList.{edit_of}
 use Rattle.edit_entries.specs.Edits.{Edit}
 use Rattle.edit_entries.proofs.AllFacts.{all_weaker}
-use Rattle.edit_resolve.specs.Parents.{is_resolved}
-use Rattle.edit_resolve.specs.Resolved.{field_resolutions, inherited}
-use Rattle.edit_resolve.specs.Working.{IsNamedCut, named_of, readings}
-use Rattle.edit_resolve.proofs.ChangeFacts.{new_part}
+use Rattle.edit_resolve.specs.Parents.{is_resolved, parents}
+use Rattle.edit_resolve.specs.Resolved.{Named, all_fields, field_resolutions, given_by, in_place, inherited, replacement}
+use Rattle.edit_resolve.specs.Working.{IsNamedCut, instead_at, named_of, readings}
+use Rattle.edit_resolve.proofs.ChangeFacts.{changes_same, new_part}
 use Rattle.edit_resolve.proofs.edits.push_entry_edits.Goals as goal
 
 pub push_field_edits-requires-clause-fields : goal.push_field_edits-requires-clause-fields
@@ -26,7 +26,8 @@ push_field_edits-requires-clause-new c =
     let e : EntryReading = entry_reading_of c.args.entry.now in
     let part : map named_of c.without_first-new.result.now ≡ inherited (readings c.args.file.now) e =
     ap (map named_of) c.without_first-new.ensures
-    ∙ new_part c.args.all.now e.fields (inherited (readings c.args.file.now) e) c.len.result c.requires.all
+    ∙ new_part (in_place (given_by (all_fields (readings c.args.file.now)) (parents (readings c.args.file.now) e))) c.args.all.now
+    e.fields (inherited (readings c.args.file.now) e) c.len.result c.requires.all
     (c.len.ensures ∙ sym c.deref.ensures.len ∙ ap length c.deref.ensures.value
     ∙ sym (length-map c.args.entry.now.v.fields.items field_of)) in
     subst (AllByRecursion (λ n. ArePiecesCut c.args.text.now n.field)) (sym part) c.requires.new
@@ -36,20 +37,26 @@ returns c =
     let e : EntryReading = entry_reading_of c.args.entry.now in
     let part : map named_of c.without_first-new.result.now ≡ inherited (readings c.args.file.now) e =
     ap (map named_of) c.without_first-new.ensures
-    ∙ new_part c.args.all.now e.fields (inherited (readings c.args.file.now) e) c.len.result c.requires.all
+    ∙ new_part (in_place (given_by (all_fields (readings c.args.file.now)) (parents (readings c.args.file.now) e))) c.args.all.now
+    e.fields (inherited (readings c.args.file.now) e) c.len.result c.requires.all
     (c.len.ensures ∙ sym c.deref.ensures.len ∙ ap length c.deref.ensures.value
     ∙ sym (length-map c.args.entry.now.v.fields.items field_of)) in
     let text = c.args.text.now in
     let resolved = is_resolved (readings c.args.file.now) in
+    let instead = instead_at c.args.given.now in
     let now : List Edit = map edit_of c.push_field_edits.new.edits.items in
     let old : List Edit = map edit_of c.args.edits.now.items in
-    subst (λ l. OnOk c.push_field_edits.result (now
-    ≡ old ++ edits_of_fields text e.fields (field_resolutions text resolved l e.fields))) part
+    let inherits : List Named = inherited (readings c.args.file.now) e in
+    subst (λ l. OnOk c.push_field_edits.result (now ≡ old ++ edits_of_fields text e.fields l))
+    (changes_same text resolved instead (replacement (readings c.args.file.now) e) inherits e.fields c.requires.given)
+    (subst
+    (λ l. OnOk c.push_field_edits.result (now ≡ old ++ edits_of_fields text e.fields (field_resolutions text resolved instead l e.fields)))
+    part
     (subst
     (λ l.
     OnOk c.push_field_edits.result
     (now
     ≡ old
     ++ edits_of_fields text (map field_of l)
-    (field_resolutions text resolved (map named_of c.without_first-new.result.now) (map field_of l)))) c.deref.ensures.value
-    c.push_field_edits.ensures)
+    (field_resolutions text resolved instead (map named_of c.without_first-new.result.now) (map field_of l)))) c.deref.ensures.value
+    c.push_field_edits.ensures))

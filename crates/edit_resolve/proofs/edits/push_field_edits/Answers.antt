@@ -9,15 +9,16 @@ use Rattle.edit_entries.specs.EditList.{edit_of}
 use Rattle.edit_entries.specs.Edits.{Edit}
 use Rattle.edit_strings.proofs.ListFacts.{all_step}
 use Rattle.edit_resolve.specs.Parents.{is_resolved}
-use Rattle.edit_resolve.specs.Working.{IsNamedCut, last_or_removed, named_of, readings}
-use Rattle.edit_resolve.proofs.ChangeFacts.{change_is, count_step, edits_from, edits_step, kept_is}
+use Rattle.edit_resolve.specs.Working.{IsNamedCut, instead_at, last_or_removed, named_of, readings}
+use Rattle.edit_resolve.proofs.ChangeFacts.{change_is, count_step, edits_from, edits_step, own_is}
 use Rattle.edit_resolve.proofs.edits.push_field_edits.Goals as goal
-use Rattle.edit_resolve.proofs.edits.push_field_edits.Goals.{then-branch+in_ok-push_reference, else-branch}
+use Rattle.edit_resolve.proofs.edits.push_field_edits.Goals.{then-branch+in_ok-push_reference, else-branch+in_ok-push_own}
 
 pub fields-preserved : goal.fields-preserved
 fields-preserved c =
     let text = c.args.text.now in
     let resolved = is_resolved (readings c.args.file.now) in
+    let instead = instead_at c.args.given.now in
     let new = map named_of c.args.new.now in
     let xs : List Pair = c.args.fields.now in
     let i : ℕ = c.fields.at in
@@ -26,12 +27,12 @@ fields-preserved c =
     let past : List Pair = drop (i + 1) xs in
     let rest : List FieldReading = map field_of past in
     let old = map edit_of c.fields.edits.items in
-    let count = c.fields.invariant.left ∙ count_step text resolved new field_of xs i x c.fields-test.true c.index-fields-at.is in
+    let count = c.fields.invariant.left ∙ count_step text resolved instead new field_of xs i x c.fields-test.true c.index-fields-at.is in
     let placed =
     (all_step field_of xs i x c.fields-test.true c.index-fields-at.is (IsNamedCut text) c.fields.invariant.placed).1 in
     let known = sym c.in_ok-is_resolved.ensures in
-    let more : List Edit = edits_from text resolved new rest in
-    let all : List Edit = map edit_of c.args.edits.now.items ++ edits_from text resolved new (map field_of xs) in
+    let more : List Edit = edits_from text resolved instead new rest in
+    let all : List Edit = map edit_of c.args.edits.now.items ++ edits_from text resolved instead new (map field_of xs) in
     elim c.if-branch.branch [
       | then-branch+in_ok-push_reference w ↦
           let following : List Pair = take (length xs - (i + 1)) past in
@@ -43,25 +44,26 @@ fields-preserved c =
           record {
             added =
                 ap (λ v. map edit_of v.items ++ more) w.edits-is
-                ∙ edits_step text resolved new field_of xs i x c.fields-test.true c.index-fields-at.is old now all
+                ∙ edits_step text resolved instead new field_of xs i x c.fields-test.true c.index-fields-at.is old now all
                 (w.in_ok-push_reference.ensures
                 ∙ ap
                 (λ l.
                 old
                 ++ edits_of_field text f (map field_of l) (last_or_removed text (c.fields.left - 1 == 0) new f (map field_of l))) same
-                ∙ ap (λ ch. old ++ edits_of_field text f rest ch) (sym (change_is text resolved new f rest (c.fields.left - 1) is left)))
+                ∙ ap (λ ch. old ++ edits_of_field text f rest ch) (sym (change_is text resolved instead new f rest (c.fields.left - 1) is left)))
                 c.fields.invariant.added;
             left = w.left-is ∙ left;
             placed = placed;
           }
-      | else-branch w ↦
-          let now : List Edit = old in
+      | else-branch+in_ok-push_own w ↦
+          let now : List Edit = map edit_of w.push_own.new.edits.items in
           let is : resolved f ≡ false = known ∙ w.if-branch.false in
           record {
             added =
                 ap (λ v. map edit_of v.items ++ more) w.edits-is
-                ∙ edits_step text resolved new field_of xs i x c.fields-test.true c.index-fields-at.is old now all
-                (sym (append-nil old) ∙ ap (λ l. old ++ l) (kept_is text resolved new f rest is)) c.fields.invariant.added;
+                ∙ edits_step text resolved instead new field_of xs i x c.fields-test.true c.index-fields-at.is old now all
+                (w.in_ok-push_own.ensures rest
+                ∙ ap (λ ch. old ++ edits_of_field text f rest ch) (own_is text resolved instead new f rest is)) c.fields.invariant.added;
             left = w.left-is ∙ omega (arith, count, ap (λ b. cond {A = ℕ} b 1 0) is);
             placed = placed;
           }

@@ -1,4 +1,4 @@
-use Rattle.std.proofs.Common.{◌≡◌, ◌++◌, ◌<◌, ◌∙◌, ℕ, List, length, ap, arith, get_or, map, sym}
+use Rattle.std.proofs.Common.{◌≡◌, ◌++◌, ◌<◌, ◌∙◌, ℕ, List, length, ap, arith, get_or, map, sym, unwrap_or}
 use Rattle.std.specs.List.{flat_map}
 use Rattle.std.proofs.lemmas.List.{get_or-map, length-map}
 use Rattle.bib_syntax.specs.Reading.{EntryReading, FieldReading}
@@ -6,10 +6,11 @@ use Rattle.bib_syntax.specs.Views.{entry_reading_of, field_of}
 use Rattle.bib_tables.specs.declared.mechanics.EntryType.{EntryType}
 use Rattle.edit_resolve.specs.Inheritance.{read_name}
 use Rattle.edit_resolve.specs.Parents.{entry_at, no_reading, type_of}
-use Rattle.edit_resolve.specs.Resolved.{Named, as_itself, new_fields, offers}
-use Rattle.edit_resolve.specs.Working.{fields_at, offered_at, readings}
+use Rattle.edit_resolve.specs.Resolved.{Named, as_itself, given_by, in_place, new_fields, offers}
+use Rattle.edit_resolve.specs.Working.{fields_at, instead_at, offered_at, readings}
 use Rattle.edit_resolve.proofs.FileFacts.{kind_found}
 use Rattle.edit_resolve.proofs.GatheringFacts.{offered_is}
+use Rattle.edit_resolve.proofs.ListFacts.{map_same}
 use Rattle.edit_resolve.proofs.gathering.with_inherited.Goals as goal
 
 pub returns : goal.returns
@@ -35,10 +36,16 @@ returns c =
     let offered_are : offered ≡ all (type_of e) =
     offered_is es c.deref-3.result.now c.index.result.now fields c.args.parents.now (c.deref-3.ensures.value ∙ c.requires.known.kinds)
     ∙ ap all kind_is in
+    let own_name : FieldReading → Named = λ f. unwrap_or (instead_at c.in_ok-given.given f) (as_itself f) in
+    let gives : List Named = given_by fields c.args.parents.now in
+    let placed : map own_name same ≡ map (in_place gives) same =
+    map_same own_name (in_place gives)
+    (λ f. ap (λ o. unwrap_or o (as_itself f)) (c.in_ok-given.ensures (read_name f.name.text))) same in
     let after =
-    c.in_ok-push_parents.ensures (read own) (map as_itself same)
+    c.in_ok-push_parents.ensures (read own) (map own_name same)
     (record { names = c.in_ok-own_names.ensures; fields = c.in_ok-own_fields.ensures }) in
     after.fields
-    ∙ ap (λ l. map as_itself l ++ new_fields (read own) offered) same_is
-    ∙ ap (λ l. map as_itself e.fields ++ new_fields (read l) offered) own_is
-    ∙ ap (λ o. map as_itself e.fields ++ new_fields (read e.fields) o) offered_are
+    ∙ ap (λ l. l ++ new_fields (read own) offered) placed
+    ∙ ap (λ l. map (in_place gives) l ++ new_fields (read own) offered) same_is
+    ∙ ap (λ l. map (in_place gives) e.fields ++ new_fields (read l) offered) own_is
+    ∙ ap (λ o. map (in_place gives) e.fields ++ new_fields (read e.fields) o) offered_are

@@ -36,11 +36,11 @@ edited_all-requires c =
     let d : Document = c.args.document.now in
     let es : readings c.in_ok-file.file ≡ d.says.entries =
     ap (map entry_reading_of) (c.in_ok-file.ensures.entries ∙ c.deref.ensures.value) ∙ ap (λ f. f.entries) c.raw-raw.ensures.says in
-    let edits : map edit_of c.deref-3.result.now ≡ edits_of_entries (resolution d.text d.says.entries) d.text d.says.entries =
-    ap (map edit_of) c.deref-3.ensures.value ∙ c.in_ok-edits.ensures
+    let edits : map edit_of c.deref-5.result.now ≡ edits_of_entries (resolution d.text d.says.entries) d.text d.says.entries =
+    ap (map edit_of) c.deref-5.ensures.value ∙ c.in_ok-edits.ensures
     ∙ ap (λ t. edits_of_entries (resolution t (readings c.in_ok-file.file)) t (readings c.in_ok-file.file)) c.text.ensures
     ∙ ap (λ l. edits_of_entries (resolution d.text l) d.text l) es in
-    subst (λ t. AreEditsInOrder t 0 (map edit_of c.deref-3.result.now)) (sym c.text-2.ensures)
+    subst (λ t. AreEditsInOrder t 0 (map edit_of c.deref-5.result.now)) (sym c.text-2.ensures)
     (subst (AreEditsInOrder d.text 0) (sym edits)
     (changes_in_order d (resolution d.text d.says.entries) c.raw-raw.ensures.read (subst IsUtf8 c.text.ensures c.text.utf8)))
 
@@ -49,12 +49,12 @@ returns-clause-resolved c =
     let d : Document = c.args.document.now in
     let es : readings c.in_ok-file.file ≡ d.says.entries =
     ap (map entry_reading_of) (c.in_ok-file.ensures.entries ∙ c.deref.ensures.value) ∙ ap (λ f. f.entries) c.raw-raw.ensures.says in
-    let edits : map edit_of c.deref-3.result.now ≡ edits_of_entries (resolution d.text d.says.entries) d.text d.says.entries =
-    ap (map edit_of) c.deref-3.ensures.value ∙ c.in_ok-edits.ensures
+    let edits : map edit_of c.deref-5.result.now ≡ edits_of_entries (resolution d.text d.says.entries) d.text d.says.entries =
+    ap (map edit_of) c.deref-5.ensures.value ∙ c.in_ok-edits.ensures
     ∙ ap (λ t. edits_of_entries (resolution t (readings c.in_ok-file.file)) t (readings c.in_ok-file.file)) c.text.ensures
     ∙ ap (λ l. edits_of_entries (resolution d.text l) d.text l) es in
     let text : string_bytes c.in_ok-edited_all.field-0 ≡ text_changed (resolution d.text d.says.entries) d =
-    c.in_ok-edited_all.ensures ∙ ap (λ t. edited_all (map edit_of c.deref-3.result.now) t) c.text-2.ensures
+    c.in_ok-edited_all.ensures ∙ ap (λ t. edited_all (map edit_of c.deref-5.result.now) t) c.text-2.ensures
     ∙ ap (λ l. edited_all l d.text) edits in
     record {
       is = text;
