@@ -98,13 +98,13 @@ tokens_end {start} w before so (v, white, end) =
 
 pub tokens_unclosed : {start u v : Place} (before : List Placed) → TokensSoFar start before u → Longest is_whitespace u v → IsUnclosed v
     → AreTokens start (Err v.at)
-tokens_unclosed before so white unclosed = so.with_rest (Err _) (tokens.unclosed white unclosed)
+tokens_unclosed before so white quote = so.with_rest (Err _) (tokens.unclosed white quote)
 
 -- the error of a token is that of the text
 pub tokens_refused : {start u : Place} (before : List Placed) (e : SelectionError) → TokensSoFar start before u → IsTokenError u e
     → IsTokensError start e
-tokens_refused {start} before e so (v, white, unclosed, is) =
-    subst (λ e. IsTokensError start e) (sym is) (refl, tokens_unclosed before so white unclosed)
+tokens_refused {start} before e so (v, white, quote, is) =
+    subst (λ e. IsTokensError start e) (sym is) (refl, tokens_unclosed before so white quote)
 
 -- each token shortens the text that is left
 pub next_smaller : {u w : Place} (placed : Placed) → IsNextToken u (Some placed) w → length w.text - w.at < length u.text - u.at

@@ -30,7 +30,8 @@ LacksWord joint tokens = list_any (λ placed. is_keyword joint placed.token) tok
 pub data AreJoinedBy {A : Type 0} (joint : List ℕ) (Is : List Placed → A → Type 0) : List Placed → List A → Type 0 where
   one_part : {tokens : List Placed} {a : A} → LacksWord joint tokens → Is tokens a → AreJoinedBy joint Is tokens (a ∷ [])
   more_parts : {tokens rest : List Placed} (placed : Placed) {a : A} {others : List A} → LacksWord joint tokens → Is tokens a
-      → is_keyword joint placed.token ≡ true → AreJoinedBy joint Is rest others → AreJoinedBy joint Is (tokens ++ placed ∷ rest) (a ∷ others)
+      → is_keyword joint placed.token ≡ true → AreJoinedBy joint Is rest others
+      → AreJoinedBy joint Is (tokens ++ placed ∷ rest) (a ∷ others)
 
 -- an alternative is terms joined by `and`
 abbrev pub IsAlternative : List Placed → List TermReading → Type 0
