@@ -17,6 +17,8 @@ HEAD = re.compile(r"^[ \t]*@\s*([\w+*.:/-]+)\s*[{(]", re.M)
 KEY = re.compile(r"\s*([^,\s}]*)\s*,?")
 FIELD = re.compile(r"[\s,]*([^\s=,{}\"]+)\s*=\s*")
 DEFINITION = re.compile(r"\s*([^\s=]+)\s*=\s*")
+CONFIG = pathlib.Path("/usr/share/perl5/Biber/biber-tool.conf")
+INHERITANCE = re.compile(r"\\DeclareDataInheritance\{([^}]*)\}\s*\{([^}]*)\}\{%\n(.*?)\n\}", re.S)
 # An abbreviation stands between these in a value.
 NAME = "\x01"
 
@@ -227,13 +229,37 @@ def bibtool(text, room):
     return Reading(printed_entries(output.decode("latin-1")), messages, messages)
 
 
+def inheritance_rows(declaration):
+    """The lines of a configuration of Biber for a declaration of biblatex.def."""
+    sources, targets, lines = declaration
+    yield "<inherit>"
+    for source in sources.split(","):
+        yield from (f'<type_pair source="{source}" target="{target}"/>' for target in targets.split(","))
+    for command, names in re.findall(r"\\(inherit|noinherit)((?:\{\w+\})+)", lines):
+        first, *second = re.findall(r"\w+", names)
+        yield f'<field source="{first}" target="{second[0]}"/>' if command == "inherit" else f'<field source="{first}" skip="true"/>'
+    yield "</inherit>"
+
+
+def configuration():
+    """A configuration of Biber with the rules of inheritance of BibLaTeX."""
+    path = subprocess.run(["kpsewhich", "biblatex.def"], capture_output=True, text=True, check=True).stdout.strip()
+    lines = [line for it in INHERITANCE.findall(pathlib.Path(path).read_text()) for line in inheritance_rows(it)]
+    rules = ['<inheritance><defaults inherit_all="true" override_target="false"></defaults>', *lines, "</inheritance>"]
+    return re.sub(r"<inheritance>.*?</inheritance>", lambda _: "\n".join(rules), CONFIG.read_text(), flags=re.S)
+
+
 def biber(text, room, is_resolved=False):
-    """What Biber reads, abbreviations expanded; with inherited fields if it is asked to resolve them."""
+    """What Biber reads, abbreviations expanded; with inherited fields, by the rules of BibLaTeX, if it is asked to resolve them."""
     room = pathlib.Path(room)
     for name in ("file_bibertool.bib", "file.bib.blg"):
         (room / name).unlink(missing_ok=True)
     (room / "file.bib").write_bytes(text)
-    words = ["biber", "--tool", "--nodieonerror", "--output-fieldcase=lower", *["--output-resolve"] * is_resolved, "file.bib"]
+    words = ["biber", "--tool", "--nodieonerror", "--output-fieldcase=lower"]
+    if is_resolved:
+        (room / "biber.conf").write_text(configuration())
+        words += ["--output-resolve", f"--configfile={room / 'biber.conf'}"]
+    words.append("file.bib")
     call(words, room)
     log = written(room / "file.bib.blg")
     lines = [re.sub(r"^\[\d+\][^>]*> ", "", it) for it in log.splitlines() if re.search(" (WARN|ERROR) ", it)]

@@ -72,16 +72,11 @@ def is_inherited(case):
     return is_child(case) and is_gone and is_new
 
 
-def has_old_name(case):
-    """Whether a parent has the lost field by the name that BibTeX has for it."""
+def has_both_names(case):
+    """Whether a parent has the field both by the name that BibTeX has for it and by that of BibLaTeX."""
     olds = {"location": "address", "institution": "school", "journaltitle": "journal", "annotation": "annote"}
-    old = olds.get(case.difference.name)
-    return old is not None and any(case.field(it, old) is not None for it in case.parents(case.difference.key))
-
-
-def is_own_title(case):
-    """Whether a child got a title of its parent as its own."""
-    return is_child(case) and case.difference.name in ("subtitle", "titleaddon", "booktitle", "booksubtitle", "booktitleaddon")
+    names = {case.difference.name, olds.get(case.difference.name)}
+    return any(all(name and case.field(it, name) is not None for name in names) for it in case.parents(case.difference.key))
 
 
 def same_key(case):
@@ -140,12 +135,9 @@ REASONS = [
            ".*", is_in_chain),
     Reason(PEER, "bibtool cuts keys that aren't in ASCII, so several are the same", SORTS, "bibtool", "field changed|type", is_beyond_ascii),
     Reason(RULE, "resolve writes what BibLaTeX inherits, and BibTeX inherits each field by its own name", "resolve", "bibtex", "field .*", is_inherited),
-    Reason(FAULT, "resolve loses a field that the parent has by its name in BibTeX", "resolve", "biber", "field lost", has_old_name),
-    Reason(FAULT, "resolve gives a child the subtitle or the title of its parent by another name than BibLaTeX", "resolve", "biber", "field .*",
-           is_own_title),
+    Reason(PEER, "Biber inherits the field by BibLaTeX's name, if the parent has it by both names", "resolve", "biber", "field changed", has_both_names),
     Reason(RULE, "resolve takes references away, so BibTeX has nothing to say of them", "resolve", "bibtex", "message gone",
            lambda it: "which also refers" in it.difference.before),
-    Reason(RULE, "BibLaTeX inherits more fields than the library", "resolve", "biber", "field lost", is_child),
     Reason(RULE, "BibTeX prints another case or italics for another type", "there-and-back", "bibtex", "print", has_only_other_case),
     Reason(RULE, "BibTeX reads by its new name what it passed over", "to-bibtex|there-and-back", "bibtex", "print", is_longer),
     Reason(FAULT, "a child has the endyear of its parent beside a date of its own", "to-bibtex", "bibtex", "field changed",

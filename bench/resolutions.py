@@ -10,41 +10,19 @@ import argparse
 import collections
 import pathlib
 import re
-import subprocess
 import sys
 import tempfile
 
 import peers
 
-CONFIG = pathlib.Path("/usr/share/perl5/Biber/biber-tool.conf")
-DECLARATION = re.compile(r"\\DeclareDataInheritance\{([^}]*)\}\s*\{([^}]*)\}\{%\n(.*?)\n\}", re.S)
 REFERENCE = re.compile(rb"(?i)\b(crossref|xdata)\s*=")
 LARGEST = 400_000
 
 
-def rows(declaration):
-    """The lines of a configuration of Biber for a declaration of biblatex.def."""
-    sources, targets, lines = declaration
-    yield "<inherit>"
-    for source in sources.split(","):
-        yield from (f'<type_pair source="{source}" target="{target}"/>' for target in targets.split(","))
-    for command, names in re.findall(r"\\(inherit|noinherit)((?:\{\w+\})+)", lines):
-        first, *second = re.findall(r"\w+", names)
-        yield f'<field source="{first}" target="{second[0]}"/>' if command == "inherit" else f'<field source="{first}" skip="true"/>'
-    yield "</inherit>"
-
-
-def configuration():
-    """A configuration of Biber with the rules of inheritance of BibLaTeX."""
-    path = subprocess.run(["kpsewhich", "biblatex.def"], capture_output=True, text=True, check=True).stdout.strip()
-    lines = [line for it in DECLARATION.findall(pathlib.Path(path).read_text()) for line in rows(it)]
-    rules = ['<inheritance><defaults inherit_all="true" override_target="false"></defaults>', *lines, "</inheritance>"]
-    return re.sub(r"<inheritance>.*?</inheritance>", lambda _: "\n".join(rules), CONFIG.read_text(), flags=re.S)
-
-
 def resolved(text, room):
-    """The entries that Biber has of a text, with inherited fields."""
-    for option in ("--output-resolve-xdata", "--output-resolve-crossrefs"):
+    """The entries that Biber has of a text, with inherited fields. Each run writes a year and a month as a date, so none is made for nothing."""
+    options = ["--output-resolve-xdata"] * (b"xdata" in text.lower()) + ["--output-resolve-crossrefs"]
+    for option in options:
         (room / "file.bib").write_bytes(text)
         out = room / "out.bib"
         out.unlink(missing_ok=True)
@@ -116,7 +94,7 @@ def main():
     total = collections.Counter()
     with tempfile.TemporaryDirectory() as folder:
         room = pathlib.Path(folder)
-        (room / "biber.conf").write_text(configuration())
+        (room / "biber.conf").write_text(peers.configuration())
         for number, (name, text) in enumerate(texts):
             new = answers[number] if answers else made(options.bibkit, text, room)
             if new is None or new.startswith(b"refused"):

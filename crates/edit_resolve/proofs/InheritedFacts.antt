@@ -8,7 +8,7 @@ use Rattle.edit_entries.proofs.AllFacts.{OfFields}
 use Rattle.edit_resolve.specs.Inheritance.{keeps_name, name_by_crossref, passes_on, read_name}
 use Rattle.edit_resolve.specs.Parents.{entry_at, parents, type_of}
 use Rattle.std.specs.Prelude.{unwrap_or}
-use Rattle.edit_resolve.specs.Resolved.{Named, all_fields, as_itself, fields_along, given, given_by, in_place, inherited, inherited_by, is_read_as, is_ruled_out, new_fields, offers, renamed, replacement, substitute}
+use Rattle.edit_resolve.specs.Resolved.{Named, all_fields, as_itself, fields_along, given, given_by, in_place, inherited, inherited_by, is_read_as, is_ruled_out, new_fields, offers, renamed, substitute}
 use Rattle.edit_resolve.specs.declared.parents.Link.{Link}
 use Rattle.edit_resolve.specs.declared.parents.Link.TheVariants.{Crossref, Xdata}
 use Rattle.edit_resolve.specs.declared.parents.Parent.{Parent}

@@ -23,7 +23,7 @@ use Rattle.edit_entries.specs.Placed.{IsPlaced}
 use Rattle.edit_entries.specs.References.{has_alias}
 use Rattle.edit_resolve.specs.Inheritance.{read_name, rival_names}
 use Rattle.edit_resolve.specs.Parents.{entry_at, type_of}
-use Rattle.edit_resolve.specs.Resolved.{Named, as_itself, fields_along, given_by, in_place, is_read_as, last_change, new_fields, offers}
+use Rattle.edit_resolve.specs.Resolved.{Named, fields_along, given_by, in_place, is_read_as, last_change, new_fields, offers}
 use Rattle.edit_resolve.specs.declared.file.File.{File}
 use Rattle.edit_resolve.specs.declared.gathering.Named.{Named as NamedField}
 use Rattle.edit_resolve.specs.declared.gathering.Gathered.{Gathered}

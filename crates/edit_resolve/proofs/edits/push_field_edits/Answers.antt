@@ -1,4 +1,4 @@
-use Rattle.std.proofs.Common.{◌≡◌, ◌++◌, ◌∙◌, ◌-◌, ◌+◌, ℕ, List, ap, arith, append-nil, drop, length, map, sym, take, true, false, cond}
+use Rattle.std.proofs.Common.{◌≡◌, ◌++◌, ◌∙◌, ◌-◌, ◌+◌, ℕ, List, ap, arith, drop, length, map, sym, take, true, false, cond}
 use Rattle.std.specs.Prelude.{count_by, ◌==◌}
 use Rattle.std.proofs.lemmas.List.{length-drop, take_all}
 use Rattle.bib_syntax.specs.Reading.{FieldReading}
