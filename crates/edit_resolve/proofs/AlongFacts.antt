@@ -18,7 +18,7 @@ use Rattle.bib_syntax.specs.Reading.{EntryReading}
 use Rattle.edit_resolve.specs.Errors.{resolve_error}
 use Rattle.edit_resolve.specs.Inheritance.{read_name}
 use Rattle.edit_resolve.specs.Parents.{entry_at, no_reading, parent_graph, parents, type_of}
-use Rattle.edit_resolve.specs.Resolved.{IsResolveError, Named, all_fields, fields_along, given_by, in_place, inherited_by, new_fields, offers}
+use Rattle.edit_resolve.specs.Resolved.{IsResolveError, Named, all_fields, fields_along, given_fields_by, in_place, inherited_by, new_fields, offers}
 use Rattle.edit_resolve.specs.Working.{AreAlong, fields_at, parent_lists, named_of, with_inherited}
 use Rattle.edit_resolve.specs.declared.errors.ResolveError.{ResolveError}
 use Rattle.edit_resolve.specs.declared.gathering.Named.{Named as NamedField}
@@ -86,7 +86,7 @@ module _ (entries : List EntryReading) (order : List ℕ) (sorted : IsTopologica
       (given_alike fields (fields_along entries most) (parents entries e) same)
       ∙ ap
       (λ l.
-      map (in_place (given_by (fields_along entries most) (parents entries e))) e.fields
+      map (in_place (given_fields_by (fields_along entries most) (parents entries e))) e.fields
       ++ new_fields (map (λ f. read_name f.name.text) e.fields) l)
       (offered_alike entries e fields (fields_along entries most) (parents entries e) same)
 
@@ -175,9 +175,10 @@ graph_error entries graph (Err x) e same gives known =
 
 -- the fields that the parents of an entry give, if these are the fields of all entries
 pub giving_known : (entries : List EntryReading) (fields : ℕ → List Named) (ps : List Parent) (e : EntryReading)
-    → ps ≡ parents entries e → AreAlong entries fields → given_by fields ps ≡ given_by (all_fields entries) (parents entries e)
+    → ps ≡ parents entries e → AreAlong entries fields
+    → given_fields_by fields ps ≡ given_fields_by (all_fields entries) (parents entries e)
 giving_known entries fields ps e are known =
-    ap (given_by fields) are
+    ap (given_fields_by fields) are
     ∙ given_alike fields (all_fields entries) (parents entries e)
     (λ i there.
     known i (length entries)

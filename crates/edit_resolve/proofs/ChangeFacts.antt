@@ -41,7 +41,9 @@ module _ (text : List ℕ) (resolved : FieldReading → Bool) (instead : FieldRe
   pub change_is : (f : FieldReading) (following : List FieldReading) (left : ℕ) → resolved f ≡ true → left ≡ count_by resolved following
       → field_resolution text resolved instead new f following ≡ last_or_removed text (left == 0) new f following
   change_is f following left is count =
-      ap (λ b. cond b (cond (list_any resolved following) FieldChange.removed (last_change text new f following)) (own_change text (instead f))) is
+      ap
+      (λ b.
+      cond b (cond (list_any resolved following) FieldChange.removed (last_change text new f following)) (own_change text (instead f))) is
       ∙ any_counted following FieldChange.removed (last_change text new f following)
       ∙ ap (λ n. cond (n == 0) (last_change text new f following) FieldChange.removed) (sym count)
 

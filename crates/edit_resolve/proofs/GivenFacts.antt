@@ -11,7 +11,7 @@ use Rattle.std.proofs.lemmas.List.Folds.{find-append}
 use Rattle.std.proofs.lemmas.Slice.Eq.{bytes_eq-Decides}
 use Rattle.edit_resolve.specs.Inheritance.{read_name}
 use Rattle.bib_text.proofs.ListFacts.{contains_more}
-use Rattle.edit_resolve.specs.Resolved.{Named, given, given_by, is_read_as}
+use Rattle.edit_resolve.specs.Resolved.{Named, given_fields, given_fields_by, is_read_as}
 use Rattle.edit_resolve.specs.Working.{Gives, given_at, named_of}
 use Rattle.edit_resolve.specs.declared.gathering.Named.{Named as NamedField}
 use Rattle.edit_resolve.specs.declared.parents.Parent.{Parent}
@@ -107,21 +107,22 @@ passed_on old new n b is gives = subst (λ b. Gives old (cond b (n ∷ []) []) n
 
 -- one more parent
 pub parents_give : (fields : ℕ → List Named) (ps : List Parent) (i : ℕ) (d : Parent) → i < length ps
-    → given_by fields (take i ps) ++ given (get_or ps i d).link (fields (get_or ps i d).index) ≡ given_by fields (take (i + 1) ps)
+    → given_fields_by fields (take i ps) ++ given_fields (get_or ps i d).link (fields (get_or ps i d).index)
+    ≡ given_fields_by fields (take (i + 1) ps)
 parents_give fields ps i d within =
-    let each = λ (p : Parent). given p.link (fields p.index) in
+    let each = λ (p : Parent). given_fields p.link (fields p.index) in
     let p : Parent = get_or ps i d in
-    ap (λ l. given_by fields (take i ps) ++ l) (sym (append-nil (each p)))
+    ap (λ l. given_fields_by fields (take i ps) ++ l) (sym (append-nil (each p)))
     ∙ sym (flat_map-append each (take i ps) (p ∷ []))
     ∙ ap (flat_map each) (sym (take_more ps i d within))
 
 -- parents with the same fields give the same fields
 pub given_alike : (fields others : ℕ → List Named) (ps : List Parent)
-    → ((i : ℕ) → Contains (map (λ p. p.index) ps) i → fields i ≡ others i) → given_by fields ps ≡ given_by others ps
+    → ((i : ℕ) → Contains (map (λ p. p.index) ps) i → fields i ≡ others i) → given_fields_by fields ps ≡ given_fields_by others ps
 given_alike fields others [] same = refl
 given_alike fields others (p ∷ ps) same =
-    ap (λ l. given p.link l ++ given_by fields ps) (same p.index (zero, omega arith, refl))
-    ∙ ap (λ l. given p.link (others p.index) ++ l)
+    ap (λ l. given_fields p.link l ++ given_fields_by fields ps) (same p.index (zero, omega arith, refl))
+    ∙ ap (λ l. given_fields p.link (others p.index) ++ l)
     (given_alike fields others ps (λ i there. same i (contains_more p.index i (map (λ p. p.index) ps) there)))
 
 -- what holds of all fields holds of the one that is found

@@ -8,7 +8,7 @@ use Rattle.edit_entries.proofs.AllFacts.{OfFields}
 use Rattle.edit_resolve.specs.Inheritance.{keeps_name, name_by_crossref, passes_on, read_name}
 use Rattle.edit_resolve.specs.Parents.{entry_at, parents, type_of}
 use Rattle.std.specs.Prelude.{unwrap_or}
-use Rattle.edit_resolve.specs.Resolved.{Named, all_fields, as_itself, fields_along, given, given_by, in_place, inherited, inherited_by, is_read_as, is_ruled_out, new_fields, offers, renamed, substitute}
+use Rattle.edit_resolve.specs.Resolved.{Named, all_fields, as_itself, fields_along, given_fields, given_fields_by, in_place, inherited, inherited_by, is_read_as, is_ruled_out, new_fields, offers, renamed, substitute}
 use Rattle.edit_resolve.specs.declared.parents.Link.{Link}
 use Rattle.edit_resolve.specs.declared.parents.Link.TheVariants.{Crossref, Xdata}
 use Rattle.edit_resolve.specs.declared.parents.Parent.{Parent}
@@ -62,12 +62,12 @@ module _ (P : Named → Type 0)
     all_own (f ∷ fs) all = (all.0, all_own fs all.1)
 
     all_given : (fields : ℕ → List Named) (ps : List Parent) → ((i : ℕ) → AllByRecursion P (fields i))
-        → AllByRecursion P (given_by fields ps)
+        → AllByRecursion P (given_fields_by fields ps)
     all_given fields [] all = tt
     all_given fields (p ∷ ps) all =
-        all_append P (given p.link (fields p.index)) _ (by_link p.link (fields p.index) (all p.index)) (all_given fields ps all)
+        all_append P (given_fields p.link (fields p.index)) _ (by_link p.link (fields p.index) (all p.index)) (all_given fields ps all)
       where
-        by_link : (link : Link) (ns : List Named) → AllByRecursion P ns → AllByRecursion P (given link ns)
+        by_link : (link : Link) (ns : List Named) → AllByRecursion P ns → AllByRecursion P (given_fields link ns)
         by_link Xdata ns is = all_filter (λ n. passes_on (read_name n.name)) ns is
         by_link Crossref ns is = tt
 
@@ -105,13 +105,13 @@ module _ (P : Named → Type 0)
     all_along zero index = all_own (entry_at entries index).fields (entry_own entries index own)
     all_along (suc most) index =
         let e = entry_at entries index in
-        all_append P (map (in_place (given_by (fields_along entries most) (parents entries e))) e.fields) _
-        (all_in_place (given_by (fields_along entries most) (parents entries e)) e.fields
+        all_append P (map (in_place (given_fields_by (fields_along entries most) (parents entries e))) e.fields) _
+        (all_in_place (given_fields_by (fields_along entries most) (parents entries e)) e.fields
         (all_given (fields_along entries most) (parents entries e) (λ i. all_along most i)) (entry_own entries index own))
         (all_by (fields_along entries most) e (λ i. all_along most i))
 
     pub all_inherited : (e : EntryReading) → AllByRecursion P (inherited entries e)
     all_inherited e = all_by (all_fields entries) e (λ i. all_along (length entries) i)
 
-    pub all_giving : (e : EntryReading) → AllByRecursion P (given_by (all_fields entries) (parents entries e))
+    pub all_giving : (e : EntryReading) → AllByRecursion P (given_fields_by (all_fields entries) (parents entries e))
     all_giving e = all_given (all_fields entries) (parents entries e) (λ i. all_along (length entries) i)

@@ -17,7 +17,7 @@ use Rattle.edit_strings.proofs.ElementFacts.{IsElement, IsValue, can_be_read, fi
 use Rattle.bib_tables.specs.declared.mechanics.EntryType.{EntryType}
 use Rattle.edit_resolve.specs.Inheritance.{name_by_crossref, read_name}
 use Rattle.edit_resolve.specs.Parents.{is_resolved, parents}
-use Rattle.edit_resolve.specs.Resolved.{Named, all_fields, as_itself, field_resolutions, given_by, inherited, is_read_as, last_change, new_field, own_change, replacement, resolution}
+use Rattle.edit_resolve.specs.Resolved.{Named, all_fields, as_itself, field_resolutions, given_fields_by, inherited, is_read_as, last_change, new_field, own_change, replacement, resolution}
 use Rattle.edit_resolve.specs.Working.{AreFieldsCut, IsNamedCut}
 use Rattle.edit_resolve.proofs.GivenFacts.{all_found}
 use Rattle.edit_resolve.proofs.InheritedFacts.{all_giving, all_inherited}
@@ -76,7 +76,7 @@ module _ (d : Document) (read : IsDocument d) where
 
   replacing : (e : EntryReading) (f : FieldReading) (n : Named) → replacement d.says.entries e f ≡ Some n → CanBeGiven n
   replacing e f n is =
-      all_found CanBeGiven (is_read_as (read_name f.name.text)) (given_by (all_fields d.says.entries) (parents d.says.entries e)) n
+      all_found CanBeGiven (is_read_as (read_name f.name.text)) (given_fields_by (all_fields d.says.entries) (parents d.says.entries e)) n
       (all_giving CanBeGiven again d.says.entries own_given e) is
 
   -- ---- changes

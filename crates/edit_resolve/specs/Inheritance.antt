@@ -4,6 +4,7 @@
 use Rattle.std.specs.Prelude.{ℕ, Bool, true, false, not, ◌&&◌, if◌then◌else◌, is_some, List, [], ◌∷◌, codes, bytes_eq, Option, Some, None, unwrap_or}
 use Rattle.std.specs.Str.{str_to_ascii_lowercase}
 use Rattle.bib_text.specs.Enums.{value_named}
+use Rattle.bib_queries.specs.Answers.{has_part}
 use Rattle.bib_tables.specs.Dialects.{biblatex_name}
 use Rattle.bib_tables.specs.Requirements.{is_one_of}
 use Rattle.bib_tables.specs.declared.mechanics.EntryType.{EntryType}
@@ -17,7 +18,7 @@ use Rattle.edit_resolve.specs.declared.inheritance.Titles.TheVariants.{Main, Vol
 abbrev pub biber_names : List (List ℕ × List ℕ)
 biber_names =
     (codes "annote", codes "annotation") ∷ (codes "archiveprefix", codes "eprinttype") ∷ (codes "primaryclass", codes "eprintclass")
-    ∷ (codes "key", codes "sortkey") ∷ (codes "pdf", codes "file") ∷ []
+    ∷ (codes "hyphenation", codes "langid") ∷ (codes "key", codes "sortkey") ∷ (codes "pdf", codes "file") ∷ []
 
 -- the name under which Biber reads a field: in lowercase, and BibLaTeX's name for one of BibTeX
 abbrev pub read_name : List ℕ → List ℕ
@@ -25,10 +26,11 @@ read_name name =
     let lower : List ℕ = str_to_ascii_lowercase name in
     unwrap_or (value_named biber_names lower) (biblatex_name lower)
 
--- the fields that also keep a field with this name from being inherited: a date excludes a year and a month, and a year a date
+-- the fields that also keep a field with this name from being inherited: a date excludes its parts, and a year a date
 abbrev pub rival_names : List (List ℕ × List (List ℕ))
 rival_names =
-    (codes "date", codes "year" ∷ []) ∷ (codes "year", codes "date" ∷ []) ∷ (codes "month", codes "date" ∷ []) ∷ []
+    (codes "date", codes "year" ∷ []) ∷ (codes "year", codes "date" ∷ []) ∷ (codes "month", codes "date" ∷ [])
+    ∷ (codes "day", codes "date" ∷ []) ∷ []
 
 -- ---- types
 
@@ -142,11 +144,16 @@ never_by_crossref =
     ∷ codes "label" ∷ codes "options" ∷ codes "presort" ∷ codes "related" ∷ codes "relatedoptions" ∷ codes "relatedstring"
     ∷ codes "relatedtype" ∷ codes "shorthand" ∷ codes "shorthandintro" ∷ codes "sortkey" ∷ []
 
+-- whether a field is an annotation: BibLaTeX's marker comes after the name of the field that it is about
+abbrev pub is_annotation : List ℕ → Bool
+is_annotation name = has_part (codes "+an") name
+
 -- whether a field of an entry of the first type is inherited under its own name by an entry of the second type that refers to it by
 -- `crossref`
 abbrev pub keeps_name : EntryType → EntryType → List ℕ → Bool
 keeps_name parent child name =
-    not (is_one_of never_by_crossref name) && not (is_some (titles_in parent child) && is_one_of own_titles name)
+    not (is_annotation name) && not (is_one_of never_by_crossref name)
+    && not (is_some (titles_in parent child) && is_one_of own_titles name)
 
 -- the fields that are never inherited by `xdata`
 abbrev pub never_by_xdata : List (List ℕ)
@@ -154,4 +161,4 @@ never_by_xdata = codes "ids" ∷ codes "crossref" ∷ codes "xdata" ∷ codes "o
 
 -- whether a field is inherited by `xdata`
 abbrev pub passes_on : List ℕ → Bool
-passes_on name = not (is_one_of never_by_xdata name)
+passes_on name = not (is_annotation name) && not (is_one_of never_by_xdata name)

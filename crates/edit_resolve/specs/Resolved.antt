@@ -49,13 +49,13 @@ abbrev pub is_read_as : List ℕ → Named → Bool
 is_read_as name n = bytes_eq (read_name n.name) name
 
 -- the fields that a parent gives: Biber reads the fields of the entries that `xdata` names instead of own ones
-abbrev pub given : Link → List Named → List Named
-given Xdata fields = filter (λ n. passes_on (read_name n.name)) fields
-given Crossref fields = []
+abbrev pub given_fields : Link → List Named → List Named
+given_fields Xdata fields = filter (λ n. passes_on (read_name n.name)) fields
+given_fields Crossref fields = []
 
 -- the fields that parents give, if they have these fields
-abbrev pub given_by : (ℕ → List Named) → List Parent → List Named
-given_by fields parents = flat_map (λ p. given p.link (fields p.index)) parents
+abbrev pub given_fields_by : (ℕ → List Named) → List Parent → List Named
+given_fields_by fields parents = flat_map (λ p. given_fields p.link (fields p.index)) parents
 
 -- the given field that takes the place of an own field: the first one with its name
 abbrev pub substitute : List Named → FieldReading → Option Named
@@ -89,7 +89,7 @@ inherited_by entries fields e = new_fields (map (λ f. read_name f.name.text) e.
 
 -- the fields of an entry, if its parents have these fields: its own ones, or those that take their places, and those that it inherits
 abbrev pub fields_by : List EntryReading → (ℕ → List Named) → EntryReading → List Named
-fields_by entries fields e = map (in_place (given_by fields (parents entries e))) e.fields ++ inherited_by entries fields e
+fields_by entries fields e = map (in_place (given_fields_by fields (parents entries e))) e.fields ++ inherited_by entries fields e
 
 -- the fields of the entry at an index, along at most so many references one after another
 abbrev pub fields_along : List EntryReading → ℕ → ℕ → List Named
@@ -106,7 +106,7 @@ inherited entries e = inherited_by entries (all_fields entries) e
 
 -- the field that takes the place of an own field of an entry
 abbrev pub replacement : List EntryReading → EntryReading → FieldReading → Option Named
-replacement entries e f = substitute (given_by (all_fields entries) (parents entries e)) f
+replacement entries e f = substitute (given_fields_by (all_fields entries) (parents entries e)) f
 
 -- ---- the text
 

@@ -23,7 +23,7 @@ use Rattle.edit_entries.specs.Placed.{IsPlaced}
 use Rattle.edit_entries.specs.References.{has_alias}
 use Rattle.edit_resolve.specs.Inheritance.{read_name, rival_names}
 use Rattle.edit_resolve.specs.Parents.{entry_at, type_of}
-use Rattle.edit_resolve.specs.Resolved.{Named, fields_along, given_by, in_place, is_read_as, last_change, new_fields, offers}
+use Rattle.edit_resolve.specs.Resolved.{Named, fields_along, given_fields_by, in_place, is_read_as, last_change, new_fields, offers}
 use Rattle.edit_resolve.specs.declared.file.File.{File}
 use Rattle.edit_resolve.specs.declared.gathering.Named.{Named as NamedField}
 use Rattle.edit_resolve.specs.declared.gathering.Gathered.{Gathered}
@@ -102,7 +102,7 @@ offered_at kinds child fields parents = flat_map (λ p. offers p.link (kind_at k
 abbrev pub with_inherited : List EntryReading → (ℕ → List Named) → List Parent → ℕ → List Named
 with_inherited entries fields parents index =
     let e = entry_at entries index in
-    map (in_place (given_by fields parents)) e.fields
+    map (in_place (given_fields_by fields parents)) e.fields
     ++ new_fields (map (λ f. read_name f.name.text) e.fields)
     (flat_map (λ p. offers p.link (type_of (entry_at entries p.index)) (type_of e) (fields p.index)) parents)
 

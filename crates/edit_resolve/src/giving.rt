@@ -6,7 +6,7 @@ ghost use Rattle.std.specs.Option.{option_map};
 ghost use Rattle.bib_syntax.specs.Views.{field_of};
 ghost use Rattle.edit_resolve.specs.Inheritance.{passes_on, read_name};
 ghost use Rattle.edit_resolve.specs.Resolved as spec;
-ghost use Rattle.edit_resolve.specs.Resolved.{given_by, is_read_as};
+ghost use Rattle.edit_resolve.specs.Resolved.{given_fields_by, is_read_as};
 ghost use Rattle.edit_resolve.specs.Working.{Gives, fields_at, given_at, instead_at, named_of};
 
 use crate::gathering::Named;
@@ -55,7 +55,7 @@ fn give_parent<'a, 's>(
     found: &[Vec<Named<'a, 's>>],
 ) -> Result<(), AllocError>
     requires { parent.index < length found.now }
-    ensures { OnOk result (Gives given.old (spec.given parent.link (fields_at found.now parent.index)) given.new) }
+    ensures { OnOk result (Gives given.old (spec.given_fields parent.link (fields_at found.now parent.index)) given.new) }
 {
     match parent.link {
         Link::Xdata => give_all(given, alloc, &found[parent.index]),
@@ -71,7 +71,7 @@ pub(crate) fn given<'a, 's>(
 ) -> Result<BTreeMap<String, Named<'a, 's>>, AllocError>
     requires { All (λ p. p.index < length found.now) parents.now }
     ensures { IfOk result (λ given. (name : List ℕ) →
-        given_at given name ≡ find (is_read_as name) (given_by (fields_at found.now) parents.now)) }
+        given_at given name ≡ find (is_read_as name) (given_fields_by (fields_at found.now) parents.now)) }
 {
     let mut given = BTreeMap::new(alloc);
     'parents: for parent in parents {

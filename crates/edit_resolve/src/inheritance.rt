@@ -30,6 +30,7 @@ pub(crate) fn biber_name(lower: &str) -> &str
         "annote" => "annotation",
         "archiveprefix" => "eprinttype",
         "primaryclass" => "eprintclass",
+        "hyphenation" => "langid",
         "key" => "sortkey",
         "pdf" => "file",
         _ => biblatex_name(lower),
@@ -253,11 +254,18 @@ fn is_never_by_crossref(name: &str) -> bool
     )
 }
 
+// Returns whether a field is an annotation of another field.
+fn is_annotation(name: &str) -> bool
+    ensures { result ≡ spec.is_annotation name.now }
+{
+    name.contains("+an")
+}
+
 // Returns whether a field of a parent is inherited under its own name by an entry of the type `child` that refers to it by `crossref`.
 pub(crate) fn keeps_name(parent: &EntryType, child: &EntryType, name: &str) -> bool
     ensures { result ≡ spec.keeps_name parent.now child.now name.now }
 {
-    if is_never_by_crossref(name) {
+    if is_annotation(name) || is_never_by_crossref(name) {
         return false;
     }
     !(titles_in(parent, child).is_some() && is_own_title(name))
@@ -274,5 +282,5 @@ fn is_never_by_xdata(name: &str) -> bool
 pub(crate) fn passes_on(name: &str) -> bool
     ensures { result ≡ spec.passes_on name.now }
 {
-    !is_never_by_xdata(name)
+    !is_annotation(name) && !is_never_by_xdata(name)
 }

@@ -27,7 +27,7 @@ pub(crate) fn is_ruled_out(names: &BTreeSet<String>, name: &str) -> bool
     }
     match name {
         "date" => names.contains("year"),
-        "year" | "month" => names.contains("date"),
+        "year" | "month" | "day" => names.contains("date"),
         _ => false,
     }
 }

@@ -21,12 +21,12 @@ use std::alloc::Global;
 /// entries that those inherit from. The value of such a field is one literal. A key finds the first entry with this key, or else the first
 /// entry with this name in its fields `ids`; `xdata` finds only entries of the type `xdata`.
 ///
-/// **Fields.** By `xdata` an entry inherits all fields except `ids`, `options` and references. By `crossref` the titles of the parent get
-/// other names, such as `booktitle`, if the types of both entries have such a rule. `ids`, `xref`, `related`, `label`, `options`,
-/// `shorthand`, `sortkey` and other fields of the parent itself aren't inherited, and all other fields keep their names. A field of an
-/// `xdata` parent takes the place of an own field with its name; by `crossref` no own field is replaced. Names are compared as Biber reads
-/// them: in any ASCII case, and `address`, `journal` or `school` as `location`, `journaltitle` or `institution`. An entry with `date`
-/// inherits neither `year` nor `month`, and one with `year` no `date`.
+/// **Fields.** By `xdata` an entry inherits all fields except `ids`, `options`, `crossref`, `xdata` and annotations. By `crossref` the
+/// titles of the parent get other names, such as `booktitle`, if the types of both entries have such a rule. Annotations and `ids`,
+/// `xref`, `related`, `label`, `options`, `shorthand`, `sortkey` and other fields of the parent itself aren't inherited, and all other
+/// fields keep their names. A field of an `xdata` parent takes the place of an own field with its name; by `crossref` no own field is
+/// replaced. Names are compared as Biber reads them: in any ASCII case, and `address`, `journal` or `school` as `location`,
+/// `journaltitle` or `institution`. An entry with `date` inherits no `year`, `month` or `day`, and one with `year` no `date`.
 ///
 /// **Text.** The inherited fields replace the last reference of their entry, and its other references are removed, with the text up to
 /// the next field. Each value is written as its parent has it, with ` # ` between joined pieces. If nothing is inherited, the last

@@ -10,7 +10,7 @@ use Rattle.edit_entries.proofs.AllFacts.{OfFields, all_weaker}
 use Rattle.edit_strings.proofs.ListFacts.{all_step, flat_step}
 use Rattle.edit_resolve.specs.Inheritance.{read_name}
 use Rattle.edit_resolve.specs.Parents.{entry_at, no_reading, parents}
-use Rattle.edit_resolve.specs.Resolved.{all_fields, fields_by, given_by, is_read_as, replacement, resolution}
+use Rattle.edit_resolve.specs.Resolved.{all_fields, fields_by, given_fields_by, is_read_as, replacement, resolution}
 use Rattle.edit_resolve.specs.Working.{IsNamedCut, fields_at, readings}
 use Rattle.edit_resolve.specs.declared.parents.Parent.{Parent}
 use Rattle.edit_resolve.proofs.AlongFacts.{giving_known, row_found, rows_count}
@@ -75,7 +75,7 @@ push_entry_edits-requires-clause-cut c = λ name n is.
     (λ e. AllByRecursion (ArePiecesCut text) e.fields)
     (λ e all. all_weaker (λ f. IsNamedCut text f × ArePiecesCut text f) (ArePiecesCut text) (λ f both. both.1) e.fields all) es
     c.requires.cut in
-    all_found (λ n. ArePiecesCut text n.field) (is_read_as name) (given_by (all_fields es) (parents es (entry_at es i))) n
+    all_found (λ n. ArePiecesCut text n.field) (is_read_as name) (given_fields_by (all_fields es) (parents es (entry_at es i))) n
     (all_giving (λ n. ArePiecesCut text n.field) (λ n type child name cut is. cut) es own (entry_at es i))
     (sym
     (c.in_ok-given.ensures name

@@ -10,7 +10,7 @@ use Rattle.edit_entries.specs.EditList.{edit_of}
 use Rattle.edit_entries.specs.Edits.{Edit}
 use Rattle.edit_entries.proofs.AllFacts.{all_weaker}
 use Rattle.edit_resolve.specs.Parents.{is_resolved, parents}
-use Rattle.edit_resolve.specs.Resolved.{Named, all_fields, field_resolutions, given_by, in_place, inherited, replacement}
+use Rattle.edit_resolve.specs.Resolved.{Named, all_fields, field_resolutions, given_fields_by, in_place, inherited, replacement}
 use Rattle.edit_resolve.specs.Working.{IsNamedCut, instead_at, named_of, readings}
 use Rattle.edit_resolve.proofs.ChangeFacts.{changes_same, new_part}
 use Rattle.edit_resolve.proofs.edits.push_entry_edits.Goals as goal
@@ -26,7 +26,7 @@ push_field_edits-requires-clause-new c =
     let e : EntryReading = entry_reading_of c.args.entry.now in
     let part : map named_of c.without_first-new.result.now ≡ inherited (readings c.args.file.now) e =
     ap (map named_of) c.without_first-new.ensures
-    ∙ new_part (in_place (given_by (all_fields (readings c.args.file.now)) (parents (readings c.args.file.now) e))) c.args.all.now
+    ∙ new_part (in_place (given_fields_by (all_fields (readings c.args.file.now)) (parents (readings c.args.file.now) e))) c.args.all.now
     e.fields (inherited (readings c.args.file.now) e) c.len.result c.requires.all
     (c.len.ensures ∙ sym c.deref.ensures.len ∙ ap length c.deref.ensures.value
     ∙ sym (length-map c.args.entry.now.v.fields.items field_of)) in
@@ -37,7 +37,7 @@ returns c =
     let e : EntryReading = entry_reading_of c.args.entry.now in
     let part : map named_of c.without_first-new.result.now ≡ inherited (readings c.args.file.now) e =
     ap (map named_of) c.without_first-new.ensures
-    ∙ new_part (in_place (given_by (all_fields (readings c.args.file.now)) (parents (readings c.args.file.now) e))) c.args.all.now
+    ∙ new_part (in_place (given_fields_by (all_fields (readings c.args.file.now)) (parents (readings c.args.file.now) e))) c.args.all.now
     e.fields (inherited (readings c.args.file.now) e) c.len.result c.requires.all
     (c.len.ensures ∙ sym c.deref.ensures.len ∙ ap length c.deref.ensures.value
     ∙ sym (length-map c.args.entry.now.v.fields.items field_of)) in

@@ -50,7 +50,8 @@ fields-preserved c =
                 (λ l.
                 old
                 ++ edits_of_field text f (map field_of l) (last_or_removed text (c.fields.left - 1 == 0) new f (map field_of l))) same
-                ∙ ap (λ ch. old ++ edits_of_field text f rest ch) (sym (change_is text resolved instead new f rest (c.fields.left - 1) is left)))
+                ∙ ap (λ ch. old ++ edits_of_field text f rest ch)
+                (sym (change_is text resolved instead new f rest (c.fields.left - 1) is left)))
                 c.fields.invariant.added;
             left = w.left-is ∙ left;
             placed = placed;

@@ -13,7 +13,8 @@ abbrev pub invariant-fields : goal.invariant-fields
 invariant-fields l = record {
   added : map edit_of l.edits.items
       ++ edits_of_fields l.text (map field_of (drop l.at l.fields))
-      (field_resolutions l.text (is_resolved (readings l.file)) (instead_at l.given) (map named_of l.new) (map field_of (drop l.at l.fields)))
+      (field_resolutions l.text (is_resolved (readings l.file)) (instead_at l.given) (map named_of l.new)
+      (map field_of (drop l.at l.fields)))
       ≡ map edit_of l.initial.edits.items
       ++ edits_of_fields l.text (map field_of l.fields)
       (field_resolutions l.text (is_resolved (readings l.file)) (instead_at l.given) (map named_of l.new) (map field_of l.fields));

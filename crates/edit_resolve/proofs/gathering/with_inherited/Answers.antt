@@ -6,7 +6,7 @@ use Rattle.bib_syntax.specs.Views.{entry_reading_of, field_of}
 use Rattle.bib_tables.specs.declared.mechanics.EntryType.{EntryType}
 use Rattle.edit_resolve.specs.Inheritance.{read_name}
 use Rattle.edit_resolve.specs.Parents.{entry_at, no_reading, type_of}
-use Rattle.edit_resolve.specs.Resolved.{Named, as_itself, given_by, in_place, new_fields, offers}
+use Rattle.edit_resolve.specs.Resolved.{Named, as_itself, given_fields_by, in_place, new_fields, offers}
 use Rattle.edit_resolve.specs.Working.{fields_at, instead_at, offered_at, readings}
 use Rattle.edit_resolve.proofs.FileFacts.{kind_found}
 use Rattle.edit_resolve.proofs.GatheringFacts.{offered_is}
@@ -37,7 +37,7 @@ returns c =
     offered_is es c.deref-3.result.now c.index.result.now fields c.args.parents.now (c.deref-3.ensures.value ∙ c.requires.known.kinds)
     ∙ ap all kind_is in
     let own_name : FieldReading → Named = λ f. unwrap_or (instead_at c.in_ok-given.given f) (as_itself f) in
-    let gives : List Named = given_by fields c.args.parents.now in
+    let gives : List Named = given_fields_by fields c.args.parents.now in
     let placed : map own_name same ≡ map (in_place gives) same =
     map_same own_name (in_place gives)
     (λ f. ap (λ o. unwrap_or o (as_itself f)) (c.in_ok-given.ensures (read_name f.name.text))) same in

@@ -16,7 +16,7 @@ returns-in_default c =
         c.in_default.not-archiveprefix,
         (
           c.in_default.not-primaryclass,
-          (c.in_default.not-key, (c.in_default.not-pdf, tt)),
+          (c.in_default.not-hyphenation, (c.in_default.not-key, (c.in_default.not-pdf, tt))),
         ),
       ),
     )))
