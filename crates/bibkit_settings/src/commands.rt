@@ -206,7 +206,7 @@ const EDIT: [Argument; 7] = [
     Argument {
         name: "rename",
         takes: Takes::Pair("OLD=NEW"),
-        help: "Rename a field, unless the entry has the new name already",
+        help: "Rename a field, unless the entry has a field with the new name",
     },
     Argument {
         name: "set",
@@ -393,7 +393,8 @@ Status: 0 done, 1 an abbreviation refers to itself or the file has errors, 2 wro
 
 // The text at the end of the help of `select`.
 const SELECT_HELP: &str = "\
-A condition consists of tests with `and`, `or` and `not`. A test is `has FIELD`, or compares `type`, `key`, `year` or a field.
+A condition consists of tests with `and`, `or` and `not`. A test is `has FIELD`, or compares `type`, `key`, `year` or a field by `=` or
+`!=`. A key and a field are also compared by `contains` and by `~` with a regular expression, and a year by `<`, `<=`, `>` and `>=`.
 
 Examples:
   bibkit select --where 'type = article and year >= 2000' refs.bib
