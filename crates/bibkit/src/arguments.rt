@@ -140,13 +140,18 @@ fn text<'a>(matches: &ArgMatches<'a>, id: &str) -> &'a str {
     matches.get_str(id).unwrap_or("")
 }
 
-// Returns the edits that set fields of an entry. Each word is FIELD=VALUE. Returns `NoValue` for the first word without `=`.
+// Returns the edits that set fields of an entry. Each word is FIELD=VALUE. Returns `NoPair` for the first word without `=`.
 fn set_fields<'a>(alloc: Global, key: &'a str, words: &[&'a str]) -> Result<Edits<'a>, AllocError> {
     let mut edits = Vec::new(alloc);
     'words: for word in words {
         match word.split_once('=') {
             Some((name, value)) => edits.push(Edit::Set { key, name, value })?,
-            None => return Ok(Edits::NoValue(*word)),
+            None => {
+                return Ok(Edits::NoPair {
+                    word: *word,
+                    pair: "FIELD=VALUE",
+                });
+            }
         }
     }
     Ok(Edits::These(edits))
@@ -210,7 +215,12 @@ fn selected_edits<'a>(alloc: Global, matches: &ArgMatches<'a>) -> Result<Edits<'
     'options: for option in &FIELD_OPTIONS {
         let words = texts(alloc, matches, option)?;
         if let Some(word) = push_field_edits(&mut fields, option, &words)? {
-            return Ok(Edits::NoValue(word));
+            let pair = if *option == "rename" {
+                "OLD=NEW"
+            } else {
+                "FIELD=VALUE"
+            };
+            return Ok(Edits::NoPair { word, pair });
         }
     }
     Ok(Edits::Selected {

@@ -42,8 +42,13 @@ pub enum Edits<'a> {
     },
     /// Gives entries the keys that a pattern makes.
     Rekey(Rekeying<'a>),
-    /// Makes no edits, since this word isn't FIELD=VALUE.
-    NoValue(&'a str),
+    /// Makes no edits, since a word isn't two texts with an equals sign between them.
+    NoPair {
+        /// The word.
+        word: &'a str,
+        /// The names of the two texts in help, such as `FIELD=VALUE`.
+        pair: &'static str,
+    },
 }
 
 /// The edits of a command, their file, and the use of the new text.
@@ -134,12 +139,14 @@ fn refused_line(
         Some(Edit::Rename { old, new }) => {
             format!(in alloc; "bibkit: {name}: `{old}` to `{new}`: {why}\n")
         }
-        Some(Edit::Fields {
-            edit: FieldEdit::Set { name: field, .. }
-            | FieldEdit::Add { name: field, .. }
-            | FieldEdit::Rename { new: field, .. },
-            ..
-        }) => format!(in alloc; "bibkit: {name}: `{field}`: {why}\n"),
+        Some(
+            Edit::Fields {
+                edit: FieldEdit::Set { name: field, .. }
+                | FieldEdit::Add { name: field, .. }
+                | FieldEdit::Rename { new: field, .. },
+                ..
+            },
+        ) => format!(in alloc; "bibkit: {name}: `{field}`: {why}\n"),
         Some(Edit::Remove { key }) => format!(in alloc; "bibkit: {name}: `{key}`: {why}\n"),
         Some(Edit::Add { text }) if why == EditError::NotAKey => unsafe_key_line(
             alloc, name, text, why,
@@ -318,8 +325,13 @@ pub fn print(rt: &HostRuntime, name: &str, bytes: &[u8], edits: &[Edit<'_>]) -> 
     }
 }
 
-// Applies edits to a file's bytes, and returns the new text.
-fn new_text(alloc: Global, name: &str, bytes: &[u8], edits: &[Edit<'_>]) -> Result<String, Stop> {
+/// Applies edits to a file's bytes, and returns the new text.
+pub fn new_text(
+    alloc: Global,
+    name: &str,
+    bytes: &[u8],
+    edits: &[Edit<'_>],
+) -> Result<String, Stop> {
     match edit_file(alloc, bytes, edits) {
         Ok(new) => Ok(new),
         Err(refusal) => {
@@ -458,11 +470,16 @@ fn answer(rt: &HostRuntime, editing: &Editing<'_>) -> Result<(), Stop> {
                 }],
             )
         }
-        Edits::Selected { conditions, fields } => edit_selected(rt, editing, conditions, fields),
+        Edits::Selected { conditions, fields } => {
+            if fields.is_empty() {
+                return wrong_usage(rt.alloc(), "`edit` needs `--rename`, `--set` or `--add`");
+            }
+            edit_selected(rt, editing, conditions, fields)
+        }
         Edits::Rekey(rekeying) => rekey(rt, editing, rekeying),
-        Edits::NoValue(word) => {
+        Edits::NoPair { word, pair } => {
             let text = format!(in rt.alloc();
-                "`{word}` isn't FIELD=VALUE; use `--file` for the name of the file"
+                "`{word}` isn't {pair}; use `--file` for the name of the file"
             )?;
             wrong_usage(rt.alloc(), &text)
         }

@@ -1,6 +1,6 @@
 //! Gives entries the keys that a pattern makes.
 
-use crate::edits::{Editing, Mode, after_mark, apply};
+use crate::edits::{Editing, Mode, after_mark, apply, new_text};
 use crate::stops::{Stop, bytes_of, error_line, output_stop};
 use bib_entry::entry::Entry;
 use bib_keys::{KeyPattern, PatternError};
@@ -32,8 +32,8 @@ fn unless_out_of_memory(error: PatternError) -> Result<PatternError, AllocError>
     }
 }
 
-// Parses a pattern. Fails with a message and status 2 for a text that is no pattern.
-fn parsed(alloc: Global, pattern: &str) -> Result<KeyPattern, Stop> {
+// Parses a pattern. Fails with a message and status 2 for a text that isn't a pattern.
+fn parse_pattern(alloc: Global, pattern: &str) -> Result<KeyPattern, Stop> {
     match KeyPattern::parse(alloc, pattern) {
         Ok(pattern) => Ok(pattern),
         Err(error) => {
@@ -44,7 +44,14 @@ fn parsed(alloc: Global, pattern: &str) -> Result<KeyPattern, Stop> {
     }
 }
 
-// Returns the new key of each entry, by its index. An entry that has this key already, or none, gets no new key.
+// Returns whether a document can cite an entry: it isn't data of other entries.
+fn can_be_cited(entry: &RawEntry<'_>) -> bool {
+    let kind = entry.kind.v;
+    !kind.eq_ignore_ascii_case("xdata") && !kind.eq_ignore_ascii_case("set")
+}
+
+// Returns the new key of each entry, by its index. An entry that has this key already, that has none, or that can't be cited, gets no
+// new key.
 fn new_keys<'k>(
     alloc: Global,
     entries: &[Spanned<RawEntry<'_>>],
@@ -58,7 +65,7 @@ fn new_keys<'k>(
     'made: for (key, origin) in made.iter().zip(origins) {
         if let Some(entry) = entries.get(*origin) {
             let old = entry.v.key.v;
-            if !old.is_empty() && old != key.as_str() {
+            if !old.is_empty() && old != key.as_str() && can_be_cited(&entry.v) {
                 if let Some(place) = keys.get_mut(*origin) {
                     *place = Some(key.as_str());
                 }
@@ -125,7 +132,11 @@ fn use_keys(
 ) -> Result<(), Stop> {
     if rekeying.is_check {
         let lines = check_text(rt.alloc(), editing.name, text, entries, keys)?;
-        return if lines.is_empty() { Ok(()) } else { Err(Stop::Said(lines, 1)) };
+        return if lines.is_empty() {
+            Ok(())
+        } else {
+            Err(Stop::Said(lines, 1))
+        };
     }
     let edits = [Edit::RenameAll { keys }];
     if !rekeying.has_map {
@@ -133,6 +144,8 @@ fn use_keys(
     }
     if editing.mode == Mode::Write {
         apply(rt, editing, bytes, &edits)?;
+    } else {
+        let _new = new_text(rt.alloc(), editing.name, bytes, &edits)?;
     }
     print(rt, &map_text(rt.alloc(), entries, keys)?)
 }
@@ -166,12 +179,8 @@ fn rekey_text(
 }
 
 /// Gives the entries of a file the keys that a pattern makes.
-pub fn rekey(
-    rt: &HostRuntime,
-    editing: &Editing<'_>,
-    rekeying: &Rekeying<'_>,
-) -> Result<(), Stop> {
-    let pattern = parsed(rt.alloc(), rekeying.pattern)?;
+pub fn rekey(rt: &HostRuntime, editing: &Editing<'_>, rekeying: &Rekeying<'_>) -> Result<(), Stop> {
+    let pattern = parse_pattern(rt.alloc(), rekeying.pattern)?;
     let bytes = bytes_of(rt, editing.name)?;
     match from_utf8(after_mark(&bytes)) {
         Ok(text) => rekey_text(rt, editing, rekeying, &pattern, &bytes, text),

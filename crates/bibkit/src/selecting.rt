@@ -41,8 +41,8 @@ fn unless_out_of_memory(error: SelectionError) -> Result<SelectionError, AllocEr
     }
 }
 
-// Parses conditions. Fails with a message and status 2 for a text that is no condition.
-fn parsed(alloc: Global, conditions: &[&str]) -> Result<Vec<Selection>, Stop> {
+// Parses conditions. Fails with a message and status 2 for a text that isn't a condition.
+fn parse_conditions(alloc: Global, conditions: &[&str]) -> Result<Vec<Selection>, Stop> {
     let mut selections = Vec::new(alloc);
     'conditions: for condition in conditions {
         match Selection::parse(alloc, *condition) {
@@ -91,7 +91,9 @@ fn selected_text(
 ) -> Result<(String, bool), AllocError> {
     let found = Bibliography::recover(alloc, text)?;
     let keys = selected_keys(alloc, selections, &found.bibliography)?;
-    let is_found = !keys.is_empty();
+    if keys.is_empty() {
+        return Ok((String::new(alloc), false));
+    }
     let request = if printed.is_complete {
         Excerpts::Cited(CitedKeys { keys, all: false })
     } else {
@@ -99,9 +101,9 @@ fn selected_text(
     };
     let entries = answer(alloc, &request, text)?.text;
     if printed.has_keys {
-        return Ok((answer(alloc, &Excerpts::Keys, &entries)?.text, is_found));
+        return Ok((answer(alloc, &Excerpts::Keys, &entries)?.text, true));
     }
-    Ok((entries, is_found))
+    Ok((entries, true))
 }
 
 // Prints the entries of a file that meet all conditions. Returns whether there is one.
@@ -123,12 +125,8 @@ fn select_file<K: Sink>(
 }
 
 // Prints the entries of files that meet all conditions, and returns the greatest status: 1 if there is none.
-fn select_files(
-    rt: &HostRuntime,
-    selecting: &Selecting<'_>,
-    names: &[&str],
-) -> Result<u8, Stop> {
-    let selections = parsed(rt.alloc(), &selecting.conditions)?;
+fn select_files(rt: &HostRuntime, selecting: &Selecting<'_>, names: &[&str]) -> Result<u8, Stop> {
+    let selections = parse_conditions(rt.alloc(), &selecting.conditions)?;
     let mut output = Output::new(io::writer(rt));
     let mut is_found = false;
     let mut status = 0;
@@ -138,7 +136,11 @@ fn select_files(
             Err(stop) => status = say(rt, &stop).max(status),
         }
     }
-    if is_found || status > 0 { Ok(status) } else { Ok(1) }
+    if is_found || status > 0 {
+        Ok(status)
+    } else {
+        Ok(1)
+    }
 }
 
 /// Prints the entries of files that meet all conditions, and returns the status.
@@ -184,7 +186,7 @@ pub fn edit_selected(
     conditions: &[&str],
     fields: &[FieldEdit<'_>],
 ) -> Result<(), Stop> {
-    let selections = parsed(rt.alloc(), conditions)?;
+    let selections = parse_conditions(rt.alloc(), conditions)?;
     let bytes = bytes_of(rt, editing.name)?;
     match from_utf8(after_mark(&bytes)) {
         Ok(text) => edit_text(rt, editing, &selections, fields, &bytes, text),
