@@ -1144,6 +1144,8 @@ BIB
 run 'what they use is printed, too' 0 $'@string{acm = {ACM}}\n@inproceedings{c, title={T}, crossref={p}, publisher=acm}\n@proceedings{p, title={P}}\n' \
     select --complete --where 'has publisher' uses.bib
 run 'keys of entries and of those that they use' 0 $'c\np\n' select --complete --keys --where 'key = c' uses.bib
+printf '@preamble{"x"}\n@misc{a, title={T}}\n' >before.bib
+run 'nothing that no entry uses' 1 '' select --complete --where 'key = b' before.bib
 run 'without a condition, all keys' 0 $'knuth1984\nchurch1936\nn\n' select --keys select.bib
 run 'keys by a regular expression' 0 $'knuth1984\n' select --keys --where 'author ~ "^Knuth"' select.bib
 run 'keys by alternatives' 0 $'knuth1984\nn\n' select --keys --where 'author contains Knuth or not has author' select.bib
@@ -1171,6 +1173,8 @@ holds 'the file has the edited fields' eval 'printf "@misc{a, note = {x}, title=
 run_messages 'a value that can not be written' 1 $'bibkit: two.bib: `note`: the value can\'t be written in braces\n' edit --set 'note=}' -f two.bib
 run_messages 'a name that can not be one' 1 $'bibkit: two.bib: `1a`: the text can\'t be the name of a field\n' edit --rename title=1a -f two.bib
 run_messages 'an edit without an equals sign' 2 $'bibkit: `note` isn\'t FIELD=VALUE; use `--file` for the name of the file\n' edit --set note -f two.bib
+run_messages 'a new name without an equals sign' 2 $'bibkit: `title` isn\'t OLD=NEW; use `--file` for the name of the file\n' edit --rename title -f two.bib
+run_messages 'no edit' 2 $'bibkit: `edit` needs `--rename`, `--set` or `--add`\n' edit -f two.bib
 run_messages 'a wrong condition of an edit' 2 $'bibkit: --where `or`: expected a test, for example `type = article` or `has doi` at byte 0\n' edit --where or -f two.bib
 refuses 'fields of a file with an error' 1 $'broken.bib:3:1: error: expected comma [syntax]\n' edit --set note=x -f broken.bib
 
@@ -1196,7 +1200,10 @@ rekeyed.bib:2:9: error: the key of `ka` isn\'t `k84a`
 ' rekey --pattern 'k{year:2}' --check -f rekeyed.bib
 printf '@misc{a, title={Tea}}\n@misc{b, title={Bee}, ids={TEA}}\n' >taken.bib
 run_messages 'a new key that is an alias' 1 $'bibkit: taken.bib: an entry has the name already, as its key or in its field `ids`\n' rekey --pattern '{title}' -f taken.bib
-run_messages 'a pattern that is none' 2 $'bibkit: --pattern `{x}`: the brace at byte 0 doesn\'t begin `{author}`, `{title}` or `{year}`, with a number such as `:2` or without\n' rekey --pattern '{x}' -f rekey.bib
+run 'the map of refused keys is not printed' 1 '' rekey --pattern '{title}' --map -f taken.bib
+printf '@xdata{x, title={T}}\n@set{s, entryset={a}}\n@misc{a, title={Tea}, xdata={x}}\n' >data.bib
+run 'keys of data of other entries' 0 $'@xdata{x, title={T}}\n@set{s, entryset={tea}}\n@misc{tea, title={Tea}, xdata={x}}\n' rekey --pattern '{title}' -f data.bib
+run_messages 'a pattern that is none' 2 $'bibkit: --pattern `{x}`: expected `{author}`, `{title}` or `{year}` at byte 0, or one of them with a number, such as `{title:3}`\n' rekey --pattern '{x}' -f rekey.bib
 refuses 'new keys of a file with an error' 1 $'broken.bib:3:1: error: expected comma [syntax]\n' rekey -f broken.bib
 
 # completions, in the shells that are there: each row is a line, and what its last word can be
