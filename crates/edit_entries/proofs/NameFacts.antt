@@ -69,9 +69,12 @@ pub name_known : (names : Names) (entries : List EntryReading) (keys : NewKeys) 
     → index_for names.exact name ≡ first_position (is_keyed name) entries
     → index_for_word names.in_lowercase name ≡ first_position (has_key_word name) entries
     → index_for names.aliases name ≡ first_position (has_alias name) entries
+    → map (λ k. k.now) names.texts.items ≡ map (λ e. e.key.text) entries
     → name_for names field name ≡ new_reference entries (key_for keys) field name
-name_known names entries keys field name own exact words aliases =
+name_known names entries keys field name own exact words aliases texts =
     let crossref : Bool = is_word field (codes "crossref") in
     ap (λ k. option_and_then (key_for k) (index_in_names names field name)) own
     ∙ ap (option_and_then (key_for keys))
-    (ap₂ (λ i o. first_found i (if crossref then o else None)) exact (ap₂ unless_other words aliases))
+    (ap₂ (λ i o. first_found i (if crossref then o else None)) exact
+    (ap (λ k. unless_other k (index_for_word names.in_lowercase name) (index_for names.aliases name)) texts
+    ∙ ap₂ (unless_other (map (λ e. e.key.text) entries)) words aliases))

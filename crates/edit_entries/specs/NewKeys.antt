@@ -1,6 +1,6 @@
 -- Machinery: words of private contracts.
 -- New keys by the indices of entries, and the indices of entries by names, as they are looked up.
-use Rattle.std.specs.Prelude.{ℕ, String, if◌then◌else◌, codes, List, Option, None, option_and_then}
+use Rattle.std.specs.Prelude.{ℕ, String, if◌then◌else◌, codes, List, Option, None, map, option_and_then}
 use Rattle.std.specs.Borrow.{Bor}
 use Rattle.std.specs.BTreeMap.{BTreeMap, get_by, get_by_text}
 use Rattle.std.specs.Cmp.Lexicographic.{slice_cmp}
@@ -30,7 +30,8 @@ abbrev pub index_in_names : Names → List ℕ → List ℕ → Option ℕ
 index_in_names names field name =
     first_found (index_for names.exact name)
     (if is_word field (codes "crossref")
-    then unless_other (index_for_word names.in_lowercase name) (index_for names.aliases name) else None)
+    then unless_other (map (λ k. k.now) names.texts.items) (index_for_word names.in_lowercase name) (index_for names.aliases name)
+    else None)
 
 -- the new key of the entry that a name in a field means, if the entry gets one
 abbrev pub name_for : Names → List ℕ → List ℕ → Option (List ℕ)

@@ -1,7 +1,7 @@
 -- Meaning: words of public contracts.
 -- The entries that names in references mean, and the outcome of giving entries new keys: the entries and each reference to them have the
 -- new keys.
-use Rattle.std.specs.Prelude.{◌≡◌, ℕ, suc, ◌-◌, ◌<◌, ◌==◌, Bool, true, false, if◌then◌else◌, List, [], ◌∷◌, ◌++◌, codes, length, take, drop, Option, Some, None, bytes_eq, is_some, option_and_then, option_map, slice_get, ⊤}
+use Rattle.std.specs.Prelude.{◌≡◌, ℕ, suc, ◌-◌, ◌<◌, ◌==◌, Bool, true, false, if◌then◌else◌, List, [], ◌∷◌, ◌++◌, codes, length, map, take, drop, Option, Some, None, bytes_eq, is_some, option_and_then, option_map, slice_get, slice_index_or, ⊤}
 use Rattle.std.specs.Borrow.{Bor}
 use Rattle.std.specs.List.{AllByRecursion, flat_map, join_by, list_any, slice_split}
 use Rattle.std.specs.Option.{option_map_or}
@@ -26,11 +26,11 @@ abbrev pub first_found : Option ℕ → Option ℕ → Option ℕ
 first_found (Some i) other = Some i
 first_found None other = other
 
--- an index, unless another one is found too
-abbrev pub unless_other : Option ℕ → Option ℕ → Option ℕ
-unless_other None other = None
-unless_other (Some i) None = Some i
-unless_other (Some i) (Some j) = if i == j then Some i else None
+-- an index, unless one with another key is found too
+abbrev pub unless_other : List (List ℕ) → Option ℕ → Option ℕ → Option ℕ
+unless_other keys None other = None
+unless_other keys (Some i) None = Some i
+unless_other keys (Some i) (Some j) = if bytes_eq (slice_index_or keys i []) (slice_index_or keys j []) then Some i else None
 
 -- whether an entry has a name in its fields `ids`
 abbrev pub has_alias : List ℕ → EntryReading → Bool
@@ -40,11 +40,11 @@ has_alias name e = is_listed (aliases_of e.fields) name
 abbrev pub has_key_word : List ℕ → EntryReading → Bool
 has_key_word name e = is_word e.key.text name
 
--- the index of the entry that BibTeX finds by a name, unless Biber finds another one by its field `ids`. BibTeX finds the first key that
--- is the name in any ASCII case.
+-- the index of the entry that BibTeX finds by a name, unless Biber finds one with another key by its field `ids`. BibTeX finds the first
+-- key that is the name in any ASCII case. Of entries with one key both programs read the first.
 abbrev pub index_in_any_case : List EntryReading → List ℕ → Option ℕ
 index_in_any_case entries name =
-    unless_other (first_position (has_key_word name) entries) (first_position (has_alias name) entries)
+    unless_other (map (λ e. e.key.text) entries) (first_position (has_key_word name) entries) (first_position (has_alias name) entries)
 
 -- the index of the entry that a name in a field means: the first one with exactly this key. A name in `crossref`, the only one of these
 -- fields that BibTeX reads, can also mean an entry by a key in another ASCII case.

@@ -1,6 +1,6 @@
 //! New keys of entries, and the entries that names mean.
 
-ghost use Rattle.std.specs.Prelude.{◌≡◌, ℕ, List, IfOk, None, OnOk, Some, bytes_eq, if◌then◌else◌, map, option_map};
+ghost use Rattle.std.specs.Prelude.{◌≡◌, ℕ, List, IfOk, None, OnOk, Some, bytes_eq, if◌then◌else◌, map, option_map, slice_index_or, []};
 ghost use Rattle.bib_queries.specs.Needed.{is_listed};
 ghost use Rattle.bib_syntax.specs.Grammar.{is_word};
 ghost use Rattle.bib_syntax.specs.Views.{entry_reading_of};
@@ -50,6 +50,8 @@ pub(crate) struct Names<'k, 's> {
     in_lowercase: BTreeMap<String, usize>,
     // The first entry with each name in its field `ids`.
     aliases: BTreeMap<&'s str, usize>,
+    // The keys of the entries.
+    texts: Vec<&'s str>,
 }
 
 // Gives a name an index, unless it has one.
@@ -160,14 +162,39 @@ fn alias_indices<'s>(
     Ok(indices)
 }
 
-// Returns an index, unless another one is found too.
-fn unless_other(found: Option<&usize>, other: Option<&usize>) -> Option<usize>
-    ensures { result ≡ references.unless_other (option_map (λ i. i.now) found.entry) (option_map (λ i. i.now) other.entry) }
+// Returns the keys of entries.
+fn key_texts<'s>(
+    alloc: Global,
+    entries: &[Spanned<RawEntry<'s>>],
+) -> Result<Vec<&'s str>, AllocError>
+    ensures { IfOk result (λ keys. map (λ k. k.now) keys.items ≡ map (λ e. e.key.text) (map entry_reading_of entries.now)) }
 {
-    match (found, other) {
-        (Some(index), None) => Some(*index),
-        (Some(index), Some(other)) => { if index == other { Some(*index) } else { None } }
-        (None, _) => None,
+    let mut keys = Vec::with_capacity(alloc, entries.len())?;
+    'entries: for entry in entries {
+        keys.push(entry.v.key.v)?;
+    }
+    Ok(keys)
+}
+
+// Returns the key at an index, or an empty text without one.
+fn key_at<'s>(keys: &[&'s str], index: usize) -> &'s str
+    ensures { result.now ≡ slice_index_or (map (λ k. k.now) keys.now) index [] }
+{
+    match keys.get(index) {
+        Some(key) => *key,
+        None => "",
+    }
+}
+
+// Returns an index, unless one with another key is found too.
+fn unless_other(keys: &[&str], found: Option<&usize>, other: Option<&usize>) -> Option<usize>
+    ensures { result ≡ references.unless_other (map (λ k. k.now) keys.now)
+        (option_map (λ i. i.now) found.entry) (option_map (λ i. i.now) other.entry) }
+{
+    let index = *found?;
+    match other {
+        Some(other) if key_at(keys, *other) != key_at(keys, index) => None,
+        _ => Some(index),
     }
 }
 
@@ -187,6 +214,7 @@ impl<'k, 's> Names<'k, 's> {
             exact: key_indices(alloc, entries)?,
             in_lowercase: lowercase_indices(alloc, entries)?,
             aliases: alias_indices(alloc, entries)?,
+            texts: key_texts(alloc, entries)?,
         })
     }
 
@@ -202,6 +230,7 @@ impl<'k, 's> Names<'k, 's> {
         }
         let lower = name.to_ascii_lowercase(alloc)?;
         Ok(unless_other(
+            &self.texts,
             self.in_lowercase.get(lower.as_str()),
             self.aliases.get(name),
         ))

@@ -11,5 +11,7 @@ returns-clause-names c = λ field name.
       exact = c.in_ok-key_indices.field-0;
       in_lowercase = c.in_ok-lowercase_indices.field-0;
       aliases = c.in_ok-alias_indices.field-0;
+      texts = c.in_ok-key_texts.field-0;
     }) (map entry_reading_of c.args.entries.now) c.args.keys field name refl
     (c.in_ok-key_indices.ensures name) (c.in_ok-lowercase_indices.ensures name) (c.in_ok-alias_indices.ensures name)
+    c.in_ok-key_texts.ensures
