@@ -151,17 +151,38 @@ pub fn run_select(rt: &HostRuntime, selecting: &Selecting<'_>, names: &[&str]) -
     }
 }
 
-// Returns the edits of fields of the entries with these keys.
-fn edits_of<'e>(
-    alloc: Global,
-    keys: &'e [&'e str],
-    fields: &[FieldEdit<'e>],
-) -> Result<Vec<Edit<'e>>, AllocError> {
-    let mut edits = Vec::new(alloc);
-    'fields: for edit in fields {
-        edits.push(Edit::Fields { keys, edit: *edit })?;
+// Returns the two texts of an edit of a field.
+fn texts_of<'e>(edit: &FieldEdit<'e>) -> (&'e str, &'e str) {
+    match edit {
+        FieldEdit::Set { name, value } | FieldEdit::Add { name, value } => (*name, *value),
+        FieldEdit::Rename { old, new } => (*old, *new),
     }
-    Ok(edits)
+}
+
+// Adds an edit of a field, which has these texts, of the entries with these keys.
+fn push_edit<'e>(
+    edits: &mut Vec<Edit<'e>>,
+    keys: &'e [&'e str],
+    edit: &FieldEdit<'_>,
+    first: &'e str,
+    second: &'e str,
+) -> Result<(), AllocError> {
+    let edit = match edit {
+        FieldEdit::Set { .. } => FieldEdit::Set {
+            name: first,
+            value: second,
+        },
+        FieldEdit::Add { .. } => FieldEdit::Add {
+            name: first,
+            value: second,
+        },
+        FieldEdit::Rename { .. } => FieldEdit::Rename {
+            old: first,
+            new: second,
+        },
+    };
+    edits.push(Edit::Fields { keys, edit })?;
+    Ok(())
 }
 
 // Edits fields of the entries of a file's text that meet all conditions.
@@ -175,7 +196,11 @@ fn edit_text(
 ) -> Result<(), Stop> {
     let found = Bibliography::recover(rt.alloc(), text)?;
     let keys = selected_keys(rt.alloc(), selections, &found.bibliography)?;
-    let edits = edits_of(rt.alloc(), &keys, fields)?;
+    let mut edits = Vec::new(rt.alloc());
+    'fields: for edit in fields {
+        let (first, second) = texts_of(edit);
+        push_edit(&mut edits, &keys, edit, first, second)?;
+    }
     apply(rt, editing, bytes, &edits)
 }
 
