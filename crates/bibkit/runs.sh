@@ -1175,7 +1175,7 @@ run_messages 'a name that can not be one' 1 $'bibkit: two.bib: `1a`: the text ca
 run_messages 'an edit without an equals sign' 2 $'bibkit: `note` isn\'t FIELD=VALUE; use `--file` for the name of the file\n' edit --set note -f two.bib
 run_messages 'a new name without an equals sign' 2 $'bibkit: `title` isn\'t OLD=NEW; use `--file` for the name of the file\n' edit --rename title -f two.bib
 run_messages 'no edit' 2 $'bibkit: `edit` needs `--rename`, `--set` or `--add`\n' edit -f two.bib
-run_messages 'a wrong condition of an edit' 2 $'bibkit: --where `or`: expected a test, for example `type = article` or `has doi` at byte 0\n' edit --where or -f two.bib
+run_messages 'a wrong condition of an edit' 2 $'bibkit: --where `or`: expected a test, for example `type = article` or `has doi` at byte 0\n' edit --where or --set note=x -f two.bib
 refuses 'fields of a file with an error' 1 $'broken.bib:3:1: error: expected comma [syntax]\n' edit --set note=x -f broken.bib
 
 # rekey
