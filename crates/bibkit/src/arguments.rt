@@ -1,5 +1,6 @@
 //! Parses the command line into a request.
 
+use crate::converting::Converting;
 use crate::edits::{Editing, Edits, Mode};
 use crate::rekeying::Rekeying;
 use crate::selecting::{Printed, Selecting};
@@ -38,13 +39,12 @@ pub enum Asked<'a> {
         /// The use of the new text of each file.
         mode: Mode,
     },
-    /// Prints the entries of files in another format.
-    Convert(Target),
+    /// Prints the entries of files that meet conditions in another format.
+    Convert(Converting<'a>),
     /// Prints files with the types and fields of a dialect.
     Rewrite(Dialect),
-    /// Prints the entries of the CSL-JSON items of files, with the types and fields of a dialect. `None` if another format is
-    /// requested, which is an error.
-    Import(Option<Dialect>),
+    /// Prints the entries of the CSL-JSON items of files, with the types and fields of a dialect.
+    Import(Dialect),
     /// Replaces the references `crossref` and `xdata` in files by the inherited fields.
     Resolve {
         /// The use of the new text of each file.
@@ -56,6 +56,8 @@ pub enum Asked<'a> {
     Select(Selecting<'a>),
     /// Runs another request.
     Other(Request<'a>),
+    /// Reports that the command line is wrong, for this reason.
+    Wrong(&'static str),
 }
 
 /// A parsed command line.
@@ -356,18 +358,34 @@ fn dialect_named(name: Option<&str>) -> Option<Dialect> {
     }
 }
 
+// Returns the format of entries with this name, or CSL-JSON for any other name.
+fn target_named(name: Option<&str>) -> Target {
+    match name {
+        Some("json") => Target::Json,
+        Some("ris") => Target::Ris,
+        _ => Target::Csl,
+    }
+}
+
 // Returns the request of `convert`.
-fn convert_asked<'a>(matches: &ArgMatches<'a>) -> Asked<'a> {
-    if matches.get_str("from") == Some("csl") {
-        return Asked::Import(dialect_named(matches.get_str("to")));
-    }
-    match matches.get_str("to") {
-        Some("biblatex") => Asked::Rewrite(Dialect::Biblatex),
-        Some("bibtex") => Asked::Rewrite(Dialect::Bibtex),
-        Some("json") => Asked::Convert(Target::Json),
-        Some("ris") => Asked::Convert(Target::Ris),
-        _ => Asked::Convert(Target::Csl),
-    }
+fn convert_asked<'a>(alloc: Global, matches: &ArgMatches<'a>) -> Result<Asked<'a>, AllocError> {
+    let conditions = texts(alloc, matches, "where")?;
+    let is_import = matches.get_str("from") == Some("csl");
+    let asked = match dialect_named(matches.get_str("to")) {
+        None if is_import => {
+            Asked::Wrong("`--from csl` requires `--to biblatex` or `--to bibtex`")
+        }
+        Some(_) if !conditions.is_empty() => {
+            Asked::Wrong("`--where` requires `--to csl`, `--to json` or `--to ris`")
+        }
+        Some(dialect) if is_import => Asked::Import(dialect),
+        Some(dialect) => Asked::Rewrite(dialect),
+        None => Asked::Convert(Converting {
+            target: target_named(matches.get_str("to")),
+            conditions,
+        }),
+    };
+    Ok(asked)
 }
 
 // Returns the request of the command `name`, which reads files.
@@ -379,7 +397,7 @@ fn request_of<'a>(
     let request = match name {
         "lint" => return lint_asked(alloc, matches),
         "fmt" => return format_asked(alloc, matches),
-        "convert" => return Ok(convert_asked(matches)),
+        "convert" => return convert_asked(alloc, matches),
         "resolve" => {
             let mode = mode_of(matches, false);
             return Ok(Asked::Resolve { mode });

@@ -1,20 +1,33 @@
 //! Runs `convert` for bibliography files.
 
 use crate::edits::{after_mark, print};
+use crate::selecting::{parse_conditions, selected_keys};
 use crate::stops::{Stop, bytes_of, error_line, output_stop, say};
+use bib_select::selection::Selection;
 use bib_source::decoding::decode;
 use bib_source::positions::Positions;
 use bib_syntax::raw::Pair;
 use bib_tables::dialects::Dialect;
-use bibkit_convert::converting::{ConvertError, print_converted};
+use bibkit_convert::converting::{ConvertError, print_converted, print_entry};
 use bibkit_convert::target::Target;
 use bibkit_edits::edit::Edit;
-use biblatex::{Output, ParseError, Sink};
+use biblatex::{Bibliography, Output, ParseError, Sink};
 use edit_convert::notes::{NoteKind, notes};
 use edit_entries::document::RawDocument;
+use edit_resolve::resolving::resolve;
 use std::alloc::{AllocError, Global};
+use std::collections::BTreeSet;
 use std::io;
 use std::str::from_utf8;
+
+/// A format, and the entries that are printed in it.
+#[derive(Drop)]
+pub struct Converting<'a> {
+    /// The format.
+    pub target: Target,
+    /// The conditions, all of which an entry must meet.
+    pub conditions: Vec<&'a str>,
+}
 
 // Returns the message and status 1 for the error of parsing a text as a bibliography.
 fn syntax_stop(
@@ -47,16 +60,116 @@ impl Progress {
     }
 }
 
-// Prints the entries of a file's text. If parsing it as a bibliography fails, reports the error.
+// Returns the text of a file with its references `crossref` and `xdata` resolved by the rules of BibLaTeX. Returns `None` if the text has
+// no such references, or isn't accepted as a bibliography.
+fn resolved_text(alloc: Global, text: &str) -> Result<Option<String>, AllocError> {
+    let document = match RawDocument::parse(alloc, text) {
+        Ok(document) => document,
+        Err(error) => {
+            error.unless_out_of_memory()?;
+            return Ok(None);
+        }
+    };
+    let resolved = match resolve(alloc, &document) {
+        Ok(resolved) => resolved,
+        Err(error) => {
+            let _entry = error.unless_out_of_memory()?;
+            return Ok(None);
+        }
+    };
+    if resolved.as_str() == text || !is_accepted(alloc, text)? {
+        return Ok(None);
+    }
+    Ok(Some(resolved))
+}
+
+// Returns whether a text is accepted as a bibliography.
+fn is_accepted(alloc: Global, text: &str) -> Result<bool, AllocError> {
+    match Bibliography::parse(alloc, text) {
+        Ok(_bibliography) => Ok(true),
+        Err(error) => {
+            error.unless_out_of_memory()?;
+            Ok(false)
+        }
+    }
+}
+
+// Returns the text whose entries are printed for a file's text. JSON has byte offsets of the file, so for JSON it is the same text.
+fn printed_text(alloc: Global, target: Target, text: &str) -> Result<Option<String>, AllocError> {
+    match target {
+        Target::Json => Ok(None),
+        Target::Csl | Target::Ris => resolved_text(alloc, text),
+    }
+}
+
+// Returns the keys of the entries of a bibliography that meet all conditions.
+fn wanted_keys(
+    alloc: Global,
+    selections: &[Selection],
+    bibliography: &Bibliography,
+) -> Result<BTreeSet<String>, AllocError> {
+    let mut keys = BTreeSet::new(alloc);
+    'keys: for key in selected_keys(alloc, selections, bibliography)? {
+        keys.insert(String::from_str(alloc, key)?)?;
+    }
+    Ok(keys)
+}
+
+// Prints the entries of a text that have one of these keys, each after its separator. Returns whether the next entry would be the first of
+// the output.
+fn print_wanted<K: Sink>(
+    alloc: Global,
+    target: Target,
+    is_first: bool,
+    keys: &BTreeSet<String>,
+    text: &str,
+    output: &mut K,
+) -> Result<bool, ConvertError> {
+    let bibliography = Bibliography::parse(alloc, text)?;
+    let mut is_still_first = is_first;
+    'entries: for entry in &bibliography {
+        if keys.contains(entry.key.as_str()) {
+            is_still_first = print_entry(alloc, target, is_still_first, entry, output)?;
+        }
+    }
+    Ok(is_still_first)
+}
+
+// Prints the entries of a file's text that meet all conditions. Returns whether the next entry would be the first of the output.
+fn print_selected<K: Sink>(
+    alloc: Global,
+    converting: &Converting<'_>,
+    selections: &[Selection],
+    is_first: bool,
+    text: &str,
+    output: &mut K,
+) -> Result<bool, ConvertError> {
+    let target = converting.target;
+    let resolved = printed_text(alloc, target, text)?;
+    let printed = match &resolved {
+        Some(resolved) => resolved.as_str(),
+        None => text,
+    };
+    if selections.is_empty() {
+        return print_converted(alloc, target, is_first, printed, output);
+    }
+    let bibliography = Bibliography::parse(alloc, text)?;
+    let keys = wanted_keys(alloc, selections, &bibliography)?;
+    print_wanted(alloc, target, is_first, &keys, printed, output)
+}
+
+// Prints the entries of a file's text that meet all conditions. If parsing it as a bibliography fails, reports the error.
 fn convert_text<K: Sink>(
     rt: &HostRuntime,
-    target: Target,
+    converting: &Converting<'_>,
+    selections: &[Selection],
     progress: Progress,
     name: &str,
     text: &str,
     output: &mut K,
 ) -> Result<Progress, Stop> {
-    match print_converted(rt.alloc(), target, progress.is_empty, text, output) {
+    let is_first = progress.is_empty;
+    match print_selected(rt.alloc(), converting, selections, is_first, text, output) {
         Ok(is_empty) => Ok(Progress {
             is_empty,
             ..progress
@@ -71,10 +184,12 @@ fn convert_text<K: Sink>(
     }
 }
 
-// Prints the entries of a file. If the file can't be read, or parsing it as a bibliography fails, reports the error.
+// Prints the entries of a file that meet all conditions. If the file can't be read, or parsing it as a bibliography fails, reports the
+// error.
 fn convert_file<K: Sink>(
     rt: &HostRuntime,
-    target: Target,
+    converting: &Converting<'_>,
+    selections: &[Selection],
     progress: Progress,
     name: &str,
     output: &mut K,
@@ -82,7 +197,7 @@ fn convert_file<K: Sink>(
     match bytes_of(rt, name) {
         Ok(bytes) => {
             let decoded = decode(rt.alloc(), &bytes)?;
-            convert_text(rt, target, progress, name, &decoded.text, output)
+            convert_text(rt, converting, selections, progress, name, &decoded.text, output)
         }
         Err(stop) => {
             let stop = stop.unless_out_of_memory()?;
@@ -105,24 +220,33 @@ fn print_end<K: Sink>(
     }
 }
 
-// Prints the entries of files, and returns the greatest status of a file.
-fn convert_files(rt: &HostRuntime, target: Target, names: &[&str]) -> Result<u8, Stop> {
+// Prints the entries of files that meet all conditions, and returns the greatest status of a file. With conditions, the status is at least
+// 1 if no entry is printed.
+fn convert_files(
+    rt: &HostRuntime,
+    converting: &Converting<'_>,
+    names: &[&str],
+) -> Result<u8, Stop> {
+    let selections = parse_conditions(rt.alloc(), &converting.conditions)?;
     let mut output = Output::new(io::writer(rt));
     let mut progress = Progress {
         is_empty: true,
         status: 0,
     };
     'names: for name in names {
-        progress = convert_file(rt, target, progress, name, &mut output)?;
+        progress = convert_file(rt, converting, &selections, progress, name, &mut output)?;
     }
-    print_end(rt.alloc(), target, progress.is_empty, &mut output)?;
+    print_end(rt.alloc(), converting.target, progress.is_empty, &mut output)?;
+    if progress.is_empty && !selections.is_empty() {
+        return Ok(progress.status.max(1));
+    }
     Ok(progress.status)
 }
 
-/// Prints the entries of files in another format, and returns the greatest status of a file. If the output refuses a text, or if out
-/// of memory, stops and returns the status of that error.
-pub fn run_convert(rt: &HostRuntime, target: Target, names: &[&str]) -> u8 {
-    match convert_files(rt, target, names) {
+/// Prints the entries of files that meet all conditions in another format, and returns the greatest status of a file. If the output refuses
+/// a text, or if out of memory, stops and returns the status of that error.
+pub fn run_convert(rt: &HostRuntime, converting: &Converting<'_>, names: &[&str]) -> u8 {
+    match convert_files(rt, converting, names) {
         Ok(status) => status,
         Err(stop) => say(rt, &stop),
     }

@@ -1,23 +1,20 @@
 //! Runs the commands that edit a file.
 
+use crate::refusals::printing_stop;
 use crate::rekeying::{Rekeying, rekey};
 use crate::replacing::replace;
 use crate::selecting::edit_selected;
-use crate::stops::{Stop, bytes_of, error_line, say, syntax_line};
+use crate::stops::{Stop, bytes_of, say};
 use bib_source::decoding::decode;
-use bib_syntax::raw::{Pair, RawBibliography};
 use bibkit_core::replacing::ReplaceError;
-use bibkit_edits::edit::{Edit, Refusal};
+use bibkit_edits::edit::Edit;
 use bibkit_edits::editing::edit_file;
 use bibkit_edits::printing::{Unprinted, print_difference, print_edited};
 use biblatex::Output;
-use edit_entries::document::RawDocument;
-use edit_entries::errors::EditError;
 use edit_entries::field_edits::FieldEdit;
 use std::alloc::{AllocError, Global};
 use std::io;
 use std::io::ErrorKind;
-use std::str::from_utf8;
 
 /// The edits of a command.
 #[derive(Drop)]
@@ -101,172 +98,6 @@ pub fn after_mark(bytes: &[u8]) -> &[u8] {
     match bytes.strip_prefix(b"\xEF\xBB\xBF") {
         Some(rest) => rest,
         None => bytes,
-    }
-}
-
-// Returns the message for the error `why` that a key of the added text can't be a new key. The message contains the first such key of
-// `text`, or no key if there is none.
-fn unsafe_key_line(
-    alloc: Global,
-    name: &str,
-    text: &str,
-    why: EditError,
-) -> Result<String, AllocError> {
-    if let Ok(added) = RawDocument::parse(alloc, text) {
-        if let Some(key) = added.first_unsafe_key() {
-            return format!(in alloc; "bibkit: {name}: `{key}`: {why}\n");
-        }
-    }
-    format!(in alloc; "bibkit: {name}: {why}\n")
-}
-
-// Returns the message for the error `why` of an edit.
-fn refused_line(
-    alloc: Global,
-    name: &str,
-    edit: Option<&Edit<'_>>,
-    why: EditError,
-) -> Result<String, AllocError> {
-    match edit {
-        Some(
-            Edit::Set {
-                key,
-                name: field,
-                ..
-            }
-            | Edit::Unset { key, name: field },
-        ) => { format!(in alloc; "bibkit: {name}: `{key}`: `{field}`: {why}\n") }
-        Some(Edit::Rename { old, new }) => {
-            format!(in alloc; "bibkit: {name}: `{old}` to `{new}`: {why}\n")
-        }
-        Some(
-            Edit::Fields {
-                edit: FieldEdit::Set { name: field, .. }
-                | FieldEdit::Add { name: field, .. }
-                | FieldEdit::Rename { new: field, .. },
-                ..
-            },
-        ) => format!(in alloc; "bibkit: {name}: `{field}`: {why}\n"),
-        Some(Edit::Remove { key }) => format!(in alloc; "bibkit: {name}: `{key}`: {why}\n"),
-        Some(Edit::Add { text }) if why == EditError::NotAKey => unsafe_key_line(
-            alloc, name, text, why,
-        ),
-        _ => format!(in alloc; "bibkit: {name}: {why}\n"),
-    }
-}
-
-// Returns the message for a definition that refers to itself, with its position.
-fn definition_line(
-    alloc: Global,
-    name: &str,
-    text: &[u8],
-    definition: &Pair<'_>,
-) -> Result<String, AllocError> {
-    let said = format!(in alloc;
-        "abbreviation `{}` refers to itself [circular-abbreviation]",
-        definition.key.v
-    )?;
-    error_line(alloc, name, text, definition.key.span.start, &said)
-}
-
-// Returns the message for the definition with the index `definition`, which refers to itself. The message has no position if `text`
-// has no definition with this index.
-fn cycle_line(
-    alloc: Global,
-    name: &str,
-    text: &[u8],
-    definition: usize,
-) -> Result<String, AllocError> {
-    if let Ok(src) = from_utf8(text) {
-        if let Ok(raw) = RawBibliography::parse(alloc, src) {
-            if let Some(pair) = raw.abbreviations.get(definition) {
-                return definition_line(alloc, name, text, pair);
-            }
-        }
-    }
-    format!(in alloc; "bibkit: {name}: an abbreviation refers to itself\n")
-}
-
-// Returns the message for an entry that inherits from itself, with the position of its key. The message has no position if `text` has no
-// entry with the index `entry`.
-fn reference_cycle_line(
-    alloc: Global,
-    name: &str,
-    text: &[u8],
-    entry: usize,
-) -> Result<String, AllocError> {
-    if let Ok(src) = from_utf8(text) {
-        if let Ok(raw) = RawBibliography::parse(alloc, src) {
-            if let Some(entry) = raw.entries.get(entry) {
-                let key = &entry.v.key;
-                let said = format!(in alloc;
-                    "entry `{}` inherits from itself [circular-reference]",
-                    key.v
-                )?;
-                return error_line(alloc, name, text, key.span.start, &said);
-            }
-        }
-    }
-    format!(in alloc; "bibkit: {name}: an entry inherits from itself\n")
-}
-
-// Returns the text that the first edit adds, or an empty text if it adds none.
-fn added_text<'a>(edits: &[Edit<'a>]) -> &'a str {
-    match edits.first() {
-        Some(Edit::Add { text }) => *text,
-        _ => "",
-    }
-}
-
-// Returns the message for a refusal.
-fn refusal_message(
-    alloc: Global,
-    name: &str,
-    bytes: &[u8],
-    edits: &[Edit<'_>],
-    refusal: &Refusal,
-) -> Result<String, AllocError> {
-    match refusal {
-        Refusal::NotUtf8 { at } => {
-            let said = "not UTF-8 from here on, so the file can't be edited [unread-bytes]";
-            error_line(alloc, name, bytes, *at, said)
-        }
-        Refusal::File(error) => syntax_line(alloc, name, after_mark(bytes), error),
-        Refusal::Added(error) => syntax_line(alloc, "-", added_text(edits).as_bytes(), error),
-        Refusal::Edit { index, why } => refused_line(alloc, name, edits.get(*index), *why),
-        Refusal::Cycle { definition, .. } => cycle_line(
-            alloc,
-            name,
-            after_mark(bytes),
-            *definition,
-        ),
-        Refusal::ReferenceCycle { entry, .. } => reference_cycle_line(
-            alloc,
-            name,
-            after_mark(bytes),
-            *entry,
-        ),
-        Refusal::OutOfMemory => String::from_str(alloc, "bibkit: out of memory\n"),
-    }
-}
-
-// Returns the message and the status for an error of printing edits.
-fn printing_stop(
-    alloc: Global,
-    name: &str,
-    bytes: &[u8],
-    edits: &[Edit<'_>],
-    why: &Unprinted,
-) -> Result<Stop, AllocError> {
-    match why {
-        Unprinted::Refused(refusal) => {
-            let said = refusal_message(alloc, name, bytes, edits, refusal)?;
-            Ok(Stop::Said(said, why.status()))
-        }
-        Unprinted::NotTaken => {
-            let said = String::from_str(alloc, "bibkit: the output can't be written\n")?;
-            Ok(Stop::Said(said, why.status()))
-        }
     }
 }
 

@@ -127,9 +127,3 @@ pub fn run_import(rt: &HostRuntime, dialect: Dialect, names: &[&str]) -> u8 {
     }
     status
 }
-
-/// Reports that items are only converted to BibLaTeX or BibTeX, and returns the status.
-pub fn refuse_target(rt: &HostRuntime) -> u8 {
-    let _ = rt.eprintln("bibkit: `--from csl` requires `--to biblatex` or `--to bibtex`");
-    2
-}

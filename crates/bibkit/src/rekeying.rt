@@ -4,12 +4,16 @@ use crate::edits::{Editing, Mode, after_mark, apply, new_text};
 use crate::stops::{Stop, bytes_of, error_line, output_stop};
 use bib_entry::entry::Entry;
 use bib_keys::{KeyPattern, PatternError};
-use bib_syntax::raw::{RawBibliography, RawEntry};
+use bib_queries::names::entry_names;
+use bib_source::positions::Positions;
+use bib_syntax::raw::{Pair, RawBibliography, RawChunk, RawEntry};
+use bib_tables::fields::is_reference_field;
 use bib_text::spanned::Spanned;
 use bib_text::text::Text;
 use bibkit_edits::edit::Edit;
 use biblatex::{Bibliography, Output, Sink};
 use std::alloc::{AllocError, Global};
+use std::collections::BTreeSet;
 use std::io;
 use std::str::from_utf8;
 
@@ -110,6 +114,116 @@ fn check_text(
     Ok(lines)
 }
 
+// The names that entries of a file have before they get new keys, and the new keys, all in lowercase.
+#[derive(Drop)]
+struct Names {
+    old: BTreeSet<String>,
+    new: BTreeSet<String>,
+}
+
+// Returns the names of entries, and these new keys.
+fn names_of(
+    alloc: Global,
+    entries: &[Spanned<RawEntry<'_>>],
+    keys: &[Option<&str>],
+) -> Result<Names, AllocError> {
+    let mut names = Names {
+        old: BTreeSet::new(alloc),
+        new: BTreeSet::new(alloc),
+    };
+    'entries: for (entry, key) in entries.iter().zip(keys) {
+        insert_lowercase(alloc, &mut names.old, &entry_names(alloc, entry)?)?;
+        if let Some(key) = key {
+            names.new.insert(key.to_ascii_lowercase(alloc)?)?;
+        }
+    }
+    Ok(names)
+}
+
+// Inserts names into a set, in lowercase.
+fn insert_lowercase(
+    alloc: Global,
+    set: &mut BTreeSet<String>,
+    names: &[&str],
+) -> Result<(), AllocError> {
+    'names: for name in names {
+        set.insert(name.to_ascii_lowercase(alloc)?)?;
+    }
+    Ok(())
+}
+
+// Appends the names in a list that no entry has and that an entry gets as its new key.
+fn push_caught<'s>(
+    caught: &mut Vec<&'s str>,
+    alloc: Global,
+    names: &Names,
+    list: &'s str,
+) -> Result<(), AllocError> {
+    'parts: for part in list.split(',') {
+        let name = part.trim().to_ascii_lowercase(alloc)?;
+        if names.new.contains(name.as_str()) && !names.old.contains(name.as_str()) {
+            caught.push(part.trim())?;
+        }
+    }
+    Ok(())
+}
+
+// Appends the names in a field that refers to entries, as `push_caught` does for a list.
+fn push_caught_in_field<'s>(
+    caught: &mut Vec<&'s str>,
+    alloc: Global,
+    names: &Names,
+    field: &Pair<'s>,
+) -> Result<(), AllocError> {
+    if !is_reference_field(field.key.v) {
+        return Ok(());
+    }
+    'pieces: for piece in &field.value.v {
+        if let RawChunk::Normal(text) = piece.v {
+            push_caught(caught, alloc, names, text)?;
+        }
+    }
+    Ok(())
+}
+
+// Returns the names to which an entry refers, which no entry has and which are new keys.
+fn caught_names<'s>(
+    alloc: Global,
+    names: &Names,
+    entry: &RawEntry<'s>,
+) -> Result<Vec<&'s str>, AllocError> {
+    let mut caught = Vec::new(alloc);
+    'fields: for field in &entry.fields {
+        push_caught_in_field(&mut caught, alloc, names, field)?;
+    }
+    Ok(caught)
+}
+
+// Returns a note for each entry that refers to names which no entry had, but which are new keys.
+fn caught_text(
+    alloc: Global,
+    name: &str,
+    text: &str,
+    entries: &[Spanned<RawEntry<'_>>],
+    keys: &[Option<&str>],
+) -> Result<String, AllocError> {
+    let names = names_of(alloc, entries, keys)?;
+    let mut positions = Positions::new(text);
+    let mut notes = String::new(alloc);
+    'entries: for entry in entries {
+        let caught = caught_names(alloc, &names, &entry.v)?;
+        if let Some(first) = caught.first() {
+            let position = positions.position(entry.v.key.span.start);
+            let note = format!(in alloc;
+                "{name}:{}:{}: note: the reference to `{}` led to no entry, and now leads to one with this new key\n",
+                position.line, position.column, first
+            )?;
+            notes.push_str(&note)?;
+        }
+    }
+    Ok(notes)
+}
+
 // Prints a text to standard output.
 fn print(rt: &HostRuntime, text: &str) -> Result<(), Stop> {
     let mut output = Output::new(io::writer(rt));
@@ -138,6 +252,21 @@ fn use_keys(
             Err(Stop::Said(lines, 1))
         };
     }
+    edit_keys(rt, editing, rekeying, bytes, entries, keys)?;
+    let notes = caught_text(rt.alloc(), editing.name, text, entries, keys)?;
+    let _ = eprint!(rt; "{notes}");
+    Ok(())
+}
+
+// Gives the entries of a file new keys. Prints the map of the keys, or uses the new text as `editing` requests.
+fn edit_keys(
+    rt: &HostRuntime,
+    editing: &Editing<'_>,
+    rekeying: &Rekeying<'_>,
+    bytes: &[u8],
+    entries: &[Spanned<RawEntry<'_>>],
+    keys: &[Option<&str>],
+) -> Result<(), Stop> {
     let edits = [Edit::RenameAll { keys }];
     if !rekeying.has_map {
         return apply(rt, editing, bytes, &edits);

@@ -7,7 +7,7 @@ use bibkit_core::replacing;
 use bibkit_core::replacing::ReplaceError;
 use std::fs::{OpenFile, OpenOptions, Permissions};
 use std::io::{ErrorKind, Write};
-use std::path::PathBuf;
+use std::path::{Path, PathBuf};
 use std::rt::Files;
 use std::{fs, io};
 
@@ -119,13 +119,19 @@ fn rights<R: Files>(rt: &R, target: &str) -> io::Result<Permissions> {
     }
 }
 
+// Returns the folder of a file, which is `.` if the name of the file has no other component.
+fn parent_of(target: &PathBuf) -> io::Result<&str> {
+    match target.parent() {
+        Some(parent) if parent.to_string_lossy().is_empty() => Ok("."),
+        Some(parent) => Ok(parent.to_string_lossy()),
+        None => Err(io::Error::from(ErrorKind::InvalidInput)),
+    }
+}
+
 // Opens the folder of a file. Fails if the folder can't be opened, or if the file can't be opened for writing or isn't a regular file.
 fn folder_of<'r, R: Files>(rt: &'r R, target: &PathBuf) -> io::Result<SystemFolder<'r, R>> {
     let rights = rights(rt, target.to_string_lossy())?;
-    let Some(parent) = target.parent() else {
-        return Err(io::Error::from(ErrorKind::InvalidInput));
-    };
-    let folder = fs::open(rt, parent)?;
+    let folder = fs::open(rt, parent_of(target)?)?;
     Ok(SystemFolder {
         rt,
         folder,
@@ -135,10 +141,38 @@ fn folder_of<'r, R: Files>(rt: &'r R, target: &PathBuf) -> io::Result<SystemFold
     })
 }
 
+// Returns the path to which a symbolic link leads, or `None` if the file isn't a symbolic link.
+fn link_of<R: Files + AllocGlobal>(rt: &R, target: &PathBuf) -> io::Result<Option<PathBuf>> {
+    match fs::read_link(rt, target) {
+        Ok(link) => {
+            let parent = target.parent().unwrap_or(Path::new(""));
+            Ok(Some(parent.join(rt.alloc(), &link)?))
+        }
+        Err(error) if error.kind() == ErrorKind::InvalidInput => Ok(None),
+        Err(error) => Err(error),
+    }
+}
+
+// The greatest number of symbolic links in a row that the system follows.
+const LINKS: u32 = 40;
+
+// Returns the path of the file to which `name` leads through symbolic links. The path begins as `name` does, so it also works in a folder
+// whose own path isn't UTF-8.
+fn target_of<R: Files + AllocGlobal>(rt: &R, name: &str) -> io::Result<PathBuf> {
+    let mut target = PathBuf::from_str(rt.alloc(), name)?;
+    'links: for _link in 0..LINKS {
+        match link_of(rt, &target)? {
+            Some(next) => target = next,
+            None => return Ok(target),
+        }
+    }
+    Err(io::Error::from(ErrorKind::InvalidInput))
+}
+
 /// Replaces the text of the file `name` by `text`, as `bibkit_core::replacing` specifies. The file keeps its permissions. If
 /// `name` is a symbolic link, its target is replaced. Fails if the file can't be opened for writing or isn't a regular file.
 pub fn replace<R: Files + AllocGlobal>(rt: &R, name: &str, text: &str) -> Result<(), ReplaceError> {
-    let target = fs::canonicalize(rt, name).map_err(ReplaceError::NotReplaced)?;
+    let target = target_of(rt, name).map_err(ReplaceError::NotReplaced)?;
     let mut folder = folder_of(rt, &target).map_err(ReplaceError::NotReplaced)?;
     replacing::replace(rt.alloc(), &mut folder, target.to_string_lossy(), text)
 }

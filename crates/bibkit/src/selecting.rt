@@ -41,8 +41,8 @@ fn unless_out_of_memory(error: SelectionError) -> Result<SelectionError, AllocEr
     }
 }
 
-// Parses conditions. Fails with a message and status 2 for a text that isn't a condition.
-fn parse_conditions(alloc: Global, conditions: &[&str]) -> Result<Vec<Selection>, Stop> {
+/// Parses conditions. Fails with a message and status 2 for a text that isn't a condition.
+pub fn parse_conditions(alloc: Global, conditions: &[&str]) -> Result<Vec<Selection>, Stop> {
     let mut selections = Vec::new(alloc);
     'conditions: for condition in conditions {
         match Selection::parse(alloc, *condition) {
@@ -67,8 +67,8 @@ fn meets_all(alloc: Global, selections: &[Selection], entry: &Entry) -> Result<b
     Ok(true)
 }
 
-// Returns the keys of the entries of a bibliography that meet all conditions.
-fn selected_keys<'b>(
+/// Returns the keys of the entries of a bibliography that meet all conditions.
+pub fn selected_keys<'b>(
     alloc: Global,
     selections: &[Selection],
     bibliography: &'b Bibliography,

@@ -6,7 +6,7 @@ use crate::document::run_cited;
 use crate::edits::{Mode, run_edits};
 use crate::files::SystemFiles;
 use crate::formatting::run_format;
-use crate::importing::{refuse_target, run_import};
+use crate::importing::run_import;
 use crate::resolving::run_resolve;
 use crate::selecting::run_select;
 use bibkit_core::request::{Call, Cited, Request};
@@ -154,6 +154,12 @@ fn run_style(
     run_settings(rt, given.over(set), mode, names)
 }
 
+// Reports that the command line is wrong, and returns the status.
+fn refuse_words(rt: &HostRuntime, reason: &str) -> u8 {
+    let _ = eprintln!(rt; "bibkit: {reason}");
+    2
+}
+
 // Runs the command of a command line, and returns the status.
 fn answer(rt: &HostRuntime, words: Words<'_>) -> u8 {
     let Words { asked, names } = words;
@@ -165,14 +171,14 @@ fn answer(rt: &HostRuntime, words: Words<'_>) -> u8 {
             order,
             mode,
         } => run_style(rt, settings, order, mode, &names),
-        Asked::Convert(target) => run_convert(rt, target, &names),
+        Asked::Convert(converting) => run_convert(rt, &converting, &names),
         Asked::Resolve { mode } => run_resolve(rt, mode, &names),
         Asked::Rewrite(dialect) => run_rewrite(rt, dialect, &names),
-        Asked::Import(Some(dialect)) => run_import(rt, dialect, &names),
-        Asked::Import(None) => refuse_target(rt),
+        Asked::Import(dialect) => run_import(rt, dialect, &names),
         Asked::Cited(document) => run_cited(rt, document, &names),
         Asked::Select(selecting) => run_select(rt, &selecting, &names),
         Asked::Other(request) => run_request(rt, request, names),
+        Asked::Wrong(reason) => refuse_words(rt, reason),
     }
 }
 

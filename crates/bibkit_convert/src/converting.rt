@@ -72,8 +72,9 @@ fn text_of(
     Ok(text)
 }
 
-// Prints an entry if the format has it, and returns whether the next entry would be the first of the output.
-fn print_entry<K: Sink>(
+/// Prints an entry after its separator, if the format has it, and returns whether the next entry would be the first of the output;
+/// `is_first` says this of the entry. Passes one text to `output`.
+pub fn print_entry<K: Sink>(
     alloc: Global,
     target: Target,
     is_first: bool,

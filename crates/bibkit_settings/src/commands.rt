@@ -64,6 +64,8 @@ enum Takes {
     NothingAfter(&'static str),
     // A flag that is required if the flag with this name is missing, and conflicts with it.
     NothingOr(&'static str),
+    // A flag that conflicts with the options with these names.
+    NothingAgainst(&'static [&'static str]),
 }
 
 // The name, the values and the help of an argument.
@@ -232,12 +234,12 @@ const REKEY: [Argument; 6] = [
     },
     Argument {
         name: "map",
-        takes: Takes::Nothing,
+        takes: Takes::NothingAgainst(&["diff"]),
         help: "Print OLD,NEW for each key that changes instead of the new text",
     },
     Argument {
         name: "check",
-        takes: Takes::Nothing,
+        takes: Takes::NothingAgainst(&["map", "write", "diff"]),
         help: "Report the keys that would change, and change nothing",
     },
     FILE,
@@ -435,7 +437,8 @@ Status: 0 done, 1 a file isn't in this style (--check) or has errors, 2 wrong us
 
 // The text at the end of the help of `convert`.
 const CONVERT_HELP: &str = "\
-csl, json and ris print the entries of all files with inherited fields. biblatex and bibtex change dates and the names of types and fields,
+csl, json and ris print the entries of all files, or those that meet --where, with inherited fields: by the rules of BibLaTeX for csl and
+ris, and by those of `bib` for json, which has byte offsets of the file. biblatex and bibtex change dates and the names of types and fields,
 and keep all other text. A file with errors is not printed, and its first error is reported. --from csl converts each item of CSL-JSON to an
 entry, and reports each variable that is lost or changed.
 
@@ -530,7 +533,7 @@ static TARGETS: [&str; 5] = ["csl", "json", "ris", "biblatex", "bibtex"];
 static SOURCES: [&str; 2] = ["bib", "csl"];
 
 // The arguments of `convert`.
-const CONVERT: [Argument; 2] = [
+const CONVERT: [Argument; 3] = [
     Argument {
         name: "to",
         takes: Takes::Target,
@@ -541,6 +544,7 @@ const CONVERT: [Argument; 2] = [
         takes: Takes::Source,
         help: "Bibliography files or CSL-JSON [default: bib]",
     },
+    WHERE,
 ];
 
 // The text at the end of the help of `resolve`.
@@ -793,6 +797,9 @@ fn argument_of<'a>(alloc: Global, row: &'static Argument) -> Result<Arg<'a>, All
             .action(ArgAction::SetTrue)
             .conflicts_with(other)?
             .required_unless_present(other),
+        Takes::NothingAgainst(others) => option(alloc, row)
+            .action(ArgAction::SetTrue)
+            .conflicts_with_all(others),
     }
 }
 

@@ -1,0 +1,285 @@
+//! The messages of refused edits.
+
+use crate::edits::after_mark;
+use crate::stops::{Stop, error_line, syntax_line};
+use bib_queries::names::entry_names;
+use bib_syntax::raw::{Pair, RawBibliography, RawChunk, RawEntry};
+use bib_text::spanned::Spanned;
+use bibkit_edits::edit::{Edit, Refusal};
+use bibkit_edits::printing::Unprinted;
+use edit_entries::document::RawDocument;
+use edit_entries::errors::EditError;
+use edit_entries::field_edits::FieldEdit;
+use std::alloc::{AllocError, Global};
+use std::collections::{BTreeMap, BTreeSet};
+use std::str::from_utf8;
+
+// Inserts names into a set, in lowercase. Returns the first name that the set contains already, if there is one.
+fn insert_names<'s>(
+    alloc: Global,
+    set: &mut BTreeSet<String>,
+    names: &[&'s str],
+) -> Result<Option<&'s str>, AllocError> {
+    let mut taken = None;
+    'names: for name in names {
+        if !set.insert(name.to_ascii_lowercase(alloc)?)? && taken.is_none() {
+            taken = Some(*name);
+        }
+    }
+    Ok(taken)
+}
+
+// Inserts the names of entries into a set, in lowercase. Returns the first name that the set contains already, if there is one.
+fn insert_entries<'s>(
+    alloc: Global,
+    set: &mut BTreeSet<String>,
+    entries: &[Spanned<RawEntry<'s>>],
+) -> Result<Option<&'s str>, AllocError> {
+    let mut taken = None;
+    'entries: for entry in entries {
+        let names = entry_names(alloc, entry)?;
+        let found = insert_names(alloc, set, &names)?;
+        if taken.is_none() {
+            taken = found;
+        }
+    }
+    Ok(taken)
+}
+
+// Returns the first name of an added entry that an entry of the file, or an earlier added entry, has already.
+fn taken_name<'s>(
+    alloc: Global,
+    file: &RawBibliography<'_>,
+    added: &RawBibliography<'s>,
+) -> Result<Option<&'s str>, AllocError> {
+    let mut set = BTreeSet::new(alloc);
+    let _in_file = insert_entries(alloc, &mut set, &file.entries)?;
+    insert_entries(alloc, &mut set, &added.entries)
+}
+
+// Returns whether two pieces are two literals or two abbreviations, with one text.
+fn is_same_piece(one: &Spanned<RawChunk<'_>>, other: &Spanned<RawChunk<'_>>) -> bool {
+    match (&one.v, &other.v) {
+        (RawChunk::Normal(first), RawChunk::Normal(second)) => first == second,
+        (RawChunk::Abbreviation(first), RawChunk::Abbreviation(second)) => first == second,
+        _ => false,
+    }
+}
+
+// Returns whether two definitions have the same value.
+fn have_same_value(one: &Pair<'_>, other: &Pair<'_>) -> bool {
+    one.value.v.len() == other.value.v.len()
+        && one
+            .value
+            .v
+            .iter()
+            .zip(&other.value.v)
+            .all(|(piece, second)| is_same_piece(piece, second))
+}
+
+// Returns the name of the first added definition whose value isn't that of the last definition of the same name in the file.
+fn other_definition<'s>(
+    alloc: Global,
+    file: &RawBibliography<'_>,
+    added: &RawBibliography<'s>,
+) -> Result<Option<&'s str>, AllocError> {
+    let mut last = BTreeMap::new(alloc);
+    'definitions: for definition in &file.abbreviations {
+        last.insert(definition.key.v.to_ascii_lowercase(alloc)?, definition)?;
+    }
+    'added: for definition in &added.abbreviations {
+        let name = definition.key.v.to_ascii_lowercase(alloc)?;
+        if let Some(other) = last.get(name.as_str()) {
+            if !have_same_value(definition, other) {
+                return Ok(Some(definition.key.v));
+            }
+        }
+    }
+    Ok(None)
+}
+
+// Returns the key or name of the added text to which the error `why` applies, or `None` if there is none.
+fn name_of_error<'s>(
+    alloc: Global,
+    file: &RawBibliography<'_>,
+    added: &'s RawDocument<'s>,
+    why: EditError,
+) -> Result<Option<&'s str>, AllocError> {
+    match why {
+        EditError::NotAKey => Ok(added.first_unsafe_key()),
+        EditError::KeyIsThere => taken_name(alloc, file, added.raw()),
+        EditError::DefinitionIsThere => other_definition(alloc, file, added.raw()),
+        _ => Ok(None),
+    }
+}
+
+// Returns the message for the error `why` of adding a text to a file. `src` is the text of the file.
+fn added_line(
+    alloc: Global,
+    name: &str,
+    src: &str,
+    text: &str,
+    why: EditError,
+) -> Result<String, AllocError> {
+    if let (Ok(file), Ok(added)) = (
+        RawBibliography::parse(alloc, src),
+        RawDocument::parse(alloc, text),
+    ) {
+        if let Some(key) = name_of_error(alloc, &file, &added, why)? {
+            return format!(in alloc; "bibkit: {name}: `{key}`: {why}\n");
+        }
+    }
+    format!(in alloc; "bibkit: {name}: {why}\n")
+}
+
+// Returns the message for the error `why` of an edit of a file's bytes.
+fn refused_line(
+    alloc: Global,
+    name: &str,
+    bytes: &[u8],
+    edit: Option<&Edit<'_>>,
+    why: EditError,
+) -> Result<String, AllocError> {
+    match edit {
+        Some(
+            Edit::Set {
+                key,
+                name: field,
+                ..
+            }
+            | Edit::Unset { key, name: field },
+        ) => { format!(in alloc; "bibkit: {name}: `{key}`: `{field}`: {why}\n") }
+        Some(Edit::Rename { old, new }) => {
+            format!(in alloc; "bibkit: {name}: `{old}` to `{new}`: {why}\n")
+        }
+        Some(
+            Edit::Fields {
+                edit: FieldEdit::Set { name: field, .. }
+                | FieldEdit::Add { name: field, .. }
+                | FieldEdit::Rename { new: field, .. },
+                ..
+            },
+        ) => format!(in alloc; "bibkit: {name}: `{field}`: {why}\n"),
+        Some(Edit::Remove { key }) => format!(in alloc; "bibkit: {name}: `{key}`: {why}\n"),
+        Some(Edit::Add { text }) => {
+            let src = from_utf8(after_mark(bytes)).unwrap_or("");
+            added_line(alloc, name, src, text, why)
+        }
+        _ => format!(in alloc; "bibkit: {name}: {why}\n"),
+    }
+}
+
+// Returns the message for a definition that refers to itself, with its position.
+fn definition_line(
+    alloc: Global,
+    name: &str,
+    text: &[u8],
+    definition: &Pair<'_>,
+) -> Result<String, AllocError> {
+    let said = format!(in alloc;
+        "abbreviation `{}` refers to itself [circular-abbreviation]",
+        definition.key.v
+    )?;
+    error_line(alloc, name, text, definition.key.span.start, &said)
+}
+
+// Returns the message for the definition with the index `definition`, which refers to itself. The message has no position if `text`
+// has no definition with this index.
+fn cycle_line(
+    alloc: Global,
+    name: &str,
+    text: &[u8],
+    definition: usize,
+) -> Result<String, AllocError> {
+    if let Ok(src) = from_utf8(text) {
+        if let Ok(raw) = RawBibliography::parse(alloc, src) {
+            if let Some(pair) = raw.abbreviations.get(definition) {
+                return definition_line(alloc, name, text, pair);
+            }
+        }
+    }
+    format!(in alloc; "bibkit: {name}: an abbreviation refers to itself\n")
+}
+
+// Returns the message for an entry that inherits from itself, with the position of its key. The message has no position if `text` has no
+// entry with the index `entry`.
+fn reference_cycle_line(
+    alloc: Global,
+    name: &str,
+    text: &[u8],
+    entry: usize,
+) -> Result<String, AllocError> {
+    if let Ok(src) = from_utf8(text) {
+        if let Ok(raw) = RawBibliography::parse(alloc, src) {
+            if let Some(entry) = raw.entries.get(entry) {
+                let key = &entry.v.key;
+                let said = format!(in alloc;
+                    "entry `{}` inherits from itself [circular-reference]",
+                    key.v
+                )?;
+                return error_line(alloc, name, text, key.span.start, &said);
+            }
+        }
+    }
+    format!(in alloc; "bibkit: {name}: an entry inherits from itself\n")
+}
+
+// Returns the text that the first edit adds, or an empty text if it adds none.
+fn added_text<'a>(edits: &[Edit<'a>]) -> &'a str {
+    match edits.first() {
+        Some(Edit::Add { text }) => *text,
+        _ => "",
+    }
+}
+
+// Returns the message for a refusal.
+fn refusal_message(
+    alloc: Global,
+    name: &str,
+    bytes: &[u8],
+    edits: &[Edit<'_>],
+    refusal: &Refusal,
+) -> Result<String, AllocError> {
+    match refusal {
+        Refusal::NotUtf8 { at } => {
+            let said = "not UTF-8 from here on, so the file can't be edited [unread-bytes]";
+            error_line(alloc, name, bytes, *at, said)
+        }
+        Refusal::File(error) => syntax_line(alloc, name, after_mark(bytes), error),
+        Refusal::Added(error) => syntax_line(alloc, "-", added_text(edits).as_bytes(), error),
+        Refusal::Edit { index, why } => refused_line(alloc, name, bytes, edits.get(*index), *why),
+        Refusal::Cycle { definition, .. } => cycle_line(
+            alloc,
+            name,
+            after_mark(bytes),
+            *definition,
+        ),
+        Refusal::ReferenceCycle { entry, .. } => reference_cycle_line(
+            alloc,
+            name,
+            after_mark(bytes),
+            *entry,
+        ),
+        Refusal::OutOfMemory => String::from_str(alloc, "bibkit: out of memory\n"),
+    }
+}
+
+/// Returns the message and the status for an error of printing edits.
+pub fn printing_stop(
+    alloc: Global,
+    name: &str,
+    bytes: &[u8],
+    edits: &[Edit<'_>],
+    why: &Unprinted,
+) -> Result<Stop, AllocError> {
+    match why {
+        Unprinted::Refused(refusal) => {
+            let said = refusal_message(alloc, name, bytes, edits, refusal)?;
+            Ok(Stop::Said(said, why.status()))
+        }
+        Unprinted::NotTaken => {
+            let said = String::from_str(alloc, "bibkit: the output can't be written\n")?;
+            Ok(Stop::Said(said, why.status()))
+        }
+    }
+}
