@@ -403,14 +403,16 @@ refuses 'no field left' 1 $'bibkit: two.bib: `a`: `author`: the entry would have
 refuses 'no value' 1 $'bibkit: two.bib: `a`: `title`: the value can\'t be written in braces\n' set a 'title=}' -f two.bib
 refuses 'a value that is not closed' 1 $'bibkit: two.bib: `a`: `title`: the value can\'t be written in braces\n' set a 'title=a\' -f two.bib
 refuses 'a brace that only TeX passes over' 1 $'bibkit: two.bib: `a`: `title`: the value can\'t be written in braces\n' set a 'title=a \}' -f two.bib
-refuses 'entries that are there' 1 "bibkit: two.bib$is_there"$'\n' add -f two.bib
+refuses 'entries that are there' 1 "bibkit: two.bib: \`a\`$is_there"$'\n' add -f two.bib
 printf '@misc{c, ids={B}}\n' >input
-refuses 'an entry whose ids are there' 1 "bibkit: two.bib$is_there"$'\n' add -f two.bib
+refuses 'an entry whose ids are there' 1 "bibkit: two.bib: \`B\`$is_there"$'\n' add -f two.bib
+printf '@misc{c, title={C}}\n@misc{d, title={D}}\n@misc{C, title={E}}\n' >input
+refuses 'two added entries with one name' 1 "bibkit: two.bib: \`C\`$is_there"$'\n' add -f two.bib
 printf '@misc{c,}@misc{d{,}@misc{*,}\n' >input
 refuses 'an entry whose key Biber cuts' 1 "bibkit: two.bib: \`d{\`$no_key" add -f two.bib
 printf '@string{s = {x}}\n@misc{a, title=s}\n' >defined.bib
 printf '@STRING{S = {y}}\n' >input
-refuses 'an abbreviation that is there' 1 $'bibkit: defined.bib: an abbreviation is defined already with another text\n' add -f defined.bib
+refuses 'an abbreviation that is there' 1 $'bibkit: defined.bib: `S`: an abbreviation is defined already with another text\n' add -f defined.bib
 printf '@STRING{S = "x"}\n' >input
 run 'the same abbreviation is added' 0 $'@string{s = {x}}\n@misc{a, title=s}\n\n@STRING{S = "x"}\n' add -f defined.bib
 cp two.bib input
@@ -642,6 +644,20 @@ run 'an edit through a link' 0 '' set a title=D -f links/l.bib --write
 holds 'the link stays' [ -L links/l.bib ]
 holds 'the file behind it has the new text' has written/a.bib $'@misc{a, title={D}, author={B}}\n'
 holds 'nothing is left beside the link' are_in links l.bib
+mkdir "$(printf 'links/caf\xe9')" links/end
+printf '@misc{a, title={C}}\n' >links/end/t.bib
+ln -s end/t.bib links/one.bib
+ln -s one.bib links/two.bib
+ln -s "$PWD/links/two.bib" "$(printf 'links/caf\xe9/three.bib')"
+run 'an edit through three links' 0 '' set a title=D -f links/two.bib --write
+holds 'the file behind three links has the new text' has links/end/t.bib $'@misc{a, title={D}}\n'
+holds 'nothing is left beside the file behind links' are_in links/end t.bib
+(cd "$(printf 'links/caf\xe9')" && "$program" set a title=E -f three.bib --write) >/dev/null 2>messages
+holds 'a link in a folder whose name is not UTF-8' has links/end/t.bib $'@misc{a, title={E}}\n'
+cp links/end/t.bib "$(printf 'links/caf\xe9/own.bib')"
+(cd "$(printf 'links/caf\xe9')" && "$program" set a title=F -f own.bib --write) >/dev/null 2>messages
+holds 'a file in a folder whose name is not UTF-8' has "$(printf 'links/caf\xe9/own.bib')" $'@misc{a, title={F}}\n'
+holds 'nothing is left in that folder' are_in "$(printf 'links/caf\xe9')" 'own.bib three.bib'
 run_messages 'writing into a folder' 2 $'bibkit: written: it is a folder\n' remove a -f written --write
 printf '\xef\xbb\xbf@misc{a, title={A}}\r\n' >written/m.bib
 run 'a byte order mark in a file' 0 '' set a title=B -f written/m.bib --write
@@ -990,6 +1006,22 @@ for format in csl json; do
     run "$format of a file with an error" 1 $'[]\n' convert --to $format broken.bib
 done
 run 'RIS of nothing' 0 '' convert --to ris
+cat >parents.bib <<'BIB'
+@inproceedings{c, title={T}, crossref={p}, year=2020}
+@misc{m, title={M}}
+@proceedings{p, title={P}, address={Paris}, date={2019}, subtitle={Sub}}
+BIB
+inherited='{"container-title":"P: Sub","id":"c","issued":{"date-parts":[[2020]]},"publisher-place":"Paris","title":"T","type":"paper-conference"}'
+run 'items with what BibLaTeX inherits' 0 "[
+$inherited
+]
+" convert --to csl --where 'key = c' parents.bib
+run 'records with what BibLaTeX inherits' 0 $'TY  - CPAPER\nTI  - T\nT2  - P\nPY  - 2020\nCY  - Paris\nID  - c\nER  - \n\n' convert --to ris --where 'key = c' parents.bib
+run 'items of entries that meet two conditions' 0 $'[\n{"id":"m","title":"M","type":"document"}\n]\n' convert --to csl --where 'not has year' --where 'title = M' parents.bib
+run 'JSON of entries that meet a condition' 0 $'[\n{"fields":{"title":{"chunks":[{"end":71,"kind":"normal","start":70,"text":"M"}]}},"key":"m","type":"misc"}\n]\n' convert --to json --where 'type = misc' parents.bib
+run 'no entry meets the condition' 1 $'[]\n' convert --to csl --where 'type = book' parents.bib
+run_messages 'a condition for BibTeX' 2 $'bibkit: `--where` requires `--to csl`, `--to json` or `--to ris`\n' convert --to bibtex --where 'type = book' parents.bib
+run_messages 'a condition that is none' 2 $'bibkit: --where `type`: expected `=` or `!=` at byte 4\n' convert --to csl --where type parents.bib
 run 'a file with an error, and another' 1 $'[\n{"id":"a","title":"A","type":"document"}\n]\n' convert --to csl broken.bib a.bib
 run_messages 'the error of a file is said' 1 $'broken.bib:3:1: error: expected comma\n' convert --to csl broken.bib a.bib
 run 'a file that is not there, and another' 2 $'[\n{"id":"a","title":"A","type":"document"}\n]\n' convert --to csl nothing.bib a.bib
@@ -1204,6 +1236,15 @@ run 'the map of refused keys is not printed' 1 '' rekey --pattern '{title}' --ma
 printf '@xdata{x, title={T}}\n@set{s, entryset={a}}\n@misc{a, title={Tea}, xdata={x}}\n' >data.bib
 run 'keys of data of other entries' 0 $'@xdata{x, title={T}}\n@set{s, entryset={tea}}\n@misc{tea, title={Tea}, xdata={x}}\n' rekey --pattern '{title}' -f data.bib
 run_messages 'a pattern that is none' 2 $'bibkit: --pattern `{x}`: expected `{author}`, `{title}` or `{year}` at byte 0, or one of them with a number, such as `{title:3}`\n' rekey --pattern '{x}' -f rekey.bib
+cat >dangling.bib <<'BIB'
+@misc{a, title={Old}}
+@misc{b, title={New}, related={old, x}}
+BIB
+run 'a reference that gets an entry' 0 $'@misc{old, title={Old}}\n@misc{new, title={New}, related={old, x}}\n' rekey --pattern '{title}' -f dangling.bib
+run_messages 'a reference that gets an entry is reported' 0 $'dangling.bib:2:7: note: the reference to `old` led to no entry, and now leads to one with this new key\n' rekey --pattern '{title}' -f dangling.bib
+run 'a check and a map of keys' 2 '' rekey --check --map -f rekey.bib
+run 'a check of keys that writes' 2 '' rekey --check --write -f rekey.bib
+run 'a map of keys and a diff' 2 '' rekey --map --diff -f rekey.bib
 refuses 'new keys of a file with an error' 1 $'broken.bib:3:1: error: expected comma [syntax]\n' rekey -f broken.bib
 
 # completions, in the shells that are there: each row is a line, and what its last word can be

@@ -89,10 +89,29 @@ readable_alike {one} {other} {is_verbatim} {ps} {qs} both alike read = record {
     by_known name (inl defined) = let also = both.onward.some name defined.0 defined.1 in inl (also.0, also.1)
     by_known name (inr english) = inr english
 
--- two fields have the same name, in any case, and alike pieces
-pub record AreAlikeFields (one other : FieldReading) : Type 0 where
-  pub name : name_of one ≡ name_of other
-  pub pieces : Alike one.value.pieces other.value.pieces
+-- pieces have by other definitions the value that some pieces have, and can be parsed if those can
+pub record MeanTheSame (one other : Definitions) (ps qs : List Piece) : Type 0 where
+  pub value : (is_verbatim : Bool) (atoms : List Atom) → Evaluates one is_verbatim ps atoms → Evaluates other is_verbatim qs atoms
+  pub readable : (is_verbatim : Bool) → IsReadable one is_verbatim ps → IsReadable other is_verbatim qs
+
+-- alike pieces mean the same by alike definitions
+pub alike_mean : {one other : Definitions} {ps qs : List Piece} → DefineAlike one other → Alike ps qs → MeanTheSame one other ps qs
+alike_mean both alike = record {
+  value = λ is_verbatim atoms says. evaluates_alike both.onward alike says;
+  readable = λ is_verbatim read. readable_alike both alike read;
+}
+
+pub mean_both : {one other third : Definitions} {ps qs rs : List Piece} → MeanTheSame one other ps qs → MeanTheSame other third qs rs
+    → MeanTheSame one third ps rs
+mean_both first second = record {
+  value = λ is_verbatim atoms says. second.value is_verbatim atoms (first.value is_verbatim atoms says);
+  readable = λ is_verbatim read. second.readable is_verbatim (first.readable is_verbatim read);
+}
+
+-- two fields have the same name, in any case, and their pieces mean the same
+pub record AreAlikeFields (one other : Definitions) (f g : FieldReading) : Type 0 where
+  pub name : name_of f ≡ name_of g
+  pub means : MeanTheSame one other f.value.pieces g.value.pieces
 
 -- two abbreviations have the same name and alike pieces
 pub record AreAlikeAbbreviations (one other : FieldReading) : Type 0 where
@@ -119,11 +138,11 @@ find_alike R test (x ∷ xs) [] same all = absurd all
 find_alike R test (x ∷ xs) (y ∷ ys) same all = found_first x y (test x) (test y) (same x y all.0) all.0 (find_alike R test xs ys same all.1)
 
 -- the fields with a name among alike fields are alike
-pub field_alike : (one other : List FieldReading) (name : List ℕ) → AllZip AreAlikeFields one other
-    → FoundAlike AreAlikeFields (field_in one name) (field_in other name)
-field_alike one other name all =
-    find_alike AreAlikeFields (λ f. bytes_eq name (name_of f)) (reverse one) (reverse other)
-    (λ f g are. ap (bytes_eq name) are.name) (AllZip-reverse AreAlikeFields one other all)
+pub field_alike : {one other : Definitions} (fs gs : List FieldReading) (name : List ℕ) → AllZip (AreAlikeFields one other) fs gs
+    → FoundAlike (AreAlikeFields one other) (field_in fs name) (field_in gs name)
+field_alike {one} {other} fs gs name all =
+    find_alike (AreAlikeFields one other) (λ f. bytes_eq name (name_of f)) (reverse fs) (reverse gs)
+    (λ f g are. ap (bytes_eq name) are.name) (AllZip-reverse (AreAlikeFields one other) fs gs all)
 
 -- alike abbreviations make alike definitions
 defined_alike : (one other : List FieldReading) → AllZip AreAlikeAbbreviations one other

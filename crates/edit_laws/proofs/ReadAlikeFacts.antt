@@ -1,4 +1,5 @@
--- Bibliographies of two files whose readings differ only in spans, in the case of types and names, and in the order of fields.
+-- Bibliographies of two files with alike entries: the same keys and types, and the same fields, in some order, with pieces that mean the
+-- same.
 use Rattle.std.proofs.Common.{◌≡◌, ℕ, ◌+◌, ◌<◌, List, [], ◌∷◌, ◌++◌, Bool, true, false, cond, drop, length, length-append, map, get_or, refl, sym, ap, ◌∙◌, subst, Some, None, Option, option_map, MatchOption}
 use Rattle.std.specs.Prelude.{◌&&◌, ◌||◌, codes, find, unwrap_or}
 use Rattle.std.specs.FinMap as by_name
@@ -31,23 +32,23 @@ use Rattle.bib_syntax.specs.declared.raw.ParseError.{ParseError}
 use Rattle.bib_text.specs.declared.spanned.Spanned.{Spanned}
 use Rattle.biblatex.specs.Resolved.{AreOwn, IsAccepted, IsFirstErrorOf, IsLoaded, graph_of, names_of}
 use Rattle.biblatex.proofs.ResolvedFacts.{graphs_by, solutions_same, entry_texts_same, bad_apart}
-use Rattle.edit_laws.proofs.AlikeFacts.{Alike, AreAlikeAbbreviations, AreAlikeFields, DefineAlike, FoundAlike, definitions_alike, evaluates_alike, field_alike, readable_alike}
+use Rattle.edit_laws.proofs.AlikeFacts.{Alike, AreAlikeAbbreviations, AreAlikeFields, DefineAlike, FoundAlike, alike_mean, definitions_alike, field_alike}
 use Rattle.edit_laws.proofs.ReorderedFacts.{IsReordered, entry_reordered}
 use Rattle.edit_laws.specs.Alike.{AreAlike}
 use Rattle.bib_text.proofs.ListFacts.{found_any}
 
 -- two entries have the same key, types with the same name in any case, and alike fields, in some order
-pub record AreAlikeEntries (one other : EntryReading) : Type 0 where
-  pub key : one.key.text ≡ other.key.text
-  pub kind : entry_type_of one.kind.text ≡ entry_type_of other.kind.text
+pub record AreAlikeEntries (one other : Definitions) (said tells : EntryReading) : Type 0 where
+  pub key : said.key.text ≡ tells.key.text
+  pub kind : entry_type_of said.kind.text ≡ entry_type_of tells.kind.text
   pub ordered : List FieldReading
-  pub reordered : IsReordered one.fields ordered
-  pub fields : AllZip AreAlikeFields ordered other.fields
+  pub reordered : IsReordered said.fields ordered
+  pub fields : AllZip (AreAlikeFields one other) ordered tells.fields
 
--- two files have alike entries and abbreviations
-pub record AreAlikeFiles (one other : FileReading) : Type 0 where
-  pub entries : AllZip AreAlikeEntries one.entries other.entries
-  pub abbreviations : AllZip AreAlikeAbbreviations one.abbreviations other.abbreviations
+-- two files have alike entries
+abbrev pub AreAlikeFiles : FileReading → FileReading → Type 0
+AreAlikeFiles says tells =
+    AllZip (AreAlikeEntries (definition_in says.abbreviations) (definition_in tells.abbreviations)) says.entries tells.entries
 
 -- ---- alike files, from readings without spans
 
@@ -55,13 +56,13 @@ abbrev text_of : Piece → List ℕ
 text_of (literal p) = p.text
 text_of (abbreviation p) = p.text
 
-cons_head : {A : Type 0} (x y : A) {xs ys : List A} → x ∷ xs ≡ y ∷ ys → x ≡ y
+pub cons_head : {A : Type 0} (x y : A) {xs ys : List A} → x ∷ xs ≡ y ∷ ys → x ≡ y
 cons_head x y is = ap (λ l. get_or l 0 x) is
 
-cons_tail : {A : Type 0} {x y : A} {xs ys : List A} → x ∷ xs ≡ y ∷ ys → xs ≡ ys
+pub cons_tail : {A : Type 0} {x y : A} {xs ys : List A} → x ∷ xs ≡ y ∷ ys → xs ≡ ys
 cons_tail is = ap (drop 1) is
 
-pieces_alike : (ps qs : List Piece) → map (moved_piece (λ at. 0)) ps ≡ map (moved_piece (λ at. 0)) qs → Alike ps qs
+pub pieces_alike : (ps qs : List Piece) → map (moved_piece (λ at. 0)) ps ≡ map (moved_piece (λ at. 0)) qs → Alike ps qs
 pieces_alike [] [] is = Alike.ends
 pieces_alike [] (q ∷ qs) is = cc
 pieces_alike (p ∷ ps) [] is = cc
@@ -76,22 +77,22 @@ pieces_alike (abbreviation p ∷ ps) (abbreviation q ∷ qs) is =
 abbrev field_content : FieldReading → FieldReading
 field_content f = moved_field (λ at. 0) (field_in_lowercase f)
 
-fields_alike : (fs gs : List FieldReading)
+fields_alike : {one other : Definitions} → DefineAlike one other → (fs gs : List FieldReading)
     → map (moved_field (λ at. 0)) (map field_in_lowercase fs) ≡ map (moved_field (λ at. 0)) (map field_in_lowercase gs)
-    → AllZip AreAlikeFields fs gs
-fields_alike [] [] is = tt
-fields_alike [] (g ∷ gs) is = cc
-fields_alike (f ∷ fs) [] is = cc
-fields_alike (f ∷ fs) (g ∷ gs) is =
+    → AllZip (AreAlikeFields one other) fs gs
+fields_alike both [] [] is = tt
+fields_alike both [] (g ∷ gs) is = cc
+fields_alike both (f ∷ fs) [] is = cc
+fields_alike both (f ∷ fs) (g ∷ gs) is =
     let first : field_content f ≡ field_content g = cons_head _ _ is in (
       record {
         name = ap (λ (h : FieldReading). h.name.text) first;
-        pieces = pieces_alike f.value.pieces g.value.pieces (ap (λ (h : FieldReading). h.value.pieces) first);
+        means = alike_mean both (pieces_alike f.value.pieces g.value.pieces (ap (λ (h : FieldReading). h.value.pieces) first));
       },
-      fields_alike fs gs (cons_tail is),
+      fields_alike both fs gs (cons_tail is),
     )
 
-abbreviations_alike : (fs gs : List FieldReading) → map (moved_field (λ at. 0)) fs ≡ map (moved_field (λ at. 0)) gs
+pub abbreviations_alike : (fs gs : List FieldReading) → map (moved_field (λ at. 0)) fs ≡ map (moved_field (λ at. 0)) gs
     → AllZip AreAlikeAbbreviations fs gs
 abbreviations_alike [] [] is = tt
 abbreviations_alike [] (g ∷ gs) is = cc
@@ -111,12 +112,12 @@ type_of_lowercase : (name other : List ℕ) → str_to_ascii_lowercase name ≡ 
 unfolding entry_type_of entry_type_by_name_or_alias
 type_of_lowercase name other same = ap (λ l. unwrap_or (entry_type_by_name_or_alias l) (Unknown l)) same
 
-entries_alike : (style : Style) (text : List ℕ) (es gs : List EntryReading)
-    → map entry_content (map (entry_in_order style text) es) ≡ map entry_content gs → AllZip AreAlikeEntries es gs
-entries_alike style text [] [] is = tt
-entries_alike style text [] (g ∷ gs) is = cc
-entries_alike style text (e ∷ es) [] is = cc
-entries_alike style text (e ∷ es) (g ∷ gs) is =
+entries_alike : {one other : Definitions} → DefineAlike one other → (style : Style) (text : List ℕ) (es gs : List EntryReading)
+    → map entry_content (map (entry_in_order style text) es) ≡ map entry_content gs → AllZip (AreAlikeEntries one other) es gs
+entries_alike both style text [] [] is = tt
+entries_alike both style text [] (g ∷ gs) is = cc
+entries_alike both style text (e ∷ es) [] is = cc
+entries_alike both style text (e ∷ es) (g ∷ gs) is =
     let o = entry_in_order style text e in
     let same = entry_reordered style text e in
     let first : entry_content o ≡ entry_content g = cons_head _ _ is in (
@@ -127,18 +128,19 @@ entries_alike style text (e ∷ es) (g ∷ gs) is =
             ∙ type_of_lowercase o.kind.text g.kind.text (ap (λ (h : EntryReading). h.kind.text) first);
         ordered = o.fields;
         reordered = same.fields;
-        fields = fields_alike o.fields g.fields (ap (λ (h : EntryReading). h.fields) first);
+        fields = fields_alike both o.fields g.fields (ap (λ (h : EntryReading). h.fields) first);
       },
-      entries_alike style text es gs (cons_tail is),
+      entries_alike both style text es gs (cons_tail is),
     )
 
 -- files with the same content, except for the order of fields, are alike
 pub files_alike : (style : Style) (text : List ℕ) (one other : FileReading)
     → content (says_in_order style text one) ≡ content other → AreAlikeFiles one other
-files_alike style text one other is = record {
-  entries = entries_alike style text one.entries other.entries (ap (λ (h : FileReading). h.entries) is);
-  abbreviations = abbreviations_alike one.abbreviations other.abbreviations (ap (λ (h : FileReading). h.abbreviations) is);
-}
+files_alike style text one other is =
+    entries_alike
+    (definitions_alike one.abbreviations other.abbreviations
+    (abbreviations_alike one.abbreviations other.abbreviations (ap (λ (h : FileReading). h.abbreviations) is)))
+    style text one.entries other.entries (ap (λ (h : FileReading). h.entries) is)
 
 -- ---- the entries of two alike files
 
@@ -148,9 +150,9 @@ pub record AreAlikeOwn (one other : Entry) : Type 0 where
   pub key : one.key ≡ other.key
   pub claims : claims one ≡ claims other
 
-module _ {one other : Definitions} (both : DefineAlike one other) where
+module _ {one other : Definitions} where
   -- alike fields, or a field that both lack, have the same styled text
-  found_alike : {f g : Option FieldReading} (c d : Option (List (Spanned Chunk))) → FoundAlike AreAlikeFields f g
+  found_alike : {f g : Option FieldReading} (c d : Option (List (Spanned Chunk))) → FoundAlike (AreAlikeFields one other) f g
       → MatchOption f (c ≡ None) (λ f. (chunks : List (Spanned Chunk)) × (c ≡ Some chunks) × FieldSays one f chunks)
       → MatchOption g (d ≡ None) (λ g. (chunks : List (Spanned Chunk)) × (d ≡ Some chunks) × FieldSays other g chunks)
       → option_map styled c ≡ option_map styled d
@@ -158,15 +160,15 @@ module _ {one other : Definitions} (both : DefineAlike one other) where
   found_alike c d (FoundAlike.in_each {x = f} {y = g} are) first second =
       let moved : Evaluates other (is_verbatim_field (name_of g)) g.value.pieces (styled first.0) =
       subst (λ name. Evaluates other (is_verbatim_field name) g.value.pieces (styled first.0)) are.name
-      (evaluates_alike both.onward are.pieces first.2.says) in
+      (are.means.value (is_verbatim_field (name_of f)) (styled first.0) first.2.says) in
       rw (first.1, second.1) (ap Some (evaluates_same moved second.2.says))
 
-  module _ {said tells : EntryReading} (a b : Entry) (are : AreAlikeEntries said tells) (first : IsEntry one said a)
+  module _ {said tells : EntryReading} (a b : Entry) (are : AreAlikeEntries one other said tells) (first : IsEntry one said a)
       (second : IsEntry other tells b) where
     texts_alike : (name : List ℕ) → option_map styled (by_name.get a.fields name) ≡ option_map styled (by_name.get b.fields name)
     texts_alike name =
         found_alike (by_name.get a.fields name) (by_name.get b.fields name)
-        (subst (λ o. FoundAlike AreAlikeFields o (field_in tells.fields name)) (are.reordered.found name)
+        (subst (λ o. FoundAlike (AreAlikeFields one other) o (field_in tells.fields name)) (are.reordered.found name)
         (field_alike are.ordered tells.fields name are.fields)) (first.fields name) (second.fields name)
 
     entry_texts_alike : texts_of_entry a ≡ texts_of_entry b
@@ -193,7 +195,7 @@ module _ {one other : Definitions} (both : DefineAlike one other) where
 
   -- the loaded entries of two alike lists are alike
   pub all_alike : (earlier : List (List ℕ)) (said tells : List EntryReading) {as' bs : List Entry}
-      → AllZip AreAlikeEntries said tells → AreEntries one earlier said as' → AreEntries other earlier tells bs
+      → AllZip (AreAlikeEntries one other) said tells → AreEntries one earlier said as' → AreEntries other earlier tells bs
       → AllZip AreAlikeOwn as' bs
   all_alike earlier [] [] are AreEntries.none AreEntries.none = tt
   all_alike earlier [] (t ∷ tells) are first second = absurd are
@@ -207,18 +209,18 @@ module _ {one other : Definitions} (both : DefineAlike one other) where
       )
 
   -- fields that are alike to readable ones have no error
-  fields_faultless : (fs gs : List FieldReading) {e : ParseError} → AllZip AreAlikeFields fs gs → AllCanBeRead one fs
+  fields_faultless : (fs gs : List FieldReading) {e : ParseError} → AllZip (AreAlikeFields one other) fs gs → AllCanBeRead one fs
       → IsFirstErrorOfFields other gs e → ⊥
   fields_faultless [] [] are read error = elim error [ ]
   fields_faultless [] (g ∷ gs) are read error = absurd are
   fields_faultless (f ∷ fs) [] are read error = absurd are
   fields_faultless (f ∷ fs) (g ∷ gs) are read (IsFirstErrorOfFields.here error unread) =
-      unread (subst (λ name. IsReadable other (is_verbatim_field name) g.value.pieces) are.0.name (readable_alike both are.0.pieces read.0))
+      unread (subst (λ name. IsReadable other (is_verbatim_field name) g.value.pieces) are.0.name (are.0.means.readable (is_verbatim_field (name_of f)) read.0))
   fields_faultless (f ∷ fs) (g ∷ gs) are read (IsFirstErrorOfFields.following also error) = fields_faultless fs gs are.1 read.1 error
 
   -- entries that are alike to accepted ones have no error
   pub entries_faultless : (earlier : List (List ℕ)) (said tells : List EntryReading) {own : List Entry} {e : ParseError}
-      → AllZip AreAlikeEntries said tells → AreEntries one earlier said own
+      → AllZip (AreAlikeEntries one other) said tells → AreEntries one earlier said own
       → IsFirstErrorOfEntries other earlier tells e → ⊥
   entries_faultless earlier [] [] are read error = elim error [ ]
   entries_faultless earlier [] (t ∷ tells) are read error = absurd are
@@ -262,12 +264,9 @@ names_zip l m (a ∷ as') (b ∷ bs) count names all =
     all.1
 
 module _ {says tells : FileReading} (are : AreAlikeFiles says tells) where
-  both_define : DefineAlike (definition_in says.abbreviations) (definition_in tells.abbreviations)
-  both_define = definitions_alike says.abbreviations tells.abbreviations are.abbreviations
-
   module _ (own others : List Entry) (first : AreOwn says own) (second : AreOwn tells others) where
     own_alike : AllZip AreAlikeOwn own others
-    own_alike = all_alike both_define [] says.entries tells.entries are.entries first second
+    own_alike = all_alike [] says.entries tells.entries are first second
 
     names_alike : names_of own ≡ names_of others
     names_alike = names_zip empty_bibliography empty_bibliography own others refl refl own_alike
@@ -278,7 +277,7 @@ module _ {says tells : FileReading} (are : AreAlikeFiles says tells) where
   -- a file that is alike to an accepted one has no error
   pub faultless : {e : ParseError} → IsAccepted says → IsFirstErrorOf tells e → ⊥
   faultless accepted (IsFirstErrorOf.entry error) =
-      entries_faultless both_define [] says.entries tells.entries are.entries accepted.entries error
+      entries_faultless [] says.entries tells.entries are accepted.entries error
   faultless accepted (IsFirstErrorOf.cycle {own = own} {index = index} read first is) =
       let same = sym (graph_alike accepted.own own accepted.entries read) in
       accepted.no_cycle index (subst (λ g. index < length g) same first.within) (subst (λ g. Leads g index index) same first.cycle)

@@ -1,7 +1,8 @@
-//! A law of formatted files. The function has no code: its clauses are theorems about definitions.
+//! Laws of edited files. The functions have no code: their clauses are theorems about definitions.
 
 ghost use Rattle.std.specs.Prelude.{List, ℕ};
 ghost use Rattle.bib_file_entries.specs.Bibliography.{Bibliography};
+ghost use Rattle.edit_entries.specs.Documents.{Document, IsDocument};
 ghost use Rattle.edit_format.specs.Formatted.{IsReadAlike, says_in_order};
 ghost use Rattle.edit_format.specs.declared.style.Style.{Style};
 ghost use Rattle.bib_syntax.specs.Grammar.{IsRawReading};
@@ -9,6 +10,7 @@ ghost use Rattle.bib_syntax.specs.Reading.{FileReading};
 ghost use Rattle.bib_syntax.specs.declared.raw.ParseError.{ParseError};
 ghost use Rattle.biblatex.specs.Headline.{IsAcceptedText, IsBibliographyOf, IsErrorOf};
 ghost use Rattle.edit_laws.specs.Alike.{AreAlike};
+ghost use Rattle.edit_strings.specs.Expanded.{IsExpanded};
 
 /// If a text is accepted, a formatted text is too, and gives the same bibliography, except for spans and the borders of chunks.
 /// The formatted text is any text that parses to the entries of the old one with the fields in the order of a style, except for
@@ -18,4 +20,13 @@ pub fn formatted_is_alike()
         IsReadAlike (says_in_order style text says) new → IsAcceptedText text → IsErrorOf new e → ⊥ }
     ensures alike { (style : Style) (text new : List ℕ) (says : FileReading) (one other : Bibliography) → IsRawReading text says →
         IsReadAlike (says_in_order style text says) new → IsBibliographyOf text one → IsBibliographyOf new other → AreAlike one other }
+{}
+
+/// If a text is accepted, its text with expanded abbreviations is too, and gives the same bibliography, except for spans and the borders
+/// of chunks.
+pub fn expanded_is_alike()
+    ensures accepted { (d : Document) (text : List ℕ) (e : ParseError) → IsDocument d → IsExpanded d text → IsAcceptedText d.text
+        → IsErrorOf text e → ⊥ }
+    ensures alike { (d : Document) (text : List ℕ) (one other : Bibliography) → IsDocument d → IsExpanded d text
+        → IsBibliographyOf d.text one → IsBibliographyOf text other → AreAlike one other }
 {}
