@@ -1,10 +1,10 @@
 -- Files in which values of fields are replaced by values that mean the same.
-use Rattle.std.proofs.Common.{◌≡◌, ℕ, List, [], ◌∷◌, ◌++◌, map, refl, sym, ap, ◌∙◌, subst, Some, None, Option}
+use Rattle.std.proofs.Common.{◌≡◌, List, [], ◌∷◌, ◌++◌, map, refl, sym, ap, ◌∙◌, subst, Some, None, Option}
 use Rattle.std.specs.List.{AllByRecursion, AllZip}
 use Rattle.std.specs.Str.{str_to_ascii_lowercase}
 use Rattle.bib_abbreviations.specs.Abbreviations.{Definitions}
-use Rattle.bib_file_entries.specs.Loaded.{definition_in, name_of}
-use Rattle.bib_syntax.specs.Reading.{EntryReading, FieldReading, FileReading, Part, Piece}
+use Rattle.bib_file_entries.specs.Loaded.{definition_in}
+use Rattle.bib_syntax.specs.Reading.{EntryReading, FieldReading, FileReading, Piece}
 use Rattle.bib_tables.specs.EntryType.{entry_type_of}
 use Rattle.edit_entries.specs.Changes.{NewValue, entry_changed, field_changed, fields_changed, file_changed}
 use Rattle.edit_entries.specs.Edits.{moved_entry, moved_field, placeless}
@@ -33,7 +33,7 @@ EachMeansTheSame one other exchange entries =
     AllByRecursion (λ f. MeanTheSame one other f.value.pieces (exchanged_pieces (exchange f) f.value.pieces)) e.fields)
     entries
 
-module _ {one middle other : Definitions} (both : DefineAlike middle other) (exchange : Exchange) where
+module _ (one : Definitions) {middle other : Definitions} (both : DefineAlike middle other) (exchange : Exchange) where
   -- a field and the field that its replacement reads as
   field_step : (f h g : FieldReading) → MeanTheSame one middle f.value.pieces h.value.pieces → f.name.text ≡ h.name.text
       → bare_field h ≡ bare_field g → AreAlikeFields one other f g
@@ -90,8 +90,10 @@ pub files_exchanged : (exchange : Exchange) (says tells : FileReading) (definiti
     → EachMeansTheSame (definition_in says.abbreviations) (definition_in definitions) exchange says.entries
     → placeless tells ≡ placeless (record (file_changed (exchanges exchange) says) { abbreviations = definitions })
     → AreAlikeFiles says tells
-files_exchanged exchange says tells definitions all is =
-    entries_alike
-    (definitions_alike definitions tells.abbreviations
-    (abbreviations_alike definitions tells.abbreviations (sym (ap (λ (h : FileReading). h.abbreviations) is))))
-    exchange says.entries tells.entries all (sym (ap (λ (h : FileReading). h.entries) is))
+files_exchanged exchange says tells definitions all is = record {
+  entries =
+      entries_alike (definition_in says.abbreviations)
+      (definitions_alike definitions tells.abbreviations
+      (abbreviations_alike definitions tells.abbreviations (sym (ap (λ (h : FileReading). h.abbreviations) is))))
+      exchange says.entries tells.entries all (sym (ap (λ (h : FileReading). h.entries) is));
+}

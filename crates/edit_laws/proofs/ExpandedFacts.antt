@@ -1,25 +1,26 @@
 -- Expanded abbreviations: the expansion of pieces has their value, and can be parsed if they can.
-use Rattle.std.proofs.Common.{◌≡◌, ◌⊎◌, ℕ, suc, List, [], ◌∷◌, ◌++◌, Bool, true, false, cond, reverse, map, refl, sym, ap, ◌∙◌, subst, inl, inr, Some, None, Option, option_map}
-use Rattle.std.specs.Prelude.{bytes_eq, find, if◌then◌else◌, is_some, slice_index_or}
-use Rattle.std.specs.List.{AllByRecursion, AllZip}
+use Rattle.std.proofs.Common.{◌≡◌, ◌⊎◌, ℕ, List, [], ◌∷◌, ◌++◌, Bool, true, false, cond, reverse, refl, sym, ap, ◌∙◌, subst, inl, inr, Some, None, Option, option_map}
+use Rattle.std.specs.Prelude.{bytes_eq, find, if◌then◌else◌}
+use Rattle.std.specs.List.{AllByRecursion}
 use Rattle.std.specs.Option.{option_or}
 use Rattle.std.specs.Str.{chars}
-use Rattle.std.proofs.lemmas.List.{append-nil, reverse-append}
+use Rattle.std.proofs.lemmas.List.{reverse-append}
 use Rattle.std.proofs.lemmas.List.Folds.{find-append}
 use Rattle.std.proofs.lemmas.Slice.Eq.{bytes_eq-Decides}
 use Rattle.bib_abbreviations.proofs.ExpansionFacts.{evaluates_append}
-use Rattle.bib_abbreviations.specs.Abbreviations.{AreRead, Definitions, Evaluates, HoldsName, HoldsText, IsKnown, IsReadable, Reaches, month}
+use Rattle.bib_abbreviations.specs.Abbreviations.{Definitions, Evaluates, HoldsName, HoldsText, IsReadable, Reaches}
 use Rattle.bib_abbreviations.specs.Abbreviations.{Evaluates as evaluates, Reaches as reaches}
 use Rattle.bib_chunks.specs.Styled.{Atom}
 use Rattle.bib_contents.specs.Contents.{IsContent}
 use Rattle.bib_file_entries.specs.Loaded.{definition_in}
-use Rattle.bib_syntax.specs.Reading.{EntryReading, FieldReading, Piece}
+use Rattle.bib_syntax.specs.Reading.{EntryReading, FieldReading, Part, Piece}
+use Rattle.bib_text.proofs.ListFacts.{some_same}
 use Rattle.bib_syntax.specs.Reading.Piece.{abbreviation, literal}
 use Rattle.edit_entries.specs.Documents.{Document, last_position, or_first}
 use Rattle.edit_laws.proofs.AlikeFacts.{MeanTheSame}
 use Rattle.edit_laws.proofs.ExchangedFacts.{EachMeansTheSame, exchanged_pieces, files_exchanged}
 use Rattle.edit_laws.proofs.ReadAlikeFacts.{AreAlikeFiles}
-use Rattle.edit_strings.specs.Expanded.{IsExpanded, WritesOut, definition_index, document_expansion, elements, elements_at, expansion, has_defined, is_of_name, laid_out, piece_index}
+use Rattle.edit_strings.specs.Expanded.{IsExpanded, WritesOut, definition_index, document_expansion, elements, elements_at, expansion, has_defined, is_of_name, laid_out}
 use Rattle.edit_strings.specs.Expanded.{WritesOut as writes_out}
 
 -- ---- the definition at the index of a name
@@ -68,7 +69,7 @@ module _ (abbreviations : List FieldReading) where
       ∙ found_last (is_of_name name) abbreviations
       ∙ ap (option_map (elements_at abbreviations)) is
 
-  defined : Definitions
+  abbrev pub defined : Definitions
   defined = definition_in abbreviations
 
   -- ---- the value
@@ -81,19 +82,20 @@ module _ (abbreviations : List FieldReading) where
   writes_value (writes_out.itself none rest) (evaluates.defined d x more) = evaluates.defined d x (writes_value rest more)
   writes_value (writes_out.itself none rest) (evaluates.month_name d m more) = evaluates.month_name d m (writes_value rest more)
   writes_value (writes_out.defined is first rest) (evaluates.text x more) = cc
-  writes_value (writes_out.defined {index = i} is first rest) (evaluates.defined {p = p} {first = a} {more = b} d x more) =
-      let same = cc (sym d ∙ definition_at p.text i is) in
-      evaluates_append b (writes_value first (subst (λ ps. Evaluates defined _ ps a) same x)) (writes_value rest more)
+  writes_value {is_verbatim} (writes_out.defined {index = i} is first rest)
+      (evaluates.defined {p = p} {definition = definition} {first = a} {more = b} d x more) =
+      let same : definition ≡ elements_at abbreviations i = some_same (sym d ∙ definition_at p.text i is) in
+      evaluates_append b (writes_value first (subst (λ ps. Evaluates defined is_verbatim ps a) same x)) (writes_value rest more)
   writes_value (writes_out.defined {index = i} is first rest) (evaluates.month_name {p = p} d m more) =
-      absurd (cc (sym d ∙ definition_at p.text i is))
+      let both = sym d ∙ definition_at p.text i is in cc
 
   -- ---- the names and texts in an expansion
 
   -- a longer list of pieces reaches what a shorter one reaches
   reaches_more : {piece : Piece} {rest : List Piece} {name : List ℕ} → Reaches defined rest name → Reaches defined (piece ∷ rest) name
-  reaches_more {literal p} (reaches.held held) = reaches.held held
-  reaches_more {abbreviation p} (reaches.held held) = reaches.held (inr held)
-  reaches_more {piece} (reaches.through before d held) = reaches.through (reaches_more {piece} before) d held
+  reaches_more {piece = literal p} (reaches.held held) = reaches.held held
+  reaches_more {piece = abbreviation p} (reaches.held held) = reaches.held (inr held)
+  reaches_more (reaches.through before d held) = reaches.through (reaches_more before) d held
 
   -- pieces reach what the definition of a name that they reach reaches
   reaches_inside : {ps definition : List Piece} {name next : List ℕ} → Reaches defined ps name → defined name ≡ Some definition
@@ -129,12 +131,10 @@ module _ (abbreviations : List FieldReading) where
   reaches_written name (writes_out.itself {piece = abbreviation p} none rest) (inr held) = reaches_more (reaches_written name rest held)
   reaches_written name (writes_out.defined {piece = literal p} is first rest) held = cc
   reaches_written name (writes_out.defined {piece = abbreviation p} {index = i} {first = qs} {more = rs} is first rest) held =
-      by_part (held_append qs rs name held)
-    where
-      by_part : HoldsName qs name ⊎ HoldsName rs name → Reaches defined (abbreviation p ∷ _) name
-      by_part (inl there) =
-          reaches_inside (reaches.held (inl refl)) (definition_at p.text i is) (reaches_written name first there)
-      by_part (inr there) = reaches_more (reaches_written name rest there)
+      elim (held_append qs rs name held) [
+        | inl there ↦ reaches_inside (reaches.held (inl refl)) (definition_at p.text i is) (reaches_written name first there)
+        | inr there ↦ reaches_more (reaches_written name rest there)
+      ]
 
   -- pieces reach each name that their expansion reaches
   reaches_through : {ps qs : List Piece} {name : List ℕ} → WritesOut abbreviations ps qs → Reaches defined qs name → Reaches defined ps name
@@ -148,9 +148,15 @@ module _ (abbreviations : List FieldReading) where
         → HoldsText definition text → ComesFrom ps text
 
   comes_more : {piece : Piece} {rest : List Piece} {text : List ℕ} → ComesFrom rest text → ComesFrom (piece ∷ rest) text
-  comes_more {literal p} (ComesFrom.own held) = ComesFrom.own (inr held)
-  comes_more {abbreviation p} (ComesFrom.own held) = ComesFrom.own held
+  comes_more {piece = literal p} (ComesFrom.own held) = ComesFrom.own (inr held)
+  comes_more {piece = abbreviation p} (ComesFrom.own held) = ComesFrom.own held
   comes_more (ComesFrom.inside there d held) = ComesFrom.inside (reaches_more there) d held
+
+  comes_inside : (p : Part) (i : ℕ) {rest : List Piece} {text : List ℕ} → definition_index abbreviations p.text ≡ Some i
+      → ComesFrom (elements_at abbreviations i) text → ComesFrom (abbreviation p ∷ rest) text
+  comes_inside p i is (ComesFrom.own there) = ComesFrom.inside (reaches.held (inl refl)) (definition_at p.text i is) there
+  comes_inside p i is (ComesFrom.inside reached d there) =
+      ComesFrom.inside (reaches_inside (reaches.held (inl refl)) (definition_at p.text i is) reached) d there
 
   comes_written : {ps qs : List Piece} (text : List ℕ) → WritesOut abbreviations ps qs → HoldsText qs text → ComesFrom ps text
   comes_written text writes_out.none held = ComesFrom.own held
@@ -159,16 +165,10 @@ module _ (abbreviations : List FieldReading) where
   comes_written text (writes_out.itself {piece = abbreviation p} none rest) held = comes_more (comes_written text rest held)
   comes_written text (writes_out.defined {piece = literal p} is first rest) held = cc
   comes_written text (writes_out.defined {piece = abbreviation p} {index = i} {first = qs} {more = rs} is first rest) held =
-      by_part (text_append qs rs text held)
-    where
-      lifted : ComesFrom (elements_at abbreviations i) text → ComesFrom (abbreviation p ∷ _) text
-      lifted (ComesFrom.own there) = ComesFrom.inside (reaches.held (inl refl)) (definition_at p.text i is) there
-      lifted (ComesFrom.inside reached d there) =
-          ComesFrom.inside (reaches_inside (reaches.held (inl refl)) (definition_at p.text i is) reached) d there
-
-      by_part : HoldsText qs text ⊎ HoldsText rs text → ComesFrom (abbreviation p ∷ _) text
-      by_part (inl there) = lifted (comes_written text first there)
-      by_part (inr there) = comes_more (comes_written text rest there)
+      elim (text_append qs rs text held) [
+        | inl there ↦ comes_inside p i is (comes_written text first there)
+        | inr there ↦ comes_more (comes_written text rest there)
+      ]
 
   -- the expansion of pieces that can be parsed can be parsed
   writes_readable : {is_verbatim : Bool} {ps qs : List Piece} → WritesOut abbreviations ps qs

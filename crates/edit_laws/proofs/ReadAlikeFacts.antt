@@ -1,12 +1,12 @@
 -- Bibliographies of two files with alike entries: the same keys and types, and the same fields, in some order, with pieces that mean the
 -- same.
-use Rattle.std.proofs.Common.{◌≡◌, ℕ, ◌+◌, ◌<◌, List, [], ◌∷◌, ◌++◌, Bool, true, false, cond, drop, length, length-append, map, get_or, refl, sym, ap, ◌∙◌, subst, Some, None, Option, option_map, MatchOption}
-use Rattle.std.specs.Prelude.{◌&&◌, ◌||◌, codes, find, unwrap_or}
+use Rattle.std.proofs.Common.{◌≡◌, ℕ, ◌+◌, ◌<◌, List, [], ◌∷◌, ◌++◌, true, drop, length, length-append, map, get_or, refl, sym, ap, ◌∙◌, subst, Some, None, Option, option_map, MatchOption}
+use Rattle.std.specs.Prelude.{codes, unwrap_or}
 use Rattle.std.specs.FinMap as by_name
 use Rattle.std.specs.List.{AllZip, list_any}
 use Rattle.std.specs.Option.{option_map_or}
 use Rattle.std.specs.Str.{str_to_ascii_lowercase}
-use Rattle.std.proofs.lemmas.Bool.{both_ways, false≢true}
+use Rattle.std.proofs.lemmas.Bool.{both_ways}
 use Rattle.bib_abbreviations.specs.Abbreviations.{Definitions, Evaluates, IsReadable}
 use Rattle.bib_abbreviations.proofs.LawFacts.{evaluates_same}
 use Rattle.bib_chunks.specs.Styled.{styled}
@@ -20,11 +20,11 @@ use Rattle.bib_file_entries.specs.Bibliography.{Bibliography, aliases, claims, e
 use Rattle.bib_file_entries.specs.Loaded.{AllCanBeRead, AreEntries, FieldSays, IsEntry, IsFirstErrorOfEntries, IsFirstErrorOfFields, definition_in, field_in, is_claimed, loaded_after, name_of}
 use Rattle.edit_format.specs.Formatted.{content, entry_content, entry_in_order, field_in_lowercase, says_in_order}
 use Rattle.edit_format.specs.declared.style.Style.{Style}
-use Rattle.bib_collections.specs.Graph.{Graph, Leads, refs_of}
+use Rattle.bib_collections.specs.Graph.{Leads, refs_of}
 use Rattle.bib_inheritance.specs.InheritableDate.{looks_for_date}
-use Rattle.bib_inheritance.specs.EntryTexts.{EntryTexts, fields_of}
+use Rattle.bib_inheritance.specs.EntryTexts.{fields_of}
 use Rattle.bib_collections.specs.Names.{with_claims, claims_for}
-use Rattle.bib_inheritance.specs.Resolving.{AreDatesRead, Inherits, at_index, is_bad_date, texts_of_entries, texts_of_entry}
+use Rattle.bib_inheritance.specs.Resolving.{Inherits, at_index, is_bad_date, texts_of_entries, texts_of_entry}
 use Rattle.bib_chunks.specs.Lists.{comma_texts}
 use Rattle.bib_syntax.specs.Reading.{EntryReading, FieldReading, FileReading, Part, Piece}
 use Rattle.bib_syntax.specs.Reading.Piece.{abbreviation, literal}
@@ -46,9 +46,10 @@ pub record AreAlikeEntries (one other : Definitions) (said tells : EntryReading)
   pub fields : AllZip (AreAlikeFields one other) ordered tells.fields
 
 -- two files have alike entries
-abbrev pub AreAlikeFiles : FileReading → FileReading → Type 0
-AreAlikeFiles says tells =
-    AllZip (AreAlikeEntries (definition_in says.abbreviations) (definition_in tells.abbreviations)) says.entries tells.entries
+pub record AreAlikeFiles (says tells : FileReading) : Type 0 where
+  pub entries : AllZip
+      (AreAlikeEntries (definition_in says.abbreviations) (definition_in tells.abbreviations))
+      says.entries tells.entries
 
 -- ---- alike files, from readings without spans
 
@@ -136,11 +137,13 @@ entries_alike both style text (e ∷ es) (g ∷ gs) is =
 -- files with the same content, except for the order of fields, are alike
 pub files_alike : (style : Style) (text : List ℕ) (one other : FileReading)
     → content (says_in_order style text one) ≡ content other → AreAlikeFiles one other
-files_alike style text one other is =
-    entries_alike
-    (definitions_alike one.abbreviations other.abbreviations
-    (abbreviations_alike one.abbreviations other.abbreviations (ap (λ (h : FileReading). h.abbreviations) is)))
-    style text one.entries other.entries (ap (λ (h : FileReading). h.entries) is)
+files_alike style text one other is = record {
+  entries =
+      entries_alike
+      (definitions_alike one.abbreviations other.abbreviations
+      (abbreviations_alike one.abbreviations other.abbreviations (ap (λ (h : FileReading). h.abbreviations) is)))
+      style text one.entries other.entries (ap (λ (h : FileReading). h.entries) is);
+}
 
 -- ---- the entries of two alike files
 
@@ -150,7 +153,7 @@ pub record AreAlikeOwn (one other : Entry) : Type 0 where
   pub key : one.key ≡ other.key
   pub claims : claims one ≡ claims other
 
-module _ {one other : Definitions} where
+module _ (one other : Definitions) where
   -- alike fields, or a field that both lack, have the same styled text
   found_alike : {f g : Option FieldReading} (c d : Option (List (Spanned Chunk))) → FoundAlike (AreAlikeFields one other) f g
       → MatchOption f (c ≡ None) (λ f. (chunks : List (Spanned Chunk)) × (c ≡ Some chunks) × FieldSays one f chunks)
@@ -266,7 +269,8 @@ names_zip l m (a ∷ as') (b ∷ bs) count names all =
 module _ {says tells : FileReading} (are : AreAlikeFiles says tells) where
   module _ (own others : List Entry) (first : AreOwn says own) (second : AreOwn tells others) where
     own_alike : AllZip AreAlikeOwn own others
-    own_alike = all_alike [] says.entries tells.entries are first second
+    own_alike =
+        all_alike (definition_in says.abbreviations) (definition_in tells.abbreviations) [] says.entries tells.entries are.entries first second
 
     names_alike : names_of own ≡ names_of others
     names_alike = names_zip empty_bibliography empty_bibliography own others refl refl own_alike
@@ -277,7 +281,8 @@ module _ {says tells : FileReading} (are : AreAlikeFiles says tells) where
   -- a file that is alike to an accepted one has no error
   pub faultless : {e : ParseError} → IsAccepted says → IsFirstErrorOf tells e → ⊥
   faultless accepted (IsFirstErrorOf.entry error) =
-      entries_faultless [] says.entries tells.entries are accepted.entries error
+      entries_faultless (definition_in says.abbreviations) (definition_in tells.abbreviations) [] says.entries tells.entries are.entries
+      accepted.entries error
   faultless accepted (IsFirstErrorOf.cycle {own = own} {index = index} read first is) =
       let same = sym (graph_alike accepted.own own accepted.entries read) in
       accepted.no_cycle index (subst (λ g. index < length g) same first.within) (subst (λ g. Leads g index index) same first.cycle)
