@@ -368,7 +368,7 @@ run 'a value that is there changes nothing' 0 "$(cat two.bib)"$'\n' set b year=1
 run 'a value with an equals sign' 0 $'@misc{a, title={A=B}, author={B}}\n\n@misc{b, title={x y}, author={Knuth, D.}, year={1984}}\n' set a title=A=B -f two.bib
 run 'a field is taken out' 0 $'@misc{a, author={B}}\n\n@misc{b, title={x y}, author={Knuth, D.}, year={1984}}\n' unset a title -f two.bib
 run 'a field that is not there is taken out' 0 "$(cat two.bib)"$'\n' unset a year -f two.bib
-run 'two fields are taken out' 0 $'@misc{a, title={A}, author={B}}\n\n@misc{b, author={Knuth, D.}, }\n' unset b title,year -f two.bib
+run 'two fields are taken out' 0 $'@misc{a, title={A}, author={B}}\n\n@misc{b, author={Knuth, D.},}\n' unset b title,year -f two.bib
 run 'a key is renamed' 0 $'@misc{a, title={A}, author={B}}\n\n@misc{c, title={x y}, author={Knuth, D.}, year={1984}}\n' rename b c -f two.bib
 printf '@misc{a, t={A}}\n@misc{b, crossref={a}, xdata = "c, a", note={a}}\n' >naming.bib
 run 'a key is renamed with its references' 0 $'@misc{z, t={A}}\n@misc{b, crossref={z}, xdata = {c, z}, note={a}}\n' rename a z -f naming.bib

@@ -12,12 +12,13 @@ use Rattle.bib_queries.specs.Needed.{is_listed}
 use Rattle.bib_queries.specs.Sets.{is_in_set}
 use Rattle.bib_source.specs.Encoding.{IsFirstInvalid, byte_order_mark, without_byte_order_mark}
 use Rattle.edit_convert.specs.Conversions.{IsConverted}
-use Rattle.edit_entries.specs.Documents.{Document, EntriesAdded, EntriesAreRefused, EntryIsRefused, EntryRemoved, FieldUnset, IsDocument, IsEdited, UnsetIsRefused}
+use Rattle.edit_entries.specs.Documents.{Document, EntriesAdded, EntriesAreRefused, EntryIsRefused, EntryRemoved, IsDocument, IsEdited, UnsetIsRefused}
 use Rattle.edit_entries.specs.Changes.{IsChanged}
 use Rattle.edit_entries.specs.FieldEdits.{FieldEditIsRefused, selected_edited}
 use Rattle.edit_entries.specs.declared.field_edits.FieldEdit.{FieldEdit}
 use Rattle.edit_entries.specs.References.{KeyRenamed, KeysAreRefused, KeysRenamed, RenameIsRefused, given_keys}
 use Rattle.edit_entries.specs.Setting.{FieldSet, SetIsRefused}
+use Rattle.edit_entries.specs.Unset.{FieldUnset}
 use Rattle.edit_entries.specs.declared.errors.EditError.{EditError}
 use Rattle.bib_tables.specs.declared.dialects.Dialect.{Dialect}
 use Rattle.bib_tables.specs.declared.dialects.Dialect.TheVariants.{Biblatex, Bibtex}

@@ -2,8 +2,9 @@
 
 ghost use Rattle.std.specs.Prelude.{◌≡◌, [], ◌∷◌, IfOk, IfErr};
 ghost use Rattle.std.specs.String.{string_bytes};
-ghost use Rattle.edit_entries.specs.Documents.{EntryIsRefused, EntryRemoved, FieldUnset, UnsetIsRefused};
+ghost use Rattle.edit_entries.specs.Documents.{EntryIsRefused, EntryRemoved, UnsetIsRefused};
 ghost use Rattle.edit_entries.specs.Setting.{FieldSet, SetIsRefused};
+ghost use Rattle.edit_entries.specs.Unset.{FieldUnset};
 ghost use Rattle.edit_entries.specs.References.{KeyRenamed, RenameIsRefused};
 ghost use Rattle.biblatex_c.specs.Calls.{AddFails, EditFails, IsEditedText, IsLaidOut, IsNoFile, IsNumberedEnd, TextFails, WithEntriesOf};
 

@@ -1,5 +1,5 @@
 -- What holds of each entry of a list, and of each field of entries.
-use Rattle.std.proofs.Common.{◌≡◌, ℕ, zero, suc, List, [], ◌∷◌, refl, Some}
+use Rattle.std.proofs.Common.{◌≡◌, ℕ, zero, suc, List, [], ◌∷◌, refl, subst, Some}
 use Rattle.std.specs.Prelude.{slice_get}
 use Rattle.std.specs.List.{AllByRecursion}
 use Rattle.bib_syntax.specs.Reading.{EntryReading, FieldReading}
@@ -21,6 +21,11 @@ all_both P Q (x ∷ xs) all others = ((all.0, others.0), all_both P Q xs all.1 o
 pub all_found : {A : Type 0} (P : A → Type 0) (xs : List A) → ((k : ℕ) (x : A) → slice_get xs k ≡ Some x → P x) → AllByRecursion P xs
 all_found P [] each = tt
 all_found P (x ∷ xs) each = (each zero x refl, all_found P xs (λ k. each (suc k)))
+
+pub all_there : {A : Type 0} (P : A → Type 0) (xs : List A) (k : ℕ) (x : A) → AllByRecursion P xs → slice_get xs k ≡ Some x → P x
+all_there P [] k x all found = absurd (cc)
+all_there P (y ∷ ys) zero x all found = let same : y ≡ x = cc in subst P same all.0
+all_there P (y ∷ ys) (suc k) x all found = all_there P ys k x all.1 found
 
 -- what holds of each field of entries
 abbrev pub OfFields : (FieldReading → Type 0) → List EntryReading → Type 0

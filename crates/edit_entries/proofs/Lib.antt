@@ -20,6 +20,7 @@ pub mod GrammarFacts
 pub mod JoinedFacts
 mod KeyFacts
 pub mod KindFacts
+mod LineFacts
 pub mod MadeFacts
 pub mod MovedFacts
 mod NameSetFacts
@@ -45,6 +46,7 @@ mod TakenFacts
 mod NameFacts
 pub mod TrimFacts
 pub mod TrimmedFacts
+pub mod UnsetEntryFacts
 pub mod UnsetFacts
 pub mod ValueFacts
 pub mod ValuePutFacts

@@ -210,7 +210,7 @@ module _ (d after : Document) (edit : Edit) (before others : List EntryReading) 
       sym found ∙ ap (λ says. slice_get says.entries k) moved_alike ∙ named in
       cc
 
-  says_alike : (entry x : EntryReading) → entry_alone_placeless entry ≡ entry_alone_placeless x
+  pub says_alike : (entry x : EntryReading) → entry_alone_placeless entry ≡ entry_alone_placeless x
       → placeless (entry_edited after edit k entry).says ≡ placeless (of_entries d.says (before ++ x ∷ others))
   says_alike entry x same =
       let view = moved_entry (λ n. 0) in
@@ -223,7 +223,7 @@ module _ (d after : Document) (edit : Edit) (before others : List EntryReading) 
       ∙ ap (of_entries (placeless (of_entries d.says (before ++ p ∷ others)))) entries
 
   -- with other fields in the place of one
-  put_alike : (entry : EntryReading) (fb now : List FieldReading) (f : FieldReading) (news made : List FieldReading)
+  pub put_alike : (entry : EntryReading) (fb now : List FieldReading) (f : FieldReading) (news made : List FieldReading)
       → slice_get after.says.entries k ≡ Some entry → p.fields ≡ fb ++ f ∷ now
       → map (moved_field (λ n. 0)) made ≡ map (moved_field (λ n. 0)) news
       → placeless (fields_put after edit k entry (length fb) made).says
@@ -377,7 +377,7 @@ get_put_none [] j = refl
 get_put_none (x ∷ xs) zero = refl
 get_put_none (x ∷ xs) (suc j) = get_put_none xs j
 
-none_put : {A : Type 0} (xs : List A) (j : ℕ) → remove xs j ≡ put_at j [] xs
+pub none_put : {A : Type 0} (xs : List A) (j : ℕ) → remove xs j ≡ put_at j [] xs
 none_put [] zero = refl
 none_put [] (suc j) = refl
 none_put (x ∷ xs) zero = refl

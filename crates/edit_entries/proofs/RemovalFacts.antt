@@ -1,20 +1,22 @@
 -- Several fields of an entry are taken out, from the last to the first.
-use Rattle.std.proofs.Common.{◌≡◌, ℕ, zero, suc, ◌+◌, ◌<◌, ◌≤◌, Bool, true, false, cond, List, [], ◌∷◌, ◌++◌, length, map, take, get_or, refl, sym, ap, ◌∙◌, subst, arith, append_assoc, append-nil, Option, Some, None}
-use Rattle.std.specs.Prelude.{option_map, slice_get}
+use Rattle.std.proofs.Common.{◌≡◌, ℕ, zero, suc, ◌+◌, ◌<◌, ◌≤◌, Bool, true, false, cond, List, [], ◌∷◌, ◌++◌, length, map, take, get_or, refl, sym, ap, ◌∙◌, subst, arith, append_assoc, append-nil, length-append, Option, Some, None}
+use Rattle.std.specs.Prelude.{filter, not, option_map, slice_get}
 use Rattle.std.specs.List.{remove}
 use Rattle.std.specs.Option.{option_map_or}
 use Rattle.std.specs.Str.{IsCharBoundary}
 use Rattle.std.proofs.lemmas.List.{map-append, take_more, length-map, length-take-le}
+use Rattle.bib_text.proofs.ListFacts.{get_here}
 use Rattle.std.proofs.lemmas.Option.{slice_get-map}
 use Rattle.bib_syntax.specs.Reading.{FieldReading, EntryReading}
-use Rattle.edit_entries.specs.Edits.{Edit, edited, edited_all, moved_place, moved_field, moved_entry}
-use Rattle.edit_entries.specs.Documents.{Document, FieldUnset, FieldsRemoved, HasEntry, IsDocument, IsEdited, field_edit, field_limit, field_removed, has_name, have_only, positions}
+use Rattle.edit_entries.specs.Edits.{Edit, edited, edited_all, moved_place, moved_field, moved_entry, placeless}
+use Rattle.edit_entries.specs.Documents.{Document, IsDocument, entry_edited, field_edit, field_limit, has_name}
 use Rattle.edit_entries.specs.EditList.{AreEditsInOrder}
-use Rattle.edit_entries.specs.Stretches.{removals}
+use Rattle.edit_entries.specs.Unset.{removals}
 use Rattle.edit_entries.proofs.EditFacts.{moved_after, moved_before}
 use Rattle.edit_entries.proofs.AgreementFacts.{field_stays, get_set_same}
 use Rattle.edit_entries.proofs.ChangeListFacts.{earlier}
-use Rattle.edit_entries.proofs.UnsetFacts.{ends_before, field_removed_read, fields_placed, limit_past}
+use Rattle.edit_entries.proofs.UnsetFacts.{ends_before, field_removed, field_removed_read, fields_placed, limit_past}
+use Rattle.edit_entries.proofs.MadeFacts.{none_put, of_entries, put_alike}
 
 -- ---- lists without one of their elements
 
@@ -31,20 +33,28 @@ get_remove_at [] (suc k) = refl
 get_remove_at (x ∷ xs) zero = refl
 get_remove_at (x ∷ xs) (suc k) = get_remove_at xs k
 
+-- the fields that haven't a name
+abbrev pub unnamed : List ℕ → List FieldReading → List FieldReading
+unnamed name fs = filter (λ f. not (has_name name f)) fs
+
+-- an entry with these fields
+abbrev pub with_fields : EntryReading → List FieldReading → EntryReading
+with_fields e fs = record e { fields = fs }
+
 -- where the field with an index begins, or else where the closing brace stands
-abbrev begins : EntryReading → ℕ → ℕ
+abbrev pub begins : EntryReading → ℕ → ℕ
 begins e n = option_map_or (λ f. f.name.start) (slice_get e.fields n) e.end
 
 -- what is known where the fields from an index on were gone through
-record Removed (d : Document) (k : ℕ) (e : EntryReading) (name : List ℕ) (n : ℕ) (fs : List FieldReading) : Type 0 where
-  after : Document
-  removed : FieldsRemoved d k (positions (has_name name) n fs) after
-  read : IsDocument after
-  text : after.text ≡ edited_all (removals name e n fs) d.text
-  entry : EntryReading
-  here : slice_get after.says.entries k ≡ Some entry
-  fields : (i : ℕ) (f : FieldReading) → i < n → slice_get e.fields i ≡ Some f → slice_get entry.fields i ≡ Some f
-  limit : begins entry n ≡ begins e n
+pub record Removed (d : Document) (before others : List EntryReading) (e : EntryReading) (name : List ℕ) (fb fs : List FieldReading) : Type 0 where
+  pub after : Document
+  pub read : IsDocument after
+  pub text : after.text ≡ edited_all (removals name e (length fb) fs) d.text
+  pub entry : EntryReading
+  pub here : slice_get after.says.entries (length before) ≡ Some entry
+  pub fields : (i : ℕ) (f : FieldReading) → i < length fb → slice_get e.fields i ≡ Some f → slice_get entry.fields i ≡ Some f
+  pub limit : begins entry (length fb) ≡ begins e (length fb)
+  pub alike : placeless after.says ≡ placeless (of_entries d.says (before ++ with_fields e (fb ++ unnamed name fs) ∷ others))
 
 -- where what stands after a field that is taken out begins then
 limit_moved : (edit : Edit) (o : Option FieldReading) (end : ℕ) → option_map_or (λ f. f.name.start) o end ≡ edit.end
@@ -54,111 +64,108 @@ limit_moved : (edit : Edit) (o : Option FieldReading) (end : ℕ) → option_map
 limit_moved edit None end is none = omega (arith, moved_after edit end (omega arith), is, ap length none)
 limit_moved edit (Some f) end is none = omega (arith, moved_after edit f.name.start (omega arith), is, ap length none)
 
-one_removed : (d : Document) (k : ℕ) (e : EntryReading) (name : List ℕ) (n : ℕ) (f : FieldReading)
-    (fs : List FieldReading) → slice_get e.fields n ≡ Some f → (rest : Removed d k e name (suc n) fs)
-    → (after : Document) × (z : EntryReading) × (after ≡ field_removed rest.after k rest.entry n f) × IsDocument after
-    × (after.text ≡ edited (field_edit e n f) (edited_all (removals name e (suc n) fs) d.text))
-    × (slice_get rest.entry.fields n ≡ Some f)
-    × (slice_get after.says.entries k ≡ Some z)
-    × ((i : ℕ) (g : FieldReading) → i < n → slice_get e.fields i ≡ Some g → slice_get z.fields i ≡ Some g)
-    × (begins z n ≡ begins e n)
-one_removed d k e name n f fs there rest =
-    let x = rest.entry in
-    let there' : slice_get x.fields n ≡ Some f = rest.fields n f (omega arith) there in
-    let edit : Edit = field_edit x n f in
-    let move = moved_place edit in
-    let build : ℕ → Edit = λ (end : ℕ). record { start = f.name.start; end = end; bytes = [] } in
-    let some : f.name.start < field_limit x n = limit_past rest.after k x n f rest.read rest.here there' in
-    let stays = λ (m : ℕ) (small : m ≤ f.name.start). moved_before edit m (omega arith) in
-    let z : EntryReading = record (moved_entry move x) { fields = remove (map (moved_field move) x.fields) n } in
-    let moved_here = slice_get-map (moved_entry move) rest.after.says.entries k ∙ ap (option_map (moved_entry move)) rest.here in (
-      field_removed rest.after k x n f,
-      z,
-      refl,
-      field_removed_read rest.after k x n f rest.read rest.here there',
-      ap (edited edit) rest.text ∙ ap (λ end. edited (build end) (edited_all (removals name e (suc n) fs) d.text)) rest.limit,
-      there',
-      get_set_same (map (moved_entry move) rest.after.says.entries) k (moved_entry move x) z moved_here,
-      (λ i g less found.
-          let found' = rest.fields i g (omega arith) found in
-          get_remove_before (map (moved_field move) x.fields) n i less ∙ slice_get-map (moved_field move) x.fields i
-          ∙ ap (option_map (moved_field move)) found'
-          ∙ ap Some
-          (field_stays rest.after k x i g move f.name.start rest.read rest.here found'
-          (ends_before rest.after k x i n g f rest.read rest.here less found' there') stays)),
-      ap (λ o. option_map_or (λ g. g.name.start) o (move x.end))
-          (get_remove_at (map (moved_field move) x.fields) n ∙ slice_get-map (moved_field move) x.fields (suc n))
-          ∙ limit_moved edit (slice_get x.fields (suc n)) x.end refl refl ∙ sym (ap (λ o. option_map_or (λ g. g.name.start) o e.end) there),
-    )
+module _ (d : Document) (before others : List EntryReading) (e : EntryReading) (name : List ℕ) (read : IsDocument d)
+    (whole : d.says.entries ≡ before ++ e ∷ others) where
+  abbrev k : ℕ
+  k = length before
 
-all_removed : (d : Document) (k : ℕ) (e : EntryReading) (name : List ℕ) (n : ℕ) (fs : List FieldReading) → IsDocument d
-    → slice_get d.says.entries k ≡ Some e
-    → ((i : ℕ) (f : FieldReading) → slice_get fs i ≡ Some f → slice_get e.fields (n + i) ≡ Some f)
-    → Removed d k e name n fs
-all_removed d k e name n [] read here among = record {
-  after = d;
-  removed = FieldsRemoved.none;
-  read = read;
-  text = refl;
-  entry = e;
-  here = here;
-  fields = λ i f less found. found;
-  limit = refl;
-}
-all_removed d k e name n (f ∷ fs) read here among =
-    let zero_is : n + 0 ≡ n = omega arith in
-    let there : slice_get e.fields n ≡ Some f = subst (λ m. slice_get e.fields m ≡ Some f) zero_is (among 0 f refl) in
-    let rest =
-    all_removed d k e name (suc n) fs read here
-    (λ i x found.
-    let same : n + suc i ≡ suc n + i = omega arith in
-    subst (λ m. slice_get e.fields m ≡ Some x) same (among (suc i) x found)) in
-    by_case d k e name n f fs there rest (has_name name f) refl
-  where
-    by_case : (d : Document) (k : ℕ) (e : EntryReading) (name : List ℕ) (n : ℕ) (f : FieldReading)
-        (fs : List FieldReading) → slice_get e.fields n ≡ Some f → Removed d k e name (suc n) fs → (b : Bool)
-        → has_name name f ≡ b → Removed d k e name n (f ∷ fs)
-    by_case d k e name n f fs there rest false is =
-        let unnamed = sym is in
-        let text = ap (λ b. edited_all (cond b (field_edit e n f ∷ []) [] ++ removals name e (suc n) fs) d.text) unnamed in
-        record {
-          after = rest.after;
-          removed =
-              subst
-              (λ b.
-              FieldsRemoved d k
-              (cond b (n ∷ positions (has_name name) (suc n) fs) (positions (has_name name) (suc n) fs))
-              rest.after) unnamed rest.removed;
-          read = rest.read;
-          text = rest.text ∙ text;
-          entry = rest.entry;
-          here = rest.here;
-          fields = λ i g less found. rest.fields i g (omega arith) found;
-          limit =
-              ap (λ o. option_map_or (λ g. g.name.start) o rest.entry.end) (rest.fields n f (omega arith) there)
-              ∙ sym (ap (λ o. option_map_or (λ g. g.name.start) o e.end) there);
-        }
-    by_case d k e name n f fs there rest true is =
-        let named = sym is in
-        let step = one_removed d k e name n f fs there rest in
-        let text = ap (λ b. edited_all (cond b (field_edit e n f ∷ []) [] ++ removals name e (suc n) fs) d.text) named in
-        record {
-          after = step.0;
-          removed =
-              subst
-              (λ b.
-              FieldsRemoved d k
-              (cond b (n ∷ positions (has_name name) (suc n) fs) (positions (has_name name) (suc n) fs))
-              step.0) named
-              (subst (FieldsRemoved d k (n ∷ positions (has_name name) (suc n) fs)) (sym step.2)
-              (FieldsRemoved.taken rest.removed rest.here step.5));
-          read = step.3;
-          text = step.4 ∙ text;
-          entry = step.1;
-          here = step.6;
-          fields = step.7;
-          limit = step.8;
-        }
+  is_here : slice_get d.says.entries k ≡ Some e
+  is_here = ap (λ es. slice_get es k) whole ∙ get_here before e others
+
+  one_removed : (fb : List FieldReading) (f : FieldReading) (fs : List FieldReading) → e.fields ≡ fb ++ f ∷ fs
+      → Removed d before others e name (fb ++ f ∷ []) fs → has_name name f ≡ true → Removed d before others e name fb (f ∷ fs)
+  one_removed fb f fs cut rest named =
+      let n : ℕ = length fb in
+      let x = rest.entry in
+      let size : length (fb ++ f ∷ []) ≡ suc n = omega (arith, length-append fb (f ∷ [])) in
+      let there : slice_get e.fields n ≡ Some f = ap (λ xs. slice_get xs n) cut ∙ get_here fb f fs in
+      let there' : slice_get x.fields n ≡ Some f = rest.fields n f (omega (arith, size)) there in
+      let edit : Edit = field_edit x n f in
+      let move = moved_place edit in
+      let build : ℕ → Edit = λ (end : ℕ). record { start = f.name.start; end = end; bytes = [] } in
+      let some : f.name.start < field_limit x n = limit_past rest.after k x n f rest.read rest.here there' in
+      let stays = λ (m : ℕ) (small : m ≤ f.name.start). moved_before edit m (omega arith) in
+      let z : EntryReading = with_fields (moved_entry move x) (remove (map (moved_field move) x.fields) n) in
+      let moved_here = slice_get-map (moved_entry move) rest.after.says.entries k ∙ ap (option_map (moved_entry move)) rest.here in
+      let more : List Edit = removals name e (suc n) fs in
+      let edit_is : edit ≡ field_edit e n f = ap build (subst (λ m. begins x m ≡ begins e m) size rest.limit) in
+      let with_edit : Bool → List Edit = λ (b : Bool). cond b (field_edit e n f ∷ []) [] ++ more in
+      let p : EntryReading = with_fields e ((fb ++ f ∷ []) ++ unnamed name fs) in
+      let put_entry : List FieldReading → EntryReading = λ (fs : List FieldReading). with_fields (moved_entry move x) fs in
+      let put =
+      put_alike d rest.after edit before others p rest.alike x fb (unnamed name fs) f [] [] rest.here
+      (append_assoc fb (f ∷ []) (unnamed name fs)) refl in
+      let left : unnamed name (f ∷ fs) ≡ unnamed name fs = ap (λ b. cond (not b) (f ∷ unnamed name fs) (unnamed name fs)) named in
+      record {
+        after = field_removed rest.after k x n f;
+        read = field_removed_read rest.after k x n f rest.read rest.here there';
+        text =
+            ap (edited edit) rest.text ∙ ap (λ m. edited edit (edited_all (removals name e m fs) d.text)) size
+            ∙ ap (λ y. edited y (edited_all more d.text)) edit_is
+            ∙ ap (λ b. edited_all (with_edit b) d.text) (sym named);
+        entry = z;
+        here = get_set_same (map (moved_entry move) rest.after.says.entries) k (moved_entry move x) z moved_here;
+        fields = λ i g less found.
+            let found' = rest.fields i g (omega (arith, size)) found in
+            get_remove_before (map (moved_field move) x.fields) n i less ∙ slice_get-map (moved_field move) x.fields i
+            ∙ ap (option_map (moved_field move)) found'
+            ∙ ap Some
+            (field_stays rest.after k x i g move f.name.start rest.read rest.here found'
+            (ends_before rest.after k x i n g f rest.read rest.here less found' there') stays);
+        limit =
+            ap (λ o. option_map_or (λ g. g.name.start) o (move x.end))
+            (get_remove_at (map (moved_field move) x.fields) n ∙ slice_get-map (moved_field move) x.fields (suc n))
+            ∙ limit_moved edit (slice_get x.fields (suc n)) x.end refl refl
+            ∙ sym (ap (λ o. option_map_or (λ g. g.name.start) o e.end) there);
+        alike =
+            ap (λ l. placeless (entry_edited rest.after edit k (put_entry l)).says) (none_put (map (moved_field move) x.fields) n)
+            ∙ put ∙ ap (λ l. placeless (of_entries d.says (before ++ with_fields e (fb ++ l) ∷ others))) (sym left);
+      }
+
+  pub all_removed : (fb fs : List FieldReading) → e.fields ≡ fb ++ fs → Removed d before others e name fb fs
+  all_removed fb [] cut = record {
+    after = d;
+    read = read;
+    text = refl;
+    entry = e;
+    here = is_here;
+    fields = λ i f less found. found;
+    limit = refl;
+    alike = ap (λ es. placeless (of_entries d.says es)) whole ∙ ap (λ l. placeless (of_entries d.says (before ++ with_fields e l ∷ others))) cut;
+  }
+  all_removed fb (f ∷ fs) cut =
+      let rest = all_removed (fb ++ f ∷ []) fs (cut ∙ sym (append_assoc fb (f ∷ []) fs)) in
+      by_case fb f fs cut rest (has_name name f) refl
+    where
+      by_case : (fb : List FieldReading) (f : FieldReading) (fs : List FieldReading) → e.fields ≡ fb ++ f ∷ fs
+          → Removed d before others e name (fb ++ f ∷ []) fs → (b : Bool) → has_name name f ≡ b
+          → Removed d before others e name fb (f ∷ fs)
+      by_case fb f fs cut rest true is = one_removed fb f fs cut rest is
+      by_case fb f fs cut rest false is =
+          let n : ℕ = length fb in
+          let size : length (fb ++ f ∷ []) ≡ suc n = omega (arith, length-append fb (f ∷ [])) in
+          let there : slice_get e.fields n ≡ Some f = ap (λ xs. slice_get xs n) cut ∙ get_here fb f fs in
+          let more : List Edit = removals name e (suc n) fs in
+          let with_edit : Bool → List Edit = λ (b : Bool). cond b (field_edit e n f ∷ []) [] ++ more in
+          let left : f ∷ unnamed name fs ≡ unnamed name (f ∷ fs) =
+          ap (λ b. cond (not b) (f ∷ unnamed name fs) (unnamed name fs)) (sym is) in
+          record {
+            after = rest.after;
+            read = rest.read;
+            text =
+                rest.text ∙ ap (λ m. edited_all (removals name e m fs) d.text) size
+                ∙ ap (λ b. edited_all (with_edit b) d.text) (sym is);
+            entry = rest.entry;
+            here = rest.here;
+            fields = λ i g less found. rest.fields i g (omega (arith, size)) found;
+            limit =
+                ap (λ o. option_map_or (λ g. g.name.start) o rest.entry.end) (rest.fields n f (omega (arith, size)) there)
+                ∙ sym (ap (λ o. option_map_or (λ g. g.name.start) o e.end) there);
+            alike =
+                rest.alike
+                ∙ ap (λ l. placeless (of_entries d.says (before ++ with_fields e l ∷ others)))
+                (append_assoc fb (f ∷ []) (unnamed name fs) ∙ ap (λ l. fb ++ l) left);
+          }
 
 -- ---- the edits
 
@@ -214,13 +221,3 @@ removals_more view name e xs i x within is =
     ∙ ap (λ n. removals name e 0 (map view (take i xs)) ++ removals name e n (view x ∷ [])) index
     ∙ ap (λ l. removals name e 0 (map view (take i xs)) ++ l) (append-nil (cond (has_name name (view x)) (field_edit e i (view x) ∷ []) []))
 
--- a field was unset
-pub field_unset : {S : Type 0} (bytes : S → List ℕ) (d : Document) (key name : List ℕ) (k : ℕ) (e : EntryReading)
-    (new : S) → IsDocument d → HasEntry d key k e → have_only name e.fields ≡ false
-    → bytes new ≡ edited_all (removals name e 0 e.fields) d.text
-    → IsEdited (FieldUnset d key name) (bytes new)
-field_unset bytes d key name k e new read entry left is =
-    let all =
-    all_removed d k e name 0 e.fields read entry.here
-    (λ i f found. let same : i ≡ 0 + i = omega arith in subst (λ n. slice_get e.fields n ≡ Some f) same found) in
-    record { document = all.after; outcome = FieldUnset.unset entry left all.removed; is = is ∙ sym all.text; read = all.read }

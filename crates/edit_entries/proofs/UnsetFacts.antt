@@ -18,7 +18,7 @@ use Rattle.bib_syntax.proofs.FieldFacts.{ahead_elements, ahead_field, ahead_fiel
 use Rattle.bib_syntax.proofs.FileFacts.{ahead_head}
 use Rattle.bib_syntax.proofs.LawFacts.{start_not_white, start_plain}
 use Rattle.edit_entries.specs.Edits.{Edit, edited, moved_place, moved_entry, moved_field, moved_part}
-use Rattle.edit_entries.specs.Documents.{Document, IsDocument, field_edit, field_limit, field_removed}
+use Rattle.edit_entries.specs.Documents.{Document, IsDocument, entry_edited, field_edit, field_limit}
 use Rattle.edit_entries.specs.Placed.{AreFieldsPlaced}
 use Rattle.edit_entries.proofs.EditFacts.{Fits, before_frame, after_frame, moved_after, moved_before, zone_before, zone_after}
 use Rattle.edit_entries.proofs.ZoneFacts.{Frame, Inside, Zone, char_there, inside, inside_between, longest_there, part_there, there}
@@ -28,6 +28,17 @@ use Rattle.edit_entries.proofs.MovedFacts.{char_within}
 use Rattle.edit_entries.proofs.EntryFacts.{entry_edited_read, goes}
 use Rattle.edit_entries.proofs.RemovedFacts.{taken_out}
 use Rattle.bib_text.proofs.BoundaryFacts.{char_boundary}
+
+-- ---- the document without one field of an entry
+
+-- after an edit that removes it
+abbrev pub field_cut : Document → ℕ → EntryReading → ℕ → Edit → Document
+field_cut d k e j edit =
+    entry_edited d edit k (record (moved_entry (moved_place edit) e) { fields = remove (map (moved_field (moved_place edit)) e.fields) j })
+
+-- after the one that removes it up to the next field or the closing brace
+abbrev pub field_removed : Document → ℕ → EntryReading → ℕ → FieldReading → Document
+field_removed d k e j f = field_cut d k e j (field_edit e j f)
 
 -- ---- what is left after a field
 

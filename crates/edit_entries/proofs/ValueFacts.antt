@@ -117,7 +117,7 @@ pub run_stands : {test : ℕ → Bool} {u v w : Place} {c : ℕ} → Run test u 
 run_stands stop char = record { char = _; next = _; here = char }
 run_stands (step first passes rest) char = record { char = _; next = _; here = first }
 
-gap_stands : {u v w : Place} {c : ℕ} → Gap longest u v → CharAt v c w → Stands u
+pub gap_stands : {u v w : Place} {c : ℕ} → Gap longest u v → CharAt v c w → Stands u
 gap_stands (gap.white white ends) char = run_stands white.run char
 gap_stands (gap.line_comment white m white') char = run_stands white.run m.sign
 

@@ -155,32 +155,9 @@ field_limit e j = option_map_or (λ f. f.name.start) (slice_get e.fields (suc j)
 abbrev pub field_edit : EntryReading → ℕ → FieldReading → Edit
 field_edit e j f = record { start = f.name.start; end = field_limit e j; bytes = [] }
 
--- the document without one field of an entry
-abbrev pub field_removed : Document → ℕ → EntryReading → ℕ → FieldReading → Document
-field_removed d k e j f =
-    let edit = field_edit e j f in
-    entry_edited d edit k (record (moved_entry (moved_place edit) e) { fields = remove (map (moved_field (moved_place edit)) e.fields) j })
-
--- the indices at which a test is passed; the first element has the given index
-abbrev pub positions : {A : Type 0} → (A → Bool) → ℕ → List A → List ℕ
-positions test index [] = []
-positions test index (x ∷ xs) = if test x then index ∷ positions test (suc index) xs else positions test (suc index) xs
-
--- the document after fields of an entry are removed, from the last to the first, so that the others keep their byte offsets
-pub data FieldsRemoved (d : Document) (k : ℕ) : List ℕ → Document → Type 0 where
-  none : FieldsRemoved d k [] d
-  taken : {after : Document} {rest : List ℕ} {j : ℕ} {e : EntryReading} {f : FieldReading}
-      → FieldsRemoved d k rest after → slice_get after.says.entries k ≡ Some e → slice_get e.fields j ≡ Some f
-      → FieldsRemoved d k (j ∷ rest) (field_removed after k e j f)
-
 -- whether there are fields, and each of them has a name
 abbrev pub have_only : List ℕ → List FieldReading → Bool
 have_only name fields = list_any (has_name name) fields && list_all (has_name name) fields
-
--- the outcome of unsetting a field of an entry: each field with the name is removed, unless the entry has only such fields
-pub data FieldUnset (d : Document) (key name : List ℕ) : Document → Type 0 where
-  unset : {k : ℕ} {e : EntryReading} {after : Document} → HasEntry d key k e → have_only name e.fields ≡ false
-      → FieldsRemoved d k (positions (has_name name) 0 e.fields) after → FieldUnset d key name after
 
 -- the first entry with a key has only fields with a name
 pub record HasOnlyFields (d : Document) (key name : List ℕ) : Type 0 where

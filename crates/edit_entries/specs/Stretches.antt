@@ -1,12 +1,10 @@
 -- Machinery: words of private contracts.
 -- Edits that are made in one pass over the text.
-use Rattle.std.specs.Prelude.{◌≡◌, ℕ, suc, ◌≤◌, if◌then◌else◌, List, [], ◌∷◌, ◌++◌, slice_get, Some, ⊤}
+use Rattle.std.specs.Prelude.{◌≡◌, ℕ, ◌≤◌, List, [], ◌∷◌, slice_get, Some, ⊤}
 use Rattle.std.specs.Char.{is_whitespace}
 use Rattle.std.specs.Str.{IsCharBoundary}
 use Rattle.bib_text.specs.Places.{Run, place}
 use Rattle.bib_syntax.specs.Reading.{EntryReading, FieldReading}
-use Rattle.edit_entries.specs.Documents.{field_edit, has_name}
-use Rattle.edit_entries.specs.Edits as edits
 use Rattle.edit_entries.specs.Placed.{IsPlaced}
 use Rattle.edit_entries.specs.References.{Change, change_edit}
 
@@ -40,12 +38,3 @@ EndsInWhite text (Change.key p new) = ⊤
 EndsInWhite text (Change.value f new) =
     Run is_whitespace (place text (change_edit text (Change.value f new)).end) (place text f.value.end)
     × IsCharBoundary text (change_edit text (Change.value f new)).end
-
--- the edit that removes a field of an entry, if it has a name
-abbrev pub removal : List ℕ → EntryReading → ℕ → FieldReading → List edits.Edit
-removal name e index f = if has_name name f then field_edit e index f ∷ [] else []
-
--- the edits that remove the fields with a name from an entry; the first field has the given index
-abbrev pub removals : List ℕ → EntryReading → ℕ → List FieldReading → List edits.Edit
-removals name e index [] = []
-removals name e index (f ∷ rest) = removal name e index f ++ removals name e (suc index) rest

@@ -6,13 +6,14 @@ ghost use Rattle.bib_syntax.specs.Errors.{Refuses, out_of_memory};
 ghost use Rattle.bib_syntax.specs.Grammar.{IsFile, IsRawReading};
 ghost use Rattle.bib_syntax.specs.SyntaxErrors.{IsReported};
 ghost use Rattle.bib_syntax.specs.Views.{file_of};
-ghost use Rattle.edit_entries.specs.Documents.{Document, EntriesAdded, EntriesAreRefused, EntryIsRefused, EntryRemoved, FieldUnset, IsEdited, IsDocument, UnsetIsRefused};
+ghost use Rattle.edit_entries.specs.Documents.{Document, EntriesAdded, EntriesAreRefused, EntryIsRefused, EntryRemoved, IsEdited, IsDocument, UnsetIsRefused};
 ghost use Rattle.edit_entries.specs.NewNames.{HaveNewKeys, IsFirstUnsafeKey};
 ghost use Rattle.edit_entries.specs.Changes.{IsChanged};
 ghost use Rattle.edit_entries.specs.FieldEdits.{FieldEditIsRefused, selected_edited};
 ghost use Rattle.edit_entries.specs.NewKeys.{key_for};
 ghost use Rattle.edit_entries.specs.References.{KeyRenamed, KeysAreRefused, KeysRenamed, RenameIsRefused, given_keys};
 ghost use Rattle.edit_entries.specs.Setting.{FieldSet, SetIsRefused};
+ghost use Rattle.edit_entries.specs.Unset.{FieldUnset};
 
 use crate::definitions::agree_on_definitions;
 use crate::editing::edited_all;
@@ -104,20 +105,29 @@ impl<'s> RawDocument<'s> {
         }
     }
 
-    /// Returns the text without a field of an entry: each field with the name, of the first entry with the key, is removed up to the
-    /// next field or the closing brace. Returns the same text if the entry lacks the field. The edit is refused if it would
-    /// remove all fields of the entry: bibtool doesn't read an entry without fields.
+    /// Returns the text without a field of an entry: each field with the name, of the first entry with the key, is removed. Returns the
+    /// same text if the entry lacks the field.
+    ///
+    /// A field goes with the white space before it and its comma: with its line, where it has one. So comments of other fields and the
+    /// closing brace stay where they are. If a comment is between the comma before it and its name, or between its value and its comma,
+    /// or if several fields have the name, each is removed up to the next field or the closing brace, with a comment that is there.
+    ///
+    /// # Errors
+    ///
+    /// `UnknownKey` if no entry has the key; `NoFieldLeft` if all fields of the entry have the name: bibtool doesn't read an entry
+    /// without fields.
     pub fn unset_field(&self, alloc: Global, key: &str, name: &str) -> Result<String, EditError>
         ensures unset { IfOk result (λ new. IsEdited (FieldUnset self.now key.now name.now) (string_bytes new)) }
         ensures refused { IfErr result (UnsetIsRefused self.now key.now name.now) }
     {
+        let text = self.text();
         let Some(entry) = entry_with(&self.raw.entries, key) else {
             return Err(EditError::UnknownKey);
         };
         if have_only(&entry.v.fields, name) {
             return Err(EditError::NoFieldLeft);
         }
-        Ok(without_fields(alloc, self.text, entry, name)?)
+        Ok(without_fields(alloc, text, entry, name)?)
     }
 
     /// Returns the text without the first entry with a key, and without the white space after it.

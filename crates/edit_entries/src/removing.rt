@@ -1,21 +1,25 @@
 //! Removes entries and fields.
 
-ghost use Rattle.std.specs.Prelude.{◌≡◌, ◌+◌, ◌++◌, ◌≤◌, ◌<◌, ℕ, [], IfOk, OnOk, length, map};
+ghost use Rattle.std.specs.Prelude.{◌≡◌, ◌+◌, ◌-◌, ◌^◌, ◌++◌, ◌≤◌, ◌<◌, ℕ, [], IfOk, IfSome, OnOk, length, map};
+ghost use Rattle.std.specs.Bool.{OnTrue};
 ghost use Rattle.std.specs.Char.{is_whitespace};
-ghost use Rattle.std.specs.List.{list_all};
+ghost use Rattle.std.specs.List.{AllByRecursion, list_all};
 ghost use Rattle.std.specs.Str.{IsCharBoundary};
 ghost use Rattle.std.specs.String.{string_bytes};
 ghost use Rattle.bib_text.specs.Places.{Longest};
 ghost use Rattle.bib_text.specs.Places as places;
 ghost use Rattle.bib_syntax.specs.Views.{entry_reading_of, field_of};
 ghost use Rattle.edit_entries.specs.Documents as documents;
+ghost use Rattle.edit_entries.specs.Documents.{first_position};
 ghost use Rattle.edit_entries.specs.Edits as edits;
 ghost use Rattle.edit_entries.specs.Placed.{IsEntryPlaced};
-ghost use Rattle.edit_entries.specs.Stretches as stretches;
 ghost use Rattle.edit_entries.specs.EditList.{AreEditsInOrder, edit_of};
+ghost use Rattle.edit_entries.specs.Placed.{IsPlaced};
+ghost use Rattle.edit_entries.specs.Unset as unset;
 
 use crate::editing::{Edit, edited, edited_all};
 use crate::setting::has_field;
+use crate::values::value_end;
 use bib_syntax::raw::{Pair, RawEntry, is_word};
 use bib_text::scanner::Scanner;
 use bib_text::spanned::Spanned;
@@ -70,7 +74,7 @@ fn push_removal(
     name: &str,
 ) -> Result<(), AllocError>
     requires { index < length (entry_reading_of entry.now).fields }
-    ensures { OnOk result (map edit_of edits.new.items ≡ map edit_of edits.old.items ++ stretches.removal name.now (entry_reading_of entry.now) index (field_of field.now)) }
+    ensures { OnOk result (map edit_of edits.new.items ≡ map edit_of edits.old.items ++ unset.removal name.now (entry_reading_of entry.now) index (field_of field.now)) }
 {
     if !is_word(field.key.v, name) {
         return Ok(());
@@ -90,7 +94,7 @@ fn removals(
     entry: &Spanned<RawEntry<'_>>,
     name: &str,
 ) -> Result<Vec<Edit>, AllocError>
-    ensures { IfOk result (λ edits. map edit_of edits.items ≡ stretches.removals name.now (entry_reading_of entry.now) 0 (entry_reading_of entry.now).fields) }
+    ensures { IfOk result (λ edits. map edit_of edits.items ≡ unset.removals name.now (entry_reading_of entry.now) 0 (entry_reading_of entry.now).fields) }
 {
     let mut edits = Vec::new(alloc);
     'fields: for (index, field) in entry.v.fields.iter().enumerate() {
@@ -119,6 +123,115 @@ pub(crate) fn have_only(fields: &[Pair<'_>], name: &str) -> bool
     has_field(fields, name) && are_named(fields, name)
 }
 
+// Returns the bytes between two byte offsets of a text.
+fn stretch(text: &str, start: usize, end: usize) -> &[u8]
+    ensures { result.now ≡ places.between (places.place text.now start) (places.place text.now end) }
+{
+    let bytes = text.as_bytes();
+    let end = end.min(bytes.len());
+    &bytes[start.min(end)..end]
+}
+
+// Returns whether a percent sign occurs between two byte offsets.
+fn has_percent(text: &str, start: usize, end: usize) -> bool
+    ensures { result ≡ unset.has_percent text.now start end }
+{
+    stretch(text, start, end).contains(&b'%')
+}
+
+// Returns whether a text has a byte at a byte offset.
+fn has_byte(text: &str, at: usize, byte: u8) -> bool
+    ensures is { result ≡ unset.has_byte text.now at byte }
+    ensures bound { OnTrue result (at < 2 ^ 64 - 1) }
+{
+    match text.as_bytes().get(at) {
+        Some(found) => *found == byte,
+        None => false,
+    }
+}
+
+// Returns the byte offset at which the value before the field with an index ends, or the key before the first field.
+fn end_before(entry: &Spanned<RawEntry<'_>>, index: usize) -> usize
+    requires { index < length (entry_reading_of entry.now).fields }
+    ensures { result ≡ unset.end_before (entry_reading_of entry.now) index }
+{
+    if index == 0 {
+        return entry.v.key.span.end;
+    }
+    entry.v.fields[index - 1].value.span.end
+}
+
+// Returns whether no comment is before a field or directly after its value.
+fn is_uncommented(
+    text: &str,
+    entry: &Spanned<RawEntry<'_>>,
+    index: usize,
+    field: &Pair<'_>,
+) -> bool
+    requires { index < length (entry_reading_of entry.now).fields }
+    ensures is { result ≡ unset.is_uncommented text.now (entry_reading_of entry.now) index (field_of field.now) }
+    ensures bound { OnTrue result (unset.end_before (entry_reading_of entry.now) index < 2 ^ 64 - 1) }
+{
+    let start = end_before(entry, index);
+    has_byte(text, start, b',')
+        && !has_percent(text, start, field.key.span.start)
+        && !has_byte(text, field.value.span.end, b'%')
+}
+
+// Returns the byte offset after the comma of a field without comments, or where its value ends if it has none.
+fn comma_end(text: &str, field: &Pair<'_>) -> usize
+    requires { IsPlaced text.now (field_of field.now) }
+    ensures { result ≡ unset.comma_end text.now (field_of field.now) }
+{
+    if has_byte(text, field.value.span.end, b',') {
+        return field.value.span.end + 1;
+    }
+    value_end(text, field)
+}
+
+// Returns the index of the first of these fields with a name, in any ASCII case.
+fn field_index(fields: &[Pair<'_>], name: &str) -> Option<usize>
+    ensures is { result ≡ first_position (documents.has_name name.now) (map field_of fields.now) }
+    ensures bound { IfSome result (λ index. index < length fields.now) }
+{
+    'fields: for (index, field) in fields.iter().enumerate() {
+        if is_word(field.key.v, name) {
+            return Some(index);
+        }
+    }
+    None
+}
+
+// Returns the edits that unset a field of an entry: each field with the name is removed.
+pub(crate) fn unset_edits(
+    alloc: Global,
+    text: &str,
+    entry: &Spanned<RawEntry<'_>>,
+    name: &str,
+) -> Result<Vec<Edit>, AllocError>
+    requires { AllByRecursion (IsPlaced text.now) (entry_reading_of entry.now).fields }
+    ensures { IfOk result (λ edits. map edit_of edits.items ≡ unset.unset_edits text.now name.now (entry_reading_of entry.now)) }
+{
+    let mut edits = Vec::new(alloc);
+    let fields = entry.v.fields.as_slice();
+    let Some(index) = field_index(fields, name) else {
+        return Ok(edits);
+    };
+    let field = &fields[index];
+    if has_field(&fields[index + 1..], name) {
+        return removals(alloc, entry, name);
+    }
+    if !is_uncommented(text, entry, index, field) {
+        return removals(alloc, entry, name);
+    }
+    edits.push(Edit {
+        start: end_before(entry, index) + 1,
+        end: comma_end(text, field),
+        text: String::new(alloc),
+    })?;
+    Ok(edits)
+}
+
 // Returns the text without the fields of an entry with a name.
 pub(crate) fn without_fields(
     alloc: Global,
@@ -126,9 +239,10 @@ pub(crate) fn without_fields(
     entry: &Spanned<RawEntry<'_>>,
     name: &str,
 ) -> Result<String, AllocError>
-    requires { AreEditsInOrder text.now 0 (stretches.removals name.now (entry_reading_of entry.now) 0 (entry_reading_of entry.now).fields) }
-    ensures { IfOk result (λ new. string_bytes new ≡ edits.edited_all (stretches.removals name.now (entry_reading_of entry.now) 0 (entry_reading_of entry.now).fields) text.now) }
+    requires placed { AllByRecursion (IsPlaced text.now) (entry_reading_of entry.now).fields }
+    requires ordered { AreEditsInOrder text.now 0 (unset.unset_edits text.now name.now (entry_reading_of entry.now)) }
+    ensures { IfOk result (λ new. string_bytes new ≡ edits.edited_all (unset.unset_edits text.now name.now (entry_reading_of entry.now)) text.now) }
 {
-    let removed = removals(alloc, entry, name)?;
-    edited_all(alloc, text, &removed)
+    let edits = unset_edits(alloc, text, entry, name)?;
+    edited_all(alloc, text, &edits)
 }

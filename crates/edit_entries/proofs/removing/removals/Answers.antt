@@ -1,6 +1,6 @@
 use Rattle.std.proofs.Common.{◌++◌, ◌<◌, get_or, length, sym, ap, ◌∙◌, subst}
 use Rattle.bib_syntax.specs.Views.{entry_reading_of, field_of}
-use Rattle.edit_entries.specs.Stretches.{removal}
+use Rattle.edit_entries.specs.Unset.{removal}
 use Rattle.edit_entries.proofs.RemovalFacts.{removals_more}
 use Rattle.edit_entries.proofs.removing.removals.Goals as goal
 

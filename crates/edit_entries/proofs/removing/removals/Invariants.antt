@@ -1,7 +1,7 @@
 use Rattle.std.proofs.Common.{◌≡◌, map, take}
 use Rattle.bib_syntax.specs.Views.{entry_reading_of, field_of}
 use Rattle.edit_entries.specs.EditList.{edit_of}
-use Rattle.edit_entries.specs.Stretches.{removals}
+use Rattle.edit_entries.specs.Unset.{removals}
 use Rattle.edit_entries.proofs.removing.removals.Given as goal
 
 abbrev pub invariant-fields : goal.invariant-fields

@@ -1,0 +1,245 @@
+-- An entry in which a field is unset.
+use Rattle.std.proofs.Common.{◌≡◌, ℕ, zero, suc, Bool, true, false, cond, List, [], ◌∷◌, ◌++◌, length, drop, map, refl, sym, ap, ◌∙◌, subst, arith, Option, Some, None}
+use Rattle.std.specs.Prelude.{filter, not, ◌&&◌, ◌||◌, slice_get, slice_set}
+use Rattle.std.specs.List.{list_any}
+use Rattle.bib_text.proofs.ListFacts.{get_here}
+use Rattle.bib_syntax.specs.Reading.{EntryReading, FieldReading}
+use Rattle.edit_entries.specs.Changes.{IsTrimmed}
+use Rattle.edit_entries.specs.Documents.{Document, HasEntry, IsDocument, IsEdited, entry_edited, first_position, has_name, have_only, next_index}
+use Rattle.edit_entries.specs.EditList.{AreEditsInOrder}
+use Rattle.edit_entries.specs.Edits.{Edit, edited_all, moved_entry, moved_field, moved_place, placeless}
+use Rattle.edit_entries.specs.Unset.{FieldUnset, edits_at, edits_from, end_before, has_byte, has_percent, is_uncommented, line_edit, removals, unset_edits, without_named}
+use Rattle.edit_entries.proofs.LineFacts.{line_removed}
+use Rattle.edit_entries.proofs.MadeFacts.{none_put, of_entries, put_alike}
+use Rattle.edit_entries.proofs.PutFacts.{put_at}
+use Rattle.edit_entries.proofs.RemovalFacts.{all_removed, removals_ordered, unnamed, with_fields}
+use Rattle.edit_entries.proofs.UnsetFacts.{field_cut}
+
+-- ---- lists
+
+-- a list around an element that it has
+record Around {A : Type 0} (xs : List A) (k : ℕ) (x : A) : Type 0 where
+  before : List A
+  following : List A
+  whole : xs ≡ before ++ x ∷ following
+  index : length before ≡ k
+  rest : drop (suc k) xs ≡ following
+
+around : {A : Type 0} (xs : List A) (k : ℕ) (x : A) → slice_get xs k ≡ Some x → Around xs k x
+around [] k x found = absurd (cc)
+around (y ∷ ys) zero x found =
+    let same : y ≡ x = cc in
+    record { before = []; following = ys; whole = ap (λ z. z ∷ ys) same; index = refl; rest = refl }
+around (y ∷ ys) (suc k) x found =
+    let more = around ys k x found in
+    record {
+      before = y ∷ more.before;
+      following = more.following;
+      whole = ap (λ l. y ∷ l) more.whole;
+      index = ap suc more.index;
+      rest = more.rest;
+    }
+
+set_here : {A : Type 0} (before rest : List A) (x y : A) → slice_set (before ++ x ∷ rest) (length before) y ≡ before ++ y ∷ rest
+set_here [] rest x y = refl
+set_here (b ∷ bs) rest x y = ap (λ l. b ∷ l) (set_here bs rest x y)
+
+-- the first position of an element that passes a test
+later : (b : Bool) (o : Option ℕ) (n : ℕ) → cond b (Some 0) (next_index o) ≡ Some (suc n) → (b ≡ false) × (o ≡ Some n)
+later true o n is = absurd (cc)
+later false None n is = absurd (cc)
+later false (Some i) n is = (refl, cc)
+
+passes_first : {A : Type 0} (test : A → Bool) (xs : List A) (k : ℕ) → first_position test xs ≡ Some k
+    → (x : A) × (slice_get xs k ≡ Some x) × (test x ≡ true)
+passes_first test [] k is = absurd (cc)
+passes_first test (y ∷ ys) zero is = (y, refl, here (test y) (first_position test ys) is)
+  where
+    here : (b : Bool) (o : Option ℕ) → cond b (Some 0) (next_index o) ≡ Some 0 → b ≡ true
+    here true o is = refl
+    here false None is = absurd (cc)
+    here false (Some i) is = absurd (cc)
+passes_first test (y ∷ ys) (suc k) is = passes_first test ys k (later (test y) (first_position test ys) k is).1
+
+none_pass : {A : Type 0} (test : A → Bool) (xs : List A) → list_any test xs ≡ false → filter (λ x. not (test x)) xs ≡ xs
+none_pass test [] none = refl
+none_pass test (x ∷ xs) none =
+    let parts = by_case (test x) (list_any test xs) none in
+    ap (λ b. cond (not b) (x ∷ filter (λ y. not (test y)) xs) (filter (λ y. not (test y)) xs)) parts.0
+    ∙ ap (λ l. x ∷ l) (none_pass test xs parts.1)
+  where
+    by_case : (a b : Bool) → (a || b) ≡ false → (a ≡ false) × (b ≡ false)
+    by_case true b is = absurd (cc)
+    by_case false b is = (refl, is)
+
+no_first : {A : Type 0} (test : A → Bool) (xs : List A) → first_position test xs ≡ None → list_any test xs ≡ false
+no_first test [] none = refl
+no_first test (x ∷ xs) none = by_case (test x) (first_position test xs) none (λ is. no_first test xs is)
+  where
+    by_case : (b : Bool) (o : Option ℕ) → cond b (Some 0) (next_index o) ≡ None → (o ≡ None → list_any test xs ≡ false)
+        → (b || list_any test xs) ≡ false
+    by_case true o none others = absurd (cc)
+    by_case false (Some i) none others = absurd (cc)
+    by_case false None none others = others refl
+
+-- without the only element that passes
+only_left : {A : Type 0} (test : A → Bool) (before following : List A) (x : A)
+    → first_position test (before ++ x ∷ following) ≡ Some (length before) → test x ≡ true → list_any test following ≡ false
+    → filter (λ y. not (test y)) (before ++ x ∷ following) ≡ before ++ following
+only_left test [] following x first passes none =
+    ap (λ b. cond (not b) (x ∷ filter (λ y. not (test y)) following) (filter (λ y. not (test y)) following)) passes
+    ∙ none_pass test following none
+only_left test (b ∷ bs) following x first passes none =
+    let fails = later (test b) (first_position test (bs ++ x ∷ following)) (length bs) first in
+    let others : List _ = filter (λ y. not (test y)) (bs ++ x ∷ following) in
+    ap (λ t. cond (not t) (b ∷ others) others) fails.0 ∙ ap (λ l. b ∷ l) (only_left test bs following x fails.1 passes none)
+
+-- ---- the edits
+
+pub edits_are : (text name : List ℕ) (e : EntryReading) (j : ℕ) (f : FieldReading) (several : Bool)
+    → first_position (has_name name) e.fields ≡ Some j → slice_get e.fields j ≡ Some f
+    → (list_any (has_name name) (drop (suc j) e.fields) || not (is_uncommented text e j f)) ≡ several
+    → unset_edits text name e ≡ cond several (removals name e 0 e.fields) (line_edit text e j f ∷ [])
+edits_are text name e j f several first there is =
+    ap (edits_at text name e) first ∙ ap (edits_from text name e j) there
+    ∙ ap (λ b. cond b (removals name e 0 e.fields) (line_edit text e j f ∷ [])) is
+
+-- ---- an entry
+
+-- the new text of a document in which a field of an entry is unset: its reading
+pub record EntryUnset (d : Document) (before others : List EntryReading) (e : EntryReading) (name : List ℕ) : Type 0 where
+  pub after : Document
+  pub read : IsDocument after
+  pub text : after.text ≡ edited_all (unset_edits d.text name e) d.text
+  pub alike : placeless after.says ≡ placeless (of_entries d.says (before ++ without_named name e ∷ others))
+  pub ordered : AreEditsInOrder d.text 0 (unset_edits d.text name e)
+
+three : (a b c : Bool) → (a && not b && not c) ≡ true → (a ≡ true) × (c ≡ false)
+three true false false is = (refl, refl)
+three true false true is = absurd (cc)
+three true true c is = absurd (cc)
+three false b c is = absurd (cc)
+
+module _ (d : Document) (before others : List EntryReading) (e : EntryReading) (name : List ℕ) (read : IsDocument d)
+    (whole : d.says.entries ≡ before ++ e ∷ others) (trimmed : (j : ℕ) (f : FieldReading) → slice_get e.fields j ≡ Some f → IsTrimmed d.text f) where
+  abbrev k : ℕ
+  k = length before
+
+  is_here : slice_get d.says.entries k ≡ Some e
+  is_here = ap (λ es. slice_get es k) whole ∙ get_here before e others
+
+  -- the text stays
+  no_field : first_position (has_name name) e.fields ≡ None → EntryUnset d before others e name
+  no_field none =
+      let edits : unset_edits d.text name e ≡ [] = ap (edits_at d.text name e) none in
+      let left = none_pass (has_name name) e.fields (no_first (has_name name) e.fields none) in
+      record {
+        after = d;
+        read = read;
+        text = ap (λ es. edited_all es d.text) (sym edits);
+        alike =
+            ap (λ es. placeless (of_entries d.says es)) whole
+            ∙ ap (λ l. placeless (of_entries d.says (before ++ with_fields e l ∷ others))) (sym left);
+        ordered = subst (AreEditsInOrder d.text 0) (sym edits) tt;
+      }
+
+  -- each field with the name is removed up to the next one
+  several : unset_edits d.text name e ≡ removals name e 0 e.fields → EntryUnset d before others e name
+  several edits =
+      let all = all_removed d before others e name read whole [] e.fields refl in
+      record {
+        after = all.after;
+        read = all.read;
+        text = all.text ∙ ap (λ es. edited_all es d.text) (sym edits);
+        alike = all.alike;
+        ordered = subst (AreEditsInOrder d.text 0) (sym edits) (removals_ordered d k e name read is_here);
+      }
+
+  -- the only field with the name is removed with its line
+  one : (j : ℕ) (f : FieldReading) → first_position (has_name name) e.fields ≡ Some j → slice_get e.fields j ≡ Some f
+      → has_name name f ≡ true → list_any (has_name name) (drop (suc j) e.fields) ≡ false → is_uncommented d.text e j f ≡ true
+      → unset_edits d.text name e ≡ line_edit d.text e j f ∷ [] → EntryUnset d before others e name
+  one j f first there named none free edits =
+      let parts = three (has_byte d.text (end_before e j) 44) (has_percent d.text (end_before e j) f.name.start) (has_byte d.text f.value.end 37) free in
+      let edit : Edit = line_edit d.text e j f in
+      let x = line_removed d k e j f read is_here there (trimmed j f there) parts.0 parts.1 in
+      let a = around e.fields j f there in
+      let move = moved_place edit in
+      let put_entry : List FieldReading → EntryReading = λ (fs : List FieldReading). with_fields (moved_entry move e) fs in
+      let put =
+      put_alike d d edit before others e (ap (λ es. placeless (of_entries d.says es)) whole) e a.before a.following f [] []
+      is_here a.whole refl in
+      let left : unnamed name e.fields ≡ a.before ++ a.following =
+      ap (unnamed name) a.whole
+      ∙ only_left (has_name name) a.before a.following f
+      (sym (ap (first_position (has_name name)) a.whole) ∙ first ∙ ap Some (sym a.index)) named
+      (ap (list_any (has_name name)) (sym a.rest) ∙ none) in
+      record {
+        after = field_cut d k e j edit;
+        read = x.read;
+        text = ap (λ es. edited_all es d.text) (sym edits);
+        alike =
+            ap (λ l. placeless (entry_edited d edit k (put_entry l)).says) (none_put (map (moved_field move) e.fields) j)
+            ∙ ap (λ n. placeless (entry_edited d edit k (put_entry (put_at n [] (map (moved_field move) e.fields)))).says) (sym a.index)
+            ∙ put ∙ ap (λ l. placeless (of_entries d.says (before ++ with_fields e l ∷ others))) (sym left);
+        ordered =
+            subst (AreEditsInOrder d.text 0) (sym edits) (omega arith, omega (arith, x.some), x.start_cut, x.end_cut, tt);
+      }
+
+  by_place : (o : Option ℕ) → first_position (has_name name) e.fields ≡ o → EntryUnset d before others e name
+  by_place None is = no_field is
+  by_place (Some j) is =
+      let found = passes_first (has_name name) e.fields j is in
+      let f = found.0 in
+      let edits : unset_edits d.text name e ≡ edits_from d.text name e j (Some f) =
+      ap (edits_at d.text name e) is ∙ ap (edits_from d.text name e j) found.1 in
+      by_case j f is found.1 found.2 (list_any (has_name name) (drop (suc j) e.fields)) refl (is_uncommented d.text e j f) refl edits
+    where
+      by_case : (j : ℕ) (f : FieldReading) → first_position (has_name name) e.fields ≡ Some j → slice_get e.fields j ≡ Some f
+          → has_name name f ≡ true → (more : Bool) → list_any (has_name name) (drop (suc j) e.fields) ≡ more → (free : Bool)
+          → is_uncommented d.text e j f ≡ free
+          → unset_edits d.text name e
+          ≡ cond (list_any (has_name name) (drop (suc j) e.fields) || not (is_uncommented d.text e j f)) (removals name e 0 e.fields)
+          (line_edit d.text e j f ∷ [])
+          → EntryUnset d before others e name
+      by_case j f first there named true more free uncommented edits =
+          several (edits ∙ ap (λ b. cond (b || not (is_uncommented d.text e j f)) (removals name e 0 e.fields) (line_edit d.text e j f ∷ [])) more)
+      by_case j f first there named false more false uncommented edits =
+          several
+          (edits ∙ ap (λ b. cond (b || not (is_uncommented d.text e j f)) (removals name e 0 e.fields) (line_edit d.text e j f ∷ [])) more
+          ∙ ap (λ b. cond (not b) (removals name e 0 e.fields) (line_edit d.text e j f ∷ [])) uncommented)
+      by_case j f first there named false more true uncommented edits =
+          one j f first there named more uncommented
+          (edits ∙ ap (λ b. cond (b || not (is_uncommented d.text e j f)) (removals name e 0 e.fields) (line_edit d.text e j f ∷ [])) more
+          ∙ ap (λ b. cond (not b) (removals name e 0 e.fields) (line_edit d.text e j f ∷ [])) uncommented)
+
+  pub entry_unset : EntryUnset d before others e name
+  entry_unset = by_place (first_position (has_name name) e.fields) refl
+
+-- a field was unset
+pub field_unset : {S : Type 0} (bytes : S → List ℕ) (d : Document) (key name : List ℕ) (k : ℕ) (e : EntryReading)
+    (new : S) → IsDocument d → ((j : ℕ) (f : FieldReading) → slice_get e.fields j ≡ Some f → IsTrimmed d.text f)
+    → HasEntry d key k e → have_only name e.fields ≡ false
+    → bytes new ≡ edited_all (unset_edits d.text name e) d.text
+    → IsEdited (FieldUnset d key name) (bytes new)
+field_unset bytes d key name k e new read trimmed entry left is =
+    let a = around d.says.entries k e entry.here in
+    let x = entry_unset d a.before a.following e name read a.whole trimmed in
+    let set : slice_set d.says.entries k (without_named name e) ≡ a.before ++ without_named name e ∷ a.following =
+    ap (λ es. slice_set es k (without_named name e)) a.whole
+    ∙ ap (λ n. slice_set (a.before ++ e ∷ a.following) n (without_named name e)) (sym a.index)
+    ∙ set_here a.before a.following e (without_named name e) in
+    record {
+      document = x.after;
+      outcome = FieldUnset.unset entry left x.text (x.alike ∙ ap (λ es. placeless (of_entries d.says es)) (sym set));
+      is = is ∙ sym x.text;
+      read = x.read;
+    }
+
+-- its edits are in order
+pub unset_ordered : (d : Document) (name : List ℕ) (k : ℕ) (e : EntryReading) → IsDocument d
+    → ((j : ℕ) (f : FieldReading) → slice_get e.fields j ≡ Some f → IsTrimmed d.text f)
+    → slice_get d.says.entries k ≡ Some e → AreEditsInOrder d.text 0 (unset_edits d.text name e)
+unset_ordered d name k e read trimmed here =
+    let a = around d.says.entries k e here in
+    (entry_unset d a.before a.following e name read a.whole trimmed).ordered
