@@ -1,10 +1,10 @@
 -- Braces of a text, counted from its start.
 use Rattle.std.proofs.Common.{◌≡◌, ◌⊎◌, inl, inr, ℕ, zero, suc, ◌+◌, ◌-◌, ◌<◌, ◌≤◌, Bool, true, false, cond, List, length, take, get_or, refl, sym, ap, ◌∙◌, subst, arith}
-use Rattle.std.specs.Prelude.{◌==◌}
+use Rattle.std.specs.Prelude.{◌==◌, ◌&&◌, nat_lt, not}
 use Rattle.std.proofs.lemmas.Bool.Decides.{nat_tests}
 use Rattle.std.proofs.lemmas.List.{take_all}
 use Rattle.std.proofs.lemmas.List.Filters.{length-filter_more}
-use Rattle.edit_entries.specs.Balance.{IsBalanced, byte_count}
+use Rattle.edit_entries.specs.Balance.{IsBalanced, byte_count, closes_opened, is_balanced}
 
 -- the first bytes of a text: no prefix has more closing braces than opening ones, and this many braces are open
 pub record IsCounted (text : List ℕ) (i depth : ℕ) : Type 0 where
@@ -122,3 +122,74 @@ module _ (text : List ℕ) (i depth : ℕ) (past : length text ≤ i) (counted :
         subst (λ xs. depth + byte_count 125 xs ≡ byte_count 123 xs) whole counted.open_braces,
         balanced.closed,
       ))
+
+-- ---- the test and the record agree
+
+both_true : (a b : Bool) → (a && b) ≡ true → (a ≡ true) × (b ≡ true)
+both_true true true is = (refl, refl)
+both_true true false is = cc
+both_true false b is = cc
+
+and_true : (a b : Bool) → a ≡ true → b ≡ true → (a && b) ≡ true
+and_true a b one other = ap (λ x. x && b) one ∙ other
+
+opened_each : (text : List ℕ) (n m : ℕ) → closes_opened n text ≡ true → m ≤ n
+    → byte_count 125 (take m text) ≤ byte_count 123 (take m text)
+opened_each text n zero is within = omega arith
+opened_each text zero (suc m) is within = absurd (omega (arith, within))
+opened_each text (suc n) (suc m) is within =
+    let parts = both_true (not (nat_lt (byte_count 123 (take (suc n) text)) (byte_count 125 (take (suc n) text)))) (closes_opened n text) is in
+    let first = parts.0 in
+    let last : byte_count 125 (take (suc n) text) ≤ byte_count 123 (take (suc n) text) = grind (arith, nat_tests, first) in
+    elim (at_or_before (suc m) n (omega (arith, within))) [
+      | inl same ↦
+          let same' : n ≡ m = omega (arith, same) in
+          subst (λ k. byte_count 125 (take (suc k) text) ≤ byte_count 123 (take (suc k) text)) same' last
+      | inr less ↦ opened_each text n (suc m) parts.1 less
+    ]
+
+each_opened : (text : List ℕ) (n : ℕ) → ((m : ℕ) → byte_count 125 (take m text) ≤ byte_count 123 (take m text))
+    → closes_opened n text ≡ true
+each_opened text zero each = refl
+each_opened text (suc n) each =
+    let this = each (suc n) in
+    and_true (not (nat_lt (byte_count 123 (take (suc n) text)) (byte_count 125 (take (suc n) text)))) (closes_opened n text)
+    (grind (arith, nat_tests, this)) (each_opened text n each)
+
+pub balanced_test : (text : List ℕ) → IsBalanced text → is_balanced text ≡ true
+balanced_test text balanced =
+    let closed = balanced.closed in
+    and_true (closes_opened (length text) text) (byte_count 123 text == byte_count 125 text) (each_opened text (length text) balanced.closes)
+    (grind (arith, nat_tests, closed))
+
+pub test_balanced : (text : List ℕ) → is_balanced text ≡ true → IsBalanced text
+test_balanced text is = record { closes = λ n. prefix n (earlier n (length text)); closed = closed }
+  where
+    parts : (closes_opened (length text) text ≡ true) × ((byte_count 123 text == byte_count 125 text) ≡ true)
+    parts = both_true _ _ is
+
+    closed : byte_count 123 text ≡ byte_count 125 text
+    closed = let second = parts.1 in grind (arith, nat_tests, second)
+
+    earlier : (n m : ℕ) → (n ≤ m) ⊎ (m ≤ n)
+    earlier zero m = inl (omega arith)
+    earlier (suc n) zero = inr (omega arith)
+    earlier (suc n) (suc m) = by_rest (earlier n m)
+      where
+        by_rest : (n ≤ m) ⊎ (m ≤ n) → (suc n ≤ suc m) ⊎ (suc m ≤ suc n)
+        by_rest (inl less) = inl (omega (arith, less))
+        by_rest (inr past') = inr (omega (arith, past'))
+
+    prefix : (n : ℕ) → (n ≤ length text) ⊎ (length text ≤ n) → byte_count 125 (take n text) ≤ byte_count 123 (take n text)
+    prefix n (inl less) = opened_each text (length text) n parts.0 less
+    prefix n (inr later) =
+        subst (λ xs. byte_count 125 xs ≤ byte_count 123 xs) (sym (take_all n text later)) (omega (arith, closed))
+
+-- a test that tells whether a text is balanced is `is_balanced`
+pub test_is : (text : List ℕ) (b : Bool) → (b ≡ true → IsBalanced text) → (b ≡ false → IsBalanced text → ⊥) → b ≡ is_balanced text
+test_is text true passed failed = sym (balanced_test text (passed refl))
+test_is text false passed failed = by_case (is_balanced text) refl
+  where
+    by_case : (c : Bool) → is_balanced text ≡ c → false ≡ c
+    by_case true is = absurd (failed refl (test_balanced text is))
+    by_case false is = refl

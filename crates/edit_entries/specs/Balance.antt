@@ -1,6 +1,6 @@
 -- Meaning: words of public contracts.
 -- Braces as BibTeX, Biber and bibtool count them: a backslash hides no brace.
-use Rattle.std.specs.Prelude.{◌≡◌, ◌≤◌, ◌==◌, ℕ, List, filter, length, take}
+use Rattle.std.specs.Prelude.{◌≡◌, ◌≤◌, ◌==◌, ◌&&◌, ℕ, zero, suc, Bool, true, not, nat_lt, List, filter, length, take}
 use Rattle.bib_text.specs.Characters as char
 
 -- the number of times that a byte occurs in a text
@@ -11,3 +11,15 @@ byte_count c text = length (filter (λ b. b == c) text)
 pub record IsBalanced (text : List ℕ) : Type 0 where
   pub closes : (n : ℕ) → byte_count char.close_brace (take n text) ≤ byte_count char.open_brace (take n text)
   pub closed : byte_count char.open_brace text ≡ byte_count char.close_brace text
+
+-- whether each of the first prefixes of a text, up to a length, closes only braces that it opens
+abbrev pub closes_opened : ℕ → List ℕ → Bool
+closes_opened zero text = true
+closes_opened (suc n) text =
+    not (nat_lt (byte_count char.open_brace (take (suc n) text)) (byte_count char.close_brace (take (suc n) text)))
+    && closes_opened n text
+
+-- whether the braces of a text are balanced, as `IsBalanced` says
+abbrev pub is_balanced : List ℕ → Bool
+is_balanced text =
+    closes_opened (length text) text && byte_count char.open_brace text == byte_count char.close_brace text

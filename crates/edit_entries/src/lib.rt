@@ -12,7 +12,7 @@
 #![tactic(auto)]
 
 mod adding;
-mod balance;
+pub mod balance;
 mod braces;
 mod definitions;
 pub mod document;

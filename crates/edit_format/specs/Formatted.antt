@@ -1,7 +1,7 @@
 -- Meaning: words of public contracts.
 -- A text in one style: its entries have a new layout. The text between them is unchanged, except for white space if the style asks
 -- for blank lines.
-use Rattle.std.specs.Prelude.{◌≡◌, ◌==◌, ◌&&◌, ◌||◌, ℕ, zero, suc, ◌+◌, ◌-◌, max, Bool, false, if◌then◌else◌, List, [], ◌∷◌, ◌++◌, codes, cond, drop, fold, length, map, nat_lt, replicate, Option, None, Some}
+use Rattle.std.specs.Prelude.{◌≡◌, ◌==◌, ◌&&◌, ◌||◌, ℕ, zero, suc, ◌+◌, ◌-◌, max, Bool, false, if◌then◌else◌, List, [], ◌∷◌, ◌++◌, codes, cond, drop, fold, length, map, nat_lt, not, replicate, Option, None, Some}
 use Rattle.std.specs.Char.{is_ascii_whitespace}
 use Rattle.std.specs.List.{before_first, ends_with, flat_map, list_all, list_any, position_or_len}
 use Rattle.std.specs.Str.{chars, str_to_ascii_lowercase}
@@ -9,7 +9,9 @@ use lib.Dec.{eqb}
 use Rattle.bib_text.specs.Characters as char
 use Rattle.bib_text.specs.Places.{between, place}
 use Rattle.bib_syntax.specs.Grammar.{IsRawReading}
-use Rattle.bib_syntax.specs.Reading.{Part, FieldReading, EntryReading, FileReading}
+use Rattle.bib_syntax.specs.Reading.{Part, Piece, FieldReading, EntryReading, FileReading}
+use Rattle.bib_syntax.specs.Reading.Piece.{literal, abbreviation}
+use Rattle.edit_entries.specs.Balance.{is_balanced}
 use Rattle.edit_entries.specs.Edits.{moved_entry, moved_field}
 use Rattle.edit_format.specs.Delimited.{piece_as_written}
 use Rattle.edit_format.specs.Ordered.{in_order, order_of}
@@ -106,10 +108,24 @@ has_percent_between text start (f ∷ fs) end = has_percent text start f.name.st
 abbrev pub has_comment : List ℕ → EntryReading → Bool
 has_comment text e = has_percent_between text e.key.end e.fields e.end
 
--- the output for an entry: its new layout, or a copy if it contains a comment
+-- whether a piece is a literal whose braces aren't balanced. BibTeX, Biber and bibtool end such a text elsewhere: no backslash hides a
+-- brace, and no quote inside braces ends a text in quotes.
+abbrev pub is_unbalanced : Piece → Bool
+is_unbalanced (literal p) = not (is_balanced p.text)
+is_unbalanced (abbreviation p) = false
+
+-- whether a field has such a piece
+abbrev pub has_unbalanced : FieldReading → Bool
+has_unbalanced f = list_any is_unbalanced f.value.pieces
+
+-- whether an entry is copied: it contains a comment, or a literal whose braces aren't balanced
+abbrev pub is_copied : List ℕ → EntryReading → Bool
+is_copied text e = has_comment text e || list_any has_unbalanced e.fields
+
+-- the output for an entry: its new layout, or a copy
 abbrev pub entry_in_style : List ℕ → Style → List ℕ → EntryReading → List ℕ
 entry_in_style line_end style text e =
-    cond (has_comment text e) (between (place text e.start) (place text (e.end + 1)))
+    cond (is_copied text e) (between (place text e.start) (place text (e.end + 1)))
     (entry_laid_out line_end style text e)
 
 -- this number of line ends
@@ -144,7 +160,7 @@ text_in_style style text says = rest_in_style (line_end_of text) style None text
 
 -- an entry with its fields in the order of the style, unless it contains a comment
 abbrev pub entry_in_order : Style → List ℕ → EntryReading → EntryReading
-entry_in_order style text e = cond (has_comment text e) e (record e { fields = in_order (order_of style) e.fields })
+entry_in_order style text e = cond (is_copied text e) e (record e { fields = in_order (order_of style) e.fields })
 
 -- a reading with the fields of each entry in the order of the style, except in entries that contain a comment
 abbrev pub says_in_order : Style → List ℕ → FileReading → FileReading

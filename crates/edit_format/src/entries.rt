@@ -9,7 +9,7 @@ ghost use Rattle.edit_entries.specs.Cuts.{ArePiecesCut, IsEntryCut};
 ghost use Rattle.edit_format.specs.Formatted as styled;
 ghost use Rattle.edit_format.specs.Formatted.{entry_in_style, entry_laid_out};
 
-use crate::comments::has_comment;
+use crate::comments::is_copied;
 use crate::layout::Layout;
 use crate::order::push_fields;
 use crate::style::Style;
@@ -59,7 +59,8 @@ fn push_laid_out(
     Ok(())
 }
 
-// Appends `entry` in the layout of the style. An entry that contains a comment is copied from the file.
+// Appends `entry` in the layout of the style. An entry with a comment, or with a literal whose braces aren't balanced, is copied from the
+// file.
 pub(crate) fn push_entry(
     alloc: Global,
     new: &mut String,
@@ -70,7 +71,7 @@ pub(crate) fn push_entry(
     ensures { OnOk result (string_bytes new.new ≡ string_bytes new.old ++
         entry_in_style layout.now.line_end.now layout.now.style layout.now.text.now (entry_reading_of entry.now)) }
 {
-    if has_comment(layout.text, entry) {
+    if is_copied(layout.text, entry) {
         new.push_str(&layout.text[entry.span.start..entry.span.end + 1])?;
     } else {
         push_laid_out(alloc, new, layout, entry)?;

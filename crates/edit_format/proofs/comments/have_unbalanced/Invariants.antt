@@ -1,0 +1,10 @@
+use Rattle.std.proofs.Common.{◌≡◌, drop, map}
+use Rattle.std.specs.List.{list_any}
+use Rattle.bib_syntax.specs.Views.{field_of}
+use Rattle.edit_format.specs.Formatted.{has_unbalanced}
+use Rattle.edit_format.proofs.comments.have_unbalanced.Given as goal
+
+-- the fields still to visit decide
+abbrev pub invariant-fields : goal.invariant-fields
+invariant-fields l =
+    list_any has_unbalanced (map field_of l.fields) ≡ list_any has_unbalanced (map field_of (drop l.field-index l.fields))
