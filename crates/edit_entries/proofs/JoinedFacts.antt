@@ -13,7 +13,6 @@ use Rattle.bib_syntax.specs.Grammar.{Block, File, IsRawReading, LineComment, lon
 use Rattle.bib_syntax.specs.Grammar.{File as file}
 use Rattle.bib_syntax.proofs.FileFacts.{ahead_block, ahead_line_comment, then-then}
 use Rattle.edit_entries.specs.Edits.{moved_entry, moved_field, moved_file, moved_piece}
-use Rattle.edit_entries.specs.LineEnds.{line_end_of}
 use Rattle.edit_entries.specs.Documents.{Document, IsDocument, joined_documents}
 use Rattle.edit_entries.proofs.EditFacts.{ascii_stands, rest_stands}
 use Rattle.bib_text.proofs.BoundaryFacts.{not_over}
@@ -226,24 +225,31 @@ module _ (first : List ℕ) where
 
 -- ---- the whole
 
+-- a line end: a line feed, or a carriage return and a line feed
+abbrev pub end_by : Bool → List ℕ
+end_by with_return = cond with_return (codes "\r\n") (codes "\n")
+
+-- two documents with a line end between them
+abbrev pub joined_by : List ℕ → Document → Document → Document
+joined_by end d more = record {
+  text = d.text ++ (end ++ more.text);
+  says = then d.says (moved_file (λ n. n + (length d.text + length end)) more.says);
+}
+
+pub joined_by_read : (with_return : Bool) (d more : Document) → IsDocument d → IsDocument more
+    → IsDocument (joined_by (end_by with_return) d more)
+joined_by_read false d more read reads = feed_joined d more read reads
+joined_by_read true d more read reads =
+    let returned : Document = record { text = d.text ++ 13 ∷ []; says = d.says } in
+    let size : length (d.text ++ 13 ∷ []) + 1 ≡ length d.text + 2 = omega (arith, length-append d.text (13 ∷ [])) in
+    let read' = file_return d.text (inside_first 13 d.text [] refl (omega arith)) read in
+    let both = feed_joined returned more read' reads in
+    subst (λ m. IsRawReading (d.text ++ (13 ∷ 10 ∷ more.text)) (then d.says (moved_file (λ n. n + m) more.says))) size
+    (subst (λ t. IsRawReading t (then d.says (moved_file (λ n. n + (length (d.text ++ 13 ∷ []) + 1)) more.says)))
+    (append_assoc d.text (13 ∷ []) (10 ∷ more.text)) both)
+
 pub documents_joined : (d more : Document) → IsDocument d → IsDocument more → IsDocument (joined_documents d more)
 documents_joined d more read reads =
-    by_end
+    joined_by_read
     (nat_lt (position_or_len (λ b. eqb b 10) d.text) (length d.text)
-    && ends_with eqb (before_first (λ b. eqb b 10) d.text) (codes "\r")) (line_end_of d.text) refl
-  where
-    by_end : (b : Bool) (end : List ℕ) → end ≡ cond b (codes "\r\n") (codes "\n")
-        → IsRawReading (d.text ++ (end ++ more.text)) (then d.says (moved_file (λ n. n + (length d.text + length end)) more.says))
-    by_end false end is =
-        subst (λ e. IsRawReading (d.text ++ (e ++ more.text)) (then d.says (moved_file (λ n. n + (length d.text + length e)) more.says)))
-        (sym is) (feed_joined d more read reads)
-    by_end true end is =
-        let returned : Document = record { text = d.text ++ 13 ∷ []; says = d.says } in
-        let size : length (d.text ++ 13 ∷ []) + 1 ≡ length d.text + 2 = omega (arith, length-append d.text (13 ∷ [])) in
-        let read' = file_return d.text (inside_first 13 d.text [] refl (omega arith)) read in
-        let both = feed_joined returned more read' reads in
-        subst (λ e. IsRawReading (d.text ++ (e ++ more.text)) (then d.says (moved_file (λ n. n + (length d.text + length e)) more.says)))
-        (sym is)
-        (subst (λ m. IsRawReading (d.text ++ (13 ∷ 10 ∷ more.text)) (then d.says (moved_file (λ n. n + m) more.says))) size
-        (subst (λ t. IsRawReading t (then d.says (moved_file (λ n. n + (length (d.text ++ 13 ∷ []) + 1)) more.says)))
-        (append_assoc d.text (13 ∷ []) (10 ∷ more.text)) both))
+    && ends_with eqb (before_first (λ b. eqb b 10) d.text) (codes "\r")) d more read reads
