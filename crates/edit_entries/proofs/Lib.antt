@@ -20,6 +20,7 @@ pub mod GrammarFacts
 pub mod JoinedFacts
 mod KeyFacts
 pub mod KindFacts
+mod LineEndFacts
 mod LineFacts
 pub mod MadeFacts
 pub mod MovedFacts

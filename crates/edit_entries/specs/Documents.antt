@@ -14,6 +14,7 @@ use Rattle.bib_syntax.specs.Reading.Piece.{literal, abbreviation}
 use Rattle.edit_entries.specs.declared.errors.EditError.{EditError}
 use Rattle.edit_entries.specs.declared.errors.EditError.TheVariants.{UnknownKey, KeyIsThere, NotAKey, NotAName, NotInBraces, DefinitionIsThere, NoFieldLeft, OutOfMemory}
 use Rattle.edit_entries.specs.Edits.{Edit, edited, moved_place, moved_piece, moved_field, moved_entry, moved_file}
+use Rattle.edit_entries.specs.LineEnds.{line_end_of}
 use Rattle.edit_entries.specs.NewNames.{HaveNewKeys, shares_name}
 
 -- a text, and a reading
@@ -188,11 +189,11 @@ entry_renamed d k e key =
     let edit : Edit = record { start = e.key.start; end = e.key.end; bytes = key } in
     entry_edited d edit k (record (moved_entry (moved_place edit) e) { key = text_at (moved_place edit e.key.start) key })
 
--- the document of two texts with a line feed between them
+-- the document of two texts with the line end of the first one between them
 abbrev pub joined_documents : Document → Document → Document
 joined_documents d more = record {
-  text = d.text ++ char.line_feed ∷ more.text;
-  says = (then) d.says (moved_file (λ at. at + (length d.text + 1)) more.says);
+  text = d.text ++ (line_end_of d.text ++ more.text);
+  says = (then) d.says (moved_file (λ at. at + (length d.text + length (line_end_of d.text))) more.says);
 }
 
 -- no entry of the second document has a name, in any ASCII case, of an entry of the first, or of an earlier entry of the second

@@ -225,7 +225,8 @@ impl<'s> RawDocument<'s> {
         first_unsafe_key(&self.raw.entries)
     }
 
-    /// Returns the text, a line feed, and the text of another document. The edit is refused if an entry of the other document has a
+    /// Returns the text, its line end, and the text of another document: `\r\n` if the first line of the text ends so, otherwise `\n`. The
+    /// other text is copied; `with_line_ends_of` gives it the same line ends. The edit is refused if an entry of the other document has a
     /// name, in any ASCII case, of an entry of this one or of an earlier entry of the other, if the key of one isn't a key for BibTeX,
     /// Biber and bibtool, or if both documents define an abbreviation, in any ASCII case, with different values. The names of an entry
     /// are its key and the names in its field `ids`.

@@ -1,14 +1,15 @@
 //! Documents one after another.
 
-ghost use Rattle.std.specs.Prelude.{◌≡◌, ◌||◌, ◌++◌, ◌∷◌, ℕ, List, IfOk, MatchBool, OnOk, map};
+ghost use Rattle.std.specs.Prelude.{◌≡◌, ◌||◌, ◌++◌, ℕ, List, IfOk, MatchBool, OnOk, map};
 ghost use Rattle.std.specs.BTreeSet.{contains_text};
 ghost use Rattle.std.specs.List.{list_any};
 ghost use Rattle.std.specs.String.{string_bytes};
-ghost use Rattle.bib_text.specs.Characters as char;
 ghost use Rattle.bib_syntax.specs.Views.{entry_reading_of};
+ghost use Rattle.edit_entries.specs.LineEnds.{line_end_of};
 ghost use Rattle.edit_entries.specs.NameSets.{AreNamesOf, NoneSharesName, holds_name};
 ghost use Rattle.edit_entries.specs.NewNames.{has_word};
 
+use crate::line_ends::line_end;
 use bib_queries::names::entry_names;
 use bib_syntax::raw::RawEntry;
 use bib_text::spanned::Spanned;
@@ -79,13 +80,13 @@ pub(crate) fn shares_name(
     Ok(false)
 }
 
-// Returns a text, a line feed and another text.
+// Returns a text, its line end and another text.
 pub(crate) fn joined(alloc: Global, first: &str, second: &str) -> Result<String, AllocError>
-    ensures { IfOk result (λ text. string_bytes text ≡ first.now ++ char.line_feed ∷ second.now) }
+    ensures { IfOk result (λ text. string_bytes text ≡ first.now ++ (line_end_of first.now ++ second.now)) }
 {
     let mut text = String::new(alloc);
     text.push_str(first)?;
-    text.push_str("\n")?;
+    text.push_str(line_end(first))?;
     text.push_str(second)?;
     Ok(text)
 }

@@ -22,6 +22,7 @@ pub mod field_edits;
 mod joining;
 mod keys;
 pub mod laws;
+pub mod line_ends;
 mod lookup;
 mod names;
 mod new_keys;

@@ -13,6 +13,7 @@ use Rattle.bib_syntax.specs.Reading.{Part, Piece, FieldReading, EntryReading, Fi
 use Rattle.bib_syntax.specs.Reading.Piece.{literal, abbreviation}
 use Rattle.edit_entries.specs.Balance.{is_balanced}
 use Rattle.edit_entries.specs.Edits.{moved_entry, moved_field}
+pub use Rattle.edit_entries.specs.LineEnds.{line_end_of}
 use Rattle.edit_format.specs.Delimited.{piece_as_written}
 use Rattle.edit_format.specs.Ordered.{in_order, order_of}
 use Rattle.edit_format.specs.declared.style.Style.{Style}
@@ -146,13 +147,6 @@ rest_in_style line_end style blank_lines text at [] = drop at text
 rest_in_style line_end style blank_lines text at (e ∷ es) =
     gap_in_style line_end blank_lines (between (place text at) (place text e.start))
     ++ (entry_in_style line_end style text e ++ rest_in_style line_end style style.blank_lines text (e.end + 1) es)
-
--- the line end of a text: a carriage return and a line feed if its first line ends so, otherwise a line feed
-abbrev pub line_end_of : List ℕ → List ℕ
-line_end_of text =
-    cond
-    (nat_lt (position_or_len (λ b. eqb b char.line_feed) text) (length text)
-    && ends_with eqb (before_first (λ b. eqb b char.line_feed) text) (codes "\r")) (codes "\r\n") (codes "\n")
 
 -- a text in one style, given its reading; the text before the first entry is unchanged
 abbrev pub text_in_style : Style → List ℕ → FileReading → List ℕ

@@ -14,17 +14,8 @@ use crate::style::Style;
 use bib_syntax::raw::RawEntry;
 use bib_text::spanned::Spanned;
 use edit_entries::document::RawDocument;
+use edit_entries::line_ends::line_end;
 use std::alloc::{AllocError, Global};
-
-// Returns the line end of `text`: `\r\n` if its first line ends so, otherwise `\n`.
-fn line_end(text: &str) -> &'static str
-    ensures { result.now ≡ line_end_of text.now }
-{
-    match text.split_once('\n') {
-        Some((line, _)) => if line.ends_with("\r") { "\r\n" } else { "\n" },
-        None => "\n",
-    }
-}
 
 // Returns the text with its entries in the layout of the style, and the text between them copied or replaced by blank lines.
 fn with_entries(

@@ -14,10 +14,10 @@ use Rattle.bib_syntax.specs.Grammar.{Block, Element, Elements, Field, Fields, Ga
 use Rattle.bib_syntax.specs.Grammar.{Body as body}
 use Rattle.bib_syntax.specs.Grammar.{File as file}
 use Rattle.bib_syntax.proofs.LawFacts.{start_not_white}
-use Rattle.edit_entries.specs.Documents.{CanBeName, CanStandInBraces, Document, IsDocument, in_braces, joined_documents, text_at}
+use Rattle.edit_entries.specs.Documents.{CanBeName, CanStandInBraces, Document, IsDocument, in_braces, text_at}
 use Rattle.edit_entries.specs.Edits.{moved_field, placeless}
 use Rattle.edit_entries.proofs.EditFacts.{ascii_stands, piece_frame, rest_stands, text_stands, zone_piece}
-use Rattle.edit_entries.proofs.JoinedFacts.{documents_joined}
+use Rattle.edit_entries.proofs.JoinedFacts.{joined_by, joined_by_read}
 use Rattle.edit_entries.proofs.ValueFacts.{braced_stands}
 use Rattle.edit_entries.proofs.ZoneFacts.{Inside, char_there, inside_between, run_there}
 use Rattle.edit_strings.specs.Collected.{string_line, definition_lines, line_readings, with_definitions}
@@ -197,12 +197,12 @@ lines_read (name ∷ names) [] d can_names can_texts read = record { tells = d.s
 lines_read (name ∷ names) (text ∷ texts) d can_names can_texts read =
     let others = lines_read names texts d can_names.1 can_texts.1 read in
     let rest : Document = record { text = definition_lines names texts ++ d.text; says = others.tells } in
-    let joined = documents_joined (line_document name text) rest (line_read name text can_names.0 can_texts.0) others.read in
+    let joined = joined_by_read false (line_document name text) rest (line_read name text can_names.0 can_texts.0) others.read in
     let whole : (string_line name text ++ definition_lines names texts) ++ d.text ≡ line_text name text ++ 10 ∷ rest.text =
     append_assoc (string_line name text) (definition_lines names texts) d.text ∙ line_is name text rest.text in
     let first : FieldReading = moved_field (λ n. 0) (line_field name text) in
     record {
-      tells = (joined_documents (line_document name text) rest).says;
-      read = subst (λ t. IsRawReading t (joined_documents (line_document name text) rest).says) (sym whole) joined;
+      tells = (joined_by (10 ∷ []) (line_document name text) rest).says;
+      read = subst (λ t. IsRawReading t (joined_by (10 ∷ []) (line_document name text) rest).says) (sym whole) joined;
       alike = ap (with_definitions (first ∷ [])) (file_placeless (λ n. n + (length (line_text name text) + 1)) others.tells ∙ others.alike);
     }

@@ -1,11 +1,11 @@
 use Rattle.std.proofs.Common.{◌≡◌, Bool, true, false, ℕ, ◌<◌, List, Option, None, Some, codes, cond, length, refl, sym, ap, ◌∙◌, arith}
 use Rattle.std.specs.Prelude.{◌&&◌, MatchOption, nat_lt}
 use Rattle.std.specs.Borrow.{Bor}
-use Rattle.edit_format.specs.Formatted.{line_end_of}
+use Rattle.edit_entries.specs.LineEnds.{line_end_of}
 use lib.Dec.{eqb}
 use Rattle.std.specs.List.{after_first, before_first, ends_with, position_or_len}
 use Rattle.std.proofs.lemmas.Str.Pattern.{ends_text, split_once_first}
-use Rattle.edit_format.proofs.formatting.line_end.Goals as goal
+use Rattle.edit_entries.proofs.line_ends.line_end.Goals as goal
 
 and_false : (b c : Bool) → c ≡ false → (b && c) ≡ false
 and_false true c is = is

@@ -1,0 +1,29 @@
+-- Meaning: words of public contracts.
+-- Line ends of a text.
+use Rattle.std.specs.Prelude.{◌&&◌, ◌==◌, ℕ, List, [], ◌∷◌, ◌++◌, bytes_eq, codes, cond, encode_utf8_all, if◌then◌else◌, length, nat_lt, not}
+use Rattle.std.specs.List.{before_first, ends_with, position_or_len}
+use Rattle.std.specs.Str.{chars}
+use Rattle.bib_text.specs.Characters as char
+use lib.Dec.{eqb}
+
+-- the line end of a text: a carriage return and a line feed if its first line ends so, otherwise a line feed
+abbrev pub line_end_of : List ℕ → List ℕ
+line_end_of text =
+    cond
+    (nat_lt (position_or_len (λ b. eqb b char.line_feed) text) (length text)
+    && ends_with eqb (before_first (λ b. eqb b char.line_feed) text) (codes "\r")) (codes "\r\n") (codes "\n")
+
+-- a character after another one, with a carriage return before it if it is a line feed and has none
+abbrev pub with_return : ℕ → ℕ → List ℕ
+with_return before c = if c == char.line_feed && not (before == char.carriage_return) then char.carriage_return ∷ c ∷ [] else c ∷ []
+
+-- the same for each character of a list; the first one is after `before`
+abbrev pub with_returns : ℕ → List ℕ → List ℕ
+with_returns before [] = []
+with_returns before (c ∷ cs) = with_return before c ++ with_returns c cs
+
+-- a text with the line ends of a file: if the file's line end is a carriage return and a line feed, each line feed has a carriage return
+-- before it; otherwise the text is kept
+abbrev pub with_line_ends_of : List ℕ → List ℕ → List ℕ
+with_line_ends_of file text =
+    if bytes_eq (line_end_of file) (codes "\n") then text else encode_utf8_all (with_returns char.space (chars text))

@@ -1,0 +1,57 @@
+//! Line ends of a text.
+
+ghost use Rattle.std.specs.Prelude.{◌≡◌, ◌++◌, IfOk, OnOk, encode_utf8, encode_utf8_all};
+ghost use Rattle.std.specs.Str.{chars};
+ghost use Rattle.std.specs.String.{string_bytes};
+ghost use Rattle.bib_text.specs.Characters as char;
+ghost use Rattle.edit_entries.specs.LineEnds as spec;
+ghost use Rattle.edit_entries.specs.LineEnds.{line_end_of};
+
+use std::alloc::{AllocError, Global};
+
+/// Returns the line end of a text: `\r\n` if its first line ends so, otherwise `\n`.
+pub fn line_end(text: &str) -> &'static str
+    ensures { result.now ≡ line_end_of text.now }
+{
+    match text.split_once('\n') {
+        Some((line, _)) => if line.ends_with("\r") { "\r\n" } else { "\n" },
+        None => "\n",
+    }
+}
+
+// Appends a carriage return if a line feed needs one after the character before it.
+fn push_return(new: &mut String, before: char, c: char) -> Result<(), AllocError>
+    ensures { OnOk result (string_bytes new.new ++ encode_utf8 c ≡ string_bytes new.old ++ encode_utf8_all (spec.with_return before c)) }
+{
+    if c == '\n' {
+        if before != '\r' {
+            return new.push('\r');
+        }
+    }
+    Ok(())
+}
+
+// Returns a text with a carriage return before each line feed.
+fn with_returns(alloc: Global, text: &str) -> Result<String, AllocError>
+    ensures { IfOk result (λ new. string_bytes new ≡ encode_utf8_all (spec.with_returns char.space (chars text.now))) }
+{
+    let mut new = String::new(alloc);
+    let mut before = ' ';
+    'text: for c in text.chars() {
+        push_return(&mut new, before, c)?;
+        new.push(c)?;
+        before = c;
+    }
+    Ok(new)
+}
+
+/// Returns a text with the line ends of a file: if the first line of `file` ends with `\r\n`, each line feed of `text` without a carriage
+/// return before it gets one. Otherwise the text is kept. The only error is out of memory.
+pub fn with_line_ends_of(alloc: Global, file: &str, text: &str) -> Result<String, AllocError>
+    ensures { IfOk result (λ new. string_bytes new ≡ spec.with_line_ends_of file.now text.now) }
+{
+    if line_end(file) == "\n" {
+        return String::from_str(alloc, text);
+    }
+    with_returns(alloc, text)
+}
