@@ -2,7 +2,7 @@
 use Rattle.std.proofs.Common.{◌≡◌, inl, inr, ℕ, ◌+◌, ◌-◌, ◌<◌, ◌≤◌, Bool, true, false, cond, List, [], ◌∷◌, ◌++◌, length, drop, take, map, refl, sym, ap, ◌∙◌, subst, arith}
 use Rattle.std.specs.Prelude.{◌==◌, ◌&&◌, ◌||◌, not}
 use Rattle.std.specs.Char.{is_whitespace, is_control}
-use Rattle.std.specs.List.{AllByRecursion, flat_map}
+use Rattle.std.specs.List.{AllByRecursion, flat_map, list_any}
 use Rattle.std.specs.Str.{str_to_ascii_lowercase}
 use Rattle.std.proofs.lemmas.Bool.{cases_lt, not-true}
 use Rattle.std.proofs.lemmas.Simd.{map-map}
@@ -10,19 +10,20 @@ use Rattle.bib_text.specs.Places.{Place, place, CharAt, Run, Stops, between}
 use Rattle.bib_text.specs.Places.Run.{stop, step}
 use Rattle.bib_text.proofs.PlaceFacts.{Ahead, ahead_then, ahead_char, ahead_run, same_char, same_place, stops_at}
 use Rattle.bib_syntax.specs.Characters.{is_key}
-use Rattle.bib_syntax.specs.Reading.{part, FieldReading, EntryReading}
+use Rattle.bib_syntax.specs.Reading.{part, Piece, FieldReading, EntryReading}
+use Rattle.bib_syntax.specs.Reading.Piece.{abbreviation, literal}
 use Rattle.bib_syntax.specs.Recovery.{entry_alone}
 use Rattle.bib_syntax.specs.Grammar.{Block, Fields, block_kind, longest}
 use Rattle.bib_syntax.specs.Grammar.{Fields as fields}
 use Rattle.bib_syntax.proofs.FieldFacts.{ahead_identifier, ahead_field, ahead_fields, ahead_gap}
 use Rattle.bib_syntax.proofs.FileFacts.{ahead_head}
-use Rattle.edit_entries.specs.Edits.{moved_entry, moved_field}
+use Rattle.edit_entries.specs.Edits.{moved_entry, moved_field, moved_piece}
 use Rattle.bib_text.proofs.BoundaryFacts.{not_over}
 use Rattle.edit_entries.proofs.GrammarFacts.{block_there}
 use Rattle.edit_entries.proofs.MovedFacts.{char_within}
 use Rattle.edit_entries.proofs.SplitFacts.{EntryBlock, block_of}
 use Rattle.edit_entries.proofs.ZoneFacts.{Frame, Inside, Zone, between_there, inside_between, run_there, there}
-use Rattle.edit_format.specs.Formatted.{entry_content, entry_in_order, entry_in_style, entry_laid_out, field_in_lowercase, field_laid_out, has_comment, has_percent, has_percent_between, last_comma, padded_width}
+use Rattle.edit_format.specs.Formatted.{entry_content, entry_in_order, entry_in_style, entry_laid_out, field_in_lowercase, field_laid_out, has_comment, has_percent, has_percent_between, has_unbalanced, is_copied, is_unbalanced, last_comma, padded_width}
 use Rattle.edit_format.specs.Ordered.{in_order, order_of}
 use Rattle.edit_format.specs.declared.style.Style.{Style}
 use Rattle.edit_format.proofs.ByteFacts.{has}
@@ -38,6 +39,56 @@ use Rattle.bib_syntax.proofs.LawFacts.{key_dark}
 
 abbrev contents : List FieldReading → List FieldReading
 contents fs = map (moved_field (λ n. 0)) (map field_in_lowercase fs)
+
+-- ---- literals whose braces aren't balanced
+
+neither : {a b : Bool} → a ≡ false → b ≡ false → (a || b) ≡ false
+neither {b = b} one other = ap (λ x. x || b) one ∙ other
+
+second_false : (a b : Bool) → (a || b) ≡ false → b ≡ false
+second_false false b is = is
+second_false true b is = cc
+
+pieces_moved : (move : ℕ → ℕ) (ps : List Piece) → list_any is_unbalanced (map (moved_piece move) ps) ≡ list_any is_unbalanced ps
+pieces_moved move [] = refl
+pieces_moved move (literal p ∷ ps) = ap (λ b. is_unbalanced (literal p) || b) (pieces_moved move ps)
+pieces_moved move (abbreviation p ∷ ps) = pieces_moved move ps
+
+unbalanced_moved : (move : ℕ → ℕ) (fs : List FieldReading) → list_any has_unbalanced (map (moved_field move) fs) ≡ list_any has_unbalanced fs
+unbalanced_moved move [] = refl
+unbalanced_moved move (f ∷ fs) =
+    ap (λ b. b || list_any has_unbalanced (map (moved_field move) fs)) (pieces_moved move f.value.pieces)
+    ∙ ap (λ b. has_unbalanced f || b) (unbalanced_moved move fs)
+
+unbalanced_content : (fs : List FieldReading) → list_any has_unbalanced (map field_content fs) ≡ list_any has_unbalanced fs
+unbalanced_content [] = refl
+unbalanced_content (f ∷ fs) =
+    ap (λ b. b || list_any has_unbalanced (map field_content fs)) (pieces_moved (λ n. 0) f.value.pieces)
+    ∙ ap (λ b. has_unbalanced f || b) (unbalanced_content fs)
+
+-- fields with the same content have the same literals
+unbalanced_alike : (fs gs : List FieldReading) → map field_content fs ≡ map field_content gs
+    → list_any has_unbalanced fs ≡ list_any has_unbalanced gs
+unbalanced_alike fs gs alike = sym (unbalanced_content fs) ∙ ap (list_any has_unbalanced) alike ∙ unbalanced_content gs
+
+none_unbalanced : (fs : List FieldReading) → list_any has_unbalanced fs ≡ false → AllByRecursion (λ f. has_unbalanced f ≡ false) fs
+none_unbalanced [] is = _
+none_unbalanced (f ∷ fs) is = by_first (has_unbalanced f) refl is
+  where
+    by_first : (b : Bool) → has_unbalanced f ≡ b → (b || list_any has_unbalanced fs) ≡ false
+        → (has_unbalanced f ≡ false) × AllByRecursion (λ f. has_unbalanced f ≡ false) fs
+    by_first false one rest = (one, none_unbalanced fs rest)
+    by_first true one rest = cc
+
+all_balanced : (fs : List FieldReading) → AllByRecursion (λ f. has_unbalanced f ≡ false) fs → list_any has_unbalanced fs ≡ false
+all_balanced [] all = refl
+all_balanced (f ∷ fs) all = neither all.0 (all_balanced fs all.1)
+
+-- no literal is unbalanced in any order of the fields
+unbalanced_ordered : (names : List (List ℕ)) (fs : List FieldReading) → list_any has_unbalanced fs ≡ false
+    → list_any has_unbalanced (in_order names fs) ≡ false
+unbalanced_ordered names fs is =
+    all_balanced (in_order names fs) (in_order_all (λ f. has_unbalanced f ≡ false) names fs (none_unbalanced fs is))
 
 -- ---- fields after the key
 
@@ -77,9 +128,9 @@ abbrev ordered : Style → EntryReading → EntryReading
 ordered style e = record e { fields = in_order (order_of style) e.fields }
 
 laid_out_read : (line_end : List ℕ) (style : Style) {a b u v : Place} {e : EntryReading} → IsLineEnd line_end
-    → EntryBlock a e b → Stands u (entry_laid_out line_end style a.text e) v
+    → list_any has_unbalanced e.fields ≡ false → EntryBlock a e b → Stands u (entry_laid_out line_end style a.text e) v
     → EntryRead line_end style (entry_laid_out line_end style a.text e) (ordered style e) u v
-laid_out_read line_end style {a} {b} {u} {v} {e} ends x s =
+laid_out_read line_end style {a} {b} {u} {v} {e} ends balanced x s =
     let width = padded_width style e.fields in
     let names = order_of style in
     let fs = in_order names e.fields in
@@ -211,7 +262,8 @@ laid_out_read line_end style {a} {b} {u} {v} {e} ends x s =
           ap
           (λ c.
           cond c (between (place u.text u.at) (place u.text (list.brace.at + 1)))
-          (entry_laid_out line_end style u.text e')) list.clear
+          (entry_laid_out line_end style u.text e'))
+          (neither list.clear (unbalanced_alike list.reading fs alike ∙ unbalanced_ordered names e.fields balanced))
           ∙ ap
           (λ t.
           write (str_to_ascii_lowercase t) (between u3 u4) (from (padded_width style list.reading))
@@ -279,8 +331,15 @@ comment_there {f} {a} {b} {e} z ia ib x =
     ∙ ap (λ n. has_percent_between f.old x.key_end.at e.fields n) (sym x.ends)
     ∙ ap (λ n. has_percent_between f.old n e.fields e.end) (sym key_end)
 
--- the copy of an entry with a comment parses
-kept_read : (line_end : List ℕ) (style : Style) {a b u v : Place} {e : EntryReading} → has_comment a.text e ≡ true
+-- an entry of a zone is copied in both texts or in neither
+copied_there : {f : Frame} {a b : Place} {e : EntryReading} → Zone f → Inside f a → Inside f b → EntryBlock a e b
+    → is_copied f.new (moved_entry f.move e) ≡ is_copied f.old e
+copied_there {f} {a} {b} {e} z ia ib x =
+    ap (λ c. c || list_any has_unbalanced (map (moved_field f.move) e.fields)) (comment_there z ia ib x)
+    ∙ ap (λ c. has_comment f.old e || c) (unbalanced_moved f.move e.fields)
+
+-- the copy of an entry parses
+kept_read : (line_end : List ℕ) (style : Style) {a b u v : Place} {e : EntryReading} → is_copied a.text e ≡ true
     → EntryBlock a e b → Stands u (between a b) v → EntryRead line_end style (between a b) e u v
 kept_read line_end style {a} {b} {u} {v} {e} commented x s =
     let to_inside = ahead_head x.head in
@@ -317,7 +376,7 @@ kept_read line_end style {a} {b} {u} {v} {e} commented x s =
           (λ c.
           cond c (between (place u.text (move e.start)) (place u.text (move e.end + 1)))
           (entry_laid_out line_end style u.text (moved_entry move e)))
-          (comment_there c.zone c.start c.end x ∙ commented)
+          (copied_there c.zone c.start c.end x ∙ commented)
           ∙ ap (λ n. between (place u.text n) (place u.text (move e.end + 1))) to_start
           ∙ ap (λ n. take (n - u.at) (drop u.at u.text)) to_end ∙ between_stands (between a b) s;
       starts = to_start;
@@ -345,9 +404,9 @@ kept_read line_end style {a} {b} {u} {v} {e} commented x s =
 pub entry_read : (line_end : List ℕ) (style : Style) (text : List ℕ) {a b u v : Place} {e : EntryReading}
     → IsLineEnd line_end → a.text ≡ text → EntryBlock a e b → Stands u (entry_in_style line_end style text e) v
     → EntryRead line_end style (entry_in_style line_end style text e) (entry_in_order style text e) u v
-entry_read line_end style text {a} {b} {u} {v} {e} ends same x s = by_comment (has_comment text e) refl
+entry_read line_end style text {a} {b} {u} {v} {e} ends same x s = by_comment (is_copied text e) refl
   where
-    by_comment : (c : Bool) → has_comment text e ≡ c
+    by_comment : (c : Bool) → is_copied text e ≡ c
         → EntryRead line_end style (entry_in_style line_end style text e) (entry_in_order style text e) u v
     by_comment true is =
         let from : e.start ≡ a.at = x.starts in
@@ -357,7 +416,7 @@ entry_read line_end style text {a} {b} {u} {v} {e} ends same x s = by_comment (h
         ap (λ c. cond c (between (place text e.start) (place text (e.end + 1))) (entry_laid_out line_end style text e)) is
         ∙ ap (λ n. between (place text n) (place text (e.end + 1))) from ∙ ap (λ n. take (n - a.at) (drop a.at text)) to
         ∙ ap (λ t. take (b.at - a.at) (drop a.at t)) (sym same) in
-        let commented : has_comment a.text e ≡ true = ap (λ t. has_comment t e) same ∙ is in
+        let commented : is_copied a.text e ≡ true = ap (λ t. is_copied t e) same ∙ is in
         let as_it_was : entry_in_order style text e ≡ e = ap (λ c. cond c e (ordered style e)) is in
         subst (λ r. EntryRead line_end style (entry_in_style line_end style text e) r u v) (sym as_it_was)
         (subst (λ t. EntryRead line_end style t e u v) (sym kept) (kept_read line_end style commented x (subst (λ t. Stands u t v) kept s)))
@@ -368,4 +427,4 @@ entry_read line_end style text {a} {b} {u} {v} {e} ends same x s = by_comment (h
         let in_its_order : entry_in_order style text e ≡ ordered style e = ap (λ c. cond c e (ordered style e)) is in
         subst (λ r. EntryRead line_end style (entry_in_style line_end style text e) r u v) (sym in_its_order)
         (subst (λ t. EntryRead line_end style t (ordered style e) u v) (sym laid_out)
-        (laid_out_read line_end style ends x (subst (λ t. Stands u t v) laid_out s)))
+        (laid_out_read line_end style ends (second_false (has_comment text e) (list_any has_unbalanced e.fields) is) x (subst (λ t. Stands u t v) laid_out s)))

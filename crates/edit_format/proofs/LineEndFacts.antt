@@ -19,7 +19,7 @@ use Rattle.bib_syntax.proofs.FieldFacts.{ahead_fields, ahead_gap, ahead_identifi
 use Rattle.bib_syntax.proofs.FileFacts.{ahead_head}
 use Rattle.edit_entries.proofs.MovedFacts.{char_within}
 use Rattle.edit_entries.proofs.SplitFacts.{EntryBlock, ahead_file_before}
-use Rattle.edit_format.specs.Formatted.{entry_in_style, entry_laid_out, field_laid_out, gap_in_style, has_comment, last_comma, line_end_of, line_ends, padded_width, rest_in_style}
+use Rattle.edit_format.specs.Formatted.{entry_in_style, entry_laid_out, field_laid_out, gap_in_style, is_copied, last_comma, line_end_of, line_ends, padded_width, rest_in_style}
 use Rattle.edit_format.specs.Ordered.{in_order, order_of}
 use Rattle.edit_format.specs.declared.style.Style.{Style}
 use Rattle.edit_format.proofs.ByteFacts.{char_without, either_false, has, none_append, other_char, run_without}
@@ -285,9 +285,9 @@ lines_end line_end style blank_lines start {a} way front
     parted_at start {u = a} {v = s} to_start.at to_start.text start_within in
     let mid : List ℕ = start ++ between a s in
     let old_is : line_end_of (mid ++ drop s.at s.text) ≡ line_end = ap line_end_of (sym old) ∙ is in
-    let laid_out : has_comment a.text e ≡ false → entry_bytes ≡ entry_laid_out line_end style a.text e =
+    let laid_out : is_copied a.text e ≡ false → entry_bytes ≡ entry_laid_out line_end style a.text e =
     λ clear. ap (λ c. cond c (between (place a.text e.start) (place a.text (e.end + 1))) (entry_laid_out line_end style a.text e)) clear in
-    let kept : has_comment a.text e ≡ true → entry_bytes ≡ between s v =
+    let kept : is_copied a.text e ≡ true → entry_bytes ≡ between s v =
     λ some. ap (λ c. cond c (between (place a.text e.start) (place a.text (e.end + 1))) (entry_laid_out line_end style a.text e)) some
     ∙ ap (λ n. between (place a.text n) (place a.text (e.end + 1))) x.starts
     ∙ ap (λ n. take (n - s.at) (drop s.at a.text)) end_is
@@ -308,12 +308,12 @@ lines_end line_end style blank_lines start {a} way front
     let rest_same : rest_in_style line_end style style.blank_lines v.text v.at rest.entries ≡ rest_bytes =
     ap (λ t. rest_in_style line_end style style.blank_lines t v.at rest.entries) end_text
     ∙ ap (λ n. rest_in_style line_end style style.blank_lines a.text n rest.entries) (sym end_is) in
-    let by_kept : has_comment a.text e ≡ true → line_end_of (mid ++ (entry_bytes ++ rest_bytes)) ≡ line_end =
+    let by_kept : is_copied a.text e ≡ true → line_end_of (mid ++ (entry_bytes ++ rest_bytes)) ≡ line_end =
     λ some.
     ap (λ t. line_end_of (mid ++ (t ++ rest_bytes))) (kept some)
     ∙ ap line_end_of (sym (append_assoc mid (between s v) rest_bytes))
     ∙ ap (λ t. line_end_of (past ++ t)) (sym rest_same) ∙ later in
-    let by_laid_out : has 10 mid ≡ false → has_comment a.text e ≡ false → line_end_of (mid ++ (entry_bytes ++ rest_bytes)) ≡ line_end =
+    let by_laid_out : has 10 mid ≡ false → is_copied a.text e ≡ false → line_end_of (mid ++ (entry_bytes ++ rest_bytes)) ≡ line_end =
     λ none_mid clear.
     let l = entry_line line_end style a.text mid rest_bytes e in
     ap (λ t. line_end_of (mid ++ (t ++ rest_bytes))) (laid_out clear) ∙ ap line_end_of l.is
@@ -324,7 +324,7 @@ lines_end line_end style blank_lines start {a} way front
     λ same.
     ap (λ t. line_end_of (start ++ (t ++ (entry_bytes ++ rest_bytes)))) same
     ∙ ap line_end_of (sym (append_assoc start (between a s) (entry_bytes ++ rest_bytes)))
-    ∙ by_cases (has 10 mid) (has_comment a.text e) refl refl
+    ∙ by_cases (has 10 mid) (is_copied a.text e) refl refl
     (λ some. same_start mid (entry_bytes ++ rest_bytes) (drop s.at s.text) some ∙ old_is) by_kept by_laid_out in
     ap line_end_of whole
     ∙ by_gap line_end blank_lines start (between a s) (entry_bytes ++ rest_bytes) way (drop a.at a.text) is by_same

@@ -11,7 +11,7 @@ use Rattle.bib_abbreviations.specs.Abbreviations.{Definitions}
 use Rattle.edit_entries.specs.Documents.{has_name}
 use Rattle.bib_file_entries.specs.Loaded.{AllCanBeRead, CanBeRead, field_in, name_of}
 use Rattle.bib_syntax.specs.Reading.{EntryReading, FieldReading}
-use Rattle.edit_format.specs.Formatted.{entry_in_order, has_comment}
+use Rattle.edit_format.specs.Formatted.{entry_in_order, is_copied}
 use Rattle.edit_format.specs.Ordered.{in_order, order_of}
 use Rattle.edit_format.specs.declared.style.Style.{Style}
 use Rattle.edit_format.proofs.OrderFacts.{in_order_all}
@@ -96,7 +96,7 @@ pub record IsEntryReordered (one other : EntryReading) : Type 0 where
   pub fields : IsReordered one.fields other.fields
 
 pub entry_reordered : (style : Style) (text : List ℕ) (e : EntryReading) → IsEntryReordered e (entry_in_order style text e)
-entry_reordered style text e = by_comment (has_comment text e)
+entry_reordered style text e = by_comment (is_copied text e)
   where
     by_comment : (b : Bool) → IsEntryReordered e (cond b e (record e { fields = in_order (order_of style) e.fields }))
     by_comment true = record { key = refl; kind = refl; fields = record { found = λ name. refl; readable = λ definitions all. all } }

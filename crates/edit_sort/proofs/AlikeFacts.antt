@@ -10,7 +10,7 @@ use Rattle.bib_syntax.specs.Reading.{Piece, FieldReading, EntryReading}
 use Rattle.bib_syntax.specs.Reading.Piece.{literal, abbreviation}
 use Rattle.edit_entries.specs.Documents.{has_name}
 use Rattle.edit_entries.specs.Edits.{moved_entry, moved_field, moved_piece}
-use Rattle.edit_format.specs.Formatted.{entry_content, entry_in_lowercase, entry_in_order, field_in_lowercase, has_comment}
+use Rattle.edit_format.specs.Formatted.{entry_content, entry_in_lowercase, entry_in_order, field_in_lowercase, is_copied}
 use Rattle.edit_format.specs.Ordered.{in_order, order_of}
 use Rattle.edit_format.specs.declared.style.Style.{Style}
 use Rattle.edit_format.proofs.LowerFacts.{lower_lower}
@@ -142,8 +142,8 @@ any_in_order p (name ∷ names) fields =
 
 pub order_keeps : (style : Style) (text : List ℕ) → KeepsReferences (entry_in_order style text)
 order_keeps style text = record {
-  keyed = λ e. by_comment e (has_comment text e);
-  refers = λ key e. by_comment' key e (has_comment text e);
+  keyed = λ e. by_comment e (is_copied text e);
+  refers = λ key e. by_comment' key e (is_copied text e);
 }
   where
     by_comment : (e : EntryReading) (b : Bool)
