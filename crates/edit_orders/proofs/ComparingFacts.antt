@@ -1,15 +1,12 @@
 -- Facts about the order of sort values.
-use Rattle.std.proofs.Common.{◌≡◌, ℕ, zero, suc, ◌+◌, ◌<◌, true, false, List, [], ◌∷◌, Option, None, Some, Ordering, Less, Equal, Greater, drop, get_or, length, refl, sym, ap, ap₂, ◌∙◌, arith}
+use Rattle.std.proofs.Common.{◌≡◌, ℕ, zero, suc, ◌+◌, ◌<◌, true, false, List, [], ◌∷◌, Option, Ordering, Less, Equal, Greater, drop, get_or, length, refl, sym, ap, ap₂, ◌∙◌, arith}
 use Rattle.std.proofs.lemmas.Bool.{true≢false}
 use Rattle.std.specs.Ordering.{is_ne, ordering_then}
 use Rattle.std.proofs.Math.Seq.{drop-nil}
 use Rattle.std.proofs.lemmas.List.{drop_more}
-use Rattle.edit_orders.specs.Values.{directed_cmp, first_of, last_cmp, rest_of, value_cmp, values_cmp}
-use Rattle.edit_orders.specs.declared.order.Direction.{Direction}
-use Rattle.edit_orders.specs.declared.order.Direction.TheVariants.{Ascending, Descending}
+use Rattle.edit_orders.specs.Values.{first_of, last_cmp, rest_of, values_cmp}
 use Rattle.edit_orders.specs.declared.order.SortBy.{SortBy}
 use Rattle.edit_orders.specs.declared.values.SortValue.{SortValue}
-use Rattle.edit_orders.specs.declared.values.SortValue.TheVariants.{Number, Texts}
 
 rest_drop : (vs : List (Option SortValue)) (i : ℕ) → rest_of (drop i vs) ≡ drop (i + 1) vs
 rest_drop [] i = ap rest_of (drop-nil i) ∙ sym (drop-nil (i + 1))

@@ -1,7 +1,7 @@
 -- Facts about fields and lists.
-use Rattle.std.proofs.Common.{◌≡◌, ℕ, ◌+◌, ◌<◌, Bool, true, false, List, [], ◌∷◌, ◌++◌, Option, Some, None, cond, get_or, length, map, take, refl, sym, ap, subst, ◌∙◌}
+use Rattle.std.proofs.Common.{◌≡◌, ℕ, ◌+◌, ◌<◌, Bool, true, false, List, [], ◌∷◌, ◌++◌, Option, Some, cond, get_or, length, map, take, refl, sym, ap, subst, ◌∙◌}
 use Rattle.std.specs.Prelude.{◌||◌, bytes_eq, find, option_map, reverse}
-use Rattle.std.specs.List.{list_any}
+use Rattle.std.specs.List.{AllZip, list_any}
 use Rattle.std.proofs.lemmas.Cmp.{nat_list_eq_equiv}
 use Rattle.std.proofs.lemmas.List.{map_push, reverse-append, take_more}
 use Rattle.bib_syntax.specs.Reading.{FieldReading, Piece}
@@ -59,3 +59,25 @@ pub contents_plain : (definitions : Definitions) (pieces : List Piece) (raw : Li
     → AreContentsOf definitions pieces chunks
 contents_plain definitions pieces raw chunks same unread is =
     subst (AreContentsOf definitions pieces) (sym (is ∙ ap plain_contents same)) (plain unread)
+
+module _ {A B : Type 0} (R : A → B → Type 0) where
+  -- two lists related element by element stay so after adding related elements at the end
+  pub AllZip-push : (xs : List A) (ys : List B) (x : A) (y : B) → AllZip R xs ys → R x y → AllZip R (xs ++ x ∷ []) (ys ++ y ∷ [])
+  AllZip-push [] [] x y all last = (last, tt)
+  AllZip-push [] (b ∷ ys) x y all last = absurd all
+  AllZip-push (a ∷ xs) [] x y all last = absurd all
+  AllZip-push (a ∷ xs) (b ∷ ys) x y all last = (all.0, AllZip-push xs ys x y all.1 last)
+
+-- the same for the first elements of a list up to an index, and for the list of their values
+pub AllZip-more : {A B : Type 0} (R : A → B → Type 0) (xs : List A) (i : ℕ) (d : A) (ys new : List B) (y : B) → i < length xs
+    → AllZip R (take i xs) ys → R (get_or xs i d) y → new ≡ ys ++ y ∷ [] → AllZip R (take (i + 1) xs) new
+AllZip-more R xs i d ys new y within all last is =
+    subst (λ l. AllZip R l new) (sym (take_more xs i d within))
+    (subst (AllZip R (take i xs ++ get_or xs i d ∷ [])) (sym is) (AllZip-push R (take i xs) ys (get_or xs i d) y all last))
+
+-- the same for mapped elements
+pub AllZip-more_of : {A B C : Type 0} (R : C → B → Type 0) (f : A → C) (xs : List A) (i : ℕ) (d : A) (ys new : List B) (y : B) → i < length xs
+    → AllZip R (map f (take i xs)) ys → R (f (get_or xs i d)) y → new ≡ ys ++ y ∷ [] → AllZip R (map f (take (i + 1) xs)) new
+AllZip-more_of R f xs i d ys new y within all last is =
+    subst (λ l. AllZip R l new) (sym (ap (map f) (take_more xs i d within) ∙ map_push f (take i xs) (get_or xs i d)))
+    (subst (AllZip R (map f (take i xs) ++ f (get_or xs i d) ∷ [])) (sym is) (AllZip-push R (map f (take i xs)) ys (f (get_or xs i d)) y all last))

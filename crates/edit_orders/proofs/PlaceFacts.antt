@@ -7,7 +7,11 @@ use Rattle.std.proofs.lemmas.Bool.{cases_lt, false≢true}
 use Rattle.std.proofs.lemmas.List.{get_or-map, get_or_append_left, get_or_push, length-map}
 use Rattle.std.proofs.lemmas.List.Elements.{Contains-get_or}
 use Rattle.std.proofs.lemmas.List.Sorted.{Contains-permutation, ranks_by, sorted_far}
-use Rattle.edit_orders.specs.Places.{ArePlacesOf, IsPlaceIn}
+use Rattle.std.specs.List.{AllZip}
+use Rattle.bib_abbreviations.specs.Abbreviations.{Definitions}
+use Rattle.bib_syntax.specs.Reading.{EntryReading, FileReading}
+use Rattle.edit_orders.specs.Fields.{definition_in}
+use Rattle.edit_orders.specs.Places.{ArePlacesOf, AreValuesOf, IsPlaceIn, IsPlaced}
 use Rattle.edit_orders.specs.Values.{values_cmp}
 use Rattle.edit_orders.specs.declared.order.SortBy.{SortBy}
 use Rattle.edit_orders.specs.declared.values.SortValue.{SortValue}
@@ -147,3 +151,15 @@ module _ (order : List SortBy) where
         (Contains-permutation all sorted (get_or all j []) same (Contains-get_or all j [] within'))
         (each i within) (each j within');
   }
+
+-- entries with sort values are placed by them
+pub placed_by : (says : FileReading) (order parts lent : List SortBy) (d : Definitions) (entries : List EntryReading)
+    (all kept : List Values) (places : List ℕ) → parts ≡ order → lent ≡ order → d ≡ definition_in says.abbreviations → entries ≡ says.entries
+    → kept ≡ all → AllZip (AreValuesOf d parts) entries all → ArePlacesOf lent kept places → IsPlaced order says places
+placed_by says order parts lent d entries all kept places same again defined listed kept_same values placed = record {
+  all = all;
+  values =
+      subst (λ es. AllZip (AreValuesOf (definition_in says.abbreviations) order) es all) listed
+      (subst (λ e. AllZip (AreValuesOf e order) entries all) defined (subst (λ o. AllZip (AreValuesOf d o) entries all) same values));
+  placed = subst (λ vs. ArePlacesOf order vs places) kept_same (subst (λ o. ArePlacesOf o kept places) again placed);
+}

@@ -1,15 +1,15 @@
 -- Facts about runs of digits.
-use Rattle.std.proofs.Common.{◌≡◌, ℕ, zero, suc, ◌+◌, ◌-◌, ◌<◌, ◌≤◌, Bool, true, false, cond, not, min, List, [], ◌∷◌, drop, get_or, length, take, ◌==◌, arith, refl, sym, ap, ◌∙◌, subst, add-one, Some, None, Option, inl, inr}
+use Rattle.std.proofs.Common.{◌≡◌, ℕ, zero, suc, ◌+◌, ◌-◌, ◌<◌, ◌≤◌, Bool, true, false, cond, not, min, List, [], ◌∷◌, drop, get_or, length, take, ◌==◌, arith, refl, sym, ap, ap₂, ◌∙◌, subst, add-one, Some, None, inl, inr}
 use Rattle.std.specs.Prelude.{bytes_eq, codes}
 use Rattle.std.specs.List.{prefix_len}
 use Rattle.std.specs.Char.{is_ascii_digit, digit_value}
 use Rattle.std.specs.Str.{IsCharBoundary, IsUtf8}
 use Rattle.std.specs.Str.Parse.{AllDigits, digits_value}
-use Rattle.std.proofs.lemmas.Bool.{cases_lt}
+use Rattle.std.proofs.lemmas.Bool.{cases_lt, eqb-true}
 use Rattle.std.proofs.lemmas.Bool.Decides.{nat_tests}
 use Rattle.std.proofs.lemmas.List.Sums.{prefix_len-le-length, prefix_len_passes, prefix_len_stops}
 use Rattle.std.proofs.lemmas.Str.{IsCharBoundary-after_ascii, IsCharBoundary-before_ascii, IsCharBoundary-end, IsCharBoundary-start}
-use Rattle.edit_orders.specs.Years.{counted, most}
+use Rattle.edit_orders.specs.Years.{counted, from_digits, most, year_of}
 
 digit_is_low : (b : ℕ) → is_ascii_digit b ≡ true → digit_value b < 10
 digit_is_low b h = grind (arith, nat_tests)
@@ -70,3 +70,35 @@ counted_some is_before (d ∷ ds) h = refl
 pub counted_none : (is_before : Bool) (ds : List ℕ) → length ds ≡ 0 → counted is_before ds ≡ None
 counted_none is_before [] h = refl
 counted_none is_before (d ∷ ds) h = absurd (omega arith)
+
+-- the year of a text in terms of its cuts
+pub year_is : (text before rest digits : List ℕ) (n : ℕ) → n ≡ prefix_len (λ b. not (is_ascii_digit b)) text → before ≡ take n text
+    → rest ≡ drop n text → digits ≡ take (prefix_len is_ascii_digit rest) rest
+    → year_of text ≡ counted (bytes_eq before (codes "-")) digits
+year_is text before rest digits n is front back run =
+    let from : from_digits text ≡ rest = sym (back ∙ ap (λ k. drop k text) is) in
+    ap₂ (λ b ds. counted (bytes_eq b (codes "-")) ds) (sym (front ∙ ap (λ k. take k text) is))
+    (ap (λ t. take (prefix_len is_ascii_digit t) t) from ∙ sym run)
+
+-- the year of a text with some digits after a hyphen
+pub year_before : (text before digits : List ℕ) (k : ℕ) → year_of text ≡ counted (bytes_eq before (codes "-")) digits
+    → bytes_eq before (codes "-") ≡ true → 0 < length digits → k ≡ min (digits_value 10 digits) most → Some (most - k) ≡ year_of text
+year_before text before digits k is hyphen some same =
+    sym (is ∙ ap (λ b. counted b digits) hyphen ∙ counted_some true digits some ∙ ap (λ m. Some (most - m)) (sym same))
+
+-- the year of a text with some digits, not only after a hyphen
+pub year_after : (text before digits : List ℕ) (k : ℕ) → year_of text ≡ counted (bytes_eq before (codes "-")) digits
+    → bytes_eq before (codes "-") ≡ false → 0 < length digits → k ≡ min (digits_value 10 digits) most → Some (most + k) ≡ year_of text
+year_after text before digits k is other some same =
+    sym (is ∙ ap (λ b. counted b digits) other ∙ counted_some false digits some ∙ ap (λ m. Some (most + m)) (sym same))
+
+-- a text without digits has no year
+pub year_none : (text before digits : List ℕ) → year_of text ≡ counted (bytes_eq before (codes "-")) digits
+    → (length digits == 0) ≡ true → None ≡ year_of text
+year_none text before [] is empty = sym is
+year_none text before (d ∷ ds) is empty = absurd (let zero : length (d ∷ ds) ≡ 0 = eqb-true (length (d ∷ ds)) 0 empty in omega (arith, zero))
+
+-- a list that isn't empty has a length
+pub some_left : (digits : List ℕ) → (length digits == 0) ≡ false → 0 < length digits
+some_left [] h = absurd (let clash : true ≡ false = h in cc)
+some_left (d ∷ ds) h = omega arith

@@ -1,6 +1,6 @@
 -- Meaning: words of public contracts.
 -- The properties of entries: the fields in which they are, and their sort values.
-use Rattle.std.specs.Prelude.{◌≡◌, ◌==◌, ◌&&◌, ℕ, Bool, false, not, List, [], ◌∷◌, Option, None, Some, bytes_eq, codes, find, length, option_map, reverse}
+use Rattle.std.specs.Prelude.{◌≡◌, ◌==◌, ◌&&◌, ℕ, Bool, false, not, List, Option, None, Some, bytes_eq, codes, find, length, option_map, reverse}
 use Rattle.std.specs.List.{flat_map, list_any}
 use Rattle.std.specs.Str.{str_eq_ignore_ascii_case, str_to_ascii_lowercase}
 use Rattle.bib_abbreviations.specs.Abbreviations.{AreContents, Definitions, IsReadable}

@@ -5,7 +5,7 @@ ghost use Rattle.bib_abbreviations.specs.Abbreviations.{given_by, sorted_in};
 ghost use Rattle.bib_syntax.specs.Views.{entry_reading_of, field_of, piece_of};
 ghost use Rattle.edit_orders.specs.Fields as spec;
 
-use crate::order::Property;
+use crate::order::{Property, SortBy};
 use crate::values::{SortValue, one_text, value_of};
 use bib_abbreviations::reader::FieldReader;
 use bib_chunks::chunk::making::push_normal;
@@ -133,20 +133,20 @@ fn field_value<'s>(
     value_of(alloc, property, chunks.as_slice())
 }
 
-// Returns the sort value of a property of an entry.
+// Returns the sort value of an entry by a property.
 pub(crate) fn entry_value<'s>(
     alloc: Global,
-    property: Property,
+    by: &SortBy,
     entry: &Spanned<RawEntry<'s>>,
     reader: &mut FieldReader<'_, 's>,
 ) -> Result<Option<SortValue>, AllocError>
     ensures same { reader.new ≡ reader.old }
-    ensures value { IfOk result (spec.IsValueOf (given_by reader.old) (entry_reading_of entry.now) property) }
+    ensures value { IfOk result (spec.IsValueOf (given_by reader.old) (entry_reading_of entry.now) by.now.property) }
 {
-    match property {
+    match by.property {
         Property::Key => one_text(alloc, entry.v.key.v.to_ascii_lowercase(alloc)?),
         Property::Type => one_text(alloc, entry.v.kind.v.to_ascii_lowercase(alloc)?),
         Property::Year | Property::Author | Property::Title =>
-            field_value(alloc, property, &entry.v.fields, reader),
+            field_value(alloc, by.property, &entry.v.fields, reader),
     }
 }

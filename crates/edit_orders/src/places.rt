@@ -31,7 +31,7 @@ fn entry_values<'s>(
 {
     let mut values = Vec::new(alloc);
     'order: for by in order {
-        values.push(entry_value(alloc, by.property, entry, reader)?)?;
+        values.push(entry_value(alloc, by, entry, reader)?)?;
     }
     Ok(Items::from_vec(values))
 }

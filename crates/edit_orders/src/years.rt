@@ -1,6 +1,6 @@
 //! The year in a text.
 
-ghost use Rattle.std.specs.Prelude.{◌≡◌, ◌≤◌, min, length, not};
+ghost use Rattle.std.specs.Prelude.{◌≡◌, ◌≤◌, min, length, not, take};
 ghost use Rattle.std.specs.Char.{is_ascii_digit};
 ghost use Rattle.std.specs.List.{prefix_len};
 ghost use Rattle.std.specs.Str.Parse.{AllDigits, digits_value};
@@ -41,13 +41,22 @@ fn number(digits: &str) -> u64
     }
 }
 
-// Returns the number of a text: the first digits in a row, before year 0 if the text begins with a hyphen and these digits. Numbers are
-// counted from `-MOST`.
-pub(crate) fn year_number(text: &str) -> Option<u64>
-    ensures { result ≡ spec.year_number text.now }
+// Returns the digits at the start.
+fn first_digits(text: &str) -> &str
+    ensures value { result.now ≡ take (prefix_len is_ascii_digit text.now) text.now }
+    ensures digits { AllDigits 10 result.now }
 {
-    let (before, rest) = text.trim().split_at(start_len(text.trim()));
-    let (digits, _) = rest.split_at(digits_len(rest));
+    let (digits, _) = text.split_at(digits_len(text));
+    digits
+}
+
+// Returns the number of a text: the first digits in a row, before year 0 if the text is a hyphen up to them. Numbers are counted from
+// `-MOST`.
+fn year_of(text: &str) -> Option<u64>
+    ensures { result ≡ spec.year_of text.now }
+{
+    let (before, rest) = text.split_at(start_len(text));
+    let digits = first_digits(rest);
     if digits.is_empty() {
         return None;
     }
@@ -55,4 +64,11 @@ pub(crate) fn year_number(text: &str) -> Option<u64>
         return Some(MOST - number(digits));
     }
     Some(MOST + number(digits))
+}
+
+// Returns the number of a text without the white space at its ends.
+pub(crate) fn year_number(text: &str) -> Option<u64>
+    ensures { result ≡ spec.year_number text.now }
+{
+    year_of(text.trim())
 }

@@ -1,5 +1,5 @@
 use Rattle.std.proofs.Common.{◌+◌, ◌∙◌, sym, ap, drop}
-use Rattle.std.specs.Ordering.{is_ne, ordering_then}
+use Rattle.std.specs.Ordering.{ordering_then}
 use Rattle.edit_orders.specs.Values.{values_cmp}
 use Rattle.edit_orders.proofs.ComparingFacts.{then_eq, then_ne, values_step}
 use Rattle.edit_orders.proofs.comparing.entries_compared.Goals as goal

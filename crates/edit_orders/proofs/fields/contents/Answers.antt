@@ -1,12 +1,9 @@
-use Rattle.std.proofs.Common.{◌≡◌, ap, map, inl, inr, subst}
-use Rattle.std.specs.Result.{IfOk}
+use Rattle.std.proofs.Common.{ap, map, inl, inr}
 use Rattle.std.proofs.lemmas.Result.{IfOk-weaker}
 use Rattle.bib_abbreviations.specs.Abbreviations.{given_by}
-use Rattle.bib_chunks.specs.Values.{Value}
 use Rattle.bib_syntax.specs.Views.{piece_of}
 use Rattle.bib_syntax.specs.declared.raw.ParseError.{ParseError}
-use Rattle.edit_orders.specs.Fields.{AreContentsOf, plain_contents}
-use Rattle.edit_orders.specs.Fields.AreContentsOf.{parsed, plain}
+use Rattle.edit_orders.specs.Fields.AreContentsOf.{parsed}
 use Rattle.edit_orders.proofs.FieldFacts.{contents_plain}
 use Rattle.edit_orders.proofs.fields.contents.Goals as goal
 

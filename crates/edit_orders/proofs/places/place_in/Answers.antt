@@ -1,4 +1,4 @@
-use Rattle.std.proofs.Common.{ℕ, List, Option, rules, is_lt, Bor}
+use Rattle.std.proofs.Common.{List, Option, rules, is_lt, Bor}
 use Rattle.std.proofs.lemmas.List.Sorted.{IsPartitionPoint-from_clause}
 use Rattle.edit_orders.specs.Values.{values_cmp}
 use Rattle.edit_orders.specs.declared.values.SortValue.{SortValue}

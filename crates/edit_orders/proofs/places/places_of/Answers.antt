@@ -1,5 +1,5 @@
-use Rattle.std.proofs.Common.{◌≡◌, ◌+◌, [], get_or, length, map, sym, ap, ◌∙◌, subst, arith, IsPermutation}
-use Rattle.std.proofs.lemmas.List.{length_push}
+use Rattle.std.proofs.Common.{◌≡◌, ◌+◌, [], get_or, length, map, ap, ◌∙◌, subst, arith, IsPermutation}
+use Rattle.std.proofs.lemmas.List.{get_or_default, length_push}
 use Rattle.edit_orders.specs.Places.{IsPlaceIn}
 use Rattle.edit_orders.proofs.PlaceFacts.{are_places, each_more}
 use Rattle.edit_orders.proofs.places.places_of.Goals as goal
@@ -13,7 +13,8 @@ all-preserved c =
     let order = c.args.order.now in
     let i = c.all.values-index in
     let sorted = map (λ s. s.now) c.in_ok-sorted.sorted.items in
-    let values : c.as_slice.result.now ≡ get_or all i [] = ? in
+    let values : c.as_slice.result.now ≡ get_or all i [] = 
+    c.as_slice.ensures ∙ c.values-item.is ∙ get_or_default all i c.values-item.result [] c.all-test.true in
     let here : IsPlaceIn order sorted (get_or all i []) c.place_in.result =
     subst (λ t. IsPlaceIn order sorted t c.place_in.result) values
     (subst (λ l. IsPlaceIn order (map (λ s. s.now) l) c.as_slice.result.now c.place_in.result) c.deref.ensures.value c.place_in.ensures) in
