@@ -21,6 +21,7 @@ mod guide;
 mod imports;
 mod items;
 mod keys;
+mod orders;
 mod resolutions;
 mod selections;
 mod sortings;
@@ -48,6 +49,7 @@ fn rows(alloc: Global, layer: &str, input: &str) -> Result<String, AllocError> {
         "formats" => answered::<formats::Formats>(alloc, input),
         "imports" => answered::<imports::Imports>(alloc, input),
         "items" => answered::<items::CslItems>(alloc, input),
+        "orders" => answered::<orders::Orders>(alloc, input),
         "keys" => answered::<keys::Keys>(alloc, input),
         "resolutions" => answered::<resolutions::Resolutions>(alloc, input),
         "selections" => answered::<selections::Selections>(alloc, input),

@@ -25,8 +25,9 @@ use Rattle.edit_sort.specs.Sorted.{IsReadSorted, IsSortedText}
 use Rattle.edit_strings.specs.Collected.{AreMadeAbbreviations}
 use Rattle.edit_strings.specs.Expanded.{IsExpanded}
 use Rattle.bibkit_edits.specs.Edited.{AreFieldsEdited, AreMade, AreRefused, AreTextsCollected, IsDocumentConverted, IsEditRefused, IsInOrder, IsInStyle, IsMade, IsDocumentOf, IsResolvedDocument, IsWrittenOut, TextAdded}
-use Rattle.bibkit_edits.specs.Orders.{ArePlacesOf, order_text}
-use Rattle.edit_sort.specs.declared.order.Order.{Order}
+use Rattle.edit_orders.specs.Orders.{parts_of}
+use Rattle.edit_orders.specs.Places.{IsPlaced}
+use Rattle.edit_orders.specs.declared.order.Order.{Order}
 use Rattle.bibkit_edits.specs.Edited.AreMade.{none, next}
 use Rattle.bibkit_edits.specs.Steps.{AddsError, AddsUnread, AreFirstMade, IsTextRefused, StepIsRefused, edit_refusal, refusal_at, unless_no_memory}
 use Rattle.bibkit_edits.specs.declared.edit.Edit.{Edit}
@@ -46,13 +47,13 @@ style_made style d new is alike = record {
 }
 
 -- a sorted text that parses like the sorted document is an outcome of `Sort`
-pub order_made : (order : Order) (d : Document) (places new : List ℕ) → ArePlacesOf (map (order_text order) d.says.entries) places
+pub order_made : (order : Order) (d : Document) (places new : List ℕ) → IsPlaced (parts_of order) d.says places
     → IsSortedText d places new → IsReadSorted d places new → IsEdited (IsInOrder order d) new
-order_made order d places new by_texts is read = record {
+order_made order d places new placed is read = record {
   document = record { text = new; says = read.tells };
   outcome = record {
     places = places;
-    by_texts = by_texts;
+    placed = placed;
     text = is;
     alike = record { order = read.order; in_order = read.in_order; alike = read.alike };
   };

@@ -1,3 +1,1 @@
 pub mod EditedFacts
-mod OrderFacts
-mod PlaceFacts

@@ -24,15 +24,16 @@ use Rattle.bib_tables.specs.declared.dialects.Dialect.{Dialect}
 use Rattle.bib_tables.specs.declared.dialects.Dialect.TheVariants.{Biblatex, Bibtex}
 use Rattle.edit_format.specs.Formatted.{content, says_in_order, text_in_style}
 use Rattle.edit_format.specs.declared.style.Style.{Style}
+use Rattle.edit_orders.specs.Orders.{parts_of}
+use Rattle.edit_orders.specs.Places.{IsPlaced}
+use Rattle.edit_orders.specs.declared.order.Order.{Order}
 use Rattle.edit_resolve.specs.Resolved.{IsResolved, ResolveIsRefused}
 use Rattle.edit_resolve.specs.declared.errors.ResolveError.TheVariants as resolve_error
 use Rattle.edit_sort.specs.Sorted.{AreEntriesInOrder, IsSortedText, Item, items, says_sorted, without_places}
 use Rattle.edit_strings.specs.Collected.{AreMadeAbbreviations}
 use Rattle.edit_strings.specs.Expanded.{ExpandIsRefused, IsExpanded}
 use Rattle.edit_strings.specs.declared.errors.ExpandError.TheVariants as expand_error
-use Rattle.bibkit_edits.specs.Orders.{ArePlacesOf, order_text}
 use Rattle.bibkit_edits.specs.declared.edit.Edit.{Edit}
-use Rattle.edit_sort.specs.declared.order.Order.{Order}
 use Rattle.bibkit_edits.specs.declared.edit.Edit.TheVariants.{Set, Unset, Rename, RenameAll, Fields, Remove, Add, Sort, Expand, Collect, ToBiblatex, ToBibtex, Resolve, Format}
 use Rattle.bibkit_edits.specs.declared.edit.Refusal.{Refusal}
 use Rattle.bibkit_edits.specs.declared.edit.Refusal.TheVariants as refusal
@@ -64,7 +65,7 @@ pub record SaysSorted (d : Document) (places : List ℕ) (says : FileReading) : 
 -- content is otherwise that of `d`, except positions
 pub record IsInOrder (order : Order) (d after : Document) : Type 0 where
   pub places : List ℕ
-  pub by_texts : ArePlacesOf (map (order_text order) d.says.entries) places
+  pub placed : IsPlaced (parts_of order) d.says places
   pub text : IsSortedText d places after.text
   pub alike : SaysSorted d places after.says
 

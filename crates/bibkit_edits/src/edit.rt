@@ -7,7 +7,7 @@ use bib_syntax::raw::ParseError;
 use edit_entries::errors::EditError;
 use edit_entries::field_edits::FieldEdit;
 use edit_format::style::Style;
-use edit_sort::order::Order;
+use edit_orders::order::Order;
 use std::alloc::AllocError;
 
 /// One edit of a bibliography file.

@@ -14,7 +14,6 @@ ghost use Rattle.bibkit_edits.specs.Steps.{IsTextRefused, StepIsRefused, added_r
 ghost use Rattle.edit_resolve.specs.Resolved.{ResolveIsRefused};
 
 use crate::edit::{Edit, Refusal};
-use crate::order::order_places;
 use crate::reading::{text_after_mark, with_mark};
 use bib_syntax::raw::ParseError;
 use bib_tables::dialects::Dialect;
@@ -24,9 +23,10 @@ use edit_entries::errors::EditError;
 use edit_entries::field_edits::FieldEdit;
 use edit_format::formatting::format;
 use edit_format::style::Style;
+use edit_orders::order::Order;
+use edit_orders::places::order_places;
 use edit_resolve::errors::ResolveError;
 use edit_resolve::resolving::resolve;
-use edit_sort::order::Order;
 use edit_sort::sorting::sort_entries;
 use edit_strings::collecting::collect;
 use edit_strings::errors::ExpandError;
@@ -94,7 +94,7 @@ fn sort_document(
     ensures made { IfOk result (λ new. IsEdited (IsInOrder order document.now) (string_bytes new)) }
     ensures refused { IfErr result (λ why. why ≡ OutOfMemory) }
 {
-    let places = order_places(alloc, order, &document.raw().entries)?;
+    let places = order_places(alloc, order, document.raw())?;
     Ok(sort_entries(alloc, document, &places)?)
 }
 

@@ -1,12 +1,11 @@
 //! Runs the commands of `bibkit` that edit a file.
 //!
 //! `edit` contains the edits and the reasons for refusing them. `editing` applies edits to the bytes of a file: each to the text
-//! after the previous one, and either all of them or none. `order` returns the texts by which entries are sorted. `reading`
-//! handles the byte order mark of a file, and `printing` prints the new text or a diff.
+//! after the previous one, and either all of them or none. `reading` handles the byte order mark of a file, and
+//! `printing` prints the new text or a diff.
 #![tactic(auto)]
 
 pub mod edit;
 pub mod editing;
-pub mod order;
 pub mod printing;
 mod reading;

@@ -19,6 +19,5 @@ mod crossrefs;
 mod gaps;
 mod items;
 pub mod laws;
-pub mod order;
 mod ranks;
 pub mod sorting;

@@ -1,0 +1,8 @@
+use Rattle.edit_orders.proofs.YearFacts.{after_digits, run_digits}
+use Rattle.edit_orders.proofs.years.first_digits.Goals as goal
+
+pub split_at-requires : goal.split_at-requires
+split_at-requires c = after_digits c.args.text.now _ c.utf8.text c.digits_len.ensures
+
+pub returns-clause-digits : goal.returns-clause-digits
+returns-clause-digits c = rw (c.split_at.ensures.front, c.digits_len.ensures) (run_digits c.args.text.now)
