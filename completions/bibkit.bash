@@ -46,7 +46,7 @@ _bibkit() {
             return
             ;;
         --sort)
-            mapfile -t COMPREPLY < <(compgen -W 'keep key year author type' -- "$current")
+            mapfile -t COMPREPLY < <(compgen -W 'keep key year author title type' -- "$current")
             return
             ;;
         --order | --fields)

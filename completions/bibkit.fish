@@ -45,7 +45,7 @@ complete -c bibkit -n '__fish_seen_subcommand_from fmt' -x -l blank-lines -a 'ke
 complete -c bibkit -n '__fish_seen_subcommand_from fmt' -x -l delimiters -a 'keep braces quotes' -d 'Delimiters around texts'
 complete -c bibkit -n '__fish_seen_subcommand_from fmt' -x -l order -a "$fields" -d 'Write these fields first in each entry'
 complete -c bibkit -n '__fish_seen_subcommand_from fmt' -x -l width -d 'Longest line with joined texts; 0 is no limit'
-complete -c bibkit -n '__fish_seen_subcommand_from fmt' -x -l sort -a 'keep key year author type' -d 'Sort the entries'
+complete -c bibkit -n '__fish_seen_subcommand_from fmt' -x -l sort -a 'keep key year author title type' -d 'Sort the entries'
 complete -c bibkit -n '__fish_seen_subcommand_from fmt' -l check -d 'List the files that aren\'t in this style'
 complete -c bibkit -n '__fish_seen_subcommand_from fmt' -l write -d 'Write the new texts to the files'
 complete -c bibkit -n '__fish_seen_subcommand_from fmt' -l diff -d 'Print a diff'

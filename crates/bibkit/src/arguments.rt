@@ -15,7 +15,7 @@ use bibkit_settings::settings::{Color, OutputFormat, Settings};
 use bibkit_settings::style_settings::{StyleSettings, delimiters_named, width_of};
 use clap::{ArgMatches, Error};
 use edit_entries::field_edits::FieldEdit;
-use edit_sort::order::Order;
+use edit_orders::order::{Order, OrderError};
 use std::alloc::{AllocError, Global};
 
 /// The request of a command line. The settings of `lint` and `fmt` may be completed by those of a project.
@@ -58,6 +58,8 @@ pub enum Asked<'a> {
     Other(Request<'a>),
     /// Reports that the command line is wrong, for this reason.
     Wrong(&'static str),
+    /// Reports that the order of entries is wrong, for this reason.
+    WrongOrder(OrderError<'a>),
 }
 
 /// A parsed command line.
@@ -324,8 +326,20 @@ fn flag_choice(matches: &ArgMatches<'_>, yes: &str, no: &str) -> Option<bool> {
     }
 }
 
-// Returns the settings of `fmt`, except the order of fields.
-fn style_settings<'a>(matches: &ArgMatches<'a>) -> StyleSettings<'a> {
+// Returns the order of entries that `--sort` names: `None` without the option, and `Some(None)` for `keep`.
+fn sort_order<'a>(matches: &ArgMatches<'a>) -> Result<Option<Option<Order>>, OrderError<'a>> {
+    match matches.get_str("sort") {
+        None => Ok(None),
+        Some("keep") => Ok(Some(None)),
+        Some(text) => Ok(Some(Some(Order::parse(text)?))),
+    }
+}
+
+// Returns the settings of `fmt`, except the order of fields. `sort` is the order of entries.
+fn style_settings<'a>(
+    matches: &ArgMatches<'a>,
+    sort: Option<Option<Order>>,
+) -> StyleSettings<'a> {
     StyleSettings {
         indent: number(matches, "indent"),
         aligned: flag_choice(matches, "align", "no-align"),
@@ -336,14 +350,18 @@ fn style_settings<'a>(matches: &ArgMatches<'a>) -> StyleSettings<'a> {
         delimiters: matches.get_str("delimiters").and_then(delimiters_named),
         order: None,
         width: number(matches, "width").map(width_of),
-        sort: matches.get_str("sort").map(Order::from_name),
+        sort,
     }
 }
 
 // Returns the request of `fmt`.
 fn format_asked<'a>(alloc: Global, matches: &ArgMatches<'a>) -> Result<Asked<'a>, AllocError> {
+    let sort = match sort_order(matches) {
+        Ok(sort) => sort,
+        Err(error) => return Ok(Asked::WrongOrder(error)),
+    };
     Ok(Asked::Format {
-        settings: style_settings(matches),
+        settings: style_settings(matches, sort),
         order: given_texts(alloc, matches, "order")?,
         mode: mode_of(matches, matches.get_flag("check")),
     })

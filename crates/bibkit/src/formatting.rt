@@ -3,7 +3,7 @@
 use crate::edits::{Editing, Edits, Mode, run_edits};
 use bibkit_edits::edit::Edit;
 use edit_format::style::Style;
-use edit_sort::order::Order;
+use edit_orders::order::Order;
 use std::alloc::{AllocError, Global};
 
 // Returns the edits that format a file. If `sort` is an order, they sort its entries first.

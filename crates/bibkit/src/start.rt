@@ -15,6 +15,7 @@ use bibkit_settings::configuration::{ConfigurationError, Project, Reader, projec
 use bibkit_settings::settings::Settings;
 use bibkit_settings::style_settings::StyleSettings;
 use biblatex::Output;
+use edit_orders::order::OrderError;
 use clap::error::ErrorKind;
 use std::alloc::{AllocError, Global};
 use std::io::IsTerminal;
@@ -160,6 +161,21 @@ fn refuse_words(rt: &HostRuntime, reason: &str) -> u8 {
     2
 }
 
+// Reports that the order of entries is wrong, and returns the status.
+fn refuse_order(rt: &HostRuntime, error: OrderError<'_>) -> u8 {
+    match error {
+        OrderError::UnknownProperty(word) => {
+            let _ = eprintln!(rt;
+                "bibkit: --sort `{word}`: expected `key`, `year`, `author`, `title` or `type`, or one of them with `-` before it"
+            );
+        }
+        OrderError::TooManyProperties => {
+            let _ = rt.eprintln("bibkit: --sort: expected at most four properties");
+        }
+    }
+    2
+}
+
 // Runs the command of a command line, and returns the status.
 fn answer(rt: &HostRuntime, words: Words<'_>) -> u8 {
     let Words { asked, names } = words;
@@ -179,6 +195,7 @@ fn answer(rt: &HostRuntime, words: Words<'_>) -> u8 {
         Asked::Select(selecting) => run_select(rt, &selecting, &names),
         Asked::Other(request) => run_request(rt, request, names),
         Asked::Wrong(reason) => refuse_words(rt, reason),
+        Asked::WrongOrder(error) => refuse_order(rt, error),
     }
 }
 

@@ -7,7 +7,7 @@ use Rattle.edit_format.specs.Ordered.{order_of}
 use Rattle.edit_format.specs.declared.style.Delimiters.{Delimiters}
 use Rattle.edit_format.specs.declared.style.Delimiters.TheVariants.{Keep, Braces, Quotes}
 use Rattle.edit_format.specs.declared.style.Style.{Style}
-use Rattle.edit_sort.specs.declared.order.Order.{Order}
+use Rattle.edit_orders.specs.declared.order.Order.{Order}
 use Rattle.bibkit_settings.specs.declared.style_settings.StyleSettings.{StyleSettings}
 
 -- the delimiters with a name, or `None` if none have it

@@ -46,7 +46,7 @@ enum Takes {
     FieldNames,
     // An option: the maximum width of a line in characters.
     Width,
-    // An option: the order of entries, or `keep`.
+    // An option: properties by which entries are sorted, separated by commas, or `keep`.
     Order,
     // An option, which conflicts with `expand`: names of the fields whose texts are collected, separated by commas.
     CollectedFields,
@@ -458,9 +458,6 @@ static BLANK_LINES: [&str; 5] = ["keep", "0", "1", "2", "3"];
 // The values of `--delimiters`.
 static DELIMITERS: [&str; 3] = ["keep", "braces", "quotes"];
 
-// The values of `--sort`.
-static ORDERS: [&str; 5] = ["keep", "key", "year", "author", "type"];
-
 // The arguments of `fmt`.
 const FMT: [Argument; 13] = [
     Argument {
@@ -511,7 +508,7 @@ const FMT: [Argument; 13] = [
     Argument {
         name: "sort",
         takes: Takes::Order,
-        help: "Sort the entries",
+        help: "Sort the entries by key, year, author, title or type, or by several of them, such as author,-year; keep is no order",
     },
     Argument {
         name: "check",
@@ -775,7 +772,7 @@ fn argument_of<'a>(alloc: Global, row: &'static Argument) -> Result<Arg<'a>, All
         Takes::Width => Ok(value(alloc, row, "CHARACTERS").value_parser(ValueParser::unsigned(
             0, 1_000_000,
         ))),
-        Takes::Order => Ok(value(alloc, row, "ORDER").value_parser(ORDERS.as_slice())),
+        Takes::Order => Ok(value(alloc, row, "ORDER").allow_hyphen_values(true)),
         Takes::CollectedFields => field_names(alloc, row).conflicts_with("expand"),
         Takes::Times => value(alloc, row, "TIMES")
             .value_parser(ValueParser::unsigned(2, 1_000_000))

@@ -4,7 +4,7 @@ use crate::settings::{Color, OutputFormat, Settings};
 use crate::style_settings::{StyleSettings, delimiters_named, width_of};
 use bib_findings::codes::Code;
 use edit_format::style::Delimiters;
-use edit_sort::order::Order;
+use edit_orders::order::Order;
 use std::alloc::{AllocError, AllocFailed, Global};
 use std::fs;
 use std::io::ErrorKind;
@@ -202,12 +202,12 @@ fn sort(alloc: Global, value: &Value) -> Result<Option<Option<Order>>, Configura
     if value.as_str() == Some("keep") {
         return Ok(Some(None));
     }
-    match value.as_str().and_then(Order::from_name) {
-        Some(order) => Ok(Some(Some(order))),
-        None => wrong(
+    match value.as_str().map(Order::parse) {
+        Some(Ok(order)) => Ok(Some(Some(order))),
+        _ => wrong(
             alloc,
             "fmt.sort",
-            "\"keep\", \"key\", \"year\", \"author\" or \"type\"",
+            "\"keep\", or up to four of key, year, author, title and type, such as \"author,-year\"",
         ),
     }
 }

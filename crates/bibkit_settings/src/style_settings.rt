@@ -4,7 +4,7 @@ ghost use Rattle.std.specs.Prelude.{◌≡◌};
 ghost use Rattle.bibkit_settings.specs.StyleSettings.{IsStyleSet, delimiters_named, no_style_settings, over_project, sort_set, width_of};
 
 use edit_format::style::{Delimiters, Style};
-use edit_sort::order::Order;
+use edit_orders::order::Order;
 
 /// Returns the delimiters with this name: `keep`, `braces` or `quotes`. Returns `None` for any other name.
 pub fn delimiters_named(name: &str) -> Option<Delimiters>

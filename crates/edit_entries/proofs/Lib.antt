@@ -42,7 +42,7 @@ pub mod SetLawFacts
 pub mod SplitFacts
 pub mod StandsFacts
 pub mod StretchFacts
-mod BalanceFacts
+pub mod BalanceFacts
 mod TakenFacts
 mod NameFacts
 pub mod TrimFacts

@@ -1,10 +1,10 @@
 -- An entry in one style parses to the same entry.
 use Rattle.std.proofs.Common.{◌≡◌, inl, inr, ℕ, ◌+◌, ◌-◌, ◌<◌, ◌≤◌, Bool, true, false, cond, List, [], ◌∷◌, ◌++◌, length, drop, take, map, refl, sym, ap, ◌∙◌, subst, arith}
-use Rattle.std.specs.Prelude.{◌==◌, ◌&&◌, ◌||◌, not}
-use Rattle.std.specs.Char.{is_whitespace, is_control}
+use Rattle.std.specs.Prelude.{◌||◌}
+use Rattle.std.specs.Char.{is_whitespace}
 use Rattle.std.specs.List.{AllByRecursion, flat_map, list_any}
 use Rattle.std.specs.Str.{str_to_ascii_lowercase}
-use Rattle.std.proofs.lemmas.Bool.{cases_lt, not-true}
+use Rattle.std.proofs.lemmas.Bool.{cases_lt}
 use Rattle.std.proofs.lemmas.Simd.{map-map}
 use Rattle.bib_text.specs.Places.{Place, place, CharAt, Run, Stops, between}
 use Rattle.bib_text.specs.Places.Run.{stop, step}
@@ -49,6 +49,10 @@ second_false : (a b : Bool) → (a || b) ≡ false → b ≡ false
 second_false false b is = is
 second_false true b is = cc
 
+first_false : (a b : Bool) → (a || b) ≡ false → a ≡ false
+first_false false b is = refl
+first_false true b is = is
+
 pieces_moved : (move : ℕ → ℕ) (ps : List Piece) → list_any is_unbalanced (map (moved_piece move) ps) ≡ list_any is_unbalanced ps
 pieces_moved move [] = refl
 pieces_moved move (literal p ∷ ps) = ap (λ b. is_unbalanced (literal p) || b) (pieces_moved move ps)
@@ -73,12 +77,7 @@ unbalanced_alike fs gs alike = sym (unbalanced_content fs) ∙ ap (list_any has_
 
 none_unbalanced : (fs : List FieldReading) → list_any has_unbalanced fs ≡ false → AllByRecursion (λ f. has_unbalanced f ≡ false) fs
 none_unbalanced [] is = _
-none_unbalanced (f ∷ fs) is = by_first (has_unbalanced f) refl is
-  where
-    by_first : (b : Bool) → has_unbalanced f ≡ b → (b || list_any has_unbalanced fs) ≡ false
-        → (has_unbalanced f ≡ false) × AllByRecursion (λ f. has_unbalanced f ≡ false) fs
-    by_first false one rest = (one, none_unbalanced fs rest)
-    by_first true one rest = cc
+none_unbalanced (f ∷ fs) is = (first_false (has_unbalanced f) _ is, none_unbalanced fs (second_false (has_unbalanced f) _ is))
 
 all_balanced : (fs : List FieldReading) → AllByRecursion (λ f. has_unbalanced f ≡ false) fs → list_any has_unbalanced fs ≡ false
 all_balanced [] all = refl
