@@ -1,10 +1,10 @@
 -- Machinery: words of private contracts.
 -- Texts, their counts and taken names, in the types of the code.
-use Rattle.std.specs.Prelude.{◌≡◌, ℕ, ◌<◌, ◌≤◌, ◌||◌, ◌&&◌, Bool, true, false, List, [], ◌∷◌, ◌++◌, Option, None, Some, String, bytes_eq, cond, count_by, length, map}
+use Rattle.std.specs.Prelude.{◌≡◌, ℕ, ◌<◌, ◌≤◌, ◌||◌, ◌&&◌, Bool, true, false, List, [], ◌∷◌, ◌++◌, Option, None, Some, String, bytes_eq, cond, count_by, encode_utf8, map, not}
 use Rattle.std.specs.Borrow.{Bor}
 use Rattle.std.specs.BTreeMap.{BTreeMap, get_by, get_by_text}
 use Rattle.std.specs.BTreeSet.{contains_text}
-use Rattle.std.specs.Char.{is_ascii_digit, is_ascii_lowercase}
+use Rattle.std.specs.Char.{is_ascii_alphabetic, is_ascii_digit, is_ascii_lowercase, is_whitespace, to_ascii_lowercase}
 use Rattle.std.specs.Str.{str_to_ascii_lowercase}
 use Rattle.std.specs.Cmp.Lexicographic.{slice_cmp}
 use Rattle.std.specs.List.{list_all}
@@ -75,6 +75,14 @@ learned None None f text = None
 learned None (Some own) f text = cond (bytes_eq own text) (Some f.name.text) None
 
 -- ---- new names
+
+-- whether the word that a character belongs to has had its first letter, after this character
+abbrev pub met_after : Bool → ℕ → Bool
+met_after met c = not (is_whitespace c) && (met || is_ascii_alphabetic c)
+
+-- the first letter of a word in lowercase, if a character is it
+abbrev pub letter_at : Bool → ℕ → List ℕ
+letter_at met c = cond (not met && is_ascii_alphabetic c) (encode_utf8 (to_ascii_lowercase c)) []
 
 -- whether a name can't be a new one: it is a month's abbreviation, or is taken
 abbrev pub is_used : Taken → List ℕ → Bool

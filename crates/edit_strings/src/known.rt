@@ -1,6 +1,6 @@
 //! Definitions that can be reused for collected texts.
 
-ghost use Rattle.std.specs.Prelude.{◌≡◌, ℕ, List, IfOk, OnOk, map};
+ghost use Rattle.std.specs.Prelude.{◌≡◌, ◌==◌, ◌&&◌, ℕ, List, IfOk, OnOk, map, not};
 ghost use Rattle.std.specs.Option.{option_map};
 ghost use Rattle.bib_syntax.specs.Reading.{FileReading};
 ghost use Rattle.bib_syntax.specs.Views.{entry_reading_of, field_of, file_of};
@@ -61,6 +61,13 @@ fn has_digit_first(name: &str) -> bool
     }
 }
 
+// Returns whether `name` is no month's abbreviation, begins with no digit, and was counted once, given in lowercase too.
+fn is_counted_once(counts: &BTreeMap<String, usize>, name: &str, lowercase: &str) -> bool
+    ensures { result ≡ (not (spec.is_month name.now) && not (spec.has_digit_first name.now) && (name_count_in counts.now lowercase.now == 1)) }
+{
+    !is_month(name) && !has_digit_first(name) && name_count(counts, lowercase) == 1
+}
+
 // Returns whether `name` can be reused: it is no month's abbreviation, begins with no digit, and has one definition.
 fn is_reusable_name(
     alloc: Global,
@@ -71,7 +78,8 @@ fn is_reusable_name(
         is ≡ spec.is_reusable_name says name.now) }
 {
     let lowercase = name.to_ascii_lowercase(alloc)?;
-    Ok(!is_month(name) && !has_digit_first(name) && name_count(counts, lowercase.as_str()) == 1)
+    let is = is_counted_once(counts, name, lowercase.as_str());
+    Ok(is)
 }
 
 // Returns the text for which `definition` can be reused, if there is one: its value, if it is one literal. The definition is before
@@ -102,7 +110,7 @@ fn learn<'s>(
     definition: &Pair<'s>,
 ) -> Result<(), AllocError>
     ensures { OnOk result ((other : List ℕ) → known_in known.new other ≡
-        learned (known_in known.old other) (option_map (λ t. t.now) text) (field_of definition.now) other) }
+        learned (known_in known.old other) (option_map (λ t. t.now) text.entry) (field_of definition.now) other) }
 {
     let Some(text) = text else {
         return Ok(());

@@ -3,7 +3,7 @@
 //! `numbers` maps the start of a name to a number below which every number gives a name that is used. So the search for the next
 //! name with this start begins where the last one ended.
 
-ghost use Rattle.std.specs.Prelude.{◌≡◌, ◌≤◌, ◌||◌, ℕ, List, length, true, not, IfOk, OnOk};
+ghost use Rattle.std.specs.Prelude.{◌≡◌, ◌≤◌, ◌||◌, ◌++◌, ℕ, List, true, IfOk, OnOk};
 ghost use Rattle.std.specs.Char.{is_whitespace};
 ghost use Rattle.std.specs.List.{list_any};
 ghost use Rattle.std.specs.Str.{chars};
@@ -11,7 +11,7 @@ ghost use Rattle.std.specs.String.{string_bytes};
 ghost use Rattle.bib_syntax.specs.Reading.{FileReading};
 ghost use Rattle.edit_strings.specs.Collected as spec;
 ghost use Rattle.edit_strings.specs.Collected.{AreNames, is_one_in_any_case, known_name, letters_or_s, name_letters, names_of_file, number_after};
-ghost use Rattle.edit_strings.specs.Collecting.{AreBelowUsed, AreUsedBelow, GetsName, IsFirstFree, TakesName, has_lowercase, is_plain_name, is_taken, known_in, lent_texts, string_texts};
+ghost use Rattle.edit_strings.specs.Collecting.{AreBelowUsed, AreUsedBelow, GetsName, IsFirstFree, TakesName, has_lowercase, is_plain_name, is_taken, known_in, lent_texts, letter_at, met_after, string_texts};
 
 use crate::taken::Taken;
 use bib_tables::months::Month;
@@ -36,6 +36,23 @@ fn first_letters(alloc: Global, word: &str, count: usize) -> Result<String, Allo
         .collect(alloc)
 }
 
+// Returns whether the word that `c` belongs to has had its first letter, after `c`.
+fn is_met_after(is_met: bool, c: char) -> bool
+    ensures { result ≡ met_after is_met c }
+{
+    !c.is_whitespace() && (is_met || c.is_ascii_alphabetic())
+}
+
+// Appends `c` in lowercase if it is the first letter of a word.
+fn push_initial(initials: &mut String, is_met: bool, c: char) -> Result<(), AllocError>
+    ensures { OnOk result (string_bytes initials.new ≡ string_bytes initials.old ++ letter_at is_met c) }
+{
+    if !is_met && c.is_ascii_alphabetic() {
+        initials.push(c.to_ascii_lowercase())?;
+    }
+    Ok(())
+}
+
 // Returns the first ASCII letter of each word of `text`, in lowercase.
 fn initials(alloc: Global, text: &str) -> Result<String, AllocError>
     ensures { IfOk result (λ initials. string_bytes initials ≡ spec.initials text.now) }
@@ -43,10 +60,8 @@ fn initials(alloc: Global, text: &str) -> Result<String, AllocError>
     let mut initials = String::new(alloc);
     let mut is_met = false;
     'chars: for c in text.chars() {
-        if !is_met && c.is_ascii_alphabetic() {
-            initials.push(c.to_ascii_lowercase())?;
-        }
-        is_met = !c.is_whitespace() && (is_met || c.is_ascii_alphabetic());
+        push_initial(&mut initials, is_met, c)?;
+        is_met = is_met_after(is_met, c);
     }
     Ok(initials)
 }
