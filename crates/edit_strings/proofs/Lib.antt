@@ -1,8 +1,10 @@
 pub mod CollectFacts
+pub mod CutFacts
 pub mod DistinctFacts
 pub mod ElementFacts
 pub mod ExchangedFacts
 pub mod ExpandFacts
+pub mod InsertFacts
 pub mod KnownFacts
 pub mod LetterFacts
 pub mod LineFacts

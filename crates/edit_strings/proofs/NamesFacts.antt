@@ -1,21 +1,20 @@
 -- Names of texts: the next name, and the names that are used after it.
-use Rattle.std.proofs.Common.{◌≡◌, inl, inr, ◌⊎◌, ℕ, zero, suc, ◌+◌, ◌<◌, ◌≤◌, ◌||◌, Bool, true, false, cond, not, List, [], ◌∷◌, ◌++◌, length, refl, sym, ap, ◌∙◌, subst, arith, length-append, Option, Some, None}
-use Rattle.std.specs.Prelude.{String, bytes_eq, is_some, string_bytes}
+use Rattle.std.proofs.Common.{◌≡◌, inl, inr, ℕ, ◌+◌, ◌≤◌, ◌||◌, Bool, true, false, cond, not, List, [], ◌∷◌, ◌++◌, length, refl, sym, ap, ◌∙◌, subst, arith, length-append, Option, Some, None}
+use Rattle.std.specs.Prelude.{String, bytes_eq}
 use Rattle.std.specs.BTreeMap.{BTreeMap, get_by_text}
 use Rattle.std.specs.Global.{Global}
-use Rattle.std.specs.List.{AllByRecursion, find, flat_map, list_any}
-use Rattle.std.specs.Option.{option_map, option_map_or, unwrap_or}
-use Rattle.std.specs.Str.{str_to_ascii_lowercase}
-use Rattle.std.proofs.lemmas.Bool.{cases_lt, false≢true}
+use Rattle.std.specs.List.{find, flat_map}
+use Rattle.std.specs.Option.{option_map, unwrap_or}
+use Rattle.std.proofs.lemmas.Bool.{cases_lt}
 use Rattle.std.proofs.lemmas.List.Folds.{list_any-append}
 use Rattle.std.proofs.lemmas.Slice.Eq.{bytes_eq-Decides}
-use Rattle.bib_text.specs.Places.{place}
 use Rattle.bib_syntax.specs.Grammar.{is_word}
 use Rattle.bib_syntax.specs.Reading.{FieldReading, FileReading}
-use Rattle.edit_strings.specs.Collected.{AreNames, IsFirstNewName, definition_names, element_names, first_start, is_before, is_month, is_new_name, is_one_in_any_case, is_reusable, is_reusable_name, known_name, letters_or_s, name_letters, names_of_file, number_after, numbered_name, single_text, used_names}
-use Rattle.edit_strings.specs.Collecting.{AreBelowUsed, AreUsedBelow, GetsName, IsFirstFree, TakesName, is_taken, is_used}
+use Rattle.edit_strings.specs.Collected.{AreNames, IsFirstNewName, definition_names, element_names, is_month, is_new_name, is_one_in_any_case, is_reusable, known_name, letters_or_s, name_letters, names_of_file, number_after, numbered_name, used_names}
+use Rattle.edit_strings.specs.Collecting.{AreBelowUsed, AreUsedBelow, GetsName, IsFirstFree, is_taken, is_used}
 use Rattle.edit_strings.specs.Expanded.{elements}
 use Rattle.edit_strings.specs.declared.taken.Taken.{Taken}
+use Rattle.edit_strings.proofs.NameFacts.{plain_can}
 use Rattle.edit_strings.proofs.TextFacts.{any_push, or_assoc}
 
 -- ---- used names stay used
@@ -84,7 +83,7 @@ one_used taken base name number is used before n some below =
 
 -- ---- a known name is one of the file
 
-find_passes : {A : Type 0} (test : A → Bool) (xs : List A) (x : A) → find test xs ≡ Some x → test x ≡ true
+pub find_passes : {A : Type 0} (test : A → Bool) (xs : List A) (x : A) → find test xs ≡ Some x → test x ≡ true
 find_passes test [] x is = absurd (cc)
 find_passes test (y ∷ ys) x is = by_case (test y) refl (find_passes test ys x) is
   where
@@ -148,6 +147,8 @@ new_is says names taken are name = ap (λ b. not (is_month name || b)) (sym (are
 first_new : (says : FileReading) (names : List (List ℕ)) (taken : Taken) (text name : List ℕ) (number : ℕ) → AreTaken says names taken
     → IsFirstFree taken (letters_or_s (name_letters text)) number name → IsFirstNewName says names text name
 first_new says names taken text name number are free = record {
+  can = (plain_can name free.plain).0;
+  no_digit = (plain_can name free.plain).1;
   number = number;
   some = free.some;
   is = free.is;

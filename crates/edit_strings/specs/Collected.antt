@@ -7,11 +7,12 @@ use Rattle.std.specs.List.{find, flat_map, list_any, slice_split}
 use Rattle.std.specs.Option.{option_map, option_map_or}
 use Rattle.std.specs.Str.{trim}
 use Rattle.bib_tables.specs.Months.{month_of_abbreviation}
-use Rattle.bib_syntax.specs.Grammar.{is_word}
+use Rattle.bib_text.specs.Places.{place}
+use Rattle.bib_syntax.specs.Grammar.{NoDigit, is_word}
 use Rattle.bib_syntax.specs.Reading.{Piece, FieldReading, EntryReading, FileReading}
 use Rattle.bib_syntax.specs.Reading.Piece.{literal, abbreviation}
 use Rattle.edit_entries.specs.Changes.{file_changed, text_changed, IsReadPlaceless, NewValue}
-use Rattle.edit_entries.specs.Documents.{CanStandInBraces, Document, has_name, last_position, text_at}
+use Rattle.edit_entries.specs.Documents.{CanBeName, CanStandInBraces, Document, has_name, last_position, text_at}
 use Rattle.edit_entries.specs.Edits.{edited}
 use Rattle.edit_format.specs.Formatted.{line_end_of}
 use Rattle.edit_strings.specs.Exchanged.{Exchange, exchanges}
@@ -175,8 +176,10 @@ abbrev pub is_new_name : FileReading → List (List ℕ) → List ℕ → Bool
 is_new_name says earlier name =
     not (is_month name || (is_one_in_any_case earlier name || is_one_in_any_case (names_of_file says) name))
 
--- the new name of a text: its name with the least number that makes it new
+-- the new name of a text: its name with the least number that makes it new. It is an identifier without a leading digit.
 pub record IsFirstNewName (says : FileReading) (earlier : List (List ℕ)) (text name : List ℕ) : Type 0 where
+  pub can : CanBeName name
+  pub no_digit : NoDigit (place name 0)
   pub number : ℕ
   pub some : 1 ≤ number
   pub is : name ≡ numbered_name text number

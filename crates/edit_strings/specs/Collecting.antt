@@ -92,8 +92,9 @@ is_used taken name = is_month name || is_taken taken name
 abbrev pub AreUsedBelow : Taken → List ℕ → ℕ → Type 0
 AreUsedBelow taken base number = (n : ℕ) → 1 ≤ n → n < number → is_used taken (base ++ number_after n) ≡ true
 
--- a name has the first number that makes it new
+-- a plain name has the first number that makes it new
 pub record IsFirstFree (taken : Taken) (base : List ℕ) (number : ℕ) (name : List ℕ) : Type 0 where
+  pub plain : is_plain_name name ≡ true
   pub some : 1 ≤ number
   pub is : name ≡ base ++ number_after number
   pub new : is_used taken name ≡ false

@@ -1,7 +1,8 @@
 use Rattle.std.proofs.Common.{◌≡◌, ◌+◌, ◌<◌, ◌^◌, ◌||◌, ℕ, true, arith, ap, sym, ◌∙◌}
 use Rattle.std.specs.Prelude.{string_bytes}
 use Rattle.edit_strings.specs.Collected.{is_month}
-use Rattle.edit_strings.specs.Collecting.{has_lowercase, is_used}
+use Rattle.edit_strings.specs.Collecting.{has_lowercase, is_plain_name, is_used}
+use Rattle.edit_strings.proofs.NameFacts.{numbered_plain}
 use Rattle.edit_strings.proofs.NamesFacts.{one_used}
 use Rattle.edit_strings.proofs.PigeonFacts.{bound_taken, used_is}
 use Rattle.edit_strings.proofs.naming.fresh.Goals as goal
@@ -12,6 +13,8 @@ returns-then-not-is_used c =
     let name = string_bytes c.in_ok-name.name in
     let small : c.numbers.number < 2 ^ 64 = omega (arith, c.numbers-test.true, c.count.ensures.bound) in
     record {
+      plain =
+          ap is_plain_name c.in_ok-name.ensures ∙ numbered_plain c.args.base.now c.numbers.number small c.requires.plain;
       some = c.numbers.invariant.some;
       is = c.in_ok-name.ensures;
       new =

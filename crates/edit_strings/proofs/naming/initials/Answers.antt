@@ -1,5 +1,4 @@
 use Rattle.std.proofs.Common.{false, sym, ap, ◌∙◌, ◌++◌}
-use Rattle.std.specs.Prelude.{chars, string_bytes}
 use Rattle.std.proofs.lemmas.List.{map-id}
 use Rattle.std.proofs.lemmas.Iterator.{YieldsList-from_chars}
 use Rattle.std.proofs.lemmas.Iterator.Consumers.{YieldsList-end}

@@ -1,9 +1,9 @@
-use Rattle.std.proofs.Common.{◌≡◌, ◌+◌, ℕ, List, [], ◌∷◌, ◌++◌, None, length, get_or, take, rules, sym, ap, ◌∙◌, subst, arith, length-append}
+use Rattle.std.proofs.Common.{◌≡◌, ◌+◌, ℕ, List, [], ◌∷◌, ◌++◌, length, get_or, take, rules, sym, ap, ◌∙◌, subst, arith, length-append}
 use Rattle.std.specs.Borrow.{Bor}
 use Rattle.std.specs.Prelude.{string_bytes}
 use Rattle.std.proofs.lemmas.List.{get_or_default, map-append, take_all}
 use Rattle.edit_strings.specs.Collected.{AreNames}
-use Rattle.edit_strings.specs.Collecting.{AreBelowUsed, GetsName, lent_texts, string_texts}
+use Rattle.edit_strings.specs.Collecting.{lent_texts, string_texts}
 use Rattle.edit_strings.proofs.NamesFacts.{AreNamed, gets_closed, named_more, none_closed}
 use Rattle.edit_strings.proofs.TextFacts.{one_more}
 use Rattle.edit_strings.proofs.naming.names.Goals as goal
