@@ -1,12 +1,11 @@
 -- Replaced values as changes of entries: their edits, and the parsing of the text with the new values.
-use Rattle.std.proofs.Common.{◌≡◌, ℕ, List, [], ◌∷◌, ◌++◌, map, refl, sym, ap, ◌∙◌, subst, append-nil, Option, Some, None}
+use Rattle.std.proofs.Common.{◌≡◌, ℕ, List, [], ◌∷◌, ◌++◌, map, refl, sym, ap, ◌∙◌, subst, Option, Some, None}
 use Rattle.std.specs.List.{AllByRecursion}
 use Rattle.std.specs.Str.{IsUtf8}
 use Rattle.bib_syntax.specs.Reading.{FieldReading, EntryReading}
-use Rattle.edit_entries.specs.Changes.{FieldChange, IsReadPlaceless, NewValue, edits_of_entries, edits_of_field, edits_of_fields, file_changed, text_changed}
+use Rattle.edit_entries.specs.Changes.{IsReadPlaceless, NewValue, edits_of_entries, edits_of_field, edits_of_fields, file_changed, text_changed}
 use Rattle.edit_entries.specs.Documents.{Document, IsDocument}
 use Rattle.edit_entries.specs.EditList.{AreEditsInOrder}
-use Rattle.edit_entries.specs.Edits.{Edit}
 use Rattle.edit_entries.proofs.AllFacts.{OfFields, all_weaker}
 use Rattle.edit_entries.proofs.ChangesFacts.{CanChange, CanEntryChange, CanFieldsChange, changed_read, changes_in_order}
 use Rattle.edit_entries.proofs.NewValueFacts.{CanBeRead}

@@ -1,11 +1,17 @@
 pub mod CollectFacts
+pub mod CutFacts
+pub mod DistinctFacts
 pub mod ElementFacts
 pub mod ExchangedFacts
 pub mod ExpandFacts
+pub mod InsertFacts
+pub mod KnownFacts
 pub mod LetterFacts
 pub mod LineFacts
 pub mod ListFacts
 pub mod NameFacts
+pub mod NamesFacts
+pub mod PigeonFacts
 pub mod StandingFacts
 pub mod TextFacts
 pub mod UsedFacts

@@ -1,23 +1,18 @@
 -- A piece that keeps its delimiters is written as in the file.
-use Rattle.std.proofs.Common.{◌≡◌, ℕ, ◌+◌, ◌-◌, ◌<◌, ◌≤◌, Bool, true, false, List, [], ◌∷◌, ◌++◌, length, codes, cond, sym, ap, ◌∙◌, subst, arith}
+use Rattle.std.proofs.Common.{◌≡◌, ℕ, ◌<◌, ◌≤◌, Bool, true, false, List, [], ◌∷◌, ◌++◌, length, codes, cond, sym, ap, ◌∙◌, arith}
 use Rattle.std.specs.List.{ends_with}
 use lib.Dec.{eqb}
 use Rattle.bib_text.specs.Places.{Place, CharAt, between}
-use Rattle.bib_text.proofs.PlaceFacts.{Ahead, ahead_then, ahead_char, ahead_run}
+use Rattle.bib_text.proofs.PlaceFacts.{Ahead, ahead_then, ahead_char}
 use Rattle.bib_syntax.specs.Reading.{part, Piece}
 use Rattle.bib_syntax.specs.Reading.Piece.{literal}
 use Rattle.bib_syntax.specs.Grammar.{Element, longest}
 use Rattle.bib_syntax.specs.Grammar.{Element as element}
-use Rattle.bib_syntax.proofs.FieldFacts.{ahead_element, ahead_parts, ahead_quoted_parts}
-use Rattle.bib_syntax.proofs.WordFacts.{ahead_number}
-use Rattle.edit_entries.specs.Edits.{moved_piece}
-use Rattle.edit_entries.proofs.ZoneFacts.{Frame, Zone, Inside, there, inside_between, char_back, part_there}
-use Rattle.edit_entries.proofs.GrammarFacts.{below_char, braced_there, quoted_there}
+use Rattle.bib_syntax.proofs.FieldFacts.{ahead_parts, ahead_quoted_parts}
 use Rattle.edit_entries.proofs.MovedFacts.{char_within}
 use Rattle.edit_format.specs.Delimited.{piece_as_written}
 use Rattle.edit_format.specs.declared.style.Delimiters.TheVariants.{Keep}
-use Rattle.edit_entries.proofs.ElementFacts.{Ending, NotOpened, before, brace_before, identifier_until, number_until, one_byte, parted, quote_before}
-use Rattle.edit_entries.proofs.StandsFacts.{Stands, copy_frame, copied_before}
+use Rattle.edit_entries.proofs.ElementFacts.{NotOpened, before, brace_before, one_byte, parted, quote_before}
 
 -- a text that begins and ends with an ASCII character is these two and the text between them
 enclosed : {u a b v : Place} (c d : ℕ) → c < 128 → d < 128 → CharAt u c a → Ahead a b → CharAt b d v

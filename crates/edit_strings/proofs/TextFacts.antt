@@ -1,6 +1,6 @@
 -- Lists of texts in loops: one more text, one more line, one more name.
 use Rattle.std.proofs.Common.{◌≡◌, ℕ, ◌+◌, ◌<◌, ◌||◌, Bool, true, false, cond, not, List, [], ◌∷◌, ◌++◌, length, take, map, get_or, refl, sym, ap, ◌∙◌, arith, append_assoc, append-nil, Option, Some}
-use Rattle.std.specs.Prelude.{MatchBool, bytes_eq}
+use Rattle.std.specs.Prelude.{MatchBool, bytes_eq, is_some}
 use Rattle.std.proofs.lemmas.Bool.{false≢true}
 use Rattle.std.specs.List.{list_any}
 use Rattle.std.specs.Option.{option_map_or}
@@ -9,7 +9,8 @@ use Rattle.std.proofs.lemmas.List.Folds.{list_any-append}
 use Rattle.std.proofs.lemmas.List.Sums.{fold_push}
 use Rattle.std.proofs.lemmas.Slice.Eq.{bytes_eq-Decides}
 use Rattle.bib_queries.specs.Needed.{is_listed}
-use Rattle.edit_strings.specs.Collected.{string_line, definition_lines, times_of}
+use Rattle.bib_syntax.specs.Reading.{FileReading}
+use Rattle.edit_strings.specs.Collected.{string_line, definition_lines, known_name, times_of}
 
 module _ {A B : Type 0} (view : A → B) (xs : List A) (i : ℕ) (x : A) (within : i < length xs) (is : x ≡ get_or xs i x) where
   pub one_more : map view (take (i + 1) xs) ≡ map view (take i xs) ++ view x ∷ []
@@ -33,14 +34,16 @@ counted_more text t ts old count counted before = by_case (bytes_eq t text) refl
     by_case false other = let none : times_of text ts ≡ times_of text ts + 0 = omega arith in before ∙ none
 
 -- the lines after one more name
-pub lines_push : (names texts : List (List ℕ)) (name text : List ℕ) → length names ≡ length texts
-    → definition_lines (names ++ name ∷ []) (texts ++ text ∷ []) ≡ definition_lines names texts ++ string_line name text
-lines_push [] [] name text same = append-nil (string_line name text)
-lines_push [] (t ∷ ts) name text same = absurd (omega arith)
-lines_push (n ∷ ns) [] name text same = absurd (omega arith)
-lines_push (n ∷ ns) (t ∷ ts) name text same =
-    ap (λ l. string_line n t ++ l) (lines_push ns ts name text (omega arith))
-    ∙ sym (append_assoc (string_line n t) (definition_lines ns ts) (string_line name text))
+pub lines_push : (says : FileReading) (line_end : List ℕ) (names texts : List (List ℕ)) (name text : List ℕ) → length names ≡ length texts
+    → definition_lines says line_end (names ++ name ∷ []) (texts ++ text ∷ [])
+    ≡ definition_lines says line_end names texts ++ cond (is_some (known_name says text)) [] (string_line line_end name text)
+lines_push says line_end [] [] name text same = append-nil (cond (is_some (known_name says text)) [] (string_line line_end name text))
+lines_push says line_end [] (t ∷ ts) name text same = absurd (omega arith)
+lines_push says line_end (n ∷ ns) [] name text same = absurd (omega arith)
+lines_push says line_end (n ∷ ns) (t ∷ ts) name text same =
+    let first : List ℕ = cond (is_some (known_name says t)) [] (string_line line_end n t) in
+    ap (λ l. first ++ l) (lines_push says line_end ns ts name text (omega arith))
+    ∙ sym (append_assoc first (definition_lines says line_end ns ts) (cond (is_some (known_name says text)) [] (string_line line_end name text)))
 
 -- ---- names among names
 

@@ -1,17 +1,21 @@
 -- Meaning: words of public contracts.
--- Texts of fields that repeat, replaced by abbreviations.
-use Rattle.std.specs.Prelude.{◌≡◌, ℕ, ◌≤◌, ◌||◌, Bool, true, false, List, [], ◌∷◌, ◌++◌, codes, if◌then◌else◌, length, max, slice_index_or, Option, Some, None, is_some, bytes_eq}
-use Rattle.std.specs.List.{count_by, flat_map, list_any}
-use Rattle.std.specs.Option.{option_map}
-use Rattle.bib_text.specs.Places.{place}
+-- Texts of fields that repeat, replaced by abbreviations. The name of an abbreviation is one that the file defines already, or a new one.
+use Rattle.std.specs.Prelude.{◌≡◌, ◌==◌, ◌&&◌, ◌||◌, ℕ, ◌≤◌, ◌<◌, Bool, true, false, not, List, [], ◌∷◌, ◌++◌, Option, Some, None, bytes_eq, chars, codes, cond, count_by, encode_utf8_all, filter, if◌then◌else◌, is_some, map, max, nat_lt, slice_index_or, take}
+use Rattle.std.specs.Char.{is_ascii_alphabetic, is_ascii_digit, is_whitespace, to_ascii_lowercase}
+use Rattle.std.specs.Fmt.{decimal}
+use Rattle.std.specs.List.{find, flat_map, list_any, slice_split}
+use Rattle.std.specs.Option.{option_map, option_map_or}
+use Rattle.std.specs.Str.{trim}
 use Rattle.bib_tables.specs.Months.{month_of_abbreviation}
+use Rattle.bib_text.specs.Places.{place}
 use Rattle.bib_syntax.specs.Grammar.{NoDigit, is_word}
 use Rattle.bib_syntax.specs.Reading.{Piece, FieldReading, EntryReading, FileReading}
 use Rattle.bib_syntax.specs.Reading.Piece.{literal, abbreviation}
-use Rattle.bib_queries.specs.Needed.{is_listed}
-use Rattle.edit_entries.specs.Documents.{CanBeName, CanStandInBraces, Document, has_name, last_position, text_at}
-use Rattle.edit_strings.specs.Exchanged.{Exchange, exchanges}
 use Rattle.edit_entries.specs.Changes.{file_changed, text_changed, IsReadPlaceless, NewValue}
+use Rattle.edit_entries.specs.Documents.{CanBeName, CanStandInBraces, Document, has_name, last_position, text_at}
+use Rattle.edit_entries.specs.Edits.{edited}
+use Rattle.edit_format.specs.Formatted.{line_end_of}
+use Rattle.edit_strings.specs.Exchanged.{Exchange, exchanges}
 use Rattle.edit_strings.specs.Expanded.{Index, elements}
 
 -- the text of some pieces, if they are one literal
@@ -20,6 +24,8 @@ single_text [] = None
 single_text (abbreviation p ∷ rest) = None
 single_text (literal p ∷ []) = Some p.text
 single_text (literal p ∷ other ∷ rest) = None
+
+-- ---- the texts
 
 -- whether a field has one of these names, in any ASCII case
 abbrev pub is_named_by : List (List ℕ) → FieldReading → Bool
@@ -51,19 +57,36 @@ pub record RepeatsInBraces (least : ℕ) (texts : List (List ℕ)) (text : List 
   pub often : least ≤ times_of text texts
   pub can : CanStandInBraces text
 
--- the second list has the chosen texts of the first, each once, in the order of their first occurrence
-pub data FirstOnes (Chosen : List ℕ → Type 0) : List (List ℕ) → List (List ℕ) → Type 0 where
-  none : FirstOnes Chosen [] []
-  first : {found : List (List ℕ)} (texts : List (List ℕ)) (text : List ℕ) → FirstOnes Chosen texts found
-      → is_listed texts text ≡ false → Chosen text → FirstOnes Chosen (texts ++ text ∷ []) (found ++ text ∷ [])
-  left : {found : List (List ℕ)} (texts : List (List ℕ)) (text : List ℕ) → FirstOnes Chosen texts found
-      → is_listed texts text ≡ false → (Chosen text → ⊥) → FirstOnes Chosen (texts ++ text ∷ []) found
-  again : {found : List (List ℕ)} (texts : List (List ℕ)) (text : List ℕ) → FirstOnes Chosen texts found
-      → is_listed texts text ≡ true → FirstOnes Chosen (texts ++ text ∷ []) found
+-- these texts, each once, in the order of their first occurrences
+abbrev pub distinct : List (List ℕ) → List (List ℕ)
+distinct [] = []
+distinct (text ∷ texts) = text ∷ filter (λ other. not (bytes_eq other text)) (distinct texts)
+
+-- the second list has those texts of the first that meet a condition, in their order
+pub data AreThoseThat (Meets : List ℕ → Type 0) : List (List ℕ) → List (List ℕ) → Type 0 where
+  none : AreThoseThat Meets [] []
+  kept : {texts found : List (List ℕ)} (text : List ℕ) → Meets text → AreThoseThat Meets texts found
+      → AreThoseThat Meets (text ∷ texts) (text ∷ found)
+  left : {texts found : List (List ℕ)} (text : List ℕ) → (Meets text → ⊥) → AreThoseThat Meets texts found
+      → AreThoseThat Meets (text ∷ texts) found
+
+-- the texts to collect from fields with these names: the distinct texts that repeat, in the order of their first occurrences
+abbrev pub AreCollectedTexts : List (List ℕ) → ℕ → List EntryReading → List (List ℕ) → Type 0
+AreCollectedTexts fields least entries texts =
+    AreThoseThat (RepeatsInBraces least (named_texts fields entries)) (distinct (named_texts fields entries)) texts
+
+-- ---- names
 
 -- whether a name is the abbreviation of a month, in any ASCII case
 abbrev pub is_month : List ℕ → Bool
 is_month name = is_some (month_of_abbreviation name)
+
+-- whether a name begins with an ASCII digit; in a value, it would be a number
+abbrev pub has_digit_first : List ℕ → Bool
+has_digit_first [] = false
+has_digit_first (b ∷ bs) = is_ascii_digit b
+
+-- ---- the names of a file
 
 -- the name of a piece as a list: empty for a literal
 abbrev pub piece_names : Piece → List (List ℕ)
@@ -90,19 +113,88 @@ names_of_file says = definition_names says.abbreviations ++ flat_map (λ e. used
 abbrev pub is_one_in_any_case : List (List ℕ) → List ℕ → Bool
 is_one_in_any_case names name = list_any (λ other. is_word other name) names
 
--- a name that is new to a file: an identifier that has no leading digit, isn't a month's abbreviation, and doesn't occur in the
--- file in any case
-pub record IsNewName (says : FileReading) (name : List ℕ) : Type 0 where
+-- ---- definitions that can be reused
+
+-- the byte offset of the first entry; 0 if there is none
+abbrev pub first_start : List EntryReading → ℕ
+first_start [] = 0
+first_start (e ∷ es) = e.start
+
+-- whether a definition is before a byte offset
+abbrev pub is_before : ℕ → FieldReading → Bool
+is_before at f = nat_lt f.name.start at
+
+-- whether a name can be reused: it is not a month's abbreviation, it has no leading digit, and the file has one definition of it in any
+-- ASCII case
+abbrev pub is_reusable_name : FileReading → List ℕ → Bool
+is_reusable_name says name =
+    not (is_month name) && not (has_digit_first name) && (count_by (has_name name) says.abbreviations == 1)
+
+-- the text for which a definition can be reused: its value, if it is one literal, the definition is before the first entry, and its name
+-- can be reused. BibTeX reads a file from top to bottom, so a definition after an entry doesn't count in this entry.
+abbrev pub reusable_text : FileReading → FieldReading → Option (List ℕ)
+reusable_text says f =
+    cond (is_before (first_start says.entries) f && is_reusable_name says f.name.text) (single_text (elements f)) None
+
+-- whether a definition can be reused for a text
+abbrev pub is_reusable : FileReading → List ℕ → FieldReading → Bool
+is_reusable says text f = option_map_or (λ own. bytes_eq own text) (reusable_text says f) false
+
+-- the name of the first definition that can be reused for a text, as it is written there
+abbrev pub known_name : FileReading → List ℕ → Option (List ℕ)
+known_name says text = option_map (λ f. f.name.text) (find (is_reusable says text) says.abbreviations)
+
+-- ---- new names
+
+-- the first ASCII letters of a word in lowercase, at most `count` of them
+abbrev pub first_letters : ℕ → List ℕ → List ℕ
+first_letters count word = encode_utf8_all (map to_ascii_lowercase (take count (filter is_ascii_alphabetic word)))
+
+-- the first letter of each word of a text
+abbrev pub initials : List ℕ → List ℕ
+initials text = flat_map (first_letters 1) (slice_split is_whitespace (chars text))
+
+-- the letters from which the name of a text is made: the first 8 of its only word, or the first of each word
+abbrev pub name_letters : List ℕ → List ℕ
+name_letters text = cond (list_any is_whitespace (chars (trim text))) (initials text) (first_letters 8 (chars text))
+
+-- these letters, or `s` if there are none
+abbrev pub letters_or_s : List ℕ → List ℕ
+letters_or_s [] = codes "s"
+letters_or_s (b ∷ bs) = b ∷ bs
+
+-- the digits of a number after a name: none if it is 1
+abbrev pub number_after : ℕ → List ℕ
+number_after number = cond (number == 1) [] (decimal number)
+
+-- the name of a text with a number
+abbrev pub numbered_name : List ℕ → ℕ → List ℕ
+numbered_name text number = letters_or_s (name_letters text) ++ number_after number
+
+-- whether a name is new: not a month's abbreviation, and in any ASCII case neither a name of the file nor one of the earlier names
+abbrev pub is_new_name : FileReading → List (List ℕ) → List ℕ → Bool
+is_new_name says earlier name =
+    not (is_month name || (is_one_in_any_case earlier name || is_one_in_any_case (names_of_file says) name))
+
+-- the new name of a text: its name with the least number that makes it new. It is an identifier without a leading digit.
+pub record IsFirstNewName (says : FileReading) (earlier : List (List ℕ)) (text name : List ℕ) : Type 0 where
   pub can : CanBeName name
   pub no_digit : NoDigit (place name 0)
-  pub no_month : is_month name ≡ false
-  pub free : is_one_in_any_case (names_of_file says) name ≡ false
+  pub number : ℕ
+  pub some : 1 ≤ number
+  pub is : name ≡ numbered_name text number
+  pub new : is_new_name says earlier name ≡ true
+  pub first : (n : ℕ) → 1 ≤ n → n < number → is_new_name says earlier (numbered_name text n) ≡ false
 
--- names that are new to a file, of which no two differ only in case
-pub data AreNewNames (says : FileReading) : List (List ℕ) → Type 0 where
-  none : AreNewNames says []
-  more : (names : List (List ℕ)) (name : List ℕ) → AreNewNames says names → IsNewName says name
-      → is_one_in_any_case names name ≡ false → AreNewNames says (names ++ name ∷ [])
+-- the names of some texts: a name that can be reused, or else a new name, given the names of the texts before
+pub data AreNames (says : FileReading) : List (List ℕ) → List (List ℕ) → Type 0 where
+  none : AreNames says [] []
+  known : {texts names : List (List ℕ)} (text name : List ℕ) → AreNames says texts names → known_name says text ≡ Some name
+      → AreNames says (texts ++ text ∷ []) (names ++ name ∷ [])
+  new : {texts names : List (List ℕ)} (text name : List ℕ) → AreNames says texts names → known_name says text ≡ None
+      → IsFirstNewName says names text name → AreNames says (texts ++ text ∷ []) (names ++ name ∷ [])
+
+-- ---- the new values
 
 -- the index of a text in a list of texts, if it is one of them
 abbrev pub text_index : List (List ℕ) → Index
@@ -122,36 +214,52 @@ text_value index names (Some text) = option_map (λ i. name_value (slice_index_o
 abbrev pub collection : List (List ℕ) → List (List ℕ) → List (List ℕ) → Exchange
 collection fields texts names f = text_value (text_index texts) names (named_text fields f)
 
--- the line that defines a name as a text
-abbrev pub string_line : List ℕ → List ℕ → List ℕ
-string_line name text = codes "@string{" ++ (name ++ (codes " = {" ++ (text ++ codes "}}\n")))
+-- ---- the new definitions
 
--- the lines that define each name as the text at the same index
-abbrev pub definition_lines : List (List ℕ) → List (List ℕ) → List ℕ
-definition_lines [] texts = []
-definition_lines (name ∷ names) [] = []
-definition_lines (name ∷ names) (text ∷ texts) = string_line name text ++ definition_lines names texts
+-- the line that defines a name as a text
+abbrev pub string_line : List ℕ → List ℕ → List ℕ → List ℕ
+string_line line_end name text = codes "@string{" ++ (name ++ (codes " = {" ++ (text ++ (codes "}}" ++ line_end))))
+
+-- the lines that define each name as the text at the same index, except for texts of which the file has a definition to reuse
+abbrev pub definition_lines : FileReading → List ℕ → List (List ℕ) → List (List ℕ) → List ℕ
+definition_lines says line_end [] texts = []
+definition_lines says line_end (name ∷ names) [] = []
+definition_lines says line_end (name ∷ names) (text ∷ texts) =
+    cond (is_some (known_name says text)) [] (string_line line_end name text) ++ definition_lines says line_end names texts
+
+-- the definition of a name as a text, without spans
+abbrev pub line_reading : List ℕ → List ℕ → FieldReading
+line_reading name text =
+    record { name = text_at 0 name; value = record { pieces = literal (text_at 0 text) ∷ []; start = 0; end = 0 } }
 
 -- the definitions that such lines parse to, without spans
-abbrev pub line_readings : List (List ℕ) → List (List ℕ) → List FieldReading
-line_readings [] texts = []
-line_readings (name ∷ names) [] = []
-line_readings (name ∷ names) (text ∷ texts) =
-    record { name = text_at 0 name; value = record { pieces = literal (text_at 0 text) ∷ []; start = 0; end = 0 } }
-    ∷ line_readings names texts
+abbrev pub line_readings : FileReading → List (List ℕ) → List (List ℕ) → List FieldReading
+line_readings says [] texts = []
+line_readings says (name ∷ names) [] = []
+line_readings says (name ∷ names) (text ∷ texts) =
+    cond (is_some (known_name says text)) [] (line_reading name text ∷ []) ++ line_readings says names texts
 
--- the reading of a file with more definitions before its own
-abbrev pub with_definitions : List FieldReading → FileReading → FileReading
-with_definitions definitions says = record says { abbreviations = definitions ++ says.abbreviations }
+-- the text of a document with these lines before the first entry
+abbrev pub with_lines : Document → List ℕ → List ℕ → List ℕ
+with_lines d lines text = edited (record { start = first_start d.says.entries; end = first_start d.says.entries; bytes = lines }) text
 
--- a text is that of a document with its repeated texts in fields with these names replaced by abbreviations, and parses to this
+-- the reading of a file with more definitions: between those before a byte offset and the others
+abbrev pub with_definitions : ℕ → List FieldReading → FileReading → FileReading
+with_definitions at definitions says = record says {
+  abbreviations =
+      filter (is_before at) says.abbreviations ++ (definitions ++ filter (λ f. not (is_before at f)) says.abbreviations);
+}
+
+-- a text is that of a document with its repeated texts in fields with these names replaced by abbreviations. The lines that define new
+-- names are directly before the first entry. The text parses to the reading with these replacements and definitions.
 pub record AreMadeAbbreviations (d : Document) (fields : List (List ℕ)) (least : ℕ) (text : List ℕ) : Type 0 where
   pub texts : List (List ℕ)
   pub names : List (List ℕ)
-  pub chosen : FirstOnes (RepeatsInBraces (max least 2) (named_texts fields d.says.entries)) (named_texts fields d.says.entries) texts
-  pub as_many : length names ≡ length texts
-  pub are_new : AreNewNames d.says names
-  pub is : text ≡ definition_lines names texts ++ text_changed (exchanges (collection fields texts names)) d
+  pub chosen : AreCollectedTexts fields (max least 2) d.says.entries texts
+  pub named : AreNames d.says texts names
+  pub is : text
+      ≡ with_lines d (definition_lines d.says (line_end_of d.text) names texts) (text_changed (exchanges (collection fields texts names)) d)
   pub read :
-      IsReadPlaceless (with_definitions (line_readings names texts) (file_changed (exchanges (collection fields texts names)) d.says))
-      text
+      IsReadPlaceless
+      (with_definitions (first_start d.says.entries) (line_readings d.says names texts)
+      (file_changed (exchanges (collection fields texts names)) d.says)) text

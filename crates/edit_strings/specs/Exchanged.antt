@@ -1,6 +1,6 @@
 -- Meaning: words of public contracts.
 -- Replacements of the values of fields, as changes of entries.
-use Rattle.std.specs.Prelude.{List, map, Option, Some, None}
+use Rattle.std.specs.Prelude.{map, Option, Some, None}
 use Rattle.bib_syntax.specs.Reading.{FieldReading, EntryReading}
 use Rattle.edit_entries.specs.Changes.{EntryChange, FieldChange, NewValue}
 

@@ -1,7 +1,7 @@
 //! Selection of the texts to collect.
 
 ghost use Rattle.std.specs.Prelude.{◌≡◌, ℕ, List, IfOk, MatchBool};
-ghost use Rattle.edit_strings.specs.Collected.{FirstOnes, RepeatsInBraces, times_of};
+ghost use Rattle.edit_strings.specs.Collected.{AreThoseThat, RepeatsInBraces, distinct, times_of};
 ghost use Rattle.edit_strings.specs.Collecting.{count_in, lent_texts};
 
 use crate::braces::can_stand_in_braces;
@@ -33,7 +33,8 @@ pub(crate) fn collected_texts<'s>(
     texts: &[&'s str],
 ) -> Result<Vec<&'s str>, AllocError>
     requires { (text : List ℕ) → count_in counts.now text ≡ times_of text (lent_texts texts.now) }
-    ensures { IfOk result (λ found. FirstOnes (RepeatsInBraces least (lent_texts texts.now)) (lent_texts texts.now) (lent_texts found.items)) }
+    ensures { IfOk result (λ found.
+        AreThoseThat (RepeatsInBraces least (lent_texts texts.now)) (distinct (lent_texts texts.now)) (lent_texts found.items)) }
 {
     let mut met = BTreeSet::new(alloc);
     let mut found = Vec::new(alloc);

@@ -1,20 +1,23 @@
 //! Collecting repeated texts of fields as abbreviations.
 
-ghost use Rattle.std.specs.Prelude.{◌≡◌, ◌++◌, ◌<◌, IfOk, OnOk, length, map};
+ghost use Rattle.std.specs.Prelude.{◌≡◌, ◌++◌, ◌∷◌, [], ◌<◌, ℕ, List, IfOk, OnOk, cond, is_some, length, map};
 ghost use Rattle.std.specs.List.{AllByRecursion};
 ghost use Rattle.std.specs.String.{string_bytes};
 ghost use Rattle.bib_syntax.specs.Grammar.{IsRawReading};
+ghost use Rattle.bib_syntax.specs.Reading.{FileReading};
 ghost use Rattle.bib_syntax.specs.Views.{entry_reading_of, field_of, file_of};
+ghost use Rattle.edit_format.specs.Formatted.{line_end_of};
 ghost use Rattle.edit_strings.specs.Collected as spec;
-ghost use Rattle.edit_strings.specs.Collected.{AreNewNames, AreMadeAbbreviations, string_line, definition_lines, text_index};
-ghost use Rattle.edit_strings.specs.Collecting.{collection_by, lent_texts, string_texts};
+ghost use Rattle.edit_strings.specs.Collected.{AreNames, AreMadeAbbreviations, definition_lines, known_name, string_line, text_index, with_lines};
+ghost use Rattle.edit_strings.specs.Collecting.{collection_by, known_in, lent_texts, string_texts};
 ghost use Rattle.edit_strings.specs.Exchanged.{exchanges};
 ghost use Rattle.edit_entries.specs.Changes.{text_changed};
 ghost use Rattle.edit_strings.specs.Tables.{entry_edits, field_edits, value_edits, AreAllFieldsCut, IsBelow, IsFieldCut, index_in};
 ghost use Rattle.edit_entries.specs.EditList.{edit_of};
 
 use crate::collected::collected_texts;
-use crate::naming::new_names;
+use crate::known::{first_start, known_names};
+use crate::naming::names;
 use crate::taken::Taken;
 use crate::texts::{counts, named_text, named_texts};
 use bib_syntax::raw::{Pair, RawBibliography, RawEntry};
@@ -25,10 +28,11 @@ use edit_entries::values::value_end;
 use std::alloc::{AllocError, Global};
 use std::collections::BTreeMap;
 
-// Collected texts: the index of each, and the new name at each index.
+// Collected texts: the index of each, the names that the file defines for texts, and the name at each index.
 #[derive(Drop)]
 struct Collection<'s> {
     indices: BTreeMap<&'s str, usize>,
+    known: BTreeMap<&'s str, &'s str>,
     names: Vec<String>,
 }
 
@@ -91,66 +95,109 @@ fn push_edits(
     Ok(())
 }
 
-// Returns the edits for all fields of `entries` whose text is collected.
+// Returns `first` and the edits for all fields of `entries` whose text is collected.
 fn edits(
     alloc: Global,
     text: &str,
     fields: &[&str],
     collection: &Collection<'_>,
+    first: Edit,
     entries: &[Spanned<RawEntry<'_>>],
 ) -> Result<Vec<Edit>, AllocError>
     requires below { IsBelow (length collection.now.names.items) (index_in collection.now.indices) }
     requires cut { AreAllFieldsCut text.now (map entry_reading_of entries.now) }
-    ensures { IfOk result (λ made. map edit_of made.items ≡ entry_edits (collection_by (lent_texts fields.now) (index_in collection.now.indices) (string_texts collection.now.names.items)) text.now (map entry_reading_of entries.now)) }
+    ensures { IfOk result (λ made. map edit_of made.items ≡ edit_of first ∷
+        entry_edits (collection_by (lent_texts fields.now) (index_in collection.now.indices) (string_texts collection.now.names.items)) text.now (map entry_reading_of entries.now)) }
 {
     let mut edits = Vec::new(alloc);
+    edits.push(first)?;
     'entries: for entry in entries {
         push_edits(&mut edits, alloc, text, fields, collection, &entry.v.fields)?;
     }
     Ok(edits)
 }
 
+// Returns the line end of `text`: `\r\n` if its first line ends so, otherwise `\n`.
+fn line_end(text: &str) -> &'static str
+    ensures { result.now ≡ line_end_of text.now }
+{
+    match text.split_once('\n') {
+        Some((line, _)) => if line.ends_with("\r") { "\r\n" } else { "\n" },
+        None => "\n",
+    }
+}
+
 // Appends the `@string` line that defines `name` as `text`.
-fn push_definition(new: &mut String, name: &str, text: &str) -> Result<(), AllocError>
-    ensures { OnOk result (string_bytes new.new ≡ string_bytes new.old ++ string_line name.now text.now) }
+fn push_line(new: &mut String, line_end: &str, name: &str, text: &str) -> Result<(), AllocError>
+    ensures { OnOk result (string_bytes new.new ≡ string_bytes new.old ++ string_line line_end.now name.now text.now) }
 {
     new.push_str("@string{")?;
     new.push_str(name)?;
     new.push_str(" = {")?;
     new.push_str(text)?;
-    new.push_str("}}\n")?;
+    new.push_str("}}")?;
+    new.push_str(line_end)?;
     Ok(())
 }
 
-// Returns the `@string` lines that define each name as the text at the same index.
-fn definitions(alloc: Global, names: &[String], texts: &[&str]) -> Result<String, AllocError>
+// Appends the `@string` line that defines `name` as `text`, unless the text has a known name.
+fn push_definition(
+    new: &mut String,
+    line_end: &str,
+    known: &BTreeMap<&str, &str>,
+    name: &str,
+    text: &str,
+) -> Result<(), AllocError>
+    ensures { OnOk result (string_bytes new.new ≡ string_bytes new.old ++
+        cond (is_some (known_in known.now text.now)) [] (string_line line_end.now name.now text.now)) }
+{
+    if known.contains_key(text) {
+        return Ok(());
+    }
+    push_line(new, line_end, name, text)
+}
+
+// Returns the `@string` lines that define each name as the text at the same index, except for texts with a known name.
+fn definitions(
+    alloc: Global,
+    line_end: &str,
+    known: &BTreeMap<&str, &str>,
+    names: &[String],
+    texts: &[&str],
+) -> Result<String, AllocError>
     requires { length names.now ≡ length texts.now }
-    ensures { IfOk result (λ new. string_bytes new ≡ definition_lines (string_texts names.now) (lent_texts texts.now)) }
+    ensures { IfOk result (λ new. (says : FileReading) → ((text : List ℕ) → known_in known.now text ≡ known_name says text) →
+        string_bytes new ≡ definition_lines says line_end.now (string_texts names.now) (lent_texts texts.now)) }
 {
     let mut new = String::new(alloc);
     'names: for (index, name) in names.iter().enumerate() {
-        push_definition(&mut new, name.as_str(), texts[index])?;
+        push_definition(&mut new, line_end, known, name.as_str(), texts[index])?;
     }
     Ok(new)
 }
 
-// Returns the collection of `texts`: a new name for each, and its index.
+// Returns the collection of `texts`: a name for each, and its index.
 fn collection_of<'s>(
     alloc: Global,
-    raw: &RawBibliography<'_>,
+    raw: &RawBibliography<'s>,
     texts: &[&'s str],
 ) -> Result<Collection<'s>, AllocError>
     ensures index { IfOk result (λ made. index_in made.indices ≡ text_index (lent_texts texts.now)) }
-    ensures count { IfOk result (λ made. length made.names.items ≡ length texts.now) }
-    ensures are_new { IfOk result (λ made. AreNewNames (file_of raw.now) (string_texts made.names.items)) }
+    ensures known { IfOk result (λ made. (text : List ℕ) → known_in made.known text ≡ known_name (file_of raw.now) text) }
+    ensures named { IfOk result (λ made. AreNames (file_of raw.now) (lent_texts texts.now) (string_texts made.names.items)) }
 {
+    let known = known_names(alloc, raw)?;
     let mut taken = Taken::of_file(alloc, raw)?;
-    let names = new_names(alloc, &mut taken, texts)?;
+    let names = names(alloc, &mut taken, &known, texts)?;
     let indices = indices(alloc, texts)?;
-    Ok(Collection { indices, names })
+    Ok(Collection {
+        indices,
+        known,
+        names,
+    })
 }
 
-// Returns the definitions of the new names, followed by `text` with each collected value replaced by its name.
+// Returns `text` with each collected value replaced by its name, and the definitions of the new names before the first entry.
 fn with_collection(
     alloc: Global,
     text: &str,
@@ -161,22 +208,36 @@ fn with_collection(
 ) -> Result<String, AllocError>
     requires read { IsRawReading text.now (file_of raw.now) }
     requires index { index_in collection.now.indices ≡ text_index (lent_texts texts.now) }
+    requires known { (text : List ℕ) → known_in collection.now.known text ≡ known_name (file_of raw.now) text }
     requires count { length collection.now.names.items ≡ length texts.now }
-    ensures { IfOk result (λ new. string_bytes new ≡ definition_lines (string_texts collection.now.names.items) (lent_texts texts.now) ++
-        text_changed (exchanges (spec.collection (lent_texts fields.now) (lent_texts texts.now) (string_texts collection.now.names.items))) (record { text = text.now; says = file_of raw.now })) }
+    ensures { IfOk result (λ new. string_bytes new ≡
+        with_lines (record { text = text.now; says = file_of raw.now })
+        (definition_lines (file_of raw.now) (line_end_of text.now) (string_texts collection.now.names.items) (lent_texts texts.now))
+        (text_changed (exchanges (spec.collection (lent_texts fields.now) (lent_texts texts.now) (string_texts collection.now.names.items))) (record { text = text.now; says = file_of raw.now }))) }
 {
-    let made = edits(alloc, text, fields, collection, &raw.entries)?;
-    let edited = edited_all(alloc, text, &made)?;
-    let mut new = definitions(alloc, &collection.names, texts)?;
-    new.push_str(edited.as_str())?;
-    Ok(new)
+    let lines = definitions(alloc, line_end(text), &collection.known, &collection.names, texts)?;
+    let start = first_start(&raw.entries);
+    let first = Edit {
+        start,
+        end: start,
+        text: lines,
+    };
+    let made = edits(alloc, text, fields, collection, first, &raw.entries)?;
+    edited_all(alloc, text, &made)
 }
 
 /// Returns the text of `document` with repeated values replaced by abbreviations. A text is collected if it is the value of at
 /// least `at_least` fields of entries, as one literal, and can be written between braces. An `at_least` of 0 or 1 counts as 2.
-/// Only fields with one of the names `fields` count, in any ASCII case. Each collected text gets one new abbreviation, which
-/// replaces all these values. The definitions, one line `@string{name = {text}}` for each, precede the old text in the order of
-/// the first occurrences of the texts. Everything else is unchanged. Returns an error only if memory runs out.
+/// Only fields with one of the names `fields` count, in any ASCII case.
+///
+/// If a definition before the first entry has the text as its value, the text gets the name of this definition, as it is written
+/// there. The name has no other definition in any ASCII case, isn't a month's abbreviation and has no leading digit. Each other text
+/// gets a new name: the first letters of its words in lowercase, up to 8 letters of a single word, or `s`. The least number from 2 on
+/// is added if the name is a month's abbreviation, or occurs in the file in any ASCII case, or is the name of an earlier text.
+///
+/// The definitions of new names are directly before the first entry, one line `@string{name = {text}}` for each, in the order of
+/// the first occurrences of the texts. Their line ends are CR LF if the first line of the text ends so, and LF otherwise. Everything
+/// else is unchanged. Returns an error only if memory runs out.
 pub fn collect(
     alloc: Global,
     document: &RawDocument<'_>,

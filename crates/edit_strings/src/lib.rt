@@ -18,6 +18,7 @@ mod definitions;
 pub mod elements;
 pub mod errors;
 pub mod expanding;
+mod known;
 mod naming;
 mod taken;
 mod texts;

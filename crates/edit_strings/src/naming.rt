@@ -1,15 +1,17 @@
-//! New names for collected texts.
+//! Names for collected texts.
+//!
+//! `numbers` maps the start of a name to a number below which every number gives a name that is used. So the search for the next
+//! name with this start begins where the last one ended.
 
-ghost use Rattle.std.specs.Prelude.{◌≡◌, ◌≤◌, ◌&&◌, ◌++◌, ℕ, List, length, true, not, replicate, IfOk, OnOk};
-ghost use Rattle.std.specs.Char.{is_ascii_lowercase};
-ghost use Rattle.std.specs.List.{list_all};
+ghost use Rattle.std.specs.Prelude.{◌≡◌, ◌≤◌, ◌||◌, ◌++◌, ℕ, List, true, IfOk, OnOk};
+ghost use Rattle.std.specs.Char.{is_whitespace};
+ghost use Rattle.std.specs.List.{list_any};
+ghost use Rattle.std.specs.Str.{chars};
 ghost use Rattle.std.specs.String.{string_bytes};
-ghost use Rattle.bib_text.specs.Characters as char;
 ghost use Rattle.bib_syntax.specs.Reading.{FileReading};
 ghost use Rattle.edit_strings.specs.Collected as spec;
-ghost use Rattle.edit_strings.specs.Collected.{AreNewNames, is_one_in_any_case, names_of_file};
-ghost use Rattle.edit_strings.specs.Collecting as plain;
-ghost use Rattle.edit_strings.specs.Collecting.{has_lowercase, number_after, IsBounded, IsFresh, is_plain_name, is_taken, string_texts};
+ghost use Rattle.edit_strings.specs.Collected.{AreNames, is_one_in_any_case, known_name, letters_or_s, name_letters, names_of_file, number_after};
+ghost use Rattle.edit_strings.specs.Collecting.{AreBelowUsed, AreUsedBelow, GetsName, IsFirstFree, TakesName, has_lowercase, is_plain_name, is_taken, known_in, lent_texts, letter_at, met_after, string_texts};
 
 use crate::taken::Taken;
 use bib_tables::months::Month;
@@ -17,37 +19,15 @@ use std::alloc::{AllocError, Global};
 use std::collections::BTreeMap;
 
 // Returns whether `name` is the abbreviation of a month, in any ASCII case.
-fn is_month(name: &str) -> bool
+pub(crate) fn is_month(name: &str) -> bool
     ensures { result ≡ spec.is_month name.now }
 {
     Month::from_abbreviation(name).is_some()
 }
 
-// Returns whether `bytes` are only lowercase ASCII letters and digits.
-fn are_plain(bytes: &[u8]) -> bool
-    ensures { result ≡ list_all plain.is_plain_byte bytes.now }
-{
-    'bytes: for b in bytes {
-        if !(b.is_ascii_lowercase() || b.is_ascii_digit()) {
-            return false;
-        }
-    }
-    true
-}
-
-// Returns whether `name` is a lowercase ASCII letter followed by lowercase ASCII letters and digits only.
-fn is_plain(name: &str) -> bool
-    ensures { result ≡ is_plain_name name.now }
-{
-    match name.as_bytes() {
-        [first, rest @ ..] => first.is_ascii_lowercase() && are_plain(rest),
-        [] => false,
-    }
-}
-
 // Returns the first ASCII letters of `word` in lowercase, at most `count` of them.
 fn first_letters(alloc: Global, word: &str, count: usize) -> Result<String, AllocError>
-    ensures { IfOk result (λ letters. string_bytes letters ≡ plain.first_letters count word.now) }
+    ensures { IfOk result (λ letters. string_bytes letters ≡ spec.first_letters count (chars word.now)) }
 {
     word.chars()
         .filter(|c| c.is_ascii_alphabetic())
@@ -56,43 +36,64 @@ fn first_letters(alloc: Global, word: &str, count: usize) -> Result<String, Allo
         .collect(alloc)
 }
 
+// Returns whether the word that `c` belongs to has had its first letter, after `c`.
+fn is_met_after(is_met: bool, c: char) -> bool
+    ensures { result ≡ met_after is_met c }
+{
+    !c.is_whitespace() && (is_met || c.is_ascii_alphabetic())
+}
+
+// Appends `c` in lowercase if it is the first letter of a word.
+fn push_initial(initials: &mut String, is_met: bool, c: char) -> Result<(), AllocError>
+    ensures { OnOk result (string_bytes initials.new ≡ string_bytes initials.old ++ letter_at is_met c) }
+{
+    if !is_met && c.is_ascii_alphabetic() {
+        initials.push(c.to_ascii_lowercase())?;
+    }
+    Ok(())
+}
+
 // Returns the first ASCII letter of each word of `text`, in lowercase.
 fn initials(alloc: Global, text: &str) -> Result<String, AllocError>
-    ensures { IfOk result (λ initials. list_all is_ascii_lowercase (string_bytes initials) ≡ true) }
+    ensures { IfOk result (λ initials. string_bytes initials ≡ spec.initials text.now) }
 {
     let mut initials = String::new(alloc);
-    'words: for word in text.split_whitespace() {
-        initials.push_str(&first_letters(alloc, word, 1)?)?;
+    let mut is_met = false;
+    'chars: for c in text.chars() {
+        push_initial(&mut initials, is_met, c)?;
+        is_met = is_met_after(is_met, c);
     }
     Ok(initials)
 }
 
-// Returns the start of the name of `text`: the first letters of its words, or up to 8 letters if it is one word. Returns `s` if
-// there are no letters.
-fn base(alloc: Global, text: &str) -> Result<String, AllocError>
-    ensures { IfOk result (λ base. is_plain_name (string_bytes base) ≡ true) }
+// Returns whether `text` contains white space.
+fn has_white(text: &str) -> bool
+    ensures { result ≡ list_any is_whitespace (chars text.now) }
 {
-    let letters = if text.split_whitespace().count() == 1 {
-        first_letters(alloc, text, 8)?
+    text.chars().any(|c| c.is_whitespace())
+}
+
+// Returns the letters from which the name of `text` is made.
+fn name_letters(alloc: Global, text: &str) -> Result<String, AllocError>
+    ensures { IfOk result (λ letters. string_bytes letters ≡ spec.name_letters text.now) }
+{
+    if has_white(text.trim()) {
+        initials(alloc, text)
     } else {
-        initials(alloc, text)?
-    };
-    if is_plain(letters.as_str()) {
-        Ok(letters)
-    } else {
-        String::from_str(alloc, "s")
+        first_letters(alloc, text, 8)
     }
 }
 
-// Returns `base` followed by `longest` zeros, which is longer than any name of at most `longest` bytes.
-fn longer(alloc: Global, base: &str, longest: usize) -> Result<String, AllocError>
-    ensures { IfOk result (λ name. string_bytes name ≡ base.now ++ replicate longest char.zero) }
+// Returns the start of the name of `text`: its letters, or `s` if there are none.
+fn base(alloc: Global, text: &str) -> Result<String, AllocError>
+    ensures { IfOk result (λ base. string_bytes base ≡ letters_or_s (spec.name_letters text.now)) }
 {
-    let mut name = String::from_str(alloc, base)?;
-    'digits: for _digit in 0..longest {
-        name.push('0')?;
+    let letters = name_letters(alloc, text)?;
+    if letters.is_empty() {
+        String::from_str(alloc, "s")
+    } else {
+        Ok(letters)
     }
-    Ok(name)
 }
 
 // Returns `base` followed by `number`, or only `base` if the number is 1.
@@ -106,51 +107,83 @@ fn numbered(alloc: Global, base: &str, number: u64) -> Result<String, AllocError
     }
 }
 
-// Returns whether `name` can be a new name: it is plain, isn't the abbreviation of a month, and isn't taken.
-fn is_new(taken: &Taken, name: &str) -> bool
-    ensures { result ≡ (is_plain_name name.now && (not (spec.is_month name.now) && not (has_lowercase taken.now name.now))) }
+// Returns whether `name`, in lowercase, can't be a new name: it is the abbreviation of a month, or is taken.
+fn is_used(taken: &Taken, name: &str) -> bool
+    ensures { result ≡ (spec.is_month name.now || has_lowercase taken.now name.now) }
 {
-    is_plain(name) && !is_month(name) && !taken.has(name)
+    is_month(name) || taken.has(name)
 }
 
-// Returns a new name and a number for the next search: `base` with the first number from `from` on that makes it new. If no
-// number does, the name is `base` followed by zeros.
-fn fresh(alloc: Global, taken: &Taken, base: &str, from: u64) -> Result<(String, u64), AllocError>
-    requires bounded { IsBounded taken.now }
-    requires three { 3 ≤ taken.now.longest }
+// Returns the first number from `from` on that makes `base` a new name, and this name. The numbers below `from` are known to make it
+// a name that is used. No number from 2 on makes it a month's abbreviation, so one of as many numbers as there are taken names, and
+// one more, makes it new.
+fn fresh(alloc: Global, taken: &Taken, base: &str, from: u64) -> Result<(u64, String), AllocError>
     requires plain { is_plain_name base.now ≡ true }
-    ensures { IfOk result (λ made. IsFresh taken.now (string_bytes made.0)) }
+    requires some { 1 ≤ from }
+    requires used { AreUsedBelow taken.now base.now from }
+    ensures { IfOk result (λ made. IsFirstFree taken.now base.now made.0 (string_bytes made.1)) }
 {
-    'numbers: for number in from..u64::MAX {
+    let end = taken.count() as u64 + 3;
+    'numbers: for number in from..end {
         let name = numbered(alloc, base, number)?;
-        if is_new(taken, name.as_str()) {
-            return Ok((name, number));
+        if !is_used(taken, name.as_str()) {
+            return Ok((number, name));
         }
     }
-    Ok((longer(alloc, base, taken.longest)?, from))
+    unreachable!()
 }
 
-// Returns a new name for each of `texts`, and adds these names to `taken`.
-pub(crate) fn new_names(
+// Returns the new name of `text`, and adds it to `taken`.
+fn new_name(
     alloc: Global,
     taken: &mut Taken,
+    numbers: &mut BTreeMap<String, u64>,
+    text: &str,
+) -> Result<String, AllocError>
+    requires { AreBelowUsed taken.old numbers.old }
+    ensures { IfOk result (λ name. TakesName taken.old taken.new numbers.new text.now (string_bytes name)) }
+{
+    let base = base(alloc, text)?;
+    let from = numbers.get(base.as_str()).copied().unwrap_or(1);
+    let (number, name) = fresh(alloc, taken, base.as_str(), from)?;
+    taken.take(alloc, name.as_str())?;
+    numbers.insert(base, number)?;
+    Ok(name)
+}
+
+// Returns the name of `text`: the one in `known`, or else a new name, which it adds to `taken`.
+fn name_of(
+    alloc: Global,
+    taken: &mut Taken,
+    numbers: &mut BTreeMap<String, u64>,
+    known: &BTreeMap<&str, &str>,
+    text: &str,
+) -> Result<String, AllocError>
+    requires { AreBelowUsed taken.old numbers.old }
+    ensures { IfOk result (λ name. GetsName taken.old taken.new numbers.new (known_in known.now text.now) text.now (string_bytes name)) }
+{
+    match known.get(text) {
+        Some(name) => String::from_str(alloc, *name),
+        None => new_name(alloc, taken, numbers, text),
+    }
+}
+
+// Returns the name of each of `texts`: the one in `known`, or else a new name.
+pub(crate) fn names(
+    alloc: Global,
+    taken: &mut Taken,
+    known: &BTreeMap<&str, &str>,
     texts: &[&str],
 ) -> Result<Vec<String>, AllocError>
-    requires bounded { IsBounded taken.old }
-    requires three { 3 ≤ taken.old.longest }
-    ensures count { IfOk result (λ names. length names.items ≡ length texts.now) }
-    ensures are_new { IfOk result (λ names. (says : FileReading) → ((other : List ℕ) → is_taken taken.old other ≡ is_one_in_any_case (names_of_file says) other) →
-        AreNewNames says (string_texts names.items)) }
+    ensures { IfOk result (λ names. (says : FileReading) →
+        ((other : List ℕ) → is_taken taken.old other ≡ is_one_in_any_case (names_of_file says) other) →
+        ((text : List ℕ) → known_in known.now text ≡ known_name says text) →
+        AreNames says (lent_texts texts.now) (string_texts names.items)) }
 {
     let mut numbers = BTreeMap::new(alloc);
     let mut names = Vec::with_capacity(alloc, texts.len())?;
     'texts: for text in texts {
-        let base = base(alloc, *text)?;
-        let from = numbers.get(base.as_str()).copied().unwrap_or(1);
-        let (name, number) = fresh(alloc, taken, base.as_str(), from)?;
-        taken.take(alloc, name.as_str())?;
-        numbers.insert(base, number)?;
-        names.push(name)?;
+        names.push(name_of(alloc, taken, &mut numbers, known, *text)?)?;
     }
     Ok(names)
 }

@@ -1,22 +1,22 @@
 //! The names that a new name may not have.
 
-ghost use Rattle.std.specs.Prelude.{◌≡◌, ◌≤◌, ◌||◌, ℕ, List, IfOk, OnOk, map};
+ghost use Rattle.std.specs.Prelude.{◌≡◌, ◌||◌, ◌<◌, ◌^◌, ℕ, List, IfOk, OnOk, map};
+ghost use Rattle.std.specs.BTreeSet.{btree_set_len};
 ghost use Rattle.std.specs.List.{flat_map};
 ghost use Rattle.bib_syntax.specs.Grammar.{is_word};
 ghost use Rattle.bib_syntax.specs.Views.{entry_reading_of, field_of, file_of, piece_of};
 ghost use Rattle.edit_strings.specs.Collected.{definition_names, element_names, is_one_in_any_case, names_of_file, used_names};
-ghost use Rattle.edit_strings.specs.Collecting.{has_lowercase, IsBounded, is_taken};
+ghost use Rattle.edit_strings.specs.Collecting.{has_lowercase, is_taken};
 
 use bib_syntax::raw::{Pair, RawBibliography, RawChunk, RawEntry};
 use bib_text::spanned::Spanned;
 use std::alloc::{AllocError, Global};
 use std::collections::BTreeSet;
 
-// Taken names in lowercase, and an upper bound for their lengths in bytes (at least 3).
+// Taken names in lowercase.
 #[derive(Drop)]
 pub(crate) struct Taken {
     names: BTreeSet<String>,
-    pub(crate) longest: usize,
 }
 
 impl Taken {
@@ -27,14 +27,18 @@ impl Taken {
         self.names.contains(lowercase)
     }
 
+    // Returns the number of taken names.
+    pub(crate) fn count(&self) -> usize
+        ensures count { result ≡ btree_set_len self.now.names }
+        ensures bound { result < 2 ^ 63 }
+    {
+        self.names.len()
+    }
+
     // Adds `name` in lowercase to the taken names.
     pub(crate) fn take(&mut self, alloc: Global, name: &str) -> Result<(), AllocError>
-        requires { IsBounded self.old }
-        ensures taken { OnOk result ((other : List ℕ) → is_taken self.new other ≡ (is_word name.now other || is_taken self.old other)) }
-        ensures bounded { OnOk result (IsBounded self.new) }
-        ensures longer { OnOk result (self.old.longest ≤ self.new.longest) }
+        ensures { OnOk result ((other : List ℕ) → is_taken self.new other ≡ (is_word name.now other || is_taken self.old other)) }
     {
-        self.longest = self.longest.max(name.len());
         self.names.insert(name.to_ascii_lowercase(alloc)?)?;
         Ok(())
     }
@@ -45,10 +49,7 @@ impl Taken {
         alloc: Global,
         pieces: &[Spanned<RawChunk<'_>>],
     ) -> Result<(), AllocError>
-        requires { IsBounded self.old }
-        ensures taken { OnOk result ((other : List ℕ) → is_taken self.new other ≡ (is_one_in_any_case (element_names (map piece_of pieces.now)) other || is_taken self.old other)) }
-        ensures bounded { OnOk result (IsBounded self.new) }
-        ensures longer { OnOk result (self.old.longest ≤ self.new.longest) }
+        ensures { OnOk result ((other : List ℕ) → is_taken self.new other ≡ (is_one_in_any_case (element_names (map piece_of pieces.now)) other || is_taken self.old other)) }
     {
         'pieces: for piece in pieces {
             if let RawChunk::Abbreviation(name) = piece.v {
@@ -64,10 +65,7 @@ impl Taken {
         alloc: Global,
         definitions: &[Pair<'_>],
     ) -> Result<(), AllocError>
-        requires { IsBounded self.old }
-        ensures taken { OnOk result ((other : List ℕ) → is_taken self.new other ≡ (is_one_in_any_case (definition_names (map field_of definitions.now)) other || is_taken self.old other)) }
-        ensures bounded { OnOk result (IsBounded self.new) }
-        ensures longer { OnOk result (self.old.longest ≤ self.new.longest) }
+        ensures { OnOk result ((other : List ℕ) → is_taken self.new other ≡ (is_one_in_any_case (definition_names (map field_of definitions.now)) other || is_taken self.old other)) }
     {
         'definitions: for definition in definitions {
             self.take(alloc, definition.key.v)?;
@@ -78,10 +76,7 @@ impl Taken {
 
     // Adds the names that fields use.
     fn take_fields(&mut self, alloc: Global, fields: &[Pair<'_>]) -> Result<(), AllocError>
-        requires { IsBounded self.old }
-        ensures taken { OnOk result ((other : List ℕ) → is_taken self.new other ≡ (is_one_in_any_case (used_names (map field_of fields.now)) other || is_taken self.old other)) }
-        ensures bounded { OnOk result (IsBounded self.new) }
-        ensures longer { OnOk result (self.old.longest ≤ self.new.longest) }
+        ensures { OnOk result ((other : List ℕ) → is_taken self.new other ≡ (is_one_in_any_case (used_names (map field_of fields.now)) other || is_taken self.old other)) }
     {
         'fields: for field in fields {
             self.take_elements(alloc, &field.value.v)?;
@@ -95,10 +90,7 @@ impl Taken {
         alloc: Global,
         entries: &[Spanned<RawEntry<'_>>],
     ) -> Result<(), AllocError>
-        requires { IsBounded self.old }
-        ensures taken { OnOk result ((other : List ℕ) → is_taken self.new other ≡ (is_one_in_any_case (flat_map (λ e. used_names e.fields) (map entry_reading_of entries.now)) other || is_taken self.old other)) }
-        ensures bounded { OnOk result (IsBounded self.new) }
-        ensures longer { OnOk result (self.old.longest ≤ self.new.longest) }
+        ensures { OnOk result ((other : List ℕ) → is_taken self.new other ≡ (is_one_in_any_case (flat_map (λ e. used_names e.fields) (map entry_reading_of entries.now)) other || is_taken self.old other)) }
     {
         'entries: for entry in entries {
             self.take_fields(alloc, &entry.v.fields)?;
@@ -108,13 +100,10 @@ impl Taken {
 
     // Returns the names that a file defines or uses.
     pub(crate) fn of_file(alloc: Global, raw: &RawBibliography<'_>) -> Result<Taken, AllocError>
-        ensures taken { IfOk result (λ taken. (other : List ℕ) → is_taken taken other ≡ is_one_in_any_case (names_of_file (file_of raw.now)) other) }
-        ensures bounded { IfOk result IsBounded }
-        ensures three { IfOk result (λ taken. 3 ≤ taken.longest) }
+        ensures { IfOk result (λ taken. (other : List ℕ) → is_taken taken other ≡ is_one_in_any_case (names_of_file (file_of raw.now)) other) }
     {
         let mut taken = Taken {
             names: BTreeSet::new(alloc),
-            longest: 3,
         };
         taken.take_definitions(alloc, &raw.abbreviations)?;
         taken.take_entries(alloc, &raw.entries)?;

@@ -13,7 +13,7 @@ use std::alloc::{AllocError, Global};
 use std::collections::BTreeMap;
 
 // Returns the text of `pieces` if they are one literal.
-fn single_text<'s>(pieces: &[Spanned<RawChunk<'s>>]) -> Option<&'s str>
+pub(crate) fn single_text<'s>(pieces: &[Spanned<RawChunk<'s>>]) -> Option<&'s str>
     ensures { option_map (λ t. t.now) result ≡ spec.single_text (map piece_of pieces.now) }
 {
     match pieces {

@@ -12,7 +12,8 @@ invariant-entries l = record {
       (collection_by (lent_texts l.fields) (index_in l.collection.indices)
       (string_texts l.collection.names.items)) l.text
       (map entry_reading_of (drop l.entry-index l.entries))
-      ≡ entry_edits
+      ≡ map edit_of l.initial.edits.items
+      ++ entry_edits
       (collection_by (lent_texts l.fields) (index_in l.collection.indices)
       (string_texts l.collection.names.items)) l.text (map entry_reading_of l.entries);
   cut : AreAllFieldsCut l.text (map entry_reading_of (drop l.entry-index l.entries));

@@ -1,13 +1,16 @@
-use Rattle.std.proofs.Common.{◌++◌, length, map, refl, sym, ap, ◌∙◌, subst}
+use Rattle.std.proofs.Common.{ℕ, length, map, refl, sym, ap, ◌∙◌, subst}
+use Rattle.std.specs.String.{string_bytes}
 use Rattle.std.proofs.lemmas.List.{length-map}
 use Rattle.bib_syntax.specs.Views.{entry_reading_of, file_of}
 use Rattle.edit_entries.specs.Documents.{Document}
-use Rattle.edit_entries.specs.Edits.{edited_all}
+use Rattle.edit_entries.specs.Edits.{edited, edited_all}
 use Rattle.edit_entries.specs.EditList.{AreEditsInOrder, edit_of}
-use Rattle.edit_strings.specs.Collected.{collection, definition_lines}
+use Rattle.edit_format.specs.Formatted.{line_end_of}
+use Rattle.edit_strings.specs.Collected.{collection, definition_lines, first_start}
 use Rattle.edit_strings.specs.Collecting.{lent_texts, string_texts}
-use Rattle.edit_strings.specs.Tables.{AreAllFieldsCut, index_in}
-use Rattle.edit_strings.proofs.CollectFacts.{all_cut, edits_known, edits_ordered, index_known}
+use Rattle.edit_strings.specs.Exchanged.{Exchange}
+use Rattle.edit_strings.specs.Tables.{AreAllFieldsCut, entry_edits, index_in}
+use Rattle.edit_strings.proofs.CollectFacts.{all_cut, all_edits_known, index_known, lines_in_order, made_known}
 use Rattle.edit_strings.proofs.ExchangedFacts.{edits_are_changes}
 use Rattle.edit_strings.proofs.collecting.with_collection.Goals as goal
 
@@ -20,7 +23,7 @@ edits-requires-clause-below c =
 pub edits-requires-clause-cut : goal.edits-requires-clause-cut
 edits-requires-clause-cut c =
     let d : Document = record { text = c.args.text.now; says = file_of c.args.raw.now } in
-    subst (AreAllFieldsCut d.text) (sym (ap (map entry_reading_of) c.deref.ensures.value)) (all_cut d c.requires.read)
+    subst (AreAllFieldsCut d.text) (sym (ap (map entry_reading_of) c.deref-3.ensures.value)) (all_cut d c.requires.read)
 
 pub edited_all-requires : goal.edited_all-requires
 edited_all-requires c =
@@ -28,11 +31,13 @@ edited_all-requires c =
     let fields = lent_texts c.args.fields.now in
     let texts = lent_texts c.args.texts.now in
     let names = string_texts c.args.collection.now.names.items in
-    let edits = edits_known d (map edit_of c.deref-2.result.now) fields texts names
-    (index_in c.args.collection.now.indices) d.text (map entry_reading_of c.deref.result.now) refl
-    (ap (map entry_reading_of) c.deref.ensures.value) c.requires.index
-    (ap (map edit_of) c.deref-2.ensures.value ∙ c.in_ok-made.ensures) in
-    subst (AreEditsInOrder d.text 0) (sym edits) (edits_ordered d (collection fields texts names) c.requires.read c.utf8.text)
+    let edits = all_edits_known d (map edit_of c.deref-4.result.now) _ fields texts names (string_bytes c.in_ok-lines.lines) d.text
+    (index_in c.args.collection.now.indices) c.first_start-start.result (map entry_reading_of c.deref-3.result.now) refl
+    (ap (map entry_reading_of) c.deref-3.ensures.value) c.requires.index refl
+    (c.first_start-start.ensures ∙ ap (λ l. first_start (map entry_reading_of l)) (c.deref-2.ensures.value ∙ sym c.deref-3.ensures.value))
+    (ap (map edit_of) c.deref-4.ensures.value ∙ c.in_ok-made.ensures) in
+    subst (AreEditsInOrder d.text 0) (sym edits)
+    (lines_in_order d c.requires.read c.utf8.text (collection fields texts names) (string_bytes c.in_ok-lines.lines))
 
 pub returns : goal.returns
 returns c =
@@ -40,13 +45,18 @@ returns c =
     let fields = lent_texts c.args.fields.now in
     let texts = lent_texts c.args.texts.now in
     let names = string_texts c.args.collection.now.names.items in
-    let edits = edits_known d (map edit_of c.deref-2.result.now) fields texts names
-    (index_in c.args.collection.now.indices) d.text (map entry_reading_of c.deref.result.now) refl
-    (ap (map entry_reading_of) c.deref.ensures.value) c.requires.index
-    (ap (map edit_of) c.deref-2.ensures.value ∙ c.in_ok-made.ensures) in
-    c.in_ok-push_str.ensures.bytes
-    ∙ ap (λ l. l ++ c.as_str.result.now)
-    (c.in_ok-new.ensures ∙ ap (λ ns. definition_lines (string_texts ns) texts) c.deref-3.ensures.value)
-    ∙ ap (λ t. definition_lines names texts ++ t)
-    (c.as_str.ensures.value ∙ c.in_ok-edited.ensures
-    ∙ ap (λ es. edited_all es d.text) (edits ∙ edits_are_changes (collection fields texts names) d.text d.says.entries))
+    let start : ℕ = first_start d.says.entries in
+    let exchange : Exchange = collection fields texts names in
+    let edits = all_edits_known d (map edit_of c.deref-4.result.now) _ fields texts names (string_bytes c.in_ok-lines.lines) d.text
+    (index_in c.args.collection.now.indices) c.first_start-start.result (map entry_reading_of c.deref-3.result.now) refl
+    (ap (map entry_reading_of) c.deref-3.ensures.value) c.requires.index refl
+    (c.first_start-start.ensures ∙ ap (λ l. first_start (map entry_reading_of l)) (c.deref-2.ensures.value ∙ sym c.deref-3.ensures.value))
+    (ap (map edit_of) c.deref-4.ensures.value ∙ c.in_ok-made.ensures) in
+    let lines = c.in_ok-lines.ensures d.says c.requires.known
+    ∙ ap (λ ns. definition_lines d.says c.line_end.result.now (string_texts ns) texts) c.deref.ensures.value
+    ∙ ap (λ l. definition_lines d.says l names texts) c.line_end.ensures in
+    made_known string_bytes c.edited_all.result _ _
+    (ap (λ es. edited_all es d.text) edits
+    ∙ ap (λ l. edited (record { start = start; end = start; bytes = l }) (edited_all (entry_edits exchange d.text d.says.entries) d.text)) lines
+    ∙ ap (λ es. edited (record { start = start; end = start; bytes = definition_lines d.says (line_end_of d.text) names texts }) (edited_all es d.text))
+    (edits_are_changes exchange d.text d.says.entries)) c.edited_all.ensures

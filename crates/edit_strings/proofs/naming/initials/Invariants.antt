@@ -1,12 +1,10 @@
-use Rattle.std.proofs.Common.{◌≡◌, true}
-use Rattle.std.specs.Char.{is_ascii_lowercase}
-use Rattle.std.specs.List.{list_all}
+use Rattle.std.proofs.Common.{◌≡◌, false}
 use Rattle.std.specs.String.{string_bytes}
+use Rattle.edit_strings.proofs.LetterFacts.{letters_in, met_in}
 use Rattle.edit_strings.proofs.naming.initials.Given as goal
 
-abbrev pub invariant-words : goal.invariant-words
-invariant-words l = record {
-  can_next : (goal.iterator-words).can_next l.word-iterator;
-  is_finite : (goal.iterator-words).is_finite l.word-iterator;
-  lowercase : list_all is_ascii_lowercase (string_bytes l.initials) ≡ true;
+abbrev pub invariant-chars : goal.invariant-chars
+invariant-chars l = record {
+  letters : string_bytes l.initials ≡ letters_in false l.yielded;
+  met : l.is_met ≡ met_in false l.yielded;
 }

@@ -1,7 +1,7 @@
-use Rattle.std.proofs.Common.{◌≡◌, ◌≤◌, ◌||◌, List, ℕ, map, take}
+use Rattle.std.proofs.Common.{◌≡◌, ◌||◌, List, ℕ, map, take}
 use Rattle.bib_syntax.specs.Views.{field_of}
 use Rattle.edit_strings.specs.Collected.{definition_names, is_one_in_any_case}
-use Rattle.edit_strings.specs.Collecting.{IsBounded, is_taken}
+use Rattle.edit_strings.specs.Collecting.{is_taken}
 use Rattle.edit_strings.proofs.taken.Taken.take_definitions.Given as goal
 
 abbrev pub invariant-definitions : goal.invariant-definitions
@@ -11,6 +11,4 @@ invariant-definitions l = record {
       ≡
       (is_one_in_any_case (definition_names (map field_of (take l.definition-index l.definitions))) other
       || is_taken l.initial.self other);
-  bounded : IsBounded l.self;
-  longer : l.initial.self.longest ≤ l.self.longest;
 }

@@ -1,8 +1,8 @@
-use Rattle.std.proofs.Common.{◌≡◌, ◌≤◌, ◌||◌, List, ℕ, map, take}
+use Rattle.std.proofs.Common.{◌≡◌, ◌||◌, List, ℕ, map, take}
 use Rattle.std.specs.List.{flat_map}
 use Rattle.bib_syntax.specs.Views.{entry_reading_of}
 use Rattle.edit_strings.specs.Collected.{is_one_in_any_case, used_names}
-use Rattle.edit_strings.specs.Collecting.{IsBounded, is_taken}
+use Rattle.edit_strings.specs.Collecting.{is_taken}
 use Rattle.edit_strings.proofs.taken.Taken.take_entries.Given as goal
 
 abbrev pub invariant-entries : goal.invariant-entries
@@ -13,6 +13,4 @@ invariant-entries l = record {
       (is_one_in_any_case
       (flat_map (λ e. used_names e.fields) (map entry_reading_of (take l.entry-index l.entries))) other
       || is_taken l.initial.self other);
-  bounded : IsBounded l.self;
-  longer : l.initial.self.longest ≤ l.self.longest;
 }
