@@ -7,10 +7,10 @@ use Rattle.std.proofs.lemmas.Slice.Eq.{bytes_eq-Decides}
 use Rattle.bib_syntax.specs.Reading.{EntryReading, FieldReading, Piece}
 use Rattle.bib_syntax.specs.Reading.Piece.{abbreviation, literal}
 use Rattle.bib_syntax.specs.Grammar.{is_word}
-use Rattle.edit_entries.specs.Changes.{EntryChange, FieldChange, braced_field, braced_value, entry_changed, field_changed, field_reading, fields_changed}
-use Rattle.edit_entries.specs.Documents.{Document, HasEntry, first_position, has_name, is_keyed, is_value, last_position, next_index, or_first}
-use Rattle.edit_entries.specs.Edits.{Edit, moved_entry, moved_field, moved_piece, moved_place}
-use Rattle.edit_entries.specs.Setting.{FieldSet, HasValue, IsEntryChanged, field_put, has_other_value, only_field, only_field_text, set_change, values_set}
+use Rattle.edit_entries.specs.Changes.{FieldChange, entry_changed, field_changed, field_reading, fields_changed}
+use Rattle.edit_entries.specs.Documents.{Document, HasEntry, first_position, has_name, is_keyed, is_value, last_position, next_index, or_first, text_at}
+use Rattle.edit_entries.specs.Edits.{moved_entry, moved_field, moved_piece, placeless}
+use Rattle.edit_entries.specs.Setting.{FieldSet, HasValue, Value, field_put, has_other_value, is_bare_piece, is_number, is_same_value, new_field, new_value, set_change, values_set}
 use Rattle.edit_entries.proofs.EntryChangeFacts.{fields_kept}
 
 -- ---- indices at which a test is passed
@@ -143,12 +143,20 @@ no_offsets e = moved_entry (λ n. 0) e
 abbrev field_no_offsets : FieldReading → FieldReading
 field_no_offsets f = moved_field (λ n. 0) f
 
-value_no_offsets : (move : ℕ → ℕ) (value : List ℕ) (pieces : List Piece)
+text_no_offsets : (move : ℕ → ℕ) (value : List ℕ) (pieces : List Piece)
     → is_value value (map (moved_piece move) pieces) ≡ is_value value pieces
-value_no_offsets move value [] = refl
-value_no_offsets move value (abbreviation p ∷ rest) = refl
-value_no_offsets move value (literal p ∷ []) = refl
-value_no_offsets move value (literal p ∷ other ∷ rest) = refl
+text_no_offsets move value [] = refl
+text_no_offsets move value (abbreviation p ∷ rest) = refl
+text_no_offsets move value (literal p ∷ []) = refl
+text_no_offsets move value (literal p ∷ other ∷ rest) = refl
+
+value_no_offsets : (move : ℕ → ℕ) (value : Value) (pieces : List Piece)
+    → is_same_value value (map (moved_piece move) pieces) ≡ is_same_value value pieces
+value_no_offsets move (Value.plain_text text) pieces = text_no_offsets move text pieces
+value_no_offsets move (Value.bare_text text) [] = refl
+value_no_offsets move (Value.bare_text text) (literal p ∷ []) = refl
+value_no_offsets move (Value.bare_text text) (abbreviation p ∷ []) = refl
+value_no_offsets move (Value.bare_text text) (p ∷ other ∷ rest) = refl
 
 -- the changed entry, in the document after the change
 record IsThere (after : Document) (key : List ℕ) (k : ℕ) (changed : EntryReading) : Type 0 where
@@ -156,18 +164,18 @@ record IsThere (after : Document) (key : List ℕ) (k : ℕ) (changed : EntryRea
   has : HasEntry after key k entry
   alike : no_offsets entry ≡ no_offsets changed
 
-entry_there : (d after : Document) (key : List ℕ) (k : ℕ) (e : EntryReading) (change : EntryChange) → HasEntry d key k e
-    → IsEntryChanged d k e change after → IsThere after key k (entry_changed e change)
-entry_there d after key k e change entry is =
-    let changed : EntryReading = entry_changed e change in
+entry_there : (d after : Document) (key : List ℕ) (k : ℕ) (e changed : EntryReading) → HasEntry d key k e
+    → is_keyed key changed ≡ is_keyed key e
+    → placeless after.says ≡ placeless (record d.says { entries = slice_set d.says.entries k changed }) → IsThere after key k changed
+entry_there d after key k e changed entry same alike =
     let entries : map no_offsets after.says.entries ≡ map no_offsets (slice_set d.says.entries k changed) =
-    ap (λ s. s.entries) is.alike in
+    ap (λ s. s.entries) alike in
     let keyed : is_keyed key e ≡ true = passes_first (is_keyed key) d.says.entries k e entry.first entry.here in
     let first : first_position (is_keyed key) after.says.entries ≡ Some k =
     sym (first_mapped no_offsets (is_keyed key) (is_keyed key) (λ x. refl) after.says.entries)
     ∙ ap (first_position (is_keyed key)) entries
     ∙ first_mapped no_offsets (is_keyed key) (is_keyed key) (λ x. refl) (slice_set d.says.entries k changed)
-    ∙ first_set (is_keyed key) d.says.entries k changed entry.first keyed in
+    ∙ first_set (is_keyed key) d.says.entries k changed entry.first (same ∙ keyed) in
     let here : slice_get (map no_offsets after.says.entries) k ≡ Some (no_offsets changed) =
     ap (λ es. slice_get es k) entries
     ∙ get_mapped no_offsets (slice_set d.says.entries k changed) k changed (get_set d.says.entries k e changed entry.here) in
@@ -179,12 +187,22 @@ entry_there d after key k e change entry is =
 same_text : (text : List ℕ) → bytes_eq text text ≡ true
 same_text text = (bytes_eq-Decides text text).1 refl
 
--- a field after its value is set
-abbrev set_field : List ℕ → List ℕ → FieldReading → FieldReading
-set_field name value f =
-    cond (has_other_value name value f) (record f { value = record f.value { pieces = (braced_value value).pieces } }) f
+-- a new value is the value
+new_is_same : (value : Value) → is_same_value value (new_value value).pieces ≡ true
+new_is_same (Value.plain_text text) = same_text text
+new_is_same (Value.bare_text text) = by_case (is_number text) refl
+  where
+    by_case : (b : Bool) → is_number text ≡ b
+        → is_bare_piece text (cond b (literal (text_at 0 text)) (abbreviation (text_at 0 text))) ≡ true
+    by_case true is = ap (λ n. n && bytes_eq text text) is ∙ same_text text
+    by_case false is = same_text (str_to_ascii_lowercase text)
 
-fields_set : (name value : List ℕ) (fs : List FieldReading)
+-- a field after its value is set
+abbrev set_field : List ℕ → Value → FieldReading → FieldReading
+set_field name value f =
+    cond (has_other_value name value f) (record f { value = record f.value { pieces = (new_value value).pieces } }) f
+
+fields_set : (name : List ℕ) (value : Value) (fs : List FieldReading)
     → fields_changed fs (map (set_change name value) fs) ≡ map (set_field name value) fs
 fields_set name value [] = refl
 fields_set name value (f ∷ fs) = by_case (has_other_value name value f) ∙ ap (λ gs. set_field name value f ∷ gs) (fields_set name value fs)
@@ -193,45 +211,45 @@ fields_set name value (f ∷ fs) = by_case (has_other_value name value f) ∙ ap
     rest = fields_changed fs (map (set_change name value) fs)
 
     by_case : (b : Bool)
-        → field_changed f (cond b (FieldChange.valued (braced_value value)) FieldChange.kept) ++ rest
-        ≡ cond b (record f { value = record f.value { pieces = (braced_value value).pieces } }) f ∷ rest
+        → field_changed f (cond b (FieldChange.valued (new_value value)) FieldChange.kept) ++ rest
+        ≡ cond b (record f { value = record f.value { pieces = (new_value value).pieces } }) f ∷ rest
     by_case true = refl
     by_case false = refl
 
-name_kept : (name value other : List ℕ) (f : FieldReading) → has_name other (field_no_offsets (set_field name value f)) ≡ has_name other f
+name_kept : (name : List ℕ) (value : Value) (other : List ℕ) (f : FieldReading) → has_name other (field_no_offsets (set_field name value f)) ≡ has_name other f
 name_kept name value other f = by_case (has_other_value name value f)
   where
     by_case : (b : Bool)
-        → has_name other (field_no_offsets (cond b (record f { value = record f.value { pieces = (braced_value value).pieces } }) f))
+        → has_name other (field_no_offsets (cond b (record f { value = record f.value { pieces = (new_value value).pieces } }) f))
         ≡ has_name other f
     by_case true = refl
     by_case false = refl
 
-value_is_set : (name value : List ℕ) (f : FieldReading) → has_name name f ≡ true
-    → is_value value (set_field name value f).value.pieces ≡ true
-value_is_set name value f named = by_case (is_value value f.value.pieces) refl
+value_is_set : (name : List ℕ) (value : Value) (f : FieldReading) → has_name name f ≡ true
+    → is_same_value value (set_field name value f).value.pieces ≡ true
+value_is_set name value f named = by_case (is_same_value value f.value.pieces) refl
   where
-    by_case : (b : Bool) → is_value value f.value.pieces ≡ b → is_value value (set_field name value f).value.pieces ≡ true
+    by_case : (b : Bool) → is_same_value value f.value.pieces ≡ b → is_same_value value (set_field name value f).value.pieces ≡ true
     by_case true is =
-        let other : has_other_value name value f ≡ false = ap (λ b. b && not (is_value value f.value.pieces)) named ∙ ap not is in
+        let other : has_other_value name value f ≡ false = ap (λ b. b && not (is_same_value value f.value.pieces)) named ∙ ap not is in
         ap
         (λ b.
-        is_value value (cond b (record f { value = record f.value { pieces = (braced_value value).pieces } }) f).value.pieces) other
+        is_same_value value (cond b (record f { value = record f.value { pieces = (new_value value).pieces } }) f).value.pieces) other
         ∙ is
     by_case false is =
-        let other : has_other_value name value f ≡ true = ap (λ b. b && not (is_value value f.value.pieces)) named ∙ ap not is in
+        let other : has_other_value name value f ≡ true = ap (λ b. b && not (is_same_value value f.value.pieces)) named ∙ ap not is in
         ap
         (λ b.
-        is_value value (cond b (record f { value = record f.value { pieces = (braced_value value).pieces } }) f).value.pieces) other
-        ∙ same_text value
+        is_same_value value (cond b (record f { value = record f.value { pieces = (new_value value).pieces } }) f).value.pieces) other
+        ∙ new_is_same value
 
 map_map : {A B C : Type 0} (f : A → B) (g : B → C) (xs : List A) → map g (map f xs) ≡ map (λ y. g (f y)) xs
 map_map f g [] = refl
 map_map f g (y ∷ ys) = ap (λ zs. g (f y) ∷ zs) (map_map f g ys)
 
-pub set_there : {d after : Document} {key name value : List ℕ} → FieldSet d key name value after → HasValue after key name value
+pub set_there : {d after : Document} {key name : List ℕ} {value : Value} → FieldSet d key name value after → HasValue after key name value
 set_there {d} {after} {key} {name} {value} (FieldSet.changed {k = k} {e = e} entry there is) =
-    let x = entry_there d after key k e (values_set name value e) entry is in
+    let x = entry_there d after key k e (entry_changed e (values_set name value e)) entry refl is.alike in
     let view : FieldReading → FieldReading = λ (f : FieldReading). field_no_offsets (set_field name value f) in
     let fields : map field_no_offsets x.entry.fields ≡ map view e.fields =
     ap (λ y. y.fields) x.alike ∙ ap (map field_no_offsets) (fields_set name value e.fields)
@@ -253,13 +271,13 @@ set_there {d} {after} {key} {name} {value} (FieldSet.changed {k = k} {e = e} ent
             ∙ last_mapped view (has_name name) (has_name name) (name_kept name value name) e.fields ∙ last.last;
         here = found.1;
       };
-      is = sym (value_no_offsets (λ n. 0) value found.0.value.pieces) ∙ ap (λ f. is_value value f.value.pieces) found.2
+      is = sym (value_no_offsets (λ n. 0) value found.0.value.pieces) ∙ ap (λ f. is_same_value value f.value.pieces) found.2
           ∙ value_no_offsets (λ n. 0) value (set_field name value last.element).value.pieces
           ∙ value_is_set name value last.element last.passes;
     }
 set_there {d} {after} {key} {name} {value} (FieldSet.added {k = k} {e = e} {first = first} {others = others} entry none are is) =
-    let x = entry_there d after key k e (field_put d.text name value first) entry is in
-    let new : FieldReading = field_reading (braced_field name value) in
+    let x = entry_there d after key k e (entry_changed e (field_put d.text name value first)) entry refl is.alike in
+    let new : FieldReading = field_reading (new_field name value) in
     let put : fields_changed e.fields (field_put d.text name value first).fields ≡ new ∷ e.fields =
     ap (λ fs. fields_changed fs (field_put d.text name value first).fields) are
     ∙ ap (λ fs. new ∷ first ∷ fs) (fields_kept others) ∙ ap (λ fs. new ∷ fs) (sym are) in
@@ -282,33 +300,29 @@ set_there {d} {after} {key} {name} {value} (FieldSet.added {k = k} {e = e} {firs
             ∙ ap (λ b. cond b (Some 0) None) (same_text (str_to_ascii_lowercase name));
         here = found.1;
       };
-      is = sym (value_no_offsets (λ n. 0) value found.0.value.pieces) ∙ ap (λ f. is_value value f.value.pieces) found.2
-          ∙ same_text value;
+      is = sym (value_no_offsets (λ n. 0) value found.0.value.pieces) ∙ ap (λ f. is_same_value value f.value.pieces) found.2
+          ∙ value_no_offsets (λ n. 0) value (new_value value).pieces ∙ new_is_same value;
     }
-set_there {d} {after} {key} {name} {value} (FieldSet.only {k = k} {at = at} {e = e} entry none comma) =
-    let edit : Edit = record { start = at; end = at; bytes = only_field_text name value } in
-    let move : ℕ → ℕ = moved_place edit in
-    let f' : FieldReading = only_field at name value in
-    let e' : EntryReading = record (moved_entry move e) { fields = f' ∷ map (moved_field move) e.fields } in
+set_there {d} {after} {key} {name} {value} (FieldSet.only {k = k} {e = e} entry none is) =
+    let new : FieldReading = field_reading (new_field name value) in
+    let changed : EntryReading = record e { fields = new ∷ [] } in
+    let x = entry_there d after key k e changed entry refl is.alike in
+    let fields : map field_no_offsets x.entry.fields ≡ field_no_offsets new ∷ [] = ap (λ y. y.fields) x.alike in
+    let here : slice_get (map field_no_offsets x.entry.fields) 0 ≡ Some (field_no_offsets new) = ap (λ fs. slice_get fs 0) fields in
+    let found = from_mapped field_no_offsets x.entry.fields 0 (field_no_offsets new) here in
     record {
       index = k;
-      entry = e';
+      entry = x.entry;
       at = 0;
-      field = f';
-      has = record {
-        first =
-            first_set (is_keyed key) (map (moved_entry move) d.says.entries) k e'
-            (first_mapped (moved_entry move) (is_keyed key) (is_keyed key) (λ x. refl) d.says.entries ∙ entry.first)
-            (passes_first (is_keyed key) d.says.entries k e entry.first entry.here);
-        here =
-            get_set (map (moved_entry move) d.says.entries) k (moved_entry move e) e'
-            (get_mapped (moved_entry move) d.says.entries k e entry.here);
-      };
+      field = found.0;
+      has = x.has;
       named = record {
         last =
-            ap (λ fs. or_first (is_word name name) (last_position (has_name name) (map (moved_field move) fs))) none
+            sym (last_mapped field_no_offsets (has_name name) (has_name name) (λ f. refl) x.entry.fields)
+            ∙ ap (last_position (has_name name)) fields
             ∙ ap (λ b. cond b (Some 0) None) (same_text (str_to_ascii_lowercase name));
-        here = refl;
+        here = found.1;
       };
-      is = same_text value;
+      is = sym (value_no_offsets (λ n. 0) value found.0.value.pieces) ∙ ap (λ f. is_same_value value f.value.pieces) found.2
+          ∙ value_no_offsets (λ n. 0) value (new_value value).pieces ∙ new_is_same value;
     }

@@ -12,7 +12,7 @@ use Rattle.bib_syntax.specs.Grammar.{Braced, Identifier, IsRawReading, is_word, 
 use Rattle.bib_syntax.specs.Reading.{Part, Piece, FieldReading, EntryReading, FileReading, then}
 use Rattle.bib_syntax.specs.Reading.Piece.{literal, abbreviation}
 use Rattle.edit_entries.specs.declared.errors.EditError.{EditError}
-use Rattle.edit_entries.specs.declared.errors.EditError.TheVariants.{UnknownKey, KeyIsThere, NotAKey, NotAName, NotInBraces, DefinitionIsThere, NoFieldLeft, OutOfMemory}
+use Rattle.edit_entries.specs.declared.errors.EditError.TheVariants.{UnknownKey, KeyIsThere, NotAKey, NotAName, NotInBraces, NotBare, DefinitionIsThere, NoFieldLeft, OutOfMemory}
 use Rattle.edit_entries.specs.Edits.{Edit, edited, moved_place, moved_piece, moved_field, moved_entry, moved_file}
 use Rattle.edit_entries.specs.LineEnds.{line_end_of}
 use Rattle.edit_entries.specs.NewNames.{HaveNewKeys, shares_name}
@@ -144,6 +144,7 @@ EntryIsRefused d key KeyIsThere = ⊥
 EntryIsRefused d key NotAKey = ⊥
 EntryIsRefused d key NotAName = ⊥
 EntryIsRefused d key NotInBraces = ⊥
+EntryIsRefused d key NotBare = ⊥
 EntryIsRefused d key DefinitionIsThere = ⊥
 EntryIsRefused d key NoFieldLeft = ⊥
 EntryIsRefused d key OutOfMemory = ⊤
@@ -174,6 +175,7 @@ UnsetIsRefused d key name KeyIsThere = ⊥
 UnsetIsRefused d key name NotAKey = ⊥
 UnsetIsRefused d key name NotAName = ⊥
 UnsetIsRefused d key name NotInBraces = ⊥
+UnsetIsRefused d key name NotBare = ⊥
 UnsetIsRefused d key name DefinitionIsThere = ⊥
 UnsetIsRefused d key name NoFieldLeft = HasOnlyFields d key name
 UnsetIsRefused d key name OutOfMemory = ⊤
@@ -229,6 +231,7 @@ EntriesAreRefused d more KeyIsThere = SharesNoName d more → ⊥
 EntriesAreRefused d more NotAKey = HaveNewKeys more.says.entries → ⊥
 EntriesAreRefused d more NotAName = ⊥
 EntriesAreRefused d more NotInBraces = ⊥
+EntriesAreRefused d more NotBare = ⊥
 EntriesAreRefused d more DefinitionIsThere = AgreeOnDefinitions d.says.abbreviations more.says.abbreviations → ⊥
 EntriesAreRefused d more NoFieldLeft = ⊥
 EntriesAreRefused d more OutOfMemory = ⊤

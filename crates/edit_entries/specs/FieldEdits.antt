@@ -1,16 +1,16 @@
 -- Meaning: words of public contracts.
 -- Edits of a field of several entries at once.
-use Rattle.std.specs.Prelude.{ℕ, Bool, if◌then◌else◌, List, [], ◌∷◌, map, None, ⊤}
+use Rattle.std.specs.Prelude.{◌≡◌, ℕ, Bool, if◌then◌else◌, length, List, [], ◌∷◌, map, None, ⊤}
 use Rattle.std.specs.Borrow.{Bor}
 use Rattle.std.specs.BTreeSet.{BTreeSet}
 use Rattle.std.specs.List.{list_any}
 use Rattle.bib_queries.specs.Sets.{is_in_set}
 use Rattle.bib_syntax.specs.Reading.{EntryReading, FieldReading}
 use Rattle.edit_entries.specs.Changes.{EntryChange, FieldChange}
-use Rattle.edit_entries.specs.Documents.{has_name}
-use Rattle.edit_entries.specs.Setting.{CanBeNewName, CanBeValue, field_put, values_set}
+use Rattle.edit_entries.specs.Documents.{Document, has_name}
+use Rattle.edit_entries.specs.Setting.{CanBeNewName, IsFit, Value, field_put, unfit_error, value_of, values_set}
 use Rattle.edit_entries.specs.declared.errors.EditError.{EditError}
-use Rattle.edit_entries.specs.declared.errors.EditError.TheVariants.{UnknownKey, KeyIsThere, NotAKey, NotAName, NotInBraces, DefinitionIsThere, NoFieldLeft, OutOfMemory}
+use Rattle.edit_entries.specs.declared.errors.EditError.TheVariants.{UnknownKey, KeyIsThere, NotAKey, NotAName, NotInBraces, NotBare, DefinitionIsThere, NoFieldLeft, OutOfMemory}
 use Rattle.edit_entries.specs.declared.field_edits.FieldEdit.{FieldEdit}
 use Rattle.edit_entries.specs.declared.field_edits.FieldEdit.TheVariants.{Set, Add, Rename}
 
@@ -19,7 +19,7 @@ abbrev pub unchanged : EntryChange
 unchanged = record { kind = None; fields = [] }
 
 -- the change of an entry with these fields that gets a new one before them; an entry without fields is kept
-abbrev pub new_field_first : List ℕ → List ℕ → List ℕ → List FieldReading → EntryChange
+abbrev pub new_field_first : List ℕ → List ℕ → Value → List FieldReading → EntryChange
 new_field_first text name value [] = unchanged
 new_field_first text name value (first ∷ others) = field_put text name value first
 
@@ -39,8 +39,8 @@ names_changed old new e = record { kind = None; fields = map (name_change old ne
 -- no field has the name; each field with the old name gets the new one, unless a field has the new name already
 abbrev pub entry_edited_by : List ℕ → FieldEdit → EntryReading → EntryChange
 entry_edited_by text (Set name value) e =
-    if has_named name.now e then values_set name.now value.now e else new_field_first text name.now value.now e.fields
-entry_edited_by text (Add name value) e = if has_named name.now e then unchanged else new_field_first text name.now value.now e.fields
+    if has_named name.now e then values_set name.now (value_of value) e else new_field_first text name.now (value_of value) e.fields
+entry_edited_by text (Add name value) e = if has_named name.now e then unchanged else new_field_first text name.now (value_of value) e.fields
 entry_edited_by text (Rename old new) e = if has_named new.now e then unchanged else names_changed old.now new.now e
 
 -- the changes of entries by an edit of those with the keys of a set
@@ -53,19 +53,37 @@ edit_name (Set name value) = name.now
 edit_name (Add name value) = name.now
 edit_name (Rename old new) = new.now
 
--- the value of an edit can be written in braces, if it has one
-abbrev pub HasFitValue : FieldEdit → Type 0
-HasFitValue (Set name value) = CanBeValue value.now
-HasFitValue (Add name value) = CanBeValue value.now
-HasFitValue (Rename old new) = ⊤
+-- the value of an edit can be written at a byte offset, if it has one
+abbrev pub HasFitValue : List FieldReading → ℕ → FieldEdit → Type 0
+HasFitValue definitions at (Set name value) = IsFit definitions at (value_of value)
+HasFitValue definitions at (Add name value) = IsFit definitions at (value_of value)
+HasFitValue definitions at (Rename old new) = ⊤
 
--- the conditions under which an edit of a field of several entries is refused
-abbrev pub FieldEditIsRefused : FieldEdit → EditError → Type 0
-FieldEditIsRefused edit UnknownKey = ⊥
-FieldEditIsRefused edit KeyIsThere = ⊥
-FieldEditIsRefused edit NotAKey = ⊥
-FieldEditIsRefused edit NotAName = CanBeNewName (edit_name edit) → ⊥
-FieldEditIsRefused edit NotInBraces = HasFitValue edit → ⊥
-FieldEditIsRefused edit DefinitionIsThere = ⊥
-FieldEditIsRefused edit NoFieldLeft = ⊥
-FieldEditIsRefused edit OutOfMemory = ⊤
+-- an error is the one of the value of an edit
+abbrev pub IsValueError : FieldEdit → EditError → Type 0
+IsValueError (Set name value) error = error ≡ unfit_error (value_of value)
+IsValueError (Add name value) error = error ≡ unfit_error (value_of value)
+IsValueError (Rename old new) error = ⊥
+
+-- the byte offset at which the first entry whose key is selected begins, or else another one
+abbrev pub first_start : (List ℕ → Bool) → ℕ → List EntryReading → ℕ
+first_start selected other [] = other
+first_start selected other (e ∷ es) = if selected e.key.text then e.start else first_start selected other es
+
+-- the value of an edit can't be written in each entry with a selected key: a number or an abbreviation that is defined before the first
+-- of these entries can
+pub record CantBeEdited (d : Document) (selected : List ℕ → Bool) (edit : FieldEdit) (error : EditError) : Type 0 where
+  pub because : IsValueError edit error
+  pub unfit : HasFitValue d.says.abbreviations (first_start selected (length d.text) d.says.entries) edit → ⊥
+
+-- the conditions under which an edit of a field of several entries, those whose keys are selected, is refused
+abbrev pub FieldEditIsRefused : Document → (List ℕ → Bool) → FieldEdit → EditError → Type 0
+FieldEditIsRefused d selected edit UnknownKey = ⊥
+FieldEditIsRefused d selected edit KeyIsThere = ⊥
+FieldEditIsRefused d selected edit NotAKey = ⊥
+FieldEditIsRefused d selected edit NotAName = CanBeNewName (edit_name edit) → ⊥
+FieldEditIsRefused d selected edit NotInBraces = CantBeEdited d selected edit NotInBraces
+FieldEditIsRefused d selected edit NotBare = CantBeEdited d selected edit NotBare
+FieldEditIsRefused d selected edit DefinitionIsThere = ⊥
+FieldEditIsRefused d selected edit NoFieldLeft = ⊥
+FieldEditIsRefused d selected edit OutOfMemory = ⊤

@@ -2,9 +2,12 @@
 -- What the edits of a field of several entries ask of a text.
 use Rattle.std.specs.Prelude.{◌≡◌, ℕ, List, ⊤}
 use Rattle.std.specs.List.{AllByRecursion}
-use Rattle.bib_syntax.specs.Reading.{EntryReading}
-use Rattle.edit_entries.specs.Documents.{in_braces}
+use Rattle.bib_syntax.specs.Reading.{EntryReading, FieldReading}
+use Rattle.edit_entries.specs.FieldEdits.{HasFitValue, IsValueError, edit_name}
 use Rattle.edit_entries.specs.Placed.{IsNamePlaced, IsPlaced}
+use Rattle.edit_entries.specs.Setting.{CanBeNewName, new_value, value_of}
+use Rattle.edit_entries.specs.declared.errors.EditError.{EditError}
+use Rattle.edit_entries.specs.declared.errors.EditError.TheVariants.{UnknownKey, KeyIsThere, NotAKey, NotAName, NotInBraces, NotBare, DefinitionIsThere, NoFieldLeft, OutOfMemory}
 use Rattle.edit_entries.specs.declared.field_edits.FieldEdit.{FieldEdit}
 use Rattle.edit_entries.specs.declared.field_edits.FieldEdit.TheVariants.{Set, Add, Rename}
 
@@ -13,8 +16,25 @@ pub record HaveFieldsPlaced (text : List ℕ) (e : EntryReading) : Type 0 where
   pub names : AllByRecursion (IsNamePlaced text) e.fields
   pub values : AllByRecursion (IsPlaced text) e.fields
 
--- a text is the value of an edit in braces, if it has one
-abbrev pub IsTextInBraces : FieldEdit → List ℕ → Type 0
-IsTextInBraces (Set name value) braced = braced ≡ in_braces value.now
-IsTextInBraces (Add name value) braced = braced ≡ in_braces value.now
-IsTextInBraces (Rename old new) braced = ⊤
+-- a text is the value of an edit as it is written, if it has one
+abbrev pub IsValueText : FieldEdit → List ℕ → Type 0
+IsValueText (Set name value) written = written ≡ (new_value (value_of value)).bytes
+IsValueText (Add name value) written = written ≡ (new_value (value_of value)).bytes
+IsValueText (Rename old new) written = ⊤
+
+-- the value of an edit can't be written at a byte offset; this is the error for it
+pub record IsUnfitEdit (definitions : List FieldReading) (at : ℕ) (edit : FieldEdit) (error : EditError) : Type 0 where
+  pub because : IsValueError edit error
+  pub unfit : HasFitValue definitions at edit → ⊥
+
+-- the conditions under which the text of an edit at a byte offset is refused
+abbrev pub EditTextIsRefused : List FieldReading → ℕ → FieldEdit → EditError → Type 0
+EditTextIsRefused definitions at edit UnknownKey = ⊥
+EditTextIsRefused definitions at edit KeyIsThere = ⊥
+EditTextIsRefused definitions at edit NotAKey = ⊥
+EditTextIsRefused definitions at edit NotAName = CanBeNewName (edit_name edit) → ⊥
+EditTextIsRefused definitions at edit NotInBraces = IsUnfitEdit definitions at edit NotInBraces
+EditTextIsRefused definitions at edit NotBare = IsUnfitEdit definitions at edit NotBare
+EditTextIsRefused definitions at edit DefinitionIsThere = ⊥
+EditTextIsRefused definitions at edit NoFieldLeft = ⊥
+EditTextIsRefused definitions at edit OutOfMemory = ⊤

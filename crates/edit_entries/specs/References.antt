@@ -17,7 +17,7 @@ use Rattle.edit_entries.specs.Documents.{CanBeKey, CanStandInBraces, Document, H
 use Rattle.edit_entries.specs.Edits.{Edit}
 use Rattle.edit_entries.specs.NewNames.{CanBeNewKey, IsNewKeyTaken}
 use Rattle.edit_entries.specs.declared.errors.EditError.{EditError}
-use Rattle.edit_entries.specs.declared.errors.EditError.TheVariants.{UnknownKey, KeyIsThere, NotAKey, NotAName, NotInBraces, DefinitionIsThere, NoFieldLeft, OutOfMemory}
+use Rattle.edit_entries.specs.declared.errors.EditError.TheVariants.{UnknownKey, KeyIsThere, NotAKey, NotAName, NotInBraces, NotBare, DefinitionIsThere, NoFieldLeft, OutOfMemory}
 
 -- ---- which entry a name means
 
@@ -224,6 +224,7 @@ RenameIsRefused d old new KeyIsThere = IsKeyRefused d old new KeyIsThere
 RenameIsRefused d old new NotAKey = IsKeyRefused d old new NotAKey
 RenameIsRefused d old new NotAName = ⊥
 RenameIsRefused d old new NotInBraces = IsKeyRefused d old new NotInBraces
+RenameIsRefused d old new NotBare = ⊥
 RenameIsRefused d old new DefinitionIsThere = ⊥
 RenameIsRefused d old new NoFieldLeft = ⊥
 RenameIsRefused d old new OutOfMemory = ⊤

@@ -1,18 +1,22 @@
 -- Meaning: words of public contracts.
 -- Setting a field of an entry: each field with the name gets the value, or else a new field comes first.
-use Rattle.std.specs.Prelude.{◌≡◌, ℕ, ◌+◌, ◌-◌, Bool, true, false, ◌&&◌, not, if◌then◌else◌, List, [], ◌∷◌, ◌++◌, length, map, take, drop, codes, None, ⊤, slice_set}
+use Rattle.std.specs.Prelude.{◌≡◌, ℕ, ◌-◌, Bool, true, false, ◌&&◌, ◌||◌, not, if◌then◌else◌, bytes_eq, is_some, nat_lt, List, [], ◌∷◌, ◌++◌, map, take, drop, codes, None, ⊤, slice_set}
 use Rattle.std.specs.Char.{is_ascii_digit, is_ascii_whitespace, is_whitespace}
-use Rattle.std.specs.List.{list_any, suffix_len}
+use Rattle.std.specs.List.{list_all, list_any, suffix_len}
 use Rattle.bib_text.specs.Characters as char
 use Rattle.bib_text.specs.Places.{CharAt, Longest, Place, place}
-use Rattle.bib_syntax.specs.Reading.{EntryReading, FieldReading}
-use Rattle.bib_syntax.specs.Reading.Piece.{literal}
+use Rattle.bib_syntax.specs.Grammar.{is_word}
+use Rattle.bib_syntax.specs.Reading.{EntryReading, FieldReading, Piece}
+use Rattle.bib_syntax.specs.Reading.Piece.{abbreviation, literal}
+use Rattle.bib_tables.specs.Months.{month_of_abbreviation}
 use Rattle.edit_entries.specs.Balance.{IsBalanced}
-use Rattle.edit_entries.specs.Changes.{EntryChange, FieldChange, braced_field, braced_value, edits_of_entry, entry_changed}
-use Rattle.edit_entries.specs.Documents.{CanBeName, CanStandInBraces, Document, HasEntry, HasField, entry_edited, first_position, has_name, in_braces, is_keyed, is_value, text_at}
-use Rattle.edit_entries.specs.Edits.{Edit, edited_all, moved_entry, moved_field, moved_place, placeless}
+use Rattle.edit_entries.specs.Changes.{EntryChange, FieldChange, NewField, NewValue, braced_value, edits_of_entry, entry_changed, field_reading, new_field_text}
+use Rattle.edit_entries.specs.Documents.{CanBeName, CanStandInBraces, Document, HasEntry, HasField, first_position, has_name, is_keyed, is_value, text_at}
+use Rattle.edit_entries.specs.Edits.{edited, edited_all, placeless}
 use Rattle.edit_entries.specs.declared.errors.EditError.{EditError}
-use Rattle.edit_entries.specs.declared.errors.EditError.TheVariants.{UnknownKey, KeyIsThere, NotAKey, NotAName, NotInBraces, DefinitionIsThere, NoFieldLeft, OutOfMemory}
+use Rattle.edit_entries.specs.declared.field_value.FieldValue.{FieldValue}
+use Rattle.edit_entries.specs.declared.field_value.FieldValue.TheVariants.{Bare, Text}
+use Rattle.edit_entries.specs.declared.errors.EditError.TheVariants.{UnknownKey, KeyIsThere, NotAKey, NotAName, NotInBraces, NotBare, DefinitionIsThere, NoFieldLeft, OutOfMemory}
 
 -- ---- values
 
@@ -32,30 +36,94 @@ pub record CanBeNewName (text : List ℕ) : Type 0 where
   pub name : CanBeName text
   pub no_digit : begins_with_digit text ≡ false
 
--- whether a field has a name, in any ASCII case, and another value than a text
-abbrev pub has_other_value : List ℕ → List ℕ → FieldReading → Bool
-has_other_value name value f = has_name name f && not (is_value value f.value.pieces)
+-- a value that a field gets: a text, which is written in braces, or a number or the name of an abbreviation, written as it is
+pub data Value : Type 0 where
+  plain_text : List ℕ → Value
+  bare_text : List ℕ → Value
+
+-- the value of a call
+abbrev pub value_of : FieldValue → Value
+value_of (Text text) = Value.plain_text text.now
+value_of (Bare text) = Value.bare_text text.now
+
+-- whether a text consists of digits
+abbrev pub is_number : List ℕ → Bool
+is_number [] = false
+is_number (b ∷ bs) = list_all is_ascii_digit (b ∷ bs)
+
+-- the value as bytes, with the pieces that they read as
+abbrev pub new_value : Value → NewValue
+new_value (Value.plain_text text) = braced_value text
+new_value (Value.bare_text text) = record {
+  bytes = text;
+  pieces = (if is_number text then literal (text_at 0 text) else abbreviation (text_at 0 text)) ∷ [];
+}
+
+-- whether a piece is this number, or this abbreviation in any ASCII case
+abbrev pub is_bare_piece : List ℕ → Piece → Bool
+is_bare_piece text (literal p) = is_number text && bytes_eq p.text text
+is_bare_piece text (abbreviation p) = is_word p.text text
+
+-- whether pieces are this value
+abbrev pub is_same_value : Value → List Piece → Bool
+is_same_value (Value.plain_text text) pieces = is_value text pieces
+is_same_value (Value.bare_text text) [] = false
+is_same_value (Value.bare_text text) (p ∷ []) = is_bare_piece text p
+is_same_value (Value.bare_text text) (p ∷ other ∷ rest) = false
+
+-- whether a definition has a name, in any ASCII case, and begins before a byte offset
+abbrev pub is_defined_before : ℕ → List ℕ → FieldReading → Bool
+is_defined_before at name f = has_name name f && nat_lt f.name.start at
+
+-- whether a name is a month's abbreviation, or is defined before a byte offset, in any ASCII case; BibTeX reads definitions and uses in
+-- order, and knows the months by its styles
+abbrev pub is_defined : List FieldReading → ℕ → List ℕ → Bool
+is_defined definitions at name =
+    is_some (month_of_abbreviation name) || list_any (is_defined_before at name) definitions
+
+-- a text can be a value without braces at a byte offset: a number, or the name of an abbreviation that is defined before it
+pub data IsBare (definitions : List FieldReading) (at : ℕ) (text : List ℕ) : Type 0 where
+  number : is_number text ≡ true → IsBare definitions at text
+  named : CanBeNewName text → is_defined definitions at text ≡ true → IsBare definitions at text
+
+-- a value can be written at a byte offset
+abbrev pub IsFit : List FieldReading → ℕ → Value → Type 0
+IsFit definitions at (Value.plain_text text) = CanBeValue text
+IsFit definitions at (Value.bare_text text) = IsBare definitions at text
+
+-- the error of a value that can't be written
+abbrev pub unfit_error : Value → EditError
+unfit_error (Value.plain_text text) = NotInBraces
+unfit_error (Value.bare_text text) = NotBare
+
+-- whether a field has a name, in any ASCII case, and another value than this one
+abbrev pub has_other_value : List ℕ → Value → FieldReading → Bool
+has_other_value name value f = has_name name f && not (is_same_value value f.value.pieces)
 
 -- ---- the change
 
 -- the change of a field that gets a value if it has a name
-abbrev pub set_change : List ℕ → List ℕ → FieldReading → FieldChange
-set_change name value f = if has_other_value name value f then FieldChange.valued (braced_value value) else FieldChange.kept
+abbrev pub set_change : List ℕ → Value → FieldReading → FieldChange
+set_change name value f = if has_other_value name value f then FieldChange.valued (new_value value) else FieldChange.kept
 
 -- the change of an entry in which each field with a name gets a value: BibTeX reads the first of these fields, Biber and this library
 -- the last
-abbrev pub values_set : List ℕ → List ℕ → EntryReading → EntryChange
+abbrev pub values_set : List ℕ → Value → EntryReading → EntryChange
 values_set name value e = record { kind = None; fields = map (set_change name value) e.fields }
 
 -- the ASCII white space directly before a byte offset of a text
 abbrev pub white_before : List ℕ → ℕ → List ℕ
 white_before text at = drop (at - suffix_len is_ascii_whitespace (take at text)) (take at text)
 
+-- a new field with a value
+abbrev pub new_field : List ℕ → Value → NewField
+new_field name value = record { name = name; value = new_value value }
+
 -- the change of an entry with a new field before the first one, which gets the white space before that one
-abbrev pub field_put : List ℕ → List ℕ → List ℕ → FieldReading → EntryChange
+abbrev pub field_put : List ℕ → List ℕ → Value → FieldReading → EntryChange
 field_put text name value first = record {
   kind = None;
-  fields = FieldChange.preceded (braced_field name value) (white_before text first.name.start) ∷ [];
+  fields = FieldChange.preceded (new_field name value) (white_before text first.name.start) ∷ [];
 }
 
 -- an entry of a document has a change, and all else is as it was, except for byte offsets
@@ -72,73 +140,64 @@ pub record IsAfterComma (text : List ℕ) (e : EntryReading) (at : ℕ) : Type 0
   pub comma : CharAt before char.comma (place text at)
 
 -- a space, a field, and a comma
-abbrev pub only_field_text : List ℕ → List ℕ → List ℕ
-only_field_text name value = codes " " ++ name ++ codes " = " ++ in_braces value ++ codes ","
+abbrev pub only_field_text : List ℕ → Value → List ℕ
+only_field_text name value = codes " " ++ (new_field_text (new_field name value) ++ codes ",")
 
--- the reading of this field, at a byte offset
-abbrev pub only_field : ℕ → List ℕ → List ℕ → FieldReading
-only_field at name value =
-    let name_start : ℕ = at + length (codes " ") in
-    let value_start : ℕ = name_start + length name + length (codes " = ") in
-    record {
-      name = text_at name_start name;
-      value = record {
-        pieces = literal (text_at (value_start + 1) value) ∷ [];
-        start = value_start;
-        end = value_start + length (in_braces value);
-      };
-    }
-
--- a document with a field in an entry that had none
-abbrev pub only_field_added : Document → ℕ → EntryReading → ℕ → List ℕ → List ℕ → Document
-only_field_added d k e at name value =
-    let edit : Edit = record { start = at; end = at; bytes = only_field_text name value } in
-    entry_edited d edit k
-    (record (moved_entry (moved_place edit) e)
-    { fields = only_field at name value ∷ map (moved_field (moved_place edit)) e.fields })
+-- an entry of a document gets its first field, after the comma that follows its key, and all else is as it was, except for byte offsets
+pub record IsFirstAdded (d : Document) (k : ℕ) (e : EntryReading) (name : List ℕ) (value : Value) (after : Document) : Type 0 where
+  pub at : ℕ
+  pub comma : IsAfterComma d.text e at
+  pub text : after.text ≡ edited (record { start = at; end = at; bytes = only_field_text name value }) d.text
+  pub alike : placeless after.says
+      ≡ placeless (record d.says { entries = slice_set d.says.entries k (record e { fields = field_reading (new_field name value) ∷ [] }) })
 
 -- ---- the outcome
 
 -- the outcome of setting a field of the first entry with a key
-pub data FieldSet (d : Document) (key name value : List ℕ) : Document → Type 0 where
+pub data FieldSet (d : Document) (key name : List ℕ) (value : Value) : Document → Type 0 where
   changed : {k : ℕ} {e : EntryReading} {after : Document} → HasEntry d key k e → list_any (has_name name) e.fields ≡ true
       → IsEntryChanged d k e (values_set name value e) after → FieldSet d key name value after
   added : {k : ℕ} {e : EntryReading} {first : FieldReading} {others : List FieldReading} {after : Document} → HasEntry d key k e
       → list_any (has_name name) e.fields ≡ false → e.fields ≡ first ∷ others
       → IsEntryChanged d k e (field_put d.text name value first) after → FieldSet d key name value after
-  only : {k at : ℕ} {e : EntryReading} → HasEntry d key k e → e.fields ≡ [] → IsAfterComma d.text e at
-      → FieldSet d key name value (only_field_added d k e at name value)
+  only : {k : ℕ} {e : EntryReading} {after : Document} → HasEntry d key k e → e.fields ≡ []
+      → IsFirstAdded d k e name value after → FieldSet d key name value after
 
--- the last field with a name, of the first entry with a key, has a text as its value
-pub record HasValue (d : Document) (key name value : List ℕ) : Type 0 where
+-- the last field with a name, of the first entry with a key, has a value
+pub record HasValue (d : Document) (key name : List ℕ) (value : Value) : Type 0 where
   pub index : ℕ
   pub entry : EntryReading
   pub at : ℕ
   pub field : FieldReading
   pub has : HasEntry d key index entry
   pub named : HasField entry name at field
-  pub is : is_value value field.value.pieces ≡ true
+  pub is : is_same_value value field.value.pieces ≡ true
 
 -- the first entry with a key has a field with a name, and each such field has this value
-pub record IsSet (d : Document) (key name value : List ℕ) : Type 0 where
+pub record IsSet (d : Document) (key name : List ℕ) (value : Value) : Type 0 where
   pub index : ℕ
   pub entry : EntryReading
   pub has : HasEntry d key index entry
   pub named : list_any (has_name name) entry.fields ≡ true
   pub same : list_any (has_other_value name value) entry.fields ≡ false
 
--- the value can't be written in braces, and the entry doesn't have it yet
-pub record CantBeSet (d : Document) (key name value : List ℕ) : Type 0 where
-  pub unfit : CanBeValue value → ⊥
+-- the value can't be written in the first entry with a key, which doesn't have it yet; this is the error for it
+pub record CantBeSet (d : Document) (key name : List ℕ) (value : Value) (error : EditError) : Type 0 where
+  pub index : ℕ
+  pub entry : EntryReading
+  pub has : HasEntry d key index entry
+  pub because : error ≡ unfit_error value
+  pub unfit : IsFit d.says.abbreviations entry.start value → ⊥
   pub new : IsSet d key name value → ⊥
 
 -- the conditions under which setting a field is refused
-abbrev pub SetIsRefused : Document → List ℕ → List ℕ → List ℕ → EditError → Type 0
+abbrev pub SetIsRefused : Document → List ℕ → List ℕ → Value → EditError → Type 0
 SetIsRefused d key name value UnknownKey = first_position (is_keyed key) d.says.entries ≡ None
 SetIsRefused d key name value KeyIsThere = ⊥
 SetIsRefused d key name value NotAKey = ⊥
 SetIsRefused d key name value NotAName = CanBeNewName name → ⊥
-SetIsRefused d key name value NotInBraces = CantBeSet d key name value
+SetIsRefused d key name value NotInBraces = CantBeSet d key name value NotInBraces
+SetIsRefused d key name value NotBare = CantBeSet d key name value NotBare
 SetIsRefused d key name value DefinitionIsThere = ⊥
 SetIsRefused d key name value NoFieldLeft = ⊥
 SetIsRefused d key name value OutOfMemory = ⊤

@@ -25,15 +25,15 @@ pub(crate) fn after_comma(text: &str, entry: &Spanned<RawEntry<'_>>) -> usize
     s.cursor()
 }
 
-// Returns a space, a field, and a comma. `braced` is the value in braces.
-pub(crate) fn only_field_text(alloc: Global, name: &str, braced: &str) -> Result<String, AllocError>
-    ensures { IfOk result (λ field. string_bytes field ≡ codes " " ++ name.now ++ codes " = " ++ braced.now ++ codes ",") }
+// Returns a space, a field, and a comma. `written` is the value as it is written.
+pub(crate) fn only_field_text(alloc: Global, name: &str, written: &str) -> Result<String, AllocError>
+    ensures { IfOk result (λ field. string_bytes field ≡ codes " " ++ ((name.now ++ (codes " = " ++ written.now)) ++ codes ",")) }
 {
     let mut field = String::new(alloc);
     field.push_str(" ")?;
     field.push_str(name)?;
     field.push_str(" = ")?;
-    field.push_str(braced)?;
+    field.push_str(written)?;
     field.push_str(",")?;
     Ok(field)
 }

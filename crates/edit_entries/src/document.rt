@@ -2,6 +2,7 @@
 
 ghost use Rattle.std.specs.Prelude.{◌≡◌, ◌⊎◌, IfOk, IfErr, MatchOption, OnOk};
 ghost use Rattle.std.specs.String.{string_bytes};
+ghost use Rattle.bib_queries.specs.Sets.{is_in_set};
 ghost use Rattle.bib_syntax.specs.Errors.{Refuses, out_of_memory};
 ghost use Rattle.bib_syntax.specs.Grammar.{IsFile, IsRawReading};
 ghost use Rattle.bib_syntax.specs.SyntaxErrors.{IsReported};
@@ -12,13 +13,14 @@ ghost use Rattle.edit_entries.specs.Changes.{IsChanged};
 ghost use Rattle.edit_entries.specs.FieldEdits.{FieldEditIsRefused, selected_edited};
 ghost use Rattle.edit_entries.specs.NewKeys.{key_for};
 ghost use Rattle.edit_entries.specs.References.{KeyRenamed, KeysAreRefused, KeysRenamed, RenameIsRefused, given_keys};
-ghost use Rattle.edit_entries.specs.Setting.{FieldSet, SetIsRefused};
+ghost use Rattle.edit_entries.specs.Setting.{FieldSet, SetIsRefused, value_of};
 ghost use Rattle.edit_entries.specs.Unset.{FieldUnset};
 
 use crate::definitions::agree_on_definitions;
 use crate::editing::edited_all;
 use crate::errors::EditError;
-use crate::field_edits::{FieldEdit, field_edits, text_in_braces};
+use crate::field_edits::{FieldEdit, edit_text, field_edits, first_start};
+use crate::field_value::FieldValue;
 use crate::joining::{joined, shares_name};
 use crate::keys::{first_unsafe_key, have_new_keys, may_get_keys};
 use crate::lookup::{entry_index, entry_with};
@@ -79,28 +81,30 @@ impl<'s> RawDocument<'s> {
         &self.raw
     }
 
-    /// Returns the text with the value of a field of the first entry with `key`: each field with `name`, in any ASCII case, gets `value`
-    /// in braces. BibTeX reads the first of several fields with one name, Biber and this library the last. A field that has only this text
-    /// as its value is kept. If the entry has no such field, a new one comes before the others, with the white space that is before the
-    /// first one.
+    /// Returns the text with the value of a field of the first entry with `key`: each field with `name`, in any ASCII case, gets `value`. A
+    /// text is written in braces, a number or the name of an abbreviation as it is. BibTeX reads the first of several fields with one
+    /// name, Biber and this library the last. A field that has only this value is kept. If the entry has no such field, a new one comes
+    /// before the others, with the white space that is before the first one.
     ///
     /// # Errors
     ///
     /// `UnknownKey` if no entry has the key; `NotAName` if `name` can't be the name of a field; `NotInBraces` if a field has another value
-    /// and `value` can't stand in braces, for this library or for BibTeX, which also counts a brace after a backslash.
+    /// and a text can't stand in braces, for this library or for BibTeX, which also counts a brace after a backslash; `NotBare` if a field
+    /// has another value and the new one isn't a text, and neither a number nor an abbreviation that is a month or is defined before the
+    /// entry, in any ASCII case.
     pub fn set_field(
         &self,
         alloc: Global,
         key: &str,
         name: &str,
-        value: &str,
+        value: FieldValue<'_>,
     ) -> Result<String, EditError>
-        ensures set { IfOk result (λ new. IsEdited (FieldSet self.now key.now name.now value.now) (string_bytes new)) }
-        ensures refused { IfErr result (SetIsRefused self.now key.now name.now value.now) }
+        ensures set { IfOk result (λ new. IsEdited (FieldSet self.now key.now name.now (value_of value.entry)) (string_bytes new)) }
+        ensures refused { IfErr result (SetIsRefused self.now key.now name.now (value_of value.entry)) }
     {
         let text = self.text();
         match entry_with(&self.raw.entries, key) {
-            Some(entry) => with_field_set(alloc, text, entry, name, value),
+            Some(entry) => with_field_set(alloc, &self.raw.abbreviations, text, entry, name, value),
             None => Err(EditError::UnknownKey),
         }
     }
@@ -187,7 +191,7 @@ impl<'s> RawDocument<'s> {
     /// # Errors
     ///
     /// `NotAName` if the name that fields get can't be the name of a new field; `NotInBraces` if the value of the edit can't be written in
-    /// braces (see `set_field`).
+    /// braces, and `NotBare` if it can't be written without them in the first of these entries (see `set_field`).
     pub fn edit_fields(
         &self,
         alloc: Global,
@@ -195,11 +199,12 @@ impl<'s> RawDocument<'s> {
         edit: &FieldEdit<'_>,
     ) -> Result<String, EditError>
         ensures edited { IfOk result (λ text. IsChanged (selected_edited self.now.text keys.now edit.now) self.now (string_bytes text)) }
-        ensures refused { IfErr result (FieldEditIsRefused edit.now) }
+        ensures refused { IfErr result (FieldEditIsRefused self.now (is_in_set keys.now) edit.now) }
     {
-        let braced = text_in_braces(alloc, edit)?;
         let text = self.text();
-        let edits = field_edits(alloc, text, &self.raw.entries, keys, edit, &braced)?;
+        let at = first_start(text, &self.raw.entries, keys);
+        let written = edit_text(alloc, &self.raw.abbreviations, at, edit)?;
+        let edits = field_edits(alloc, text, &self.raw.entries, keys, edit, &written)?;
         Ok(edited_all(alloc, text, &edits)?)
     }
 

@@ -27,6 +27,10 @@ pub enum EditError {
     /// brace after a backslash; or a backslash hides the last brace.
     #[error("the value can't be written in braces")]
     NotInBraces,
+    /// The value can't be written without braces: it is neither a number nor the name of an abbreviation that is defined before the entry,
+    /// as BibTeX requires.
+    #[error("the value is neither a number nor an abbreviation that is defined before the entry")]
+    NotBare,
     /// An abbreviation is defined already, in any ASCII case, with another text: every use of it would get another value.
     #[error("an abbreviation is defined already with another text")]
     DefinitionIsThere,

@@ -1,22 +1,24 @@
 //! Edits of a field of several entries at once.
 
-ghost use Rattle.std.specs.Prelude.{◌≡◌, ◌⊎◌, ◌++◌, ℕ, List, IfErr, IfOk, OnOk, map};
+ghost use Rattle.std.specs.Prelude.{◌≡◌, ◌++◌, ℕ, List, IfErr, IfOk, OnOk, length, map};
 ghost use Rattle.std.specs.List.{AllByRecursion};
 ghost use Rattle.std.specs.String.{string_bytes};
+ghost use Rattle.bib_queries.specs.Sets.{is_in_set};
 ghost use Rattle.bib_syntax.specs.Views.{entry_reading_of, field_of};
 ghost use Rattle.edit_entries.specs.Changes.{edits_of_entries, edits_of_entry, edits_of_fields};
-ghost use Rattle.edit_entries.specs.Documents as documents;
 ghost use Rattle.edit_entries.specs.EditList.{edit_of};
-ghost use Rattle.edit_entries.specs.FieldEdits.{FieldEditIsRefused, HasFitValue, edit_name, entry_edited_by, name_change, new_field_first, selected_edited};
-ghost use Rattle.edit_entries.specs.FieldTexts.{HaveFieldsPlaced, IsTextInBraces};
+ghost use Rattle.edit_entries.specs.FieldEdits as spec;
+ghost use Rattle.edit_entries.specs.FieldEdits.{HasFitValue, edit_name, entry_edited_by, name_change, new_field_first, selected_edited};
+ghost use Rattle.edit_entries.specs.FieldTexts.{EditTextIsRefused, HaveFieldsPlaced, IsValueText};
 ghost use Rattle.edit_entries.specs.Placed.{IsNamePlaced, IsPlaced};
-ghost use Rattle.edit_entries.specs.Setting.{CanBeNewName};
+ghost use Rattle.edit_entries.specs.Setting as setting;
+ghost use Rattle.edit_entries.specs.Setting.{CanBeNewName, value_of};
 
 use crate::editing::Edit;
 use crate::errors::EditError;
-use crate::setting::{
-    can_be_new_name, has_field, new_value, push_values, text_before, white_before,
-};
+use crate::field_value::FieldValue;
+use crate::names::can_be_new_name;
+use crate::setting::{has_field, new_value, push_values, text_before, white_before};
 use bib_syntax::raw::{Pair, RawEntry, is_word};
 use bib_text::spanned::Spanned;
 use std::alloc::{AllocError, Global};
@@ -29,15 +31,15 @@ pub enum FieldEdit<'a> {
     Set {
         /// The name of the field.
         name: &'a str,
-        /// The value, without its braces.
-        value: &'a str,
+        /// The value.
+        value: FieldValue<'a>,
     },
     /// An entry without a field with the name gets a new one.
     Add {
         /// The name of the field.
         name: &'a str,
-        /// The value, without its braces.
-        value: &'a str,
+        /// The value.
+        value: FieldValue<'a>,
     },
     /// Each field with the old name gets the new one, unless the entry has a field with the new name already.
     Rename {
@@ -48,16 +50,21 @@ pub enum FieldEdit<'a> {
     },
 }
 
-// Returns the value of an edit in braces, or an empty text if it has none.
-pub(crate) fn text_in_braces(alloc: Global, edit: &FieldEdit<'_>) -> Result<String, EditError>
-    ensures text { IfOk result (λ braced. IsTextInBraces edit.now (string_bytes braced)) }
+// Returns the value of an edit as it is written at a byte offset, or an empty text if it has none.
+pub(crate) fn edit_text(
+    alloc: Global,
+    definitions: &[Pair<'_>],
+    at: usize,
+    edit: &FieldEdit<'_>,
+) -> Result<String, EditError>
+    ensures text { IfOk result (λ written. IsValueText edit.now (string_bytes written)) }
     ensures name { OnOk result (CanBeNewName (edit_name edit.now)) }
-    ensures value { OnOk result (HasFitValue edit.now) }
-    ensures refused { IfErr result (FieldEditIsRefused edit.now) }
+    ensures value { OnOk result (HasFitValue (map field_of definitions.now) at edit.now) }
+    ensures refused { IfErr result (EditTextIsRefused (map field_of definitions.now) at edit.now) }
 {
     match *edit {
         FieldEdit::Set { name, value } | FieldEdit::Add { name, value } => new_value(
-            alloc, name, value,
+            alloc, definitions, at, name, value,
         ),
         FieldEdit::Rename { new, .. } => {
             if !can_be_new_name(new) {
@@ -68,20 +75,32 @@ pub(crate) fn text_in_braces(alloc: Global, edit: &FieldEdit<'_>) -> Result<Stri
     }
 }
 
-// Adds the edit that puts a new field before the first of these fields. `braced` is its value in braces.
+// Returns the byte offset at which the first entry with one of these keys begins, or the length of the text.
+pub(crate) fn first_start(text: &str, entries: &[Spanned<RawEntry<'_>>], keys: &BTreeSet<&str>) -> usize
+    ensures { result ≡ spec.first_start (is_in_set keys.now) (length text.now) (map entry_reading_of entries.now) }
+{
+    'entries: for entry in entries {
+        if keys.contains(entry.v.key.v) {
+            return entry.span.start;
+        }
+    }
+    text.len()
+}
+
+// Adds the edit that puts a new field before the first of these fields. `written` is its value as it is written.
 fn push_field_first(
     edits: &mut Vec<Edit>,
     alloc: Global,
     text: &str,
     fields: &[Pair<'_>],
     name: &str,
-    value: &str,
-    braced: &str,
+    value: FieldValue<'_>,
+    written: &str,
 ) -> Result<(), AllocError>
     requires placed { AllByRecursion (IsNamePlaced text.now) (map field_of fields.now) }
-    requires braced { braced.now ≡ documents.in_braces value.now }
+    requires written { written.now ≡ (setting.new_value (value_of value)).bytes }
     ensures { OnOk result (map edit_of edits.new.items ≡ map edit_of edits.old.items ++
-        edits_of_fields text.now (map field_of fields.now) (new_field_first text.now name.now value.now (map field_of fields.now)).fields) }
+        edits_of_fields text.now (map field_of fields.now) (new_field_first text.now name.now (value_of value) (map field_of fields.now)).fields) }
 {
     let [first, ..] = fields else {
         return Ok(());
@@ -91,7 +110,7 @@ fn push_field_first(
     edits.push(Edit {
         start,
         end: first.key.span.end,
-        text: text_before(alloc, name, braced, white, first.key.v)?,
+        text: text_before(alloc, name, written, white, first.key.v)?,
     })?;
     Ok(())
 }
@@ -119,17 +138,17 @@ fn push_names(
     Ok(())
 }
 
-// Adds the edits of an entry. `braced` is the value of the edit in braces.
+// Adds the edits of an entry. `written` is the value of the edit as it is written.
 fn push_entry_edits(
     edits: &mut Vec<Edit>,
     alloc: Global,
     text: &str,
     entry: &Spanned<RawEntry<'_>>,
     edit: &FieldEdit<'_>,
-    braced: &str,
+    written: &str,
 ) -> Result<(), AllocError>
     requires placed { HaveFieldsPlaced text.now (entry_reading_of entry.now) }
-    requires braced { IsTextInBraces edit.now braced.now }
+    requires written { IsValueText edit.now written.now }
     ensures { OnOk result (map edit_of edits.new.items ≡ map edit_of edits.old.items ++
         edits_of_entry text.now (entry_reading_of entry.now) (entry_edited_by text.now edit.now (entry_reading_of entry.now))) }
 {
@@ -137,15 +156,15 @@ fn push_entry_edits(
     match *edit {
         FieldEdit::Set { name, value } => {
             if has_field(fields, name) {
-                return push_values(edits, alloc, text, fields, name, value, braced);
+                return push_values(edits, alloc, text, fields, name, value, written);
             }
-            push_field_first(edits, alloc, text, fields, name, value, braced)
+            push_field_first(edits, alloc, text, fields, name, value, written)
         }
         FieldEdit::Add { name, value } => {
             if has_field(fields, name) {
                 return Ok(());
             }
-            push_field_first(edits, alloc, text, fields, name, value, braced)
+            push_field_first(edits, alloc, text, fields, name, value, written)
         }
         FieldEdit::Rename { old, new } => {
             if has_field(fields, new) {
@@ -164,17 +183,17 @@ fn push_selected_edits(
     entry: &Spanned<RawEntry<'_>>,
     keys: &BTreeSet<&str>,
     edit: &FieldEdit<'_>,
-    braced: &str,
+    written: &str,
 ) -> Result<(), AllocError>
     requires placed { HaveFieldsPlaced text.now (entry_reading_of entry.now) }
-    requires braced { IsTextInBraces edit.now braced.now }
+    requires written { IsValueText edit.now written.now }
     ensures { OnOk result (map edit_of edits.new.items ≡ map edit_of edits.old.items ++
         edits_of_entry text.now (entry_reading_of entry.now) (selected_edited text.now keys.now edit.now (entry_reading_of entry.now))) }
 {
     if !keys.contains(entry.v.key.v) {
         return Ok(());
     }
-    push_entry_edits(edits, alloc, text, entry, edit, braced)
+    push_entry_edits(edits, alloc, text, entry, edit, written)
 }
 
 // Returns the edits of the entries with these keys.
@@ -184,16 +203,16 @@ pub(crate) fn field_edits(
     entries: &[Spanned<RawEntry<'_>>],
     keys: &BTreeSet<&str>,
     edit: &FieldEdit<'_>,
-    braced: &str,
+    written: &str,
 ) -> Result<Vec<Edit>, AllocError>
     requires placed { AllByRecursion (HaveFieldsPlaced text.now) (map entry_reading_of entries.now) }
-    requires braced { IsTextInBraces edit.now braced.now }
+    requires written { IsValueText edit.now written.now }
     ensures { IfOk result (λ edits. map edit_of edits.items ≡
         edits_of_entries (selected_edited text.now keys.now edit.now) text.now (map entry_reading_of entries.now)) }
 {
     let mut edits = Vec::new(alloc);
     'entries: for entry in entries {
-        push_selected_edits(&mut edits, alloc, text, entry, keys, edit, braced)?;
+        push_selected_edits(&mut edits, alloc, text, entry, keys, edit, written)?;
     }
     Ok(edits)
 }

@@ -19,6 +19,7 @@ pub mod document;
 pub mod editing;
 pub mod errors;
 pub mod field_edits;
+pub mod field_value;
 mod joining;
 mod keys;
 pub mod laws;

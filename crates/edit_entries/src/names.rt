@@ -4,6 +4,8 @@ ghost use Rattle.std.specs.Prelude.{◌≡◌, ℕ, MatchBool, false, true};
 ghost use Rattle.bib_text.specs.Places.{CharAt, Place};
 ghost use Rattle.bib_syntax.specs.Characters as characters;
 ghost use Rattle.edit_entries.specs.Documents.{CanBeName};
+ghost use Rattle.edit_entries.specs.Setting as spec;
+ghost use Rattle.edit_entries.specs.Setting.{CanBeNewName};
 
 use bib_syntax::raw::{is_id_continue, is_id_start};
 use bib_text::scanner::Scanner;
@@ -30,4 +32,24 @@ pub(crate) fn can_be_name(text: &str) -> bool
     }
     s.eat_while(is_id_continue);
     s.done()
+}
+
+// Returns whether a text begins with an ASCII digit.
+fn begins_with_digit(text: &str) -> bool
+    ensures { result ≡ spec.begins_with_digit text.now }
+{
+    match text.as_bytes() {
+        [first, ..] => first.is_ascii_digit(),
+        [] => false,
+    }
+}
+
+// Returns whether a text can be the name of a new field.
+pub(crate) fn can_be_new_name(text: &str) -> bool
+    ensures { MatchBool result (CanBeNewName text.now) (CanBeNewName text.now → ⊥) }
+{
+    if begins_with_digit(text) {
+        return false;
+    }
+    can_be_name(text)
 }
