@@ -24,13 +24,14 @@ enum biblatex_status {
     BIBLATEX_NOT_UTF8 = 2,
     BIBLATEX_REFUSED = 3,       /* the text has an error, which biblatex_lint reports, or no format has the number */
     BIBLATEX_OUT_OF_MEMORY = 4,
-    BIBLATEX_UNKNOWN_KEY = 5,   /* this status and the next six: why an edit is refused */
+    BIBLATEX_UNKNOWN_KEY = 5,   /* this status and the next seven: why an edit is refused */
     BIBLATEX_KEY_IS_THERE = 6,
     BIBLATEX_NOT_A_KEY = 7,
     BIBLATEX_NOT_A_NAME = 8,
     BIBLATEX_NOT_IN_BRACES = 9, /* the value, or a changed reference, can't be written in braces */
     BIBLATEX_DEFINITION_IS_THERE = 10,  /* an added abbreviation is defined already with another text */
-    BIBLATEX_NO_FIELD_LEFT = 11 /* all fields of the entry would be removed, and bibtool doesn't read such an entry */
+    BIBLATEX_NO_FIELD_LEFT = 11, /* all fields of the entry would be removed, and bibtool doesn't read such an entry */
+    BIBLATEX_NOT_BARE = 12      /* the value is neither a number nor an abbreviation that is defined before the entry */
 };
 
 /* The formats that biblatex_recover writes. */
@@ -79,8 +80,13 @@ uint32_t biblatex_fmt(const uint8_t *text, size_t length, uint8_t *out, size_t c
 
 /* Writes the text with a field of the first entry with the key set to `value`, in braces and without escapes. If several fields
    have the name, each is set. A new field comes before the others. The braces of `value` must balance, also those after a
-   backslash. This call and the next four change no other byte. */
+   backslash. This call and the next five change no other byte. */
 uint32_t biblatex_set(const uint8_t *text, size_t length, const uint8_t *key, size_t key_length, const uint8_t
+    *name, size_t name_length, const uint8_t *value, size_t value_length, uint8_t *out, size_t capacity,
+    size_t *size);
+
+/* The same with a value without braces: a number, or an abbreviation that is defined before the entry, or that of a month. */
+uint32_t biblatex_set_bare(const uint8_t *text, size_t length, const uint8_t *key, size_t key_length, const uint8_t
     *name, size_t name_length, const uint8_t *value, size_t value_length, uint8_t *out, size_t capacity,
     size_t *size);
 

@@ -88,6 +88,8 @@ static void check_edits(void)
           "a value with a brace that closes nothing");
     check(biblatex_add(bytes(text), strlen(text), bytes("@misc{b{,}"), 10, out, sizeof out, &size) == BIBLATEX_NOT_A_KEY && size == 77,
           "an added key that is none");
+    check(biblatex_set_bare(bytes(text), strlen(text), bytes("a"), 1, bytes("month"), 5, bytes("smarch"), 6, out, sizeof out, &size) == BIBLATEX_NOT_BARE,
+        "no abbreviation");
     check(biblatex_set(bytes("@misc{a"), 7, bytes("a"), 1, bytes("note"), 4, bytes("U"), 1, out, sizeof out, &size) == BIBLATEX_REFUSED && size == 77,
           "an edit of a text with an error");
 }

@@ -37,22 +37,27 @@ def _unknown_key(key: str) -> Mapping[Status, str]:
     return {Status.UNKNOWN_KEY: f"no entry has the key {key!r}"}
 
 
-def set_field(text: Text, key: str, name: str, value: str) -> Text:
+def set_field(text: Text, key: str, name: str, value: str, *, bare: bool = False) -> Text:
     """Returns the text with the field `name` of the entry `key` set to `value`, in braces.
+
+    With `bare`, the value is written without braces. It is then a number, or an abbreviation that is defined before the
+    entry, or that of a month, such as `jan`.
 
     If several fields of the entry have this name, each gets the value. If the entry lacks the field, it is added before the
     other fields, with the white space before the first of them. `value` is TeX source, and its braces must balance. BibTeX
     also counts a brace after a backslash. This edit and the others change no other byte.
 
-    Raises an `EditError` if no entry has the key, if `name` isn't a field name, or if `value` can't be written in braces.
+    Raises an `EditError` if no entry has the key, if `name` isn't a field name, or if `value` can't be written in braces,
+    or without braces if `bare`.
     Each edit raises a `ParseError` if the text has a syntax error or isn't UTF-8.
     """
     why = {
         **_unknown_key(key),
         Status.NOT_A_NAME: f"{name!r} can't be the name of a field",
         Status.NOT_IN_BRACES: f"the value can't be written in braces: {value!r}",
+        Status.NOT_BARE: f"the value is neither a number nor an abbreviation that is defined before the entry: {value!r}",
     }
-    return _edit(text, "biblatex_set", key, name, value, why=why)
+    return _edit(text, "biblatex_set_bare" if bare else "biblatex_set", key, name, value, why=why)
 
 
 def unset_field(text: Text, key: str, name: str) -> Text:

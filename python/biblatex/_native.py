@@ -28,6 +28,7 @@ class Status(IntEnum):
     NOT_IN_BRACES = 9
     DEFINITION_IS_THERE = 10
     NO_FIELD_LEFT = 11
+    NOT_BARE = 12
 
 
 class NotUtf8(Exception):
@@ -81,7 +82,7 @@ def _raise_unless_done(name: str, status: int) -> None:
         raise Refused
     if status == Status.OUT_OF_MEMORY:
         raise MemoryError
-    if Status.UNKNOWN_KEY <= status <= Status.NO_FIELD_LEFT:
+    if Status.UNKNOWN_KEY <= status <= Status.NOT_BARE:
         raise EditRefused(Status(status))
     if status != Status.DONE:
         raise RuntimeError(f"{name} returned the unknown status {status}")

@@ -87,6 +87,12 @@ class Refusals(unittest.TestCase):
         self.refuses(biblatex.set_field, BOTH, "a", "my note", "N", why="'my note' can't be the name of a field")
         self.refuses(biblatex.set_field, BOTH, "a", "note", "N}", why="the value can't be written in braces: 'N}'")
 
+    def test_values_without_braces(self):
+        self.assertEqual(biblatex.set_field("@misc{a, month={x}}", "a", "month", "jan", bare=True), "@misc{a, month=jan}")
+        self.assertEqual(biblatex.set_field("@misc{a, year={x}}", "a", "year", "2020", bare=True), "@misc{a, year=2020}")
+        with self.assertRaisesRegex(biblatex.EditError, "neither a number nor an abbreviation"):
+            biblatex.set_field("@misc{a, month={x}}", "a", "month", "smarch", bare=True)
+
     def test_keys_that_are_there_or_can_be_none(self) -> None:
         self.refuses(biblatex.rename_key, BOTH, "a", "b", why="an entry has the name 'b' already")
         self.refuses(biblatex.rename_key, BOTH, "a", "c d", why="'c d' can't be a key")

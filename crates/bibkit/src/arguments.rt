@@ -7,6 +7,7 @@ use crate::selecting::{Printed, Selecting};
 use bib_findings::codes::Code;
 use bib_queries::request::{Request as Excerpts, Search};
 use bib_tables::dialects::Dialect;
+use bib_tables::months::Month;
 use bibkit_convert::target::Target;
 use bibkit_core::request::{Cited, Request};
 use bibkit_edits::edit::Edit;
@@ -15,6 +16,7 @@ use bibkit_settings::settings::{Color, OutputFormat, Settings};
 use bibkit_settings::style_settings::{StyleSettings, delimiters_named, width_of};
 use clap::{ArgMatches, Error};
 use edit_entries::field_edits::FieldEdit;
+use edit_entries::field_value::FieldValue;
 use edit_orders::order::{Order, OrderError};
 use std::alloc::{AllocError, Global};
 
@@ -144,11 +146,27 @@ fn text<'a>(matches: &ArgMatches<'a>, id: &str) -> &'a str {
     matches.get_str(id).unwrap_or("")
 }
 
+// Returns whether a field with this name and value gets the abbreviation of a month.
+fn is_month(name: &str, value: &str) -> bool {
+    name.eq_ignore_ascii_case("month") && Month::from_abbreviation(value).is_some()
+}
+
+// Returns the name and the value of a word FIELD=VALUE or FIELD:=VALUE, or `None` for a word without `=`. The value after `:=` is written
+// without braces, and so is the abbreviation of a month in the field `month`.
+fn field_of<'a>(word: &'a str) -> Option<(&'a str, FieldValue<'a>)> {
+    let (name, value) = word.split_once('=')?;
+    match name.strip_suffix(":") {
+        Some(name) => Some((name, FieldValue::Bare(value))),
+        None if is_month(name, value) => Some((name, FieldValue::Bare(value))),
+        None => Some((name, FieldValue::Text(value))),
+    }
+}
+
 // Returns the edits that set fields of an entry. Each word is FIELD=VALUE. Returns `NoPair` for the first word without `=`.
 fn set_fields<'a>(alloc: Global, key: &'a str, words: &[&'a str]) -> Result<Edits<'a>, AllocError> {
     let mut edits = Vec::new(alloc);
     'words: for word in words {
-        match word.split_once('=') {
+        match field_of(*word) {
             Some((name, value)) => edits.push(Edit::Set { key, name, value })?,
             None => {
                 return Ok(Edits::NoPair {
@@ -186,15 +204,17 @@ fn remove_entries<'a>(alloc: Global, keys: &[&'a str]) -> Result<Vec<Edit<'a>>, 
 // The options of `edit`, in the order in which their edits are made.
 static FIELD_OPTIONS: [&str; 3] = ["rename", "set", "add"];
 
-// Returns the edit of an option of `edit`, from the two parts of its word.
-fn field_edit<'a>(option: &str, name: &'a str, text: &'a str) -> FieldEdit<'a> {
-    match option {
-        "rename" => FieldEdit::Rename {
-            old: name,
-            new: text,
-        },
-        "set" => FieldEdit::Set { name, value: text },
-        _ => FieldEdit::Add { name, value: text },
+// Returns the edit of an option of `edit` for its word, or `None` for a word without `=`.
+fn field_edit<'a>(option: &str, word: &'a str) -> Option<FieldEdit<'a>> {
+    if option == "rename" {
+        let (old, new) = word.split_once('=')?;
+        return Some(FieldEdit::Rename { old, new });
+    }
+    let (name, value) = field_of(word)?;
+    if option == "set" {
+        Some(FieldEdit::Set { name, value })
+    } else {
+        Some(FieldEdit::Add { name, value })
     }
 }
 
@@ -205,8 +225,8 @@ fn push_field_edits<'a>(
     words: &[&'a str],
 ) -> Result<Option<&'a str>, AllocError> {
     'words: for word in words {
-        match word.split_once('=') {
-            Some((name, text)) => edits.push(field_edit(option, name, text))?,
+        match field_edit(option, *word) {
+            Some(edit) => edits.push(edit)?,
             None => return Ok(Some(*word)),
         }
     }

@@ -6,6 +6,7 @@ ghost use Rattle.bibkit_edits.specs.declared.edit.Refusal.TheVariants.{OutOfMemo
 use bib_syntax::raw::ParseError;
 use edit_entries::errors::EditError;
 use edit_entries::field_edits::FieldEdit;
+use edit_entries::field_value::FieldValue;
 use edit_format::style::Style;
 use edit_orders::order::Order;
 use std::alloc::AllocError;
@@ -13,14 +14,14 @@ use std::alloc::AllocError;
 /// One edit of a bibliography file.
 #[derive(Debug, Clone, Copy)]
 pub enum Edit<'a> {
-    /// Sets a field of an entry to a text in braces.
+    /// Sets a field of an entry.
     Set {
         /// The key of the entry.
         key: &'a str,
         /// The name of the field.
         name: &'a str,
-        /// The value, without its braces.
-        value: &'a str,
+        /// The value.
+        value: FieldValue<'a>,
     },
     /// Removes a field from an entry.
     Unset {

@@ -1,6 +1,6 @@
 -- Meaning: words of public contracts.
 -- The results of the calls for C, and the statuses with which they fail.
-use Rattle.std.specs.Prelude.{◌≡◌, ◌≤◌, ◌<◌, ◌⊎◌, ℕ, ⊤, true, List, [], ◌∷◌, ◌++◌, length, drop, codes, None}
+use Rattle.std.specs.Prelude.{◌≡◌, ◌≤◌, ◌<◌, ◌⊎◌, ℕ, ⊤, Bool, false, true, List, [], ◌∷◌, ◌++◌, length, drop, codes, None}
 use Rattle.std.specs.List.{AllByRecursion}
 use Rattle.std.specs.Str.{IsUtf8}
 use Rattle.biblatex.specs.Headline.{IsAcceptedText, IsBibliographyOf}
@@ -8,6 +8,7 @@ use Rattle.biblatex.specs.Syntax.{Bibliography, Entry, FileReading, IsFile, IsRa
 use Rattle.bib_queries.specs.Answers.{lines_of_keys}
 use Rattle.bibkit_convert.specs.Converted.{end, is_first_after, texts_after}
 use Rattle.edit_entries.specs.Documents.{Document, EntriesAdded, EntriesAreRefused, IsDocument, IsEdited}
+use Rattle.edit_entries.specs.Setting.{Value}
 use Rattle.edit_entries.specs.declared.errors.EditError.{EditError}
 use Rattle.edit_entries.specs.declared.errors.EditError.TheVariants as edit_error
 use Rattle.edit_format.specs.Formatted.{text_in_style}
@@ -20,7 +21,7 @@ use Rattle.bibkit_core.specs.declared.request.Style.TheVariants as style
 use Rattle.bibkit_core.specs.declared.tally.Tally.{Tally}
 use Rattle.biblatex_c.specs.Statuses.{status_number}
 use Rattle.biblatex_c.specs.declared.status.Status.{Status}
-use Rattle.biblatex_c.specs.declared.status.Status.TheVariants.{Done, TooShort, NotUtf8, Refused, OutOfMemory, UnknownKey, KeyIsThere, NotAKey, NotAName, NotInBraces, DefinitionIsThere, NoFieldLeft}
+use Rattle.biblatex_c.specs.declared.status.Status.TheVariants.{Done, TooShort, NotUtf8, Refused, OutOfMemory, UnknownKey, KeyIsThere, NotAKey, NotAName, NotInBraces, DefinitionIsThere, NoFieldLeft, NotBare}
 
 -- A call on the buffer `out` and the size `size` leaves this buffer and this size, and returns this status. `Answers` says which bytes
 -- may be the result, and `Fails` says with which statuses the call may fail. A result that fits is at the start of the buffer, and the
@@ -124,6 +125,12 @@ EditFails Refuses text others NotAName = IsRefusedFor Refuses text edit_error.No
 EditFails Refuses text others NotInBraces = IsRefusedFor Refuses text edit_error.NotInBraces
 EditFails Refuses text others DefinitionIsThere = IsRefusedFor Refuses text edit_error.DefinitionIsThere
 EditFails Refuses text others NoFieldLeft = IsRefusedFor Refuses text edit_error.NoFieldLeft
+EditFails Refuses text others NotBare = IsRefusedFor Refuses text edit_error.NotBare
+
+-- the value with a text: without braces if the flag is true
+abbrev pub value_with : Bool → List ℕ → Value
+value_with false text = Value.plain_text text
+value_with true text = Value.bare_text text
 
 -- the second document is the first with a line feed and the document of the text `added` after it
 abbrev pub WithEntriesOf : List ℕ → Document → Document → Type 0

@@ -3,15 +3,17 @@
 ghost use Rattle.std.specs.Prelude.{◌≡◌, [], ◌∷◌, IfOk, IfErr};
 ghost use Rattle.std.specs.String.{string_bytes};
 ghost use Rattle.edit_entries.specs.Documents.{EntryIsRefused, EntryRemoved, UnsetIsRefused};
-ghost use Rattle.edit_entries.specs.Setting.{FieldSet, SetIsRefused};
+ghost use Rattle.edit_entries.specs.Setting.{FieldSet, SetIsRefused, value_of};
 ghost use Rattle.edit_entries.specs.Unset.{FieldUnset};
 ghost use Rattle.edit_entries.specs.References.{KeyRenamed, RenameIsRefused};
+ghost use Rattle.biblatex_c.specs.Calls as spec;
 ghost use Rattle.biblatex_c.specs.Calls.{AddFails, EditFails, IsEditedText, IsLaidOut, IsNoFile, IsNumberedEnd, TextFails, WithEntriesOf};
 
 use crate::buffers::end;
 use crate::reading::text_of;
 use crate::status::Status;
 use edit_entries::document::RawDocument;
+use edit_entries::field_value::FieldValue;
 use edit_format::formatting::format;
 use edit_format::style::Style;
 use std::alloc::Global;
@@ -34,22 +36,35 @@ pub extern "C" fn biblatex_fmt(alloc: Global, text: &[u8], out: &mut [u8], size:
     end(format_text(alloc, text), out, size).number()
 }
 
-// Returns the text with each field `name` of the first entry `key` set to `value` in braces.
+// Returns the value with a text: without braces if `is_bare`.
+fn value_with(is_bare: bool, text: &str) -> FieldValue<'_>
+    ensures { value_of result ≡ spec.value_with is_bare text.now }
+{
+    if is_bare {
+        FieldValue::Bare(text)
+    } else {
+        FieldValue::Text(text)
+    }
+}
+
+// Returns the text with each field `name` of the first entry `key` set to `value`, which is written without braces if `is_bare`.
 fn set_in(
     alloc: Global,
     text: &[u8],
     key: &[u8],
     name: &[u8],
     value: &[u8],
+    is_bare: bool,
 ) -> Result<String, Status>
-    ensures made { IfOk result (λ edited. IsEditedText (λ d. FieldSet d key.now name.now value.now) text.now (string_bytes edited)) }
-    ensures fails { IfErr result (EditFails (λ d why. SetIsRefused d key.now name.now value.now why) text.now (key.now ∷ name.now ∷ value.now ∷ [])) }
+    ensures made { IfOk result (λ edited. IsEditedText (λ d. FieldSet d key.now name.now (spec.value_with is_bare value.now)) text.now (string_bytes edited)) }
+    ensures fails { IfErr result (EditFails (λ d why. SetIsRefused d key.now name.now (spec.value_with is_bare value.now) why)
+        text.now (key.now ∷ name.now ∷ value.now ∷ [])) }
 {
     let document = RawDocument::parse(alloc, text_of(text)?)?;
     let key = text_of(key)?;
     let name = text_of(name)?;
     let value = text_of(value)?;
-    Ok(document.set_field(alloc, key, name, value)?)
+    Ok(document.set_field(alloc, key, name, value_with(is_bare, value))?)
 }
 
 /// Writes the text with the field `name` of the first entry `key` set to `value`, in braces. If the field occurs several times, each
@@ -65,11 +80,30 @@ pub extern "C" fn biblatex_set(
     out: &mut [u8],
     size: &mut usize,
 ) -> u32
-    ensures { IsNumberedEnd (IsEditedText (λ d. FieldSet d key.now name.now value.now) text.now)
-        (EditFails (λ d why. SetIsRefused d key.now name.now value.now why) text.now (key.now ∷ name.now ∷ value.now ∷ []))
+    ensures { IsNumberedEnd (IsEditedText (λ d. FieldSet d key.now name.now (spec.value_with false value.now)) text.now)
+        (EditFails (λ d why. SetIsRefused d key.now name.now (spec.value_with false value.now) why) text.now (key.now ∷ name.now ∷ value.now ∷ []))
         out.old size.old out.new size.new result }
 {
-    end(set_in(alloc, text, key, name, value), out, size).number()
+    end(set_in(alloc, text, key, name, value, false), out, size).number()
+}
+
+/// Writes the text with the field `name` of the first entry `key` set to `value`, as [`biblatex_set`] does, but without braces: `value` is
+/// a number, or an abbreviation that is defined before the entry, or that of a month. The status is `NotBare` for any other value.
+#[unsafe(no_mangle)]
+pub extern "C" fn biblatex_set_bare(
+    alloc: Global,
+    text: &[u8],
+    key: &[u8],
+    name: &[u8],
+    value: &[u8],
+    out: &mut [u8],
+    size: &mut usize,
+) -> u32
+    ensures { IsNumberedEnd (IsEditedText (λ d. FieldSet d key.now name.now (spec.value_with true value.now)) text.now)
+        (EditFails (λ d why. SetIsRefused d key.now name.now (spec.value_with true value.now) why) text.now (key.now ∷ name.now ∷ value.now ∷ []))
+        out.old size.old out.new size.new result }
+{
+    end(set_in(alloc, text, key, name, value, true), out, size).number()
 }
 
 // Returns the text without each field `name` of the first entry `key`.
