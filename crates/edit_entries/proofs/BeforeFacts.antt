@@ -44,7 +44,7 @@ name_some field =
     )
 
 -- the bytes of an edit, where they stand in the new text
-bytes_stand : (edit : Edit) (text : List ℕ) → edit.start ≤ length text
+pub bytes_stand : (edit : Edit) (text : List ℕ) → edit.start ≤ length text
     → Stands (place (edited edit text) edit.start) edit.bytes (place (edited edit text) (edit.start + length edit.bytes))
 bytes_stand edit text within =
     let standing : drop edit.start (edited edit text) ≡ edit.bytes ++ drop edit.end text = new_bytes edit text within in

@@ -1,22 +1,27 @@
 -- Edits of a field of several entries at once can be made.
-use Rattle.std.proofs.Common.{◌≡◌, ℕ, Bool, true, false, cond, List, [], ◌∷◌, ◌++◌, map, refl, sym, ap, ◌∙◌, append-nil}
+use Rattle.std.proofs.Common.{◌≡◌, ℕ, length, Result, Ok, Err, Bool, true, false, cond, List, [], ◌∷◌, ◌++◌, map, refl, sym, ap, ◌∙◌, append-nil}
 use Rattle.std.specs.Borrow.{Bor}
 use Rattle.std.specs.BTreeSet.{BTreeSet}
 use Rattle.std.specs.List.{AllByRecursion}
+use Rattle.std.specs.Prelude.{IfErr}
 use Rattle.bib_queries.specs.Sets.{is_in_set}
 use Rattle.bib_syntax.specs.Reading.{EntryReading, FieldReading}
-use Rattle.edit_entries.specs.Changes.{EntryChange, FieldChange, braced_field, edits_of_entry, edits_of_fields, field_before, name_edit}
+use Rattle.edit_entries.specs.Changes.{EntryChange, FieldChange, edits_of_entry, edits_of_fields, field_before, name_edit}
 use Rattle.edit_entries.specs.Edits.{Edit}
 use Rattle.edit_entries.specs.Documents.{CanBeName, Document, IsDocument, has_name}
-use Rattle.edit_entries.specs.FieldEdits.{HasFitValue, edit_name, entry_edited_by, has_named, name_change, names_changed, new_field_first, selected_edited, unchanged}
-use Rattle.edit_entries.specs.FieldTexts.{HaveFieldsPlaced}
+use Rattle.edit_entries.specs.FieldEdits.{FieldEditIsRefused, HasFitValue, first_start, edit_name, entry_edited_by, has_named, name_change, names_changed, new_field_first, selected_edited, unchanged}
+use Rattle.edit_entries.specs.FieldTexts.{EditTextIsRefused, HaveFieldsPlaced}
 use Rattle.edit_entries.specs.Placed.{IsNamePlaced, IsPlaced}
-use Rattle.edit_entries.specs.Setting.{CanBeNewName, CanBeValue, values_set, white_before}
+use Rattle.edit_entries.specs.Setting.{CanBeNewName, Value, new_field, new_value, value_of, values_set, white_before}
+use Rattle.edit_entries.specs.declared.errors.EditError.{EditError}
+use Rattle.edit_entries.specs.declared.errors.EditError.TheVariants.{UnknownKey, KeyIsThere, NotAKey, NotAName, NotInBraces, NotBare, DefinitionIsThere, NoFieldLeft, OutOfMemory}
 use Rattle.edit_entries.specs.declared.field_edits.FieldEdit.{FieldEdit}
 use Rattle.edit_entries.specs.declared.field_edits.FieldEdit.TheVariants.{Set, Add, Rename}
 use Rattle.edit_entries.proofs.AllFacts.{all_both, all_placed, all_weaker}
 use Rattle.edit_entries.proofs.ChangesFacts.{CanChange, CanEntryChange, CanFieldsChange}
 use Rattle.edit_entries.proofs.EntryChangeFacts.{can_be_kept, no_edits}
+use Rattle.edit_entries.proofs.FitFacts.{fit_read}
+use Rattle.edit_entries.proofs.NewValueFacts.{CanBeRead}
 use Rattle.edit_entries.proofs.PartFacts.{AreEntriesIn, file_in}
 use Rattle.edit_entries.proofs.SetFacts.{first_within, names_in, put_can, set_can}
 
@@ -41,8 +46,8 @@ fields_placed d read =
 unchanged_can : (e : EntryReading) → CanEntryChange e unchanged
 unchanged_can e = record { kind = λ name is. absurd (cc); fields = can_be_kept e.fields }
 
-field_first_can : (text name value : List ℕ) (e : EntryReading) (fs : List FieldReading) → e.fields ≡ fs
-    → AllByRecursion (IsNamePlaced text) e.fields → CanBeNewName name → CanBeValue value
+field_first_can : (text name : List ℕ) (value : Value) (e : EntryReading) (fs : List FieldReading) → e.fields ≡ fs
+    → AllByRecursion (IsNamePlaced text) e.fields → CanBeNewName name → CanBeRead (new_value value)
     → CanEntryChange e (new_field_first text name value fs)
 field_first_can text name value e [] are placed can_name can_value = unchanged_can e
 field_first_can text name value e (first ∷ others) are placed can_name can_value =
@@ -61,28 +66,30 @@ either_can : (e : EntryReading) (b : Bool) (x y : EntryChange) → CanEntryChang
 either_can e true x y first second = first
 either_can e false x y first second = second
 
-edited_can : (text : List ℕ) (edit : FieldEdit) (e : EntryReading) → AllByRecursion (IsNamePlaced text) e.fields
-    → CanBeNewName (edit_name edit) → HasFitValue edit → CanEntryChange e (entry_edited_by text edit e)
-edited_can text (Set name value) e placed can_name can_value =
-    either_can e (has_named name.now e) (values_set name.now value.now e) (new_field_first text name.now value.now e.fields)
-    (set_can name.now value.now e (λ there. can_value))
-    (field_first_can text name.now value.now e e.fields refl placed can_name can_value)
-edited_can text (Add name value) e placed can_name can_value =
-    either_can e (has_named name.now e) unchanged (new_field_first text name.now value.now e.fields) (unchanged_can e)
-    (field_first_can text name.now value.now e e.fields refl placed can_name can_value)
-edited_can text (Rename old new) e placed can_name can_value =
+edited_can : (text : List ℕ) (definitions : List FieldReading) (at : ℕ) (edit : FieldEdit) (e : EntryReading)
+    → AllByRecursion (IsNamePlaced text) e.fields
+    → CanBeNewName (edit_name edit) → HasFitValue definitions at edit → CanEntryChange e (entry_edited_by text edit e)
+edited_can text definitions at (Set name value) e placed can_name can_value =
+    let read = fit_read definitions at (value_of value) can_value in
+    either_can e (has_named name.now e) (values_set name.now (value_of value) e) (new_field_first text name.now (value_of value) e.fields)
+    (set_can name.now (value_of value) e (λ there. read))
+    (field_first_can text name.now (value_of value) e e.fields refl placed can_name read)
+edited_can text definitions at (Add name value) e placed can_name can_value =
+    either_can e (has_named name.now e) unchanged (new_field_first text name.now (value_of value) e.fields) (unchanged_can e)
+    (field_first_can text name.now (value_of value) e e.fields refl placed can_name (fit_read definitions at (value_of value) can_value))
+edited_can text definitions at (Rename old new) e placed can_name can_value =
     either_can e (has_named new.now e) unchanged (names_changed old.now new.now e) (unchanged_can e)
     (record { kind = λ name is. absurd (cc); fields = names_can old.now new.now e.fields can_name.name })
 
 -- ---- the edits
 
 -- the edit that puts a new field before the first one
-pub field_first_edits : (text name value : List ℕ) (fs : List FieldReading) (first : FieldReading) (others : List FieldReading)
+pub field_first_edits : (text name : List ℕ) (value : Value) (fs : List FieldReading) (first : FieldReading) (others : List FieldReading)
     → fs ≡ first ∷ others
     → edits_of_fields text fs (new_field_first text name value fs).fields
-    ≡ name_edit first (field_before (braced_field name value) (white_before text first.name.start)) ∷ []
+    ≡ name_edit first (field_before (new_field name value) (white_before text first.name.start)) ∷ []
 field_first_edits text name value fs first others are =
-    let lead : List ℕ = field_before (braced_field name value) (white_before text first.name.start) in
+    let lead : List ℕ = field_before (new_field name value) (white_before text first.name.start) in
     ap (λ l. edits_of_fields text l (new_field_first text name value l).fields) are
     ∙ ap (λ es. name_edit first lead ∷ es) (no_edits text others)
 
@@ -97,12 +104,33 @@ names_kept text old new e edits has =
 -- ---- all changes
 
 -- the changes of entries by an edit of a field of some of them can be made
-pub selected_can : (text : List ℕ) (keys : BTreeSet (Bor (List ℕ))) (edit : FieldEdit) (es : List EntryReading)
-    → AllByRecursion (HaveFieldsPlaced text) es → CanBeNewName (edit_name edit) → HasFitValue edit
+pub selected_can : (text : List ℕ) (definitions : List FieldReading) (at : ℕ) (keys : BTreeSet (Bor (List ℕ))) (edit : FieldEdit)
+    (es : List EntryReading)
+    → AllByRecursion (HaveFieldsPlaced text) es → CanBeNewName (edit_name edit) → HasFitValue definitions at edit
     → AllByRecursion (λ e. CanEntryChange e (selected_edited text keys edit e)) es
-selected_can text keys edit [] placed can_name can_value = tt
-selected_can text keys edit (e ∷ es) placed can_name can_value = (
+selected_can text definitions at keys edit [] placed can_name can_value = tt
+selected_can text definitions at keys edit (e ∷ es) placed can_name can_value = (
   either_can e (is_in_set keys e.key.text) (entry_edited_by text edit e) unchanged
-      (edited_can text edit e placed.0.names can_name can_value) (unchanged_can e),
-  selected_can text keys edit es placed.1 can_name can_value,
+      (edited_can text definitions at edit e placed.0.names can_name can_value) (unchanged_can e),
+  selected_can text definitions at keys edit es placed.1 can_name can_value,
 )
+
+-- the text of the edit is refused, and so is the edit
+pub edit_refused : (d : Document) (selected : List ℕ → Bool) (edit : FieldEdit) (error : EditError)
+    → EditTextIsRefused d.says.abbreviations (first_start selected (length d.text) d.says.entries) edit error
+    → FieldEditIsRefused d selected edit error
+edit_refused d selected edit UnknownKey why = why
+edit_refused d selected edit KeyIsThere why = why
+edit_refused d selected edit NotAKey why = why
+edit_refused d selected edit NotAName why = why
+edit_refused d selected edit NotInBraces why = record { because = why.because; unfit = why.unfit }
+edit_refused d selected edit NotBare why = record { because = why.because; unfit = why.unfit }
+edit_refused d selected edit DefinitionIsThere why = why
+edit_refused d selected edit NoFieldLeft why = why
+edit_refused d selected edit OutOfMemory why = tt
+
+pub edit_is_refused : {S : Type 0} (r : Result S EditError) (d : Document) (selected : List ℕ → Bool) (edit : FieldEdit)
+    → IfErr r (EditTextIsRefused d.says.abbreviations (first_start selected (length d.text) d.says.entries) edit)
+    → IfErr r (FieldEditIsRefused d selected edit)
+edit_is_refused (Ok new) d selected edit why = _
+edit_is_refused (Err error) d selected edit why = edit_refused d selected edit error why

@@ -15,6 +15,7 @@ pub mod EntryChangeFacts
 pub mod EntryFacts
 mod FieldEditFacts
 pub mod FieldNameFacts
+mod FitFacts
 mod IndexFacts
 pub mod GrammarFacts
 pub mod JoinedFacts

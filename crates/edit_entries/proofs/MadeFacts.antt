@@ -195,7 +195,7 @@ module _ (d after : Document) (edit : Edit) (before others : List EntryReading) 
   moved_alike = file_placeless move after.says ∙ alike
 
   -- an entry, once its places are moved
-  entry_alike : (entry : EntryReading) → slice_get after.says.entries k ≡ Some entry
+  pub entry_alike : (entry : EntryReading) → slice_get after.says.entries k ≡ Some entry
       → entry_alone_placeless (moved_entry move entry) ≡ entry_alone_placeless p
   entry_alike entry here =
       let all : List EntryReading = map (moved_entry move) after.says.entries in

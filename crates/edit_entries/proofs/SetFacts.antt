@@ -1,33 +1,35 @@
 -- The outcome of setting a field.
-use Rattle.std.proofs.Common.{◌≡◌, inl, ℕ, zero, suc, ◌+◌, ◌-◌, ◌<◌, ◌≤◌, Bool, true, false, cond, List, [], ◌∷◌, ◌++◌, length, take, map, refl, sym, ap, ◌∙◌, subst, arith, append-nil, Some, Result, Ok, Err}
-use Rattle.std.specs.Prelude.{IfErr, IfOk, OnOk, slice_get, ◌||◌}
+use Rattle.std.proofs.Common.{◌≡◌, ℕ, zero, suc, ◌<◌, ◌≤◌, Bool, true, false, cond, List, [], ◌∷◌, ◌++◌, length, map, refl, sym, ap, ◌∙◌, subst, arith, Some, Result, Ok, Err}
+use Rattle.std.specs.Prelude.{IfErr, IfOk, slice_get, slice_set, ◌||◌}
 use Rattle.std.specs.Char.{is_whitespace}
 use Rattle.std.specs.List.{AllByRecursion, list_any}
 use Rattle.std.specs.Str.{IsCharBoundary, IsUtf8}
-use Rattle.std.proofs.lemmas.List.{take_all}
 use Rattle.bib_text.specs.Places.{CharAt, Longest, place}
 use Rattle.bib_text.proofs.PlaceFacts.{ahead_run, ahead_then, same_place}
 use Rattle.bib_text.proofs.BoundaryFacts.{char_boundary}
-use Rattle.bib_syntax.specs.Grammar.{Element, IsRawReading}
+use Rattle.bib_syntax.specs.Grammar.{IsRawReading}
 use Rattle.bib_syntax.specs.Reading.{EntryReading, FieldReading}
 use Rattle.bib_syntax.proofs.FileFacts.{ahead_head}
-use Rattle.edit_entries.specs.Changes.{FieldChange, braced_field, braced_value, edits_of_entry, edits_of_field, edits_of_fields, field_before, name_edit}
-use Rattle.edit_entries.specs.Documents.{CanStandInBraces, Document, HasEntry, IsEdited, IsDocument, first_position, has_name, in_braces, is_keyed}
-use Rattle.edit_entries.specs.Edits.{edited, edited_all}
+use Rattle.edit_entries.specs.Changes.{FieldChange, NewField, edits_of_entry, edits_of_field, edits_of_fields, field_before, field_reading, name_edit}
+use Rattle.edit_entries.specs.Documents.{Document, HasEntry, IsEdited, IsDocument, entry_edited, first_position, has_name, is_keyed}
+use Rattle.edit_entries.specs.Edits.{Edit, edited, edited_all, moved_entry, moved_field, moved_place, placeless}
 use Rattle.edit_entries.specs.Placed.{HasComma, IsNamePlaced, IsPlaced}
-use Rattle.edit_entries.specs.SetTexts.{CanBeSetIn, IsSetText, SetTextIsRefused}
-use Rattle.edit_entries.specs.Setting.{CanBeNewName, CanBeValue, FieldSet, IsAfterComma, IsSet, SetIsRefused, field_put, has_other_value, only_field_added, only_field_text, set_change, values_set, white_before}
+use Rattle.edit_entries.specs.SetTexts.{CanBeSetIn, CantBeSetIn, IsSetText, SetTextIsRefused}
+use Rattle.edit_entries.specs.Setting.{CanBeNewName, CantBeSet, FieldSet, IsFit, IsSet, SetIsRefused, Value, field_put, has_other_value, new_field, new_value, only_field_text, set_change, values_set, white_before}
 use Rattle.edit_entries.specs.declared.errors.EditError.{EditError}
-use Rattle.edit_entries.specs.declared.errors.EditError.TheVariants.{UnknownKey, KeyIsThere, NotAKey, NotAName, NotInBraces, DefinitionIsThere, NoFieldLeft, OutOfMemory}
+use Rattle.edit_entries.specs.declared.errors.EditError.TheVariants.{UnknownKey, KeyIsThere, NotAKey, NotAName, NotInBraces, NotBare, DefinitionIsThere, NoFieldLeft, OutOfMemory}
 use Rattle.edit_entries.proofs.AddedFacts.{only_field_read}
 use Rattle.edit_entries.proofs.AllFacts.{all_found}
 use Rattle.edit_entries.proofs.ChangesFacts.{CanChange, CanEntryChange, CanFieldsChange}
 use Rattle.edit_entries.proofs.EntryChangeFacts.{can_be_kept, entry_changed_read, entry_edits_in_order, no_edits}
-use Rattle.edit_entries.proofs.NewFieldFacts.{element_read}
+use Rattle.edit_entries.proofs.FitFacts.{fit_read}
+use Rattle.edit_entries.proofs.MadeFacts.{entry_alike, of_entries, says_alike}
+use Rattle.edit_entries.proofs.UnsetEntryFacts.{around, set_here}
+use Rattle.edit_entries.proofs.NewFieldFacts.{CanBePut}
 use Rattle.edit_entries.proofs.NewValueFacts.{CanBeRead}
 use Rattle.edit_entries.proofs.PartFacts.{AreEntriesIn, AreFieldsIn, file_in}
 use Rattle.edit_entries.proofs.SplitFacts.{ahead_file_before, split_file}
-use Rattle.edit_entries.proofs.ValueFacts.{braced_stands, field_placed, run_stands}
+use Rattle.edit_entries.proofs.ValueFacts.{field_placed, run_stands}
 use Rattle.edit_entries.proofs.WhiteBeforeFacts.{before_white}
 
 -- ---- what the text of an entry offers
@@ -71,7 +73,7 @@ names_placed text at zero (x ∷ xs) e order here =
 names_placed text at (suc k) (x ∷ xs) e order here = names_placed text order.0 k xs e order.4 here
 
 -- the edits of the fields that get a value are those of their entry
-pub set_asked : (d : Document) (k : ℕ) (e : EntryReading) (name value : List ℕ) → IsDocument d → IsUtf8 d.text
+pub set_asked : (d : Document) (k : ℕ) (e : EntryReading) (name : List ℕ) (value : Value) → IsDocument d → IsUtf8 d.text
     → slice_get d.says.entries k ≡ Some e → CanBeSetIn d.text e name value
 set_asked d k e name value read utf8 here = record {
   comma = comma_known d k e read here;
@@ -82,17 +84,9 @@ set_asked d k e name value read utf8 here = record {
 
 -- ---- the changes can be made
 
-braced_read : (text : List ℕ) → CanStandInBraces text → CanBeRead (braced_value text)
-braced_read text can =
-    let whole : List ℕ = in_braces text in
-    let size : 0 + length whole - 0 ≡ length whole = omega arith in
-    element_read {a = place whole 0} whole
-    (Element.braced (braced_stands whole [] text 0 can (sym (append-nil whole)) (inl (omega arith)))) (omega arith)
-    (ap (λ n. take n whole) size ∙ take_all (length whole) whole (omega arith))
-
-change_can : (value : List ℕ) (following : List FieldReading) (b : Bool) → (b ≡ true → CanBeValue value)
-    → CanChange following (cond b (FieldChange.valued (braced_value value)) FieldChange.kept)
-change_can value following true can = braced_read value (can refl).braced
+change_can : (value : Value) (following : List FieldReading) (b : Bool) → (b ≡ true → CanBeRead (new_value value))
+    → CanChange following (cond b (FieldChange.valued (new_value value)) FieldChange.kept)
+change_can value following true can = can refl
 change_can value following false can = tt
 
 or_first : (a b : Bool) → a ≡ true → (a || b) ≡ true
@@ -103,7 +97,7 @@ or_second : (a b : Bool) → b ≡ true → (a || b) ≡ true
 or_second true b is = refl
 or_second false b is = is
 
-values_can : (name value : List ℕ) (fs : List FieldReading) → (list_any (has_other_value name value) fs ≡ true → CanBeValue value)
+values_can : (name : List ℕ) (value : Value) (fs : List FieldReading) → (list_any (has_other_value name value) fs ≡ true → CanBeRead (new_value value))
     → CanFieldsChange fs (map (set_change name value) fs)
 values_can name value [] can = tt
 values_can name value (f ∷ fs) can =
@@ -113,24 +107,25 @@ values_can name value (f ∷ fs) can =
       values_can name value fs (λ is. can (or_second here later is)),
     )
 
-pub set_can : (name value : List ℕ) (e : EntryReading) → (list_any (has_other_value name value) e.fields ≡ true → CanBeValue value)
+pub set_can : (name : List ℕ) (value : Value) (e : EntryReading)
+    → (list_any (has_other_value name value) e.fields ≡ true → CanBeRead (new_value value))
     → CanEntryChange e (values_set name value e)
 set_can name value e can = record { kind = λ n is. absurd (cc); fields = values_can name value e.fields can }
 
-pub put_can : (text name value : List ℕ) (e : EntryReading) (first : FieldReading) (others : List FieldReading)
-    → e.fields ≡ first ∷ others → CanBeNewName name → CanBeValue value → first.name.start ≤ length text
+pub put_can : (text name : List ℕ) (value : Value) (e : EntryReading) (first : FieldReading) (others : List FieldReading)
+    → e.fields ≡ first ∷ others → CanBeNewName name → CanBeRead (new_value value) → first.name.start ≤ length text
     → CanEntryChange e (field_put text name value first)
 put_can text name value e first others are can_name can_value within = record {
   kind = λ n is. absurd (cc);
   fields =
       subst (λ fs. CanFieldsChange fs (field_put text name value first).fields) (sym are) (
-        (record { name = can_name.name; value = braced_read value can_value.braced }, before_white text first.name.start within),
+        (record { name = can_name.name; value = can_value }, before_white text first.name.start within),
         can_be_kept others,
       );
 }
 
 -- fields that all have the value get no edits
-pub no_value_edits : (text name value : List ℕ) (fs : List FieldReading) → list_any (has_other_value name value) fs ≡ false
+pub no_value_edits : (text name : List ℕ) (value : Value) (fs : List FieldReading) → list_any (has_other_value name value) fs ≡ false
     → edits_of_fields text fs (map (set_change name value) fs) ≡ []
 no_value_edits text name value [] none = refl
 no_value_edits text name value (f ∷ fs) none = by_case (has_other_value name value f) refl none (no_value_edits text name value fs)
@@ -144,7 +139,7 @@ no_value_edits text name value (f ∷ fs) none = by_case (has_other_value name v
     by_case false is free rest =
         ap
         (λ b.
-        edits_of_field text f fs (cond b (FieldChange.valued (braced_value value)) FieldChange.kept)
+        edits_of_field text f fs (cond b (FieldChange.valued (new_value value)) FieldChange.kept)
         ++ edits_of_fields text fs (map (set_change name value) fs)) is
         ∙ rest free
 
@@ -152,27 +147,13 @@ pub no_element : {A : Type 0} (xs : List A) → length xs < 1 → xs ≡ []
 no_element [] short = refl
 no_element (x ∷ xs) short = absurd (omega (arith, short))
 
--- a field in an entry that has none
-pub only_made : {S : Type 0} (bytes : S → List ℕ) (r : Result S EditError) (text : List ℕ) (e : EntryReading) (name value : List ℕ)
-    → e.fields ≡ []
-    → IfOk r
-    (λ new.
-    (at : ℕ) × IsAfterComma text e at
-    × (bytes new ≡ edited (record { start = at; end = at; bytes = only_field_text name value }) text))
-    → OnOk r (CanBeNewName name) → OnOk r (CanBeValue value) → IfOk r (λ new. IsSetText text e name value (bytes new))
-only_made bytes (Err error) text e name value none is can_name can_value = _
-only_made bytes (Ok new) text e name value none is can_name can_value = IsSetText.only none is.1 can_name can_value is.2
-
 -- a field before the first one
-pub put_made : {S : Type 0} (bytes : S → List ℕ) (r : Result S EditError) (text : List ℕ) (e : EntryReading) (name value : List ℕ)
-    (first : FieldReading) (others : List FieldReading) → list_any (has_name name) e.fields ≡ false → e.fields ≡ first ∷ others
-    → IfOk r
-    (λ new.
-    bytes new ≡ edited (name_edit first (field_before (braced_field name value) (white_before text first.name.start))) text)
-    → OnOk r (CanBeNewName name) → OnOk r (CanBeValue value) → IfOk r (λ new. IsSetText text e name value (bytes new))
-put_made bytes (Err error) text e name value first others none are is can_name can_value = _
-put_made bytes (Ok new) text e name value first others none are is can_name can_value =
-    let lead : List ℕ = field_before (braced_field name value) (white_before text first.name.start) in
+pub put_made : (definitions : List FieldReading) (text : List ℕ) (e : EntryReading) (name : List ℕ) (value : Value) (first : FieldReading)
+    (others : List FieldReading) (new : List ℕ) → list_any (has_name name) e.fields ≡ false → e.fields ≡ first ∷ others
+    → new ≡ edited (name_edit first (field_before (new_field name value) (white_before text first.name.start))) text
+    → CanBeNewName name → IsFit definitions e.start value → IsSetText definitions text e name value new
+put_made definitions text e name value first others new none are is can_name can_value =
+    let lead : List ℕ = field_before (new_field name value) (white_before text first.name.start) in
     let edits : edits_of_entry text e (field_put text name value first) ≡ name_edit first lead ∷ [] =
     ap (λ fs. edits_of_fields text fs (field_put text name value first).fields) are
     ∙ ap (λ es. name_edit first lead ∷ es) (no_edits text others) in
@@ -187,10 +168,10 @@ first_within text (f ∷ fs) first others all are =
     let same : f ≡ first = cc in
     subst (λ g. g.name.start ≤ length text) same all.0.start.0
 
-pub text_set : (d : Document) (key name value new : List ℕ) (k : ℕ) (e : EntryReading) → IsDocument d → IsUtf8 d.text
-    → HasEntry d key k e → IsSetText d.text e name value new → IsEdited (FieldSet d key name value) new
+pub text_set : (d : Document) (key name : List ℕ) (value : Value) (new : List ℕ) (k : ℕ) (e : EntryReading) → IsDocument d
+    → IsUtf8 d.text → HasEntry d key k e → IsSetText d.says.abbreviations d.text e name value new → IsEdited (FieldSet d key name value) new
 text_set d key name value new k e read utf8 entry (IsSetText.changed there can is) =
-    let r = entry_changed_read d k e (values_set name value e) read utf8 entry.here (set_can name value e can) in
+    let r = entry_changed_read d k e (values_set name value e) read utf8 entry.here (set_can name value e (λ there. fit_read d.says.abbreviations e.start value (can there))) in
     record {
       document = record { text = new; says = r.tells };
       outcome = FieldSet.changed entry there (record { text = is; alike = r.alike });
@@ -200,7 +181,7 @@ text_set d key name value new k e read utf8 entry (IsSetText.changed there can i
 text_set d key name value new k e read utf8 entry (IsSetText.added {first = first} {others = others} none are can_name can_value is) =
     let names = names_placed d.text 0 k d.says.entries e (file_in d.text refl read) entry.here in
     let can =
-    put_can d.text name value e first others are can_name can_value (first_within d.text e.fields first others names are) in
+    put_can d.text name value e first others are can_name (fit_read d.says.abbreviations e.start value can_value) (first_within d.text e.fields first others names are) in
     let r = entry_changed_read d k e (field_put d.text name value first) read utf8 entry.here can in
     record {
       document = record { text = new; says = r.tells };
@@ -208,12 +189,41 @@ text_set d key name value new k e read utf8 entry (IsSetText.added {first = firs
       is = refl;
       read = subst (λ t. IsRawReading t r.tells) (sym is) r.read;
     }
-text_set d key name value new k e read utf8 entry (IsSetText.only {at = at} none comma can_name can_value is) = record {
-  document = only_field_added d k e at name value;
-  outcome = FieldSet.only entry none comma;
-  is = is;
-  read = only_field_read d k e at name value read entry.here comma can_name.name can_value.braced;
-}
+text_set d key name value new k e read utf8 entry (IsSetText.only {at = at} none comma can_name can_value is) =
+    let n : NewField = new_field name value in
+    let edit : Edit = record { start = at; end = at; bytes = only_field_text name value } in
+    let move = moved_place edit in
+    let put : CanBePut n = record { name = can_name.name; value = fit_read d.says.abbreviations e.start value can_value } in
+    let x = only_field_read d k e at n read entry.here comma put in
+    let a = around d.says.entries k e entry.here in
+    let build : EntryReading → List FieldReading → EntryReading = λ (y : EntryReading) (fs : List FieldReading). record y { fields = fs } in
+    let view = moved_field (λ m. 0) in
+    let changed : EntryReading = build e (field_reading n ∷ []) in
+    let added : EntryReading = build (moved_entry move e) (x.reading ∷ map (moved_field move) e.fields) in
+    let whole : placeless d.says ≡ placeless (of_entries d.says (a.before ++ e ∷ a.following)) =
+    ap (λ es. placeless (of_entries d.says es)) a.whole in
+    let here : slice_get d.says.entries (length a.before) ≡ Some e = subst (λ m. slice_get d.says.entries m ≡ Some e) (sym a.index) entry.here in
+    let same : moved_entry (λ m. 0) added ≡ moved_entry (λ m. 0) changed =
+    ap (λ y. build y (view x.reading ∷ map view (map (moved_field move) e.fields))) (entry_alike d d edit a.before a.following e whole e here)
+    ∙ ap (λ fs. build (moved_entry (λ m. 0) e) (view x.reading ∷ map view (map (moved_field move) fs))) none
+    ∙ ap (λ r. build (moved_entry (λ m. 0) e) (r ∷ [])) x.alike in
+    let set : slice_set d.says.entries k changed ≡ a.before ++ changed ∷ a.following =
+    ap (λ es. slice_set es k changed) a.whole ∙ ap (λ m. slice_set (a.before ++ e ∷ a.following) m changed) (sym a.index)
+    ∙ set_here a.before a.following e changed in
+    record {
+      document = entry_edited d edit k added;
+      outcome = FieldSet.only entry none (record {
+        at = at;
+        comma = comma;
+        text = refl;
+        alike =
+            ap (λ m. placeless (entry_edited d edit m added).says) (sym a.index)
+            ∙ says_alike d d edit a.before a.following e whole added changed same
+            ∙ ap (λ es. placeless (of_entries d.says es)) (sym set);
+      });
+      is = is;
+      read = x.read;
+    }
 
 -- the entry that was looked up
 pub has_entry : (d : Document) (listed : List EntryReading) (key : List ℕ) (k : ℕ) (e : EntryReading)
@@ -231,13 +241,13 @@ same_entry d key k n e x one other =
     let here : slice_get d.says.entries n ≡ Some e = subst (λ i. slice_get d.says.entries i ≡ Some e) index one.here in
     cc
 
-pub set_refused : (d : Document) (key name value : List ℕ) (k : ℕ) (e : EntryReading) (error : EditError) → HasEntry d key k e
-    → SetTextIsRefused e name value error → SetIsRefused d key name value error
-set_refused d key name value k e UnknownKey entry why = absurd why
-set_refused d key name value k e KeyIsThere entry why = why
-set_refused d key name value k e NotAKey entry why = why
-set_refused d key name value k e NotAName entry why = why
-set_refused d key name value k e NotInBraces entry why = record {
+cant_be_set : (d : Document) (key name : List ℕ) (value : Value) (k : ℕ) (e : EntryReading) (error : EditError) → HasEntry d key k e
+    → CantBeSetIn d.says.abbreviations e name value error → CantBeSet d key name value error
+cant_be_set d key name value k e error entry why = record {
+  index = k;
+  entry = e;
+  has = entry;
+  because = why.because;
   unfit = why.unfit;
   new = λ set. other set;
 }
@@ -249,19 +259,28 @@ set_refused d key name value k e NotInBraces entry why = record {
         subst (λ x. list_any (has_other_value name value) x.fields ≡ true) same
         (why.new (subst (λ x. list_any (has_name name) x.fields ≡ true) (sym same) set.named)) in
         absurd (cc)
+
+pub set_refused : (d : Document) (key name : List ℕ) (value : Value) (k : ℕ) (e : EntryReading) (error : EditError) → HasEntry d key k e
+    → SetTextIsRefused d.says.abbreviations e name value error → SetIsRefused d key name value error
+set_refused d key name value k e UnknownKey entry why = absurd why
+set_refused d key name value k e KeyIsThere entry why = why
+set_refused d key name value k e NotAKey entry why = why
+set_refused d key name value k e NotAName entry why = why
+set_refused d key name value k e NotInBraces entry why = cant_be_set d key name value k e NotInBraces entry why
+set_refused d key name value k e NotBare entry why = cant_be_set d key name value k e NotBare entry why
 set_refused d key name value k e DefinitionIsThere entry why = why
 set_refused d key name value k e NoFieldLeft entry why = why
 set_refused d key name value k e OutOfMemory entry why = tt
 
 -- ---- the results of calls
 
-pub all_set : {S : Type 0} (bytes : S → List ℕ) (r : Result S EditError) (d : Document) (key name value : List ℕ) (k : ℕ)
+pub all_set : {S : Type 0} (bytes : S → List ℕ) (r : Result S EditError) (d : Document) (key name : List ℕ) (value : Value) (k : ℕ)
     (e : EntryReading) → IsDocument d → IsUtf8 d.text → HasEntry d key k e
-    → IfOk r (λ new. IsSetText d.text e name value (bytes new)) → IfOk r (λ new. IsEdited (FieldSet d key name value) (bytes new))
+    → IfOk r (λ new. IsSetText d.says.abbreviations d.text e name value (bytes new)) → IfOk r (λ new. IsEdited (FieldSet d key name value) (bytes new))
 all_set bytes (Err error) d key name value k e read utf8 entry set = _
 all_set bytes (Ok new) d key name value k e read utf8 entry set = text_set d key name value (bytes new) k e read utf8 entry set
 
-pub all_refused : {S : Type 0} (r : Result S EditError) (d : Document) (key name value : List ℕ) (k : ℕ) (e : EntryReading)
-    → HasEntry d key k e → IfErr r (SetTextIsRefused e name value) → IfErr r (SetIsRefused d key name value)
+pub all_refused : {S : Type 0} (r : Result S EditError) (d : Document) (key name : List ℕ) (value : Value) (k : ℕ) (e : EntryReading)
+    → HasEntry d key k e → IfErr r (SetTextIsRefused d.says.abbreviations e name value) → IfErr r (SetIsRefused d key name value)
 all_refused (Ok new) d key name value k e entry why = _
 all_refused (Err error) d key name value k e entry why = set_refused d key name value k e error entry why

@@ -18,14 +18,14 @@ use Rattle.edit_entries.proofs.UnsetFacts.{field_cut}
 -- ---- lists
 
 -- a list around an element that it has
-record Around {A : Type 0} (xs : List A) (k : ℕ) (x : A) : Type 0 where
-  before : List A
-  following : List A
-  whole : xs ≡ before ++ x ∷ following
-  index : length before ≡ k
-  rest : drop (suc k) xs ≡ following
+pub record Around {A : Type 0} (xs : List A) (k : ℕ) (x : A) : Type 0 where
+  pub before : List A
+  pub following : List A
+  pub whole : xs ≡ before ++ x ∷ following
+  pub index : length before ≡ k
+  pub rest : drop (suc k) xs ≡ following
 
-around : {A : Type 0} (xs : List A) (k : ℕ) (x : A) → slice_get xs k ≡ Some x → Around xs k x
+pub around : {A : Type 0} (xs : List A) (k : ℕ) (x : A) → slice_get xs k ≡ Some x → Around xs k x
 around [] k x found = absurd (cc)
 around (y ∷ ys) zero x found =
     let same : y ≡ x = cc in
@@ -40,7 +40,7 @@ around (y ∷ ys) (suc k) x found =
       rest = more.rest;
     }
 
-set_here : {A : Type 0} (before rest : List A) (x y : A) → slice_set (before ++ x ∷ rest) (length before) y ≡ before ++ y ∷ rest
+pub set_here : {A : Type 0} (before rest : List A) (x y : A) → slice_set (before ++ x ∷ rest) (length before) y ≡ before ++ y ∷ rest
 set_here [] rest x y = refl
 set_here (b ∷ bs) rest x y = ap (λ l. b ∷ l) (set_here bs rest x y)
 

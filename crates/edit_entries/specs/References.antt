@@ -189,6 +189,7 @@ KeysAreRefused d keys KeyIsThere = IsNewKeyTaken d.says.entries keys
 KeysAreRefused d keys NotAKey = IsNoNewKey d.says.entries keys
 KeysAreRefused d keys NotAName = ⊥
 KeysAreRefused d keys NotInBraces = CantBeWritten d keys
+KeysAreRefused d keys NotBare = ⊥
 KeysAreRefused d keys DefinitionIsThere = ⊥
 KeysAreRefused d keys NoFieldLeft = ⊥
 KeysAreRefused d keys OutOfMemory = ⊤

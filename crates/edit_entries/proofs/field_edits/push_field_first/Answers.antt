@@ -4,10 +4,10 @@ use Rattle.std.proofs.lemmas.List.{drop_more, map-append}
 use Rattle.bib_syntax.specs.declared.raw.Pair.{Pair}
 use Rattle.bib_syntax.specs.Reading.{FieldReading}
 use Rattle.bib_syntax.specs.Views.{field_of}
-use Rattle.edit_entries.specs.Changes.{braced_field, field_before}
+use Rattle.edit_entries.specs.Changes.{field_before}
 use Rattle.edit_entries.specs.Edits.{Edit}
 use Rattle.edit_entries.specs.EditList.{edit_of}
-use Rattle.edit_entries.specs.Setting.{white_before}
+use Rattle.edit_entries.specs.Setting.{Value, new_field, value_of, white_before}
 use Rattle.edit_entries.proofs.FieldEditFacts.{field_first_edits}
 use Rattle.edit_entries.proofs.field_edits.push_field_first.Goals as goal
 
@@ -15,7 +15,7 @@ pub returns : goal.returns
 returns c =
     let text : List ℕ = c.args.text.now in
     let name : List ℕ = c.args.name.now in
-    let value : List ℕ = c.args.value.now in
+    let value : Value = value_of c.args.value in
     let fields : List Pair = c.args.fields.now in
     let first : Pair = c.first-item.result in
     let f : FieldReading = field_of first in
@@ -25,9 +25,9 @@ returns c =
     let before : List Edit = map edit_of c.args.edits.now.items in
     let build : List ℕ → List Edit = λ (bs : List ℕ).
     before ++ (record { start = f.name.start; end = f.name.end; bytes = bs }) ∷ [] in
-    let bytes : string_bytes c.in_ok-text_before.field-0 ≡ field_before (braced_field name value) white ++ f.name.text =
+    let bytes : string_bytes c.in_ok-text_before.field-0 ≡ field_before (new_field name value) white ++ f.name.text =
     c.in_ok-text_before.ensures
-    ∙ ap₂ (λ b w. (name ++ (codes " = " ++ b) ++ 44 ∷ w) ++ f.name.text) c.requires.braced c.white_before-white.ensures in
+    ∙ ap₂ (λ b w. (name ++ (codes " = " ++ b) ++ 44 ∷ w) ++ f.name.text) c.requires.written c.white_before-white.ensures in
     ap (map edit_of) c.in_ok-push.ensures.items ∙ map-append edit_of c.args.edits.now.items _ ∙ ap build bytes
     ∙ ap (λ es. before ++ es)
     (sym (field_first_edits text name value (map field_of fields) f (map field_of (drop 1 fields)) cut))

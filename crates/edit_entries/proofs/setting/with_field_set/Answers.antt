@@ -5,15 +5,10 @@ use Rattle.std.specs.List.{list_any}
 use Rattle.bib_syntax.specs.declared.raw.Pair.{Pair}
 use Rattle.bib_syntax.specs.Views.{entry_reading_of, field_of}
 use Rattle.edit_entries.specs.Documents.{has_name}
-use Rattle.edit_entries.proofs.SetFacts.{no_element, only_made, put_made}
+use Rattle.edit_entries.specs.SetTexts.{IsSetText}
+use Rattle.edit_entries.specs.Setting.{value_of}
+use Rattle.edit_entries.proofs.SetFacts.{no_element, put_made}
 use Rattle.edit_entries.proofs.setting.with_field_set.Goals as goal
-
-pub returns-in-empty-clause-set : goal.returns-in-empty-clause-set
-returns-in-empty-clause-set c =
-    only_made string_bytes c.with_only_field.result c.args.text.now (entry_reading_of c.args.entry.now) c.args.name.now
-    c.args.value.now
-    (ap (map field_of) (sym c.as_slice-fields.ensures.value ∙ no_element c.as_slice-fields.result.now c.in-empty.len_below))
-    c.with_only_field.ensures.text c.with_only_field.ensures.name c.with_only_field.ensures.value
 
 pub returns-in-len1-up-clause-set : goal.returns-in-len1-up-clause-set
 returns-in-len1-up-clause-set c =
@@ -24,6 +19,13 @@ returns-in-len1-up-clause-set c =
     ap (map field_of) (drop_more fields 0 first c.in-len1-up.len_at_least ∙ ap (λ x. x ∷ drop 1 fields) (sym c.first-item.is)) in
     let none : list_any (has_name c.args.name.now) (entry_reading_of c.args.entry.now).fields ≡ false =
     ap (list_any (has_name c.args.name.now)) (sym listed) ∙ sym c.has_field.ensures ∙ c.if-has_field.false in
-    put_made string_bytes c.with_field_before.result c.args.text.now (entry_reading_of c.args.entry.now) c.args.name.now
-    c.args.value.now (field_of first) (map field_of (drop 1 fields)) none (sym listed ∙ cut)
-    c.with_field_before.ensures.text c.with_field_before.ensures.name c.with_field_before.ensures.value
+    put_made (map field_of c.args.definitions.now) c.args.text.now (entry_reading_of c.args.entry.now) c.args.name.now
+    (value_of c.args.value) (field_of first) (map field_of (drop 1 fields)) (string_bytes c.in_ok-with_field_before-in-len1-up.field-0)
+    none (sym listed ∙ cut) c.in_ok-with_field_before-in-len1-up.ensures c.in_ok-written.ensures.name c.in_ok-written.ensures.value
+
+pub returns-clause-set : goal.returns-clause-set
+returns-clause-set c =
+    let is = c.in_ok-with_only_field-in-empty.ensures in
+    IsSetText.only
+    (ap (map field_of) (sym c.as_slice-fields.ensures.value ∙ no_element c.as_slice-fields.result.now c.in-empty.len_below))
+    is.1 c.in_ok-written.ensures.name c.in_ok-written.ensures.value is.2

@@ -1,25 +1,27 @@
-use Rattle.std.proofs.Common.{◌≡◌, map, sym, ap, ◌∙◌, subst}
+use Rattle.std.proofs.Common.{◌≡◌, length, map, sym, ap, ◌∙◌, subst}
 use Rattle.std.specs.List.{AllByRecursion}
+use Rattle.std.proofs.lemmas.Result.{err_from_is_err_and}
+use Rattle.bib_queries.specs.Sets.{is_in_set}
 use Rattle.std.specs.Str.{IsUtf8}
 use Rattle.std.specs.String.{string_bytes}
-use Rattle.bib_syntax.specs.Views.{entry_reading_of}
+use Rattle.bib_syntax.specs.Views.{entry_reading_of, field_of}
 use Rattle.edit_entries.specs.Changes.{IsReadPlaceless, edits_of_entries, file_changed, text_changed}
 use Rattle.edit_entries.specs.Documents.{Document, IsDocument}
 use Rattle.edit_entries.specs.EditList.{AreEditsInOrder, edit_of}
 use Rattle.edit_entries.specs.Edits.{edited_all}
-use Rattle.edit_entries.specs.FieldEdits.{selected_edited}
-use Rattle.edit_entries.specs.FieldTexts.{HaveFieldsPlaced}
+use Rattle.edit_entries.specs.FieldEdits.{first_start, selected_edited}
+use Rattle.edit_entries.specs.FieldTexts.{EditTextIsRefused, HaveFieldsPlaced}
 use Rattle.edit_entries.proofs.ChangesFacts.{changed_read, changes_in_order}
-use Rattle.edit_entries.proofs.FieldEditFacts.{fields_placed, selected_can}
+use Rattle.edit_entries.proofs.FieldEditFacts.{edit_refused, fields_placed, selected_can}
 use Rattle.edit_entries.proofs.document.RawDocument.edit_fields.Goals as goal
 
 pub field_edits-requires-clause-placed : goal.field_edits-requires-clause-placed
 field_edits-requires-clause-placed c =
     let d : Document = c.args.self.now in
     let read : IsDocument d = subst IsDocument c.self.view_is c.self.invariant in
-    let listed : map entry_reading_of c.deref.result.now ≡ d.says.entries =
-    ap (map entry_reading_of) c.deref.ensures.value ∙ ap (λ x. x.says.entries) c.self.view_is in
-    subst (λ t. AllByRecursion (HaveFieldsPlaced t) (map entry_reading_of c.deref.result.now)) (sym c.text-text.ensures)
+    let listed : map entry_reading_of c.deref-3.result.now ≡ d.says.entries =
+    ap (map entry_reading_of) c.deref-3.ensures.value ∙ ap (λ x. x.says.entries) c.self.view_is in
+    subst (λ t. AllByRecursion (HaveFieldsPlaced t) (map entry_reading_of c.deref-3.result.now)) (sym c.text-text.ensures)
     (subst (AllByRecursion (HaveFieldsPlaced d.text)) (sym listed) (fields_placed d read))
 
 pub edited_all-requires : goal.edited_all-requires
@@ -28,16 +30,16 @@ edited_all-requires c =
     let read : IsDocument d = subst IsDocument c.self.view_is c.self.invariant in
     let utf8 : IsUtf8 d.text = subst IsUtf8 c.text-text.ensures c.text-text.utf8 in
     let changes = selected_edited d.text c.args.keys.now c.args.edit.now in
-    let listed : map entry_reading_of c.deref.result.now ≡ d.says.entries =
-    ap (map entry_reading_of) c.deref.ensures.value ∙ ap (λ x. x.says.entries) c.self.view_is in
-    let edits : map edit_of c.deref-3.result.now ≡ edits_of_entries changes d.text d.says.entries =
-    ap (map edit_of) c.deref-3.ensures.value ∙ c.in_ok-edits.ensures
+    let listed : map entry_reading_of c.deref-3.result.now ≡ d.says.entries =
+    ap (map entry_reading_of) c.deref-3.ensures.value ∙ ap (λ x. x.says.entries) c.self.view_is in
+    let edits : map edit_of c.deref-5.result.now ≡ edits_of_entries changes d.text d.says.entries =
+    ap (map edit_of) c.deref-5.ensures.value ∙ c.in_ok-edits.ensures
     ∙ ap
     (λ t.
-    edits_of_entries (selected_edited t c.args.keys.now c.args.edit.now) t (map entry_reading_of c.deref.result.now))
+    edits_of_entries (selected_edited t c.args.keys.now c.args.edit.now) t (map entry_reading_of c.deref-3.result.now))
     c.text-text.ensures
     ∙ ap (edits_of_entries changes d.text) listed in
-    subst (λ t. AreEditsInOrder t 0 (map edit_of c.deref-3.result.now)) (sym c.text-text.ensures)
+    subst (λ t. AreEditsInOrder t 0 (map edit_of c.deref-5.result.now)) (sym c.text-text.ensures)
     (subst (AreEditsInOrder d.text 0) (sym edits) (changes_in_order d changes read utf8))
 
 pub returns-clause-edited : goal.returns-clause-edited
@@ -46,19 +48,38 @@ returns-clause-edited c =
     let read : IsDocument d = subst IsDocument c.self.view_is c.self.invariant in
     let utf8 : IsUtf8 d.text = subst IsUtf8 c.text-text.ensures c.text-text.utf8 in
     let changes = selected_edited d.text c.args.keys.now c.args.edit.now in
-    let listed : map entry_reading_of c.deref.result.now ≡ d.says.entries =
-    ap (map entry_reading_of) c.deref.ensures.value ∙ ap (λ x. x.says.entries) c.self.view_is in
-    let edits : map edit_of c.deref-3.result.now ≡ edits_of_entries changes d.text d.says.entries =
-    ap (map edit_of) c.deref-3.ensures.value ∙ c.in_ok-edits.ensures
+    let listed : map entry_reading_of c.deref-3.result.now ≡ d.says.entries =
+    ap (map entry_reading_of) c.deref-3.ensures.value ∙ ap (λ x. x.says.entries) c.self.view_is in
+    let edits : map edit_of c.deref-5.result.now ≡ edits_of_entries changes d.text d.says.entries =
+    ap (map edit_of) c.deref-5.ensures.value ∙ c.in_ok-edits.ensures
     ∙ ap
     (λ t.
-    edits_of_entries (selected_edited t c.args.keys.now c.args.edit.now) t (map entry_reading_of c.deref.result.now))
+    edits_of_entries (selected_edited t c.args.keys.now c.args.edit.now) t (map entry_reading_of c.deref-3.result.now))
     c.text-text.ensures
     ∙ ap (edits_of_entries changes d.text) listed in
     let is : string_bytes c.in_ok-edited_all.field-0 ≡ text_changed changes d =
-    c.in_ok-edited_all.ensures ∙ ap (edited_all (map edit_of c.deref-3.result.now)) c.text-text.ensures
+    c.in_ok-edited_all.ensures ∙ ap (edited_all (map edit_of c.deref-5.result.now)) c.text-text.ensures
     ∙ ap (λ es. edited_all es d.text) edits in
     let can =
-    selected_can d.text c.args.keys.now c.args.edit.now d.says.entries (fields_placed d read) c.in_ok-braced.ensures.name
-    c.in_ok-braced.ensures.value in
+    selected_can d.text (map field_of c.deref-2.result.now) c.first_start-at.result c.args.keys.now c.args.edit.now d.says.entries
+    (fields_placed d read) c.in_ok-written.ensures.name c.in_ok-written.ensures.value in
     record { is = is; read = subst (IsReadPlaceless (file_changed changes d.says)) (sym is) (changed_read d changes read utf8 can) }
+
+pub returns-in_err-written-clause-refused : goal.returns-in_err-written-clause-refused
+returns-in_err-written-clause-refused c =
+    let d : Document = c.args.self.now in
+    let p = err_from_is_err_and c.from_residual.result c.from_residual.ensures.1 in
+    let definitions : map field_of c.deref-2.result.now ≡ d.says.abbreviations =
+    ap (map field_of) c.deref-2.ensures.value ∙ ap (λ x. x.says.abbreviations) c.self.view_is in
+    let entries : map entry_reading_of c.deref.result.now ≡ d.says.entries =
+    ap (map entry_reading_of) c.deref.ensures.value ∙ ap (λ x. x.says.entries) c.self.view_is in
+    let at : c.first_start-at.result ≡ first_start (is_in_set c.args.keys.now) (length d.text) d.says.entries =
+    c.first_start-at.ensures
+    ∙ ap (λ t. first_start (is_in_set c.args.keys.now) (length t) (map entry_reading_of c.deref.result.now)) c.text-text.ensures
+    ∙ ap (first_start (is_in_set c.args.keys.now) (length d.text)) entries in
+    let why : EditTextIsRefused d.says.abbreviations (first_start (is_in_set c.args.keys.now) (length d.text) d.says.entries) c.args.edit.now
+        c.in_err-written.field-0.0 =
+    subst (λ n. EditTextIsRefused d.says.abbreviations n c.args.edit.now c.in_err-written.field-0.0) at
+    (subst (λ fs. EditTextIsRefused fs c.first_start-at.result c.args.edit.now c.in_err-written.field-0.0) definitions
+    c.in_err-written.ensures.refused) in
+    rw (p.1, p.2) (edit_refused d (is_in_set c.args.keys.now) c.args.edit.now c.in_err-written.field-0.0 why)
