@@ -89,7 +89,11 @@ static void check_edits(void)
     check(biblatex_add(bytes(text), strlen(text), bytes("@misc{b{,}"), 10, out, sizeof out, &size) == BIBLATEX_NOT_A_KEY && size == 77,
           "an added key that is none");
     check(biblatex_set_bare(bytes(text), strlen(text), bytes("a"), 1, bytes("month"), 5, bytes("smarch"), 6, out, sizeof out, &size) == BIBLATEX_NOT_BARE,
-        "no abbreviation");
+          "a value without braces that is no abbreviation");
+    wanted = "@misc{b, crossref = {a}, note = jan}\n";
+    status = biblatex_set_bare(bytes(two), strlen(two), bytes("b"), 1, bytes("note"), 4, bytes("jan"), 3, out, sizeof out, &size);
+    check(status == BIBLATEX_DONE && size == strlen(wanted) && memcmp(out, wanted, size) == 0, "set without braces");
+    size = 77;
     check(biblatex_set(bytes("@misc{a"), 7, bytes("a"), 1, bytes("note"), 4, bytes("U"), 1, out, sizeof out, &size) == BIBLATEX_REFUSED && size == 77,
           "an edit of a text with an error");
 }

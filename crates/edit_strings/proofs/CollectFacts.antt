@@ -461,3 +461,26 @@ pub made_known : {S E : Type 0} (bytes : S → List ℕ) (r : Result S E) (one o
     → IfOk r (λ new. bytes new ≡ one) → IfOk r (λ new. bytes new ≡ other)
 made_known bytes (Err e) one other same is = _
 made_known bytes (Ok made) one other same is = is ∙ same
+
+-- the definitions of a file are those before the first entry, followed by the others
+pub definitions_parted : (d : Document) → IsDocument d
+    → filter (is_before (first_start d.says.entries)) d.says.abbreviations
+    ++ filter (λ f. not (is_before (first_start d.says.entries) f)) d.says.abbreviations
+    ≡ d.says.abbreviations
+definitions_parted d read = by_case d.says.entries refl
+  where
+    by_case : (es : List EntryReading) → d.says.entries ≡ es
+        → filter (is_before (first_start es)) d.says.abbreviations
+        ++ filter (λ f. not (is_before (first_start es) f)) d.says.abbreviations
+        ≡ d.says.abbreviations
+    by_case [] is =
+        let kept = all_kept d.says.abbreviations in
+        ap (λ fs. fs ++ filter (λ g. not (is_before 0 g)) d.says.abbreviations) kept.0 ∙ kept.1
+    by_case (e ∷ es) is =
+        let f = first_entry d read e es is in
+        let one : List FieldReading = f.before.abbreviations in
+        let other : List FieldReading = f.following.abbreviations in
+        let own : d.says.abbreviations ≡ one ++ other = ap (λ r. r.abbreviations) f.whole in
+        ap (λ fs. filter (is_before e.start) fs ++ filter (λ g. not (is_before e.start g)) fs) own
+        ∙ ap (λ fs. fs ++ filter (λ g. not (is_before e.start g)) (one ++ other)) (split_before e.start one other f.are_before f.are_from)
+        ∙ ap (λ fs. one ++ fs) (split_from e.start one other f.are_before f.are_from) ∙ sym own
