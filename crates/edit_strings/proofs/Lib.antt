@@ -13,6 +13,6 @@ pub mod NameFacts
 pub mod NamesFacts
 pub mod PigeonFacts
 pub mod StandingFacts
+pub mod StepFacts
 pub mod TextFacts
-pub mod UsedFacts
 pub mod WrittenFacts

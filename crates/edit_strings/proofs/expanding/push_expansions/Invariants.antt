@@ -1,7 +1,7 @@
 use Rattle.std.proofs.Common.{◌≡◌, ◌++◌, drop, map}
 use Rattle.std.specs.List.{AllByRecursion}
 use Rattle.bib_syntax.specs.Views.{field_of}
-use Rattle.edit_strings.specs.Tables.{field_edits, IsFieldCut, expansion_by, index_in, lists_of}
+use Rattle.edit_strings.specs.Tables.{field_edits, IsFieldCut, expansion_by, index_in, values_of}
 use Rattle.edit_entries.specs.EditList.{edit_of}
 use Rattle.edit_strings.proofs.expanding.push_expansions.Given as goal
 
@@ -9,10 +9,10 @@ use Rattle.edit_strings.proofs.expanding.push_expansions.Given as goal
 abbrev pub invariant-fields : goal.invariant-fields
 invariant-fields l = record {
   added : map edit_of l.edits.items
-      ++ field_edits (expansion_by l.names.text.now (index_in l.names.indices) (lists_of l.names.written.items))
+      ++ field_edits (expansion_by l.names.text.now (index_in l.names.indices) (values_of l.names.values.items))
       l.names.text.now (map field_of (drop l.field-index l.fields))
       ≡ map edit_of l.initial.edits.items
-      ++ field_edits (expansion_by l.names.text.now (index_in l.names.indices) (lists_of l.names.written.items))
+      ++ field_edits (expansion_by l.names.text.now (index_in l.names.indices) (values_of l.names.values.items))
       l.names.text.now (map field_of l.fields);
   cut : AllByRecursion (IsFieldCut l.names.text.now) (map field_of (drop l.field-index l.fields));
 }
