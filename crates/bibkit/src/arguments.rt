@@ -14,6 +14,7 @@ use bibkit_settings::settings::{Color, OutputFormat, Settings};
 use bibkit_settings::style_settings::{StyleSettings, delimiters_named, width_of};
 use clap::{ArgMatches, Error};
 use edit_entries::field_edits::FieldEdit;
+use edit_entries::field_value::FieldValue;
 use edit_sort::order::Order;
 use std::alloc::{AllocError, Global};
 
@@ -145,7 +146,11 @@ fn set_fields<'a>(alloc: Global, key: &'a str, words: &[&'a str]) -> Result<Edit
     let mut edits = Vec::new(alloc);
     'words: for word in words {
         match word.split_once('=') {
-            Some((name, value)) => edits.push(Edit::Set { key, name, value })?,
+            Some((name, value)) => edits.push(Edit::Set {
+                key,
+                name,
+                value: FieldValue::Text(value),
+            })?,
             None => {
                 return Ok(Edits::NoPair {
                     word: *word,
@@ -189,8 +194,14 @@ fn field_edit<'a>(option: &str, name: &'a str, text: &'a str) -> FieldEdit<'a> {
             old: name,
             new: text,
         },
-        "set" => FieldEdit::Set { name, value: text },
-        _ => FieldEdit::Add { name, value: text },
+        "set" => FieldEdit::Set {
+            name,
+            value: FieldValue::Text(text),
+        },
+        _ => FieldEdit::Add {
+            name,
+            value: FieldValue::Text(text),
+        },
     }
 }
 

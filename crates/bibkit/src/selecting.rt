@@ -11,6 +11,7 @@ use bib_source::decoding::decode;
 use bibkit_edits::edit::Edit;
 use biblatex::{Bibliography, Output, Sink};
 use edit_entries::field_edits::FieldEdit;
+use edit_entries::field_value::FieldValue;
 use std::alloc::{AllocError, Global};
 use std::io;
 use std::str::from_utf8;
@@ -154,8 +155,23 @@ pub fn run_select(rt: &HostRuntime, selecting: &Selecting<'_>, names: &[&str]) -
 // Returns the two texts of an edit of a field.
 fn texts_of<'e>(edit: &FieldEdit<'e>) -> (&'e str, &'e str) {
     match edit {
-        FieldEdit::Set { name, value } | FieldEdit::Add { name, value } => (*name, *value),
+        FieldEdit::Set {
+            name,
+            value: FieldValue::Text(value) | FieldValue::Bare(value),
+        }
+        | FieldEdit::Add {
+            name,
+            value: FieldValue::Text(value) | FieldValue::Bare(value),
+        } => (*name, *value),
         FieldEdit::Rename { old, new } => (*old, *new),
+    }
+}
+
+// Returns a value like another one, with this text.
+fn value_like<'e>(value: &FieldValue<'_>, text: &'e str) -> FieldValue<'e> {
+    match value {
+        FieldValue::Text(_) => FieldValue::Text(text),
+        FieldValue::Bare(_) => FieldValue::Bare(text),
     }
 }
 
@@ -168,13 +184,13 @@ fn push_edit<'e>(
     second: &'e str,
 ) -> Result<(), AllocError> {
     let edit = match edit {
-        FieldEdit::Set { .. } => FieldEdit::Set {
+        FieldEdit::Set { value, .. } => FieldEdit::Set {
             name: first,
-            value: second,
+            value: value_like(value, second),
         },
-        FieldEdit::Add { .. } => FieldEdit::Add {
+        FieldEdit::Add { value, .. } => FieldEdit::Add {
             name: first,
-            value: second,
+            value: value_like(value, second),
         },
         FieldEdit::Rename { .. } => FieldEdit::Rename {
             old: first,

@@ -260,6 +260,14 @@ edit_refused edit text index d error.NotInBraces read refused = (
     refused = why_refused edit d (λ out. let clash : error.NotInBraces ≡ error.OutOfMemory = out in cc) refused;
   },
 )
+edit_refused edit text index d error.NotBare read refused = (
+  refl,
+  record {
+    document = d;
+    read = read;
+    refused = why_refused edit d (λ out. let clash : error.NotBare ≡ error.OutOfMemory = out in cc) refused;
+  },
+)
 edit_refused edit text index d error.DefinitionIsThere read refused = (
   refl,
   record {

@@ -17,7 +17,7 @@ use Rattle.edit_entries.specs.Changes.{IsChanged}
 use Rattle.edit_entries.specs.FieldEdits.{FieldEditIsRefused, selected_edited}
 use Rattle.edit_entries.specs.declared.field_edits.FieldEdit.{FieldEdit}
 use Rattle.edit_entries.specs.References.{KeyRenamed, KeysAreRefused, KeysRenamed, RenameIsRefused, given_keys}
-use Rattle.edit_entries.specs.Setting.{FieldSet, SetIsRefused}
+use Rattle.edit_entries.specs.Setting.{FieldSet, SetIsRefused, value_of}
 use Rattle.edit_entries.specs.Unset.{FieldUnset}
 use Rattle.edit_entries.specs.declared.errors.EditError.{EditError}
 use Rattle.bib_tables.specs.declared.dialects.Dialect.{Dialect}
@@ -94,7 +94,7 @@ pub record AreFieldsEdited (keys : List (List ℕ)) (edit : FieldEdit) (d after 
 
 -- the second document is the outcome of an edit of the first
 abbrev pub EditOutcome : Edit → Document → Document → Type 0
-EditOutcome (Set key name value) d = FieldSet d key.now name.now value.now
+EditOutcome (Set key name value) d = FieldSet d key.now name.now (value_of value)
 EditOutcome (Unset key name) d = FieldUnset d key.now name.now
 EditOutcome (Rename old new) d = KeyRenamed d old.now new.now
 EditOutcome (RenameAll keys) d = KeysRenamed d (given_keys keys.now)
@@ -129,11 +129,11 @@ pub record TextIsRefused (d : Document) (text : List ℕ) (why : EditError) : Ty
 
 -- an edit of a document may be refused with this error; the edits that aren't listed can't be refused so
 abbrev pub IsEditRefused : Edit → Document → EditError → Type 0
-IsEditRefused (Set key name value) d why = SetIsRefused d key.now name.now value.now why
+IsEditRefused (Set key name value) d why = SetIsRefused d key.now name.now (value_of value) why
 IsEditRefused (Unset key name) d why = UnsetIsRefused d key.now name.now why
 IsEditRefused (Rename old new) d why = RenameIsRefused d old.now new.now why
 IsEditRefused (RenameAll keys) d why = KeysAreRefused d (given_keys keys.now) why
-IsEditRefused (Fields keys edit) d why = FieldEditIsRefused edit why
+IsEditRefused (Fields keys edit) d why = FieldEditIsRefused d (is_listed (map (λ k. k.now) keys.now)) edit why
 IsEditRefused (Remove key) d why = EntryIsRefused d key.now why
 IsEditRefused (Add text) d why = TextIsRefused d text.now why
 IsEditRefused _ d why = ⊥

@@ -6,6 +6,7 @@ ghost use Rattle.bibkit_edits.specs.declared.edit.Refusal.TheVariants.{OutOfMemo
 use bib_syntax::raw::ParseError;
 use edit_entries::errors::EditError;
 use edit_entries::field_edits::FieldEdit;
+use edit_entries::field_value::FieldValue;
 use edit_format::style::Style;
 use edit_sort::order::Order;
 use std::alloc::AllocError;
@@ -19,8 +20,8 @@ pub enum Edit<'a> {
         key: &'a str,
         /// The name of the field.
         name: &'a str,
-        /// The value, without its braces.
-        value: &'a str,
+        /// The value.
+        value: FieldValue<'a>,
     },
     /// Removes a field from an entry.
     Unset {
@@ -53,7 +54,7 @@ pub enum Edit<'a> {
         /// The key of the entry.
         key: &'a str,
     },
-    /// Appends a line feed and another text with its entries.
+    /// Appends a line end and another text with its entries.
     Add {
         /// The text to append.
         text: &'a str,

@@ -98,6 +98,12 @@ edit_fails Refuses' bytes others d edit_error.NoFieldLeft same read because = re
   read = read;
   refused = because;
 }
+edit_fails Refuses' bytes others d edit_error.NotBare same read because = record {
+  document = d;
+  same = same;
+  read = read;
+  refused = because;
+}
 edit_fails Refuses' bytes others d edit_error.OutOfMemory same read because = tt
 
 -- if the grammar rejects the first text, adding may fail with the status of its error
@@ -124,4 +130,5 @@ add_fails bytes added d more edit_error.NotInBraces same read same' read' becaus
 add_fails bytes added d more edit_error.DefinitionIsThere same read same' read' because =
     record { document = d; more = more; same = same; read = read; same_added = same'; read_added = read'; refused = because }
 add_fails bytes added d more edit_error.NoFieldLeft same read same' read' because = absurd because
+add_fails bytes added d more edit_error.NotBare same read same' read' because = absurd because
 add_fails bytes added d more edit_error.OutOfMemory same read same' read' because = tt

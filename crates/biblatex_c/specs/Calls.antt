@@ -20,7 +20,7 @@ use Rattle.bibkit_core.specs.declared.request.Style.TheVariants as style
 use Rattle.bibkit_core.specs.declared.tally.Tally.{Tally}
 use Rattle.biblatex_c.specs.Statuses.{status_number}
 use Rattle.biblatex_c.specs.declared.status.Status.{Status}
-use Rattle.biblatex_c.specs.declared.status.Status.TheVariants.{Done, TooShort, NotUtf8, Refused, OutOfMemory, UnknownKey, KeyIsThere, NotAKey, NotAName, NotInBraces, DefinitionIsThere, NoFieldLeft}
+use Rattle.biblatex_c.specs.declared.status.Status.TheVariants.{Done, TooShort, NotUtf8, Refused, OutOfMemory, UnknownKey, KeyIsThere, NotAKey, NotAName, NotInBraces, DefinitionIsThere, NoFieldLeft, NotBare}
 
 -- A call on the buffer `out` and the size `size` leaves this buffer and this size, and returns this status. `Answers` says which bytes
 -- may be the result, and `Fails` says with which statuses the call may fail. A result that fits is at the start of the buffer, and the
@@ -124,6 +124,7 @@ EditFails Refuses text others NotAName = IsRefusedFor Refuses text edit_error.No
 EditFails Refuses text others NotInBraces = IsRefusedFor Refuses text edit_error.NotInBraces
 EditFails Refuses text others DefinitionIsThere = IsRefusedFor Refuses text edit_error.DefinitionIsThere
 EditFails Refuses text others NoFieldLeft = IsRefusedFor Refuses text edit_error.NoFieldLeft
+EditFails Refuses text others NotBare = IsRefusedFor Refuses text edit_error.NotBare
 
 -- the second document is the first with a line feed and the document of the text `added` after it
 abbrev pub WithEntriesOf : List ℕ → Document → Document → Type 0

@@ -7,7 +7,7 @@ use Rattle.bib_syntax.specs.declared.raw.ParseError.{ParseError}
 use Rattle.bib_syntax.specs.declared.raw.ParseErrorKind.{ParseErrorKind}
 use Rattle.bib_syntax.specs.declared.raw.ParseErrorKind.TheVariants as kind
 use Rattle.biblatex_c.specs.declared.status.Status.{Status}
-use Rattle.biblatex_c.specs.declared.status.Status.TheVariants.{Done, TooShort, NotUtf8, Refused, OutOfMemory, UnknownKey, KeyIsThere, NotAKey, NotAName, NotInBraces, DefinitionIsThere, NoFieldLeft}
+use Rattle.biblatex_c.specs.declared.status.Status.TheVariants.{Done, TooShort, NotUtf8, Refused, OutOfMemory, UnknownKey, KeyIsThere, NotAKey, NotAName, NotInBraces, DefinitionIsThere, NoFieldLeft, NotBare}
 
 -- the number of a status
 abbrev pub status_number : Status → ℕ
@@ -23,6 +23,7 @@ status_number NotAName = 8
 status_number NotInBraces = 9
 status_number DefinitionIsThere = 10
 status_number NoFieldLeft = 11
+status_number NotBare = 12
 
 -- the text of the status with a number, or "no status" if no status has it
 abbrev pub status_text : ℕ → List ℕ
@@ -39,6 +40,7 @@ status_text number =
     else if number == 9 then codes "the value can't be written in braces"
     else if number == status_number DefinitionIsThere then codes "an abbreviation is defined already with another text"
     else if number == status_number NoFieldLeft then codes "the entry would have no field left"
+    else if number == status_number NotBare then codes "the value is neither a number nor an abbreviation that is defined before the entry"
     else codes "no status"
 
 -- the status of a call if parsing its text fails with an error of this kind
@@ -59,4 +61,5 @@ status_of_edit edit_error.NotAName = NotAName
 status_of_edit edit_error.NotInBraces = NotInBraces
 status_of_edit edit_error.DefinitionIsThere = DefinitionIsThere
 status_of_edit edit_error.NoFieldLeft = NoFieldLeft
+status_of_edit edit_error.NotBare = NotBare
 status_of_edit edit_error.OutOfMemory = OutOfMemory

@@ -3,7 +3,7 @@
 ghost use Rattle.std.specs.Prelude.{◌≡◌, [], ◌∷◌, IfOk, IfErr};
 ghost use Rattle.std.specs.String.{string_bytes};
 ghost use Rattle.edit_entries.specs.Documents.{EntryIsRefused, EntryRemoved, UnsetIsRefused};
-ghost use Rattle.edit_entries.specs.Setting.{FieldSet, SetIsRefused};
+ghost use Rattle.edit_entries.specs.Setting.{FieldSet, SetIsRefused, Value};
 ghost use Rattle.edit_entries.specs.Unset.{FieldUnset};
 ghost use Rattle.edit_entries.specs.References.{KeyRenamed, RenameIsRefused};
 ghost use Rattle.biblatex_c.specs.Calls.{AddFails, EditFails, IsEditedText, IsLaidOut, IsNoFile, IsNumberedEnd, TextFails, WithEntriesOf};
@@ -12,6 +12,7 @@ use crate::buffers::end;
 use crate::reading::text_of;
 use crate::status::Status;
 use edit_entries::document::RawDocument;
+use edit_entries::field_value::FieldValue;
 use edit_format::formatting::format;
 use edit_format::style::Style;
 use std::alloc::Global;
@@ -42,14 +43,14 @@ fn set_in(
     name: &[u8],
     value: &[u8],
 ) -> Result<String, Status>
-    ensures made { IfOk result (λ edited. IsEditedText (λ d. FieldSet d key.now name.now value.now) text.now (string_bytes edited)) }
-    ensures fails { IfErr result (EditFails (λ d why. SetIsRefused d key.now name.now value.now why) text.now (key.now ∷ name.now ∷ value.now ∷ [])) }
+    ensures made { IfOk result (λ edited. IsEditedText (λ d. FieldSet d key.now name.now (Value.plain_text value.now)) text.now (string_bytes edited)) }
+    ensures fails { IfErr result (EditFails (λ d why. SetIsRefused d key.now name.now (Value.plain_text value.now) why) text.now (key.now ∷ name.now ∷ value.now ∷ [])) }
 {
     let document = RawDocument::parse(alloc, text_of(text)?)?;
     let key = text_of(key)?;
     let name = text_of(name)?;
     let value = text_of(value)?;
-    Ok(document.set_field(alloc, key, name, value)?)
+    Ok(document.set_field(alloc, key, name, FieldValue::Text(value))?)
 }
 
 /// Writes the text with the field `name` of the first entry `key` set to `value`, in braces. If the field occurs several times, each
@@ -65,8 +66,8 @@ pub extern "C" fn biblatex_set(
     out: &mut [u8],
     size: &mut usize,
 ) -> u32
-    ensures { IsNumberedEnd (IsEditedText (λ d. FieldSet d key.now name.now value.now) text.now)
-        (EditFails (λ d why. SetIsRefused d key.now name.now value.now why) text.now (key.now ∷ name.now ∷ value.now ∷ []))
+    ensures { IsNumberedEnd (IsEditedText (λ d. FieldSet d key.now name.now (Value.plain_text value.now)) text.now)
+        (EditFails (λ d why. SetIsRefused d key.now name.now (Value.plain_text value.now) why) text.now (key.now ∷ name.now ∷ value.now ∷ []))
         out.old size.old out.new size.new result }
 {
     end(set_in(alloc, text, key, name, value), out, size).number()

@@ -36,10 +36,12 @@ pub enum Status {
     DefinitionIsThere,
     /// The entry would have no field left.
     NoFieldLeft,
+    /// The value is neither a number nor an abbreviation that is defined before the entry.
+    NotBare,
 }
 
 impl Status {
-    /// Returns the number of the status, from 0 to 11, as in c/biblatex.h.
+    /// Returns the number of the status, from 0 to 12, as in c/biblatex.h.
     pub fn number(self) -> u32
         ensures { result ≡ spec.status_number self }
     {
@@ -56,6 +58,7 @@ impl Status {
             Status::NotInBraces => 9,
             Status::DefinitionIsThere => 10,
             Status::NoFieldLeft => 11,
+            Status::NotBare => 12,
         }
     }
 }
@@ -77,6 +80,7 @@ fn text_of(number: u32) -> &'static str
         9 => "the value can't be written in braces",
         10 => "an abbreviation is defined already with another text",
         11 => "the entry would have no field left",
+        12 => "the value is neither a number nor an abbreviation that is defined before the entry",
         _ => "no status",
     }
 }
@@ -122,6 +126,7 @@ impl From<EditError> for Status {
             EditError::NotInBraces => Status::NotInBraces,
             EditError::DefinitionIsThere => Status::DefinitionIsThere,
             EditError::NoFieldLeft => Status::NoFieldLeft,
+            EditError::NotBare => Status::NotBare,
             EditError::OutOfMemory => Status::OutOfMemory,
         }
     }
