@@ -4,6 +4,7 @@
 use edit_entries::document::RawDocument;
 use edit_entries::errors::EditError;
 use edit_entries::field_edits::FieldEdit;
+use edit_entries::field_value::FieldValue;
 use bib_syntax::raw::RawChunk;
 use std::alloc::{AllocError, Global};
 use std::collections::BTreeSet;
@@ -19,6 +20,7 @@ fn refusal(error: EditError) -> &'static str {
         EditError::NotAKey => "refused: not a key",
         EditError::NotAName => "refused: not a name",
         EditError::NotInBraces => "refused: not in braces",
+        EditError::NotBare => "refused: not bare",
         EditError::DefinitionIsThere => "refused: the definition is there",
         EditError::NoFieldLeft => "refused: no field left",
         EditError::OutOfMemory => "refused: out of memory",
@@ -40,8 +42,10 @@ fn with_fields(alloc: Global, call: &str, document: &RawDocument<'_>) -> Option<
     let (keys, rest) = rest.split_once(' ')?;
     let (name, value) = rest.split_once(' ')?;
     let edit = match command {
-        "set-in" => FieldEdit::Set { name, value },
-        "add-in" => FieldEdit::Add { name, value },
+        "set-in" => FieldEdit::Set { name, value: FieldValue::Text(value) },
+        "add-in" => FieldEdit::Add { name, value: FieldValue::Text(value) },
+        "set-bare-in" => FieldEdit::Set { name, value: FieldValue::Bare(value) },
+        "add-bare-in" => FieldEdit::Add { name, value: FieldValue::Bare(value) },
         "rename-in" => FieldEdit::Rename { old: name, new: value },
         _ => return None,
     };
@@ -59,7 +63,12 @@ fn edited(alloc: Global, call: &str, document: &RawDocument<'_>) -> Option<Resul
     if let Some(words) = call.strip_prefix("set ") {
         let (key, rest) = words.split_once(' ')?;
         let (name, value) = rest.split_once(' ')?;
-        return Some(document.set_field(alloc, key, name, value));
+        return Some(document.set_field(alloc, key, name, FieldValue::Text(value)));
+    }
+    if let Some(words) = call.strip_prefix("set-bare ") {
+        let (key, rest) = words.split_once(' ')?;
+        let (name, value) = rest.split_once(' ')?;
+        return Some(document.set_field(alloc, key, name, FieldValue::Bare(value)));
     }
     if let Some(words) = call.strip_prefix("unset ") {
         let (key, name) = words.split_once(' ')?;

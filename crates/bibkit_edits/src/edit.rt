@@ -54,7 +54,7 @@ pub enum Edit<'a> {
         /// The key of the entry.
         key: &'a str,
     },
-    /// Appends a line feed and another text with its entries.
+    /// Appends a line end and another text with its entries.
     Add {
         /// The text to append.
         text: &'a str,

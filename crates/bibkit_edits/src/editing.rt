@@ -152,7 +152,7 @@ fn edit_fields(
     edit: &FieldEdit<'_>,
 ) -> Result<String, EditError>
     ensures made { IfOk result (λ new. IsEdited (AreFieldsEdited (map (λ k. k.now) keys.now) edit.now document.now) (string_bytes new)) }
-    ensures refused { IfErr result (FieldEditIsRefused edit.now) }
+    ensures refused { IfErr result (FieldEditIsRefused document.now (is_listed (map (λ k. k.now) keys.now)) edit.now) }
 {
     let set = key_set(alloc, keys)?;
     document.edit_fields(alloc, &set, edit)

@@ -1,5 +1,5 @@
 -- Edits of a field of several entries at once can be made.
-use Rattle.std.proofs.Common.{◌≡◌, ℕ, length, Result, Ok, Err, Bool, true, false, cond, List, [], ◌∷◌, ◌++◌, map, refl, sym, ap, ◌∙◌, append-nil}
+use Rattle.std.proofs.Common.{◌≡◌, ℕ, length, Result, Ok, Err, Bool, true, false, cond, List, [], ◌∷◌, ◌++◌, map, refl, sym, ap, ◌∙◌, subst, append-nil}
 use Rattle.std.specs.Borrow.{Bor}
 use Rattle.std.specs.BTreeSet.{BTreeSet}
 use Rattle.std.specs.List.{AllByRecursion}
@@ -9,7 +9,7 @@ use Rattle.bib_syntax.specs.Reading.{EntryReading, FieldReading}
 use Rattle.edit_entries.specs.Changes.{EntryChange, FieldChange, edits_of_entry, edits_of_fields, field_before, name_edit}
 use Rattle.edit_entries.specs.Edits.{Edit}
 use Rattle.edit_entries.specs.Documents.{CanBeName, Document, IsDocument, has_name}
-use Rattle.edit_entries.specs.FieldEdits.{FieldEditIsRefused, HasFitValue, first_start, edit_name, entry_edited_by, has_named, name_change, names_changed, new_field_first, selected_edited, unchanged}
+use Rattle.edit_entries.specs.FieldEdits.{CantBeEdited, FieldEditIsRefused, HasFitValue, first_start, edit_name, entry_edited_by, has_named, name_change, names_changed, new_field_first, selected_edited, unchanged}
 use Rattle.edit_entries.specs.FieldTexts.{EditTextIsRefused, HaveFieldsPlaced}
 use Rattle.edit_entries.specs.Placed.{IsNamePlaced, IsPlaced}
 use Rattle.edit_entries.specs.Setting.{CanBeNewName, Value, new_field, new_value, value_of, values_set, white_before}
@@ -134,3 +134,38 @@ pub edit_is_refused : {S : Type 0} (r : Result S EditError) (d : Document) (sele
     → IfErr r (FieldEditIsRefused d selected edit)
 edit_is_refused (Ok new) d selected edit why = _
 edit_is_refused (Err error) d selected edit why = edit_refused d selected edit error why
+
+-- ---- the same entries
+
+start_same : (f g : List ℕ → Bool) → ((key : List ℕ) → f key ≡ g key) → (other : ℕ) (es : List EntryReading)
+    → first_start f other es ≡ first_start g other es
+start_same f g same other [] = refl
+start_same f g same other (e ∷ es) =
+    ap (λ b. cond b e.start (first_start f other es)) (same e.key.text)
+    ∙ ap (λ n. cond (g e.key.text) e.start n) (start_same f g same other es)
+
+unfit_same : (d : Document) (f g : List ℕ → Bool) → ((key : List ℕ) → f key ≡ g key) → (edit : FieldEdit) (error : EditError)
+    → CantBeEdited d f edit error → CantBeEdited d g edit error
+unfit_same d f g same edit error why = record {
+  because = why.because;
+  unfit =
+      subst (λ n. HasFitValue d.says.abbreviations n edit → ⊥) (start_same f g same (length d.text) d.says.entries) why.unfit;
+}
+
+refused_same : (d : Document) (f g : List ℕ → Bool) → ((key : List ℕ) → f key ≡ g key) → (edit : FieldEdit) (error : EditError)
+    → FieldEditIsRefused d f edit error → FieldEditIsRefused d g edit error
+refused_same d f g same edit UnknownKey why = why
+refused_same d f g same edit KeyIsThere why = why
+refused_same d f g same edit NotAKey why = why
+refused_same d f g same edit NotAName why = why
+refused_same d f g same edit NotInBraces why = unfit_same d f g same edit NotInBraces why
+refused_same d f g same edit NotBare why = unfit_same d f g same edit NotBare why
+refused_same d f g same edit DefinitionIsThere why = why
+refused_same d f g same edit NoFieldLeft why = why
+refused_same d f g same edit OutOfMemory why = tt
+
+-- an edit of the same entries is refused for the same reasons
+pub same_refused : {S : Type 0} (r : Result S EditError) (d : Document) (f g : List ℕ → Bool) → ((key : List ℕ) → f key ≡ g key)
+    → (edit : FieldEdit) → IfErr r (FieldEditIsRefused d f edit) → IfErr r (FieldEditIsRefused d g edit)
+same_refused (Ok new) d f g same edit why = _
+same_refused (Err error) d f g same edit why = refused_same d f g same edit error why

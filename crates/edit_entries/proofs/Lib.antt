@@ -13,7 +13,7 @@ pub mod ElementFacts
 pub mod ElementStandsFacts
 pub mod EntryChangeFacts
 pub mod EntryFacts
-mod FieldEditFacts
+pub mod FieldEditFacts
 pub mod FieldNameFacts
 mod FitFacts
 mod IndexFacts

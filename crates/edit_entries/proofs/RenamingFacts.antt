@@ -16,7 +16,7 @@ use Rattle.edit_entries.specs.Documents.{Document, HasEntry, IsDocument, IsEdite
 use Rattle.edit_entries.specs.References.{CanBeMade, Change, KeyRenamed, KeysAreRefused, KeysRenamed, CanGetKeys, MayGetNewKeys, RenameIsRefused, change_edit, key_change, key_renaming, new_reference, only, reference_changes, renamed_value, renaming, value_change}
 use Rattle.edit_entries.specs.Stretches.{AreChangesInOrder, AreEntriesPlaced, EndsInWhite, change_end, change_start}
 use Rattle.edit_entries.specs.declared.errors.EditError.{EditError}
-use Rattle.edit_entries.specs.declared.errors.EditError.TheVariants.{UnknownKey, KeyIsThere, NotAKey, NotAName, NotInBraces, DefinitionIsThere, NoFieldLeft, OutOfMemory}
+use Rattle.edit_entries.specs.declared.errors.EditError.TheVariants.{UnknownKey, KeyIsThere, NotAKey, NotAName, NotInBraces, NotBare, DefinitionIsThere, NoFieldLeft, OutOfMemory}
 use Rattle.edit_entries.proofs.SplitFacts.{EntryBlock, entry_block, one_entry}
 use Rattle.edit_entries.proofs.ValueFacts.{field_placed}
 use Rattle.edit_entries.proofs.RenamedFacts.{key_placed, key_some}
@@ -270,6 +270,7 @@ key_refusal d old new k e (Err NotAKey) entry other known =
 key_refusal d old new k e (Err NotAName) entry other known = absurd known
 key_refusal d old new k e (Err NotInBraces) entry other known =
     record { index = k; entry = e; has = entry; other = other; refused = known }
+key_refusal d old new k e (Err NotBare) entry other known = absurd known
 key_refusal d old new k e (Err DefinitionIsThere) entry other known = absurd known
 key_refusal d old new k e (Err NoFieldLeft) entry other known = absurd known
 key_refusal d old new k e (Err OutOfMemory) entry other known = tt
