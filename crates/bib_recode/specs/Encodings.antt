@@ -1,7 +1,6 @@
 -- Meaning: words of public contracts.
 -- Encodings, their names, and their byte order marks.
 use Rattle.std.specs.Prelude.{ℕ, ◌||◌, Bool, List, [], ◌∷◌, Option, None, Some, codes, drop, if◌then◌else◌, length, nat_eq}
-use Prim.Native.String.{String}
 use Rattle.std.specs.List.{starts_with}
 use Rattle.std.specs.Str.{str_eq_ignore_ascii_case}
 use Rattle.bib_source.specs.Encoding.{byte_order_mark}

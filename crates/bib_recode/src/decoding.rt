@@ -92,8 +92,12 @@ pub fn decode(alloc: Global, bytes: &[u8], encoding: Encoding) -> Result<String,
 {
     match encoding {
         Encoding::Utf8 => decode_utf8(alloc, bytes),
-        Encoding::Utf16LittleEndian =>
-            decode_utf16(alloc, bytes, encoding.mark_length(bytes), false),
+        Encoding::Utf16LittleEndian => decode_utf16(
+            alloc,
+            bytes,
+            encoding.mark_length(bytes),
+            false,
+        ),
         Encoding::Utf16BigEndian => decode_utf16(alloc, bytes, encoding.mark_length(bytes), true),
         Encoding::Windows1252 => Ok(windows_1252_text(alloc, bytes)?),
         Encoding::Latin1 => Ok(latin1_text(alloc, bytes)?),

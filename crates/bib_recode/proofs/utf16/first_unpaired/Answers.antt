@@ -1,4 +1,5 @@
-use Rattle.std.proofs.Common.{◌≡◌, ◌+◌, ◌∙◌, ap, sym, arith, drop, subst, length, false, ◌≤◌, take}
+use Rattle.std.proofs.Common.{◌≡◌, ◌+◌, ◌∙◌, ap, sym, arith, drop, subst, length, false, ◌≤◌, ◌-◌, take, length-drop}
+use Rattle.std.proofs.lemmas.List.{take_all}
 use Rattle.std.specs.Char.Utf16.{has_unpaired_surrogate}
 use Rattle.bib_recode.specs.Units.{begins_unpaired, character_len}
 use Rattle.bib_recode.proofs.UnitFacts.{has_none, next_complete, next_within}
@@ -11,9 +12,11 @@ pub units-preserved : goal.units-preserved
 units-preserved c =
     let units = c.args.units.now in
     let at = c.units.at in
-    let next : c.character_len-at.result ≡ character_len (drop at units) = c.character_len-at.ensures ∙ ap character_len c.range_from-rest.ensures.value in
+    let size = length-drop at units in
+    let whole : take (length units - at) (drop at units) ≡ drop at units = take_all (length units - at) (drop at units) (omega (arith, size)) in
+    let next : c.character_len-at.result ≡ character_len (drop at units) = c.character_len-at.ensures ∙ ap character_len whole in
     let plain : begins_unpaired (drop at units) ≡ false =
-    sym (ap begins_unpaired c.range_from-rest.ensures.value) ∙ sym c.begins_unpaired.ensures ∙ c.if-begins_unpaired.false in
+    sym (ap begins_unpaired whole) ∙ sym c.begins_unpaired.ensures ∙ c.if-begins_unpaired.false in
     record {
       within = subst (λ k. at + k ≤ length units) (sym next) (next_within units at c.units-test.true);
       before = subst (λ k. has_unpaired_surrogate (take (at + k) units) ≡ false) (sym next)
