@@ -19,11 +19,11 @@ rest_drop (v ∷ vs) (suc i) =
 pub values_step : (order : List SortBy) (vs ws : List (Option SortValue)) (i : ℕ) (by : SortBy) → i < length order
     → values_cmp (drop i order) (drop i vs) (drop i ws)
     ≡ ordering_then (last_cmp (get_or order i by).direction (first_of (drop i vs)) (first_of (drop i ws)))
-      (values_cmp (drop (i + 1) order) (drop (i + 1) vs) (drop (i + 1) ws))
+    (values_cmp (drop (i + 1) order) (drop (i + 1) vs) (drop (i + 1) ws))
 values_step order vs ws i by within =
     ap (λ l. values_cmp l (drop i vs) (drop i ws)) (drop_more order i by within)
     ∙ ap₂ (λ a b. ordering_then (last_cmp (get_or order i by).direction (first_of (drop i vs)) (first_of (drop i ws)))
-      (values_cmp (drop (i + 1) order) a b)) (rest_drop vs i) (rest_drop ws i)
+    (values_cmp (drop (i + 1) order) a b)) (rest_drop vs i) (rest_drop ws i)
 
 -- a difference decides
 pub then_ne : (o rest : Ordering) → is_ne o ≡ true → ordering_then o rest ≡ o

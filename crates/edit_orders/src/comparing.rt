@@ -25,7 +25,10 @@ fn compared(first: &SortValue, second: &SortValue) -> Ordering
         (SortValue::Number(n), SortValue::Number(m)) => n.cmp(m),
         (SortValue::Number(_), SortValue::Texts(_)) => Ordering::Less,
         (SortValue::Texts(_), SortValue::Number(_)) => Ordering::Greater,
-        (SortValue::Texts(ts), SortValue::Texts(us)) => texts_compared(ts.as_slice(), us.as_slice()),
+        (SortValue::Texts(ts), SortValue::Texts(us)) => texts_compared(
+            ts.as_slice(),
+            us.as_slice(),
+        ),
     }
 }
 

@@ -8,8 +8,8 @@ ghost use Rattle.edit_orders.specs.Fields as spec;
 use crate::order::{Property, SortBy};
 use crate::values::{SortValue, one_text, value_of};
 use bib_abbreviations::reader::FieldReader;
-use bib_chunks::chunk::making::push_normal;
 use bib_chunks::chunk::Chunks;
+use bib_chunks::chunk::making::push_normal;
 use bib_syntax::raw::{Field, Pair, RawChunk, RawEntry};
 use bib_text::items::Items;
 use bib_text::spanned::Spanned;
@@ -146,7 +146,11 @@ pub(crate) fn entry_value<'s>(
     match by.property {
         Property::Key => one_text(alloc, entry.v.key.v.to_ascii_lowercase(alloc)?),
         Property::Type => one_text(alloc, entry.v.kind.v.to_ascii_lowercase(alloc)?),
-        Property::Year | Property::Author | Property::Title =>
-            field_value(alloc, by.property, &entry.v.fields, reader),
+        Property::Year | Property::Author | Property::Title => field_value(
+            alloc,
+            by.property,
+            &entry.v.fields,
+            reader,
+        ),
     }
 }

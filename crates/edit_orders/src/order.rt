@@ -143,9 +143,14 @@ impl Order {
             Order::File => Ok(Vec::new(alloc)),
             Order::One(first) => Ok(Vec::from_array(alloc, [first])?),
             Order::Two(first, second) => Ok(Vec::from_array(alloc, [first, second])?),
-            Order::Three(first, second, third) => Ok(Vec::from_array(alloc, [first, second, third])?),
-            Order::Four(first, second, third, fourth) =>
-                Ok(Vec::from_array(alloc, [first, second, third, fourth])?),
+            Order::Three(first, second, third) => Ok(Vec::from_array(
+                alloc,
+                [first, second, third],
+            )?),
+            Order::Four(first, second, third, fourth) => Ok(Vec::from_array(
+                alloc,
+                [first, second, third, fourth],
+            )?),
         }
     }
 }

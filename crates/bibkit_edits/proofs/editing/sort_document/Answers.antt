@@ -1,4 +1,4 @@
-use Rattle.std.proofs.Common.{ap, ◌∙◌, subst}
+use Rattle.std.proofs.Common.{subst}
 use Rattle.std.specs.String.{string_bytes}
 use Rattle.bib_syntax.specs.Reading.{FileReading}
 use Rattle.edit_orders.specs.Orders.{parts_of}

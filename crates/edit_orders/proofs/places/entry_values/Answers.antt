@@ -17,8 +17,9 @@ order-preserved c =
     let e = entry_reading_of c.args.entry.now in
     let value =
     subst (λ (d : Definitions). IsValueOf d e (get_or c.args.order.now c.order.by-index any).property c.in_ok-entry_value.field-0)
-    (ap given_by c.order.invariant.0) c.in_ok-entry_value.ensures.value in
-    (c.in_ok-entry_value.ensures.same ∙ c.order.invariant.0,
-     AllZip-more (λ (by : SortBy) v. IsValueOf (given_by c.args.reader.now) e by.property v) c.args.order.now c.order.by-index any
-     c.order.values.items c.push.new.self.items c.in_ok-entry_value.field-0 c.order-test.true c.order.invariant.1 value
-     c.in_ok-push.ensures.items)
+    (ap given_by c.order.invariant.0) c.in_ok-entry_value.ensures.value in (
+      c.in_ok-entry_value.ensures.same ∙ c.order.invariant.0,
+      AllZip-more (λ (by : SortBy) v. IsValueOf (given_by c.args.reader.now) e by.property v) c.args.order.now c.order.by-index any
+          c.order.values.items c.push.new.self.items c.in_ok-entry_value.field-0 c.order-test.true c.order.invariant.1 value
+          c.in_ok-push.ensures.items,
+    )

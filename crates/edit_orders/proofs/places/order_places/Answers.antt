@@ -14,7 +14,7 @@ returns c =
     let defined : given_by c.new-reader.result ≡ definition_in says.abbreviations =
     ap given_by c.new-reader.ensures ∙ sym (sorted_given c.in_ok-definitions.field-0)
     ∙ definitions_same (λ name.
-      c.in_ok-definitions.ensures name ∙ ap (λ l. definition_in (map field_of l) name) c.deref.ensures.value) in
+    c.in_ok-definitions.ensures name ∙ ap (λ l. definition_in (map field_of l) name) c.deref.ensures.value) in
     IfOk-weaker c.places_of.result _ _
     (λ places is.
     placed_by says (parts_of c.args.order) c.deref-2.result.now c.deref-4.result.now (given_by c.new-reader.result)

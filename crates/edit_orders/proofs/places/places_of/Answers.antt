@@ -13,7 +13,7 @@ all-preserved c =
     let order = c.args.order.now in
     let i = c.all.values-index in
     let sorted = map (λ s. s.now) c.in_ok-sorted.sorted.items in
-    let values : c.as_slice.result.now ≡ get_or all i [] = 
+    let values : c.as_slice.result.now ≡ get_or all i [] =
     c.as_slice.ensures ∙ c.values-item.is ∙ get_or_default all i c.values-item.result [] c.all-test.true in
     let here : IsPlaceIn order sorted (get_or all i []) c.place_in.result =
     subst (λ t. IsPlaceIn order sorted t c.place_in.result) values

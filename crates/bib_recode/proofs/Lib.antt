@@ -1,0 +1,2 @@
+pub mod LineEndFacts
+pub mod UnitFacts

@@ -1,0 +1,4 @@
+pub mod Decoded
+pub mod Encodings
+pub mod LineEnds
+pub mod Units
