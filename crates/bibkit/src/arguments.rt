@@ -2,10 +2,13 @@
 
 use crate::converting::Converting;
 use crate::edits::{Editing, Edits, Mode};
+use crate::recoding::Recoding;
 use crate::rekeying::Rekeying;
 use crate::selecting::{Printed, Selecting};
 use bib_findings::codes::Code;
 use bib_queries::request::{Request as Excerpts, Search};
+use bib_recode::encoding::Encoding;
+use bib_recode::line_ends::LineEnds;
 use bib_tables::dialects::Dialect;
 use bib_tables::months::Month;
 use bibkit_convert::target::Target;
@@ -265,6 +268,15 @@ fn rekeying<'a>(matches: &ArgMatches<'a>) -> Edits<'a> {
     })
 }
 
+// Returns the edits of `recode`.
+fn recoding<'a>(matches: &ArgMatches<'a>) -> Edits<'a> {
+    Edits::Recode(Recoding {
+        from: matches.get_str("from").and_then(Encoding::from_name),
+        line_ends: matches.get_str("line-ends").and_then(LineEnds::from_name),
+        has_mark: matches.get_flag("bom"),
+    })
+}
+
 // Returns the edits of `strings`.
 fn strings_edits<'a>(alloc: Global, matches: &ArgMatches<'a>) -> Result<Edits<'a>, AllocError> {
     if matches.get_flag("expand") {
@@ -299,6 +311,7 @@ fn edits_of<'a>(
         "strings" => strings_edits(alloc, matches),
         "edit" => selected_edits(alloc, matches),
         "rekey" => Ok(rekeying(matches)),
+        "recode" => Ok(recoding(matches)),
         "rename" => {
             let old = text(matches, "OLD");
             let new = text(matches, "NEW");

@@ -1,5 +1,6 @@
 //! Runs the commands that edit a file.
 
+use crate::recoding::{Recoding, recode};
 use crate::refusals::printing_stop;
 use crate::rekeying::{Rekeying, rekey};
 use crate::replacing::replace;
@@ -39,6 +40,8 @@ pub enum Edits<'a> {
     },
     /// Gives entries the keys that a pattern makes.
     Rekey(Rekeying<'a>),
+    /// Writes the file as UTF-8.
+    Recode(Recoding),
     /// Makes no edits, since a word isn't two texts with an equals sign between them.
     NoPair {
         /// The word.
@@ -184,6 +187,15 @@ fn check_unchanged(rt: &HostRuntime, name: &str, bytes: &[u8]) -> Result<(), Sto
     Err(Stop::Said(said, 2))
 }
 
+/// Writes a text into a file with these bytes, unless it has these bytes itself. Fails if the file has other bytes by now.
+pub fn write_new(rt: &HostRuntime, name: &str, bytes: &[u8], new: &str) -> Result<(), Stop> {
+    if new.as_bytes() == bytes {
+        return Ok(());
+    }
+    check_unchanged(rt, name, bytes)?;
+    write(rt, name, new)
+}
+
 // Applies edits to a file's bytes, and writes the new text into the file if it differs from them.
 fn write_edited(
     rt: &HostRuntime,
@@ -192,11 +204,7 @@ fn write_edited(
     edits: &[Edit<'_>],
 ) -> Result<(), Stop> {
     let new = new_text(rt.alloc(), name, bytes, edits)?;
-    if new.as_bytes() == bytes {
-        return Ok(());
-    }
-    check_unchanged(rt, name, bytes)?;
-    write(rt, name, &new)
+    write_new(rt, name, bytes, &new)
 }
 
 // Returns the message for a file that isn't in the requested style, with status 1.
@@ -308,6 +316,7 @@ fn answer(rt: &HostRuntime, editing: &Editing<'_>) -> Result<(), Stop> {
             edit_selected(rt, editing, conditions, fields)
         }
         Edits::Rekey(rekeying) => rekey(rt, editing, rekeying),
+        Edits::Recode(recoding) => recode(rt, editing, recoding),
         Edits::NoPair { word, pair } => {
             let text = format!(in rt.alloc();
                 "`{word}` isn't {pair}; use `--file` for the name of the file"

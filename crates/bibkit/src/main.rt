@@ -8,6 +8,7 @@ mod edits;
 mod files;
 mod formatting;
 mod importing;
+mod recoding;
 mod refusals;
 mod rekeying;
 mod replacing;

@@ -52,6 +52,10 @@ enum Takes {
     CollectedFields,
     // An option, which conflicts with `expand`: the minimum number of fields with a text that is collected.
     Times,
+    // An option: the encoding of a file.
+    Encoding,
+    // An option: the line ends of a text.
+    LineEnds,
     // A required option: the format to convert to.
     Target,
     // An option: the format to convert from.
@@ -348,6 +352,40 @@ const STRINGS: [Argument; 7] = [
     DIFF,
 ];
 
+// The values of `--from` of `recode`.
+static ENCODINGS: [&str; 6] = [
+    "utf-8",
+    "utf-16",
+    "utf-16le",
+    "utf-16be",
+    "windows-1252",
+    "latin1",
+];
+
+// The values of `--line-ends`.
+static LINE_ENDS: [&str; 2] = ["lf", "crlf"];
+
+// The arguments of `recode`.
+const RECODE: [Argument; 5] = [
+    Argument {
+        name: "from",
+        takes: Takes::Encoding,
+        help: "The encoding of the file [default: that of its byte order mark, or else UTF-8]",
+    },
+    Argument {
+        name: "line-ends",
+        takes: Takes::LineEnds,
+        help: "Write line ends of this kind",
+    },
+    Argument {
+        name: "bom",
+        takes: Takes::Nothing,
+        help: "Write a byte order mark",
+    },
+    FILE,
+    WRITE,
+];
+
 // The text at the end of the help of `set`.
 const SET_HELP: &str = "\
 Example:
@@ -392,6 +430,15 @@ Example:
   bibkit strings --collect --fields journaltitle,publisher --file refs.bib --write
 
 Status: 0 done, 1 an abbreviation refers to itself or the file has errors, 2 wrong usage, or a file or the output failed, 3 out of memory";
+
+// The text at the end of the help of `recode`.
+const RECODE_HELP: &str = "\
+A file that isn't UTF-8 and has no byte order mark needs --from. A byte order mark is removed unless --bom is given.
+
+Example:
+  bibkit recode --from windows-1252 --line-ends lf --file refs.bib --write
+
+Status: 0 done, 1 the file isn't in this encoding, 2 wrong usage, or a file or the output failed, 3 out of memory";
 
 // The text at the end of the help of `select`.
 const SELECT_HELP: &str = "\
@@ -629,7 +676,7 @@ static READING: [Row; 10] = [
 ];
 
 // The commands that edit a file, in the order of help, which lists them after the commands that read files.
-static EDITING: [Row; 8] = [
+static EDITING: [Row; 9] = [
     Row {
         name: "set",
         about: "Set fields of an entry, and print the new text",
@@ -677,6 +724,12 @@ static EDITING: [Row; 8] = [
         about: "Expand abbreviations, or collect repeated texts as abbreviations, and print the new text",
         help: STRINGS_HELP,
         arguments: &STRINGS,
+    },
+    Row {
+        name: "recode",
+        about: "Print a file as UTF-8",
+        help: RECODE_HELP,
+        arguments: &RECODE,
     },
 ];
 
@@ -777,6 +830,8 @@ fn argument_of<'a>(alloc: Global, row: &'static Argument) -> Result<Arg<'a>, All
         Takes::Times => value(alloc, row, "TIMES")
             .value_parser(ValueParser::unsigned(2, 1_000_000))
             .conflicts_with("expand"),
+        Takes::Encoding => Ok(value(alloc, row, "ENCODING").value_parser(ENCODINGS.as_slice())),
+        Takes::LineEnds => Ok(value(alloc, row, "ENDS").value_parser(LINE_ENDS.as_slice())),
         Takes::Target => Ok(
             value(alloc, row, "FORMAT")
                 .value_parser(TARGETS.as_slice())

@@ -1,13 +1,13 @@
 -- Texts that are replaced by abbreviations: each field of the new file means the same.
 use Rattle.std.proofs.Common.{◌≡◌, ◌⊎◌, ℕ, zero, suc, ◌+◌, ◌<◌, List, [], ◌∷◌, ◌++◌, Bool, true, false, cond, filter, length, map, reverse, refl, sym, ap, ◌∙◌, subst, arith, inl, inr, Some, None, Option, option_map}
-use Rattle.std.specs.Prelude.{◌||◌, bytes_eq, find, is_some, not, slice_get, slice_index_or}
-use Rattle.std.specs.List.{AllByRecursion, flat_map, list_any}
-use Rattle.std.specs.Option.{option_or}
-use Rattle.std.specs.Str.{chars}
+use Rattle.std.specs.Prelude.{◌==◌, ◌&&◌, ◌||◌, ◌≤◌, bytes_eq, count_by, find, is_some, not, slice_index_or}
+use Rattle.std.specs.List.{AllByRecursion, AllZip, flat_map, list_any}
+use Rattle.std.specs.Option.{option_map_or, option_or}
+use Rattle.std.specs.Str.{chars, str_to_ascii_lowercase}
 use Rattle.std.proofs.lemmas.Bool.{both_ways}
-use Rattle.std.proofs.lemmas.List.{append-nil, length-append, reverse-append}
-use Rattle.std.proofs.lemmas.List.Elements.{list_any-append}
-use Rattle.std.proofs.lemmas.List.Folds.{find-append}
+use Rattle.std.proofs.lemmas.Bool.Decides.{nat_tests}
+use Rattle.std.proofs.lemmas.List.{append-nil, append_assoc, reverse-append}
+use Rattle.std.proofs.lemmas.List.Folds.{find-append, list_any-append}
 use Rattle.std.proofs.lemmas.Slice.Eq.{bytes_eq-Decides}
 use Rattle.bib_abbreviations.specs.Abbreviations.{Definitions, Evaluates, HoldsName, HoldsText, IsKnown, IsReadable, Reaches}
 use Rattle.bib_abbreviations.specs.Abbreviations.{Evaluates as evaluates, Reaches as reaches}
@@ -18,11 +18,15 @@ use Rattle.bib_syntax.specs.Grammar.{is_word}
 use Rattle.bib_syntax.specs.Reading.{EntryReading, FieldReading, FileReading, Part, Piece}
 use Rattle.bib_syntax.specs.Reading.Piece.{abbreviation, literal}
 use Rattle.bib_text.proofs.ListFacts.{all_append, some_same}
-use Rattle.edit_entries.specs.Documents.{Document, IsDocument, has_name, text_at}
+use Rattle.edit_entries.specs.Documents.{Document, IsDocument, has_name, or_first, text_at}
 use Rattle.edit_laws.proofs.AlikeFacts.{MeanTheSame}
 use Rattle.edit_laws.proofs.ExchangedFacts.{EachMeansTheSame, exchanged_pieces, files_exchanged}
 use Rattle.edit_laws.proofs.ReadAlikeFacts.{AreAlikeFiles}
-use Rattle.edit_strings.specs.Collected.{AreNames, IsFirstNewName, definition_names, element_names, is_new_name, is_one_in_any_case, known_name, line_reading, line_readings, names_of_file, used_names}
+use Rattle.edit_strings.proofs.CollectFacts.{definitions_parted}
+use Rattle.edit_strings.proofs.CutFacts.{found_has}
+use Rattle.edit_strings.proofs.NamesFacts.{find_passes, known_definition, known_in_file, length-names}
+use Rattle.edit_strings.proofs.TextFacts.{not_true}
+use Rattle.edit_strings.specs.Collected.{AreMadeAbbreviations, AreNames, collection, definition_names, element_names, first_start, has_digit_first, is_before, is_month, is_named_by, is_new_name, is_one_in_any_case, is_reusable, is_reusable_name, known_name, line_reading, line_readings, name_value, named_text, names_of_file, reusable_text, single_text, text_index, text_value, used_names}
 use Rattle.edit_strings.specs.Expanded.{elements}
 
 -- ---- the definition of a name among appended definitions
@@ -59,6 +63,17 @@ left_false true b is = is
 right_false : (a b : Bool) → (a || b) ≡ false → b ≡ false
 right_false false b is = is
 right_false true b is = cc
+
+right_true : (a b : Bool) → b ≡ true → (a || b) ≡ true
+right_true false b is = is
+right_true true b is = refl
+
+second_true : (a b : Bool) → (a && b) ≡ true → b ≡ true
+second_true true b is = is
+second_true false b is = cc
+
+equal_counts : (m n : ℕ) → (m == n) ≡ true → m ≡ n
+equal_counts m n is = grind (arith, nat_tests, is)
 
 or_nothing : {A : Type 0} (o : Option A) → option_or o None ≡ o
 or_nothing None = refl
@@ -219,7 +234,7 @@ module _ (says : FileReading) where
               let counted =
               second_true (not (is_month f.name.text) && not (has_digit_first f.name.text))
               (count_by (has_name f.name.text) says.abbreviations == 1) named in
-              record { one = eqb_eq (count_by (has_name f.name.text) says.abbreviations) 1 counted; value = value }
+              record { one = equal_counts (count_by (has_name f.name.text) says.abbreviations) 1 counted; value = value }
 
   -- a known name is defined as its text
   known_means : (text name : List ℕ) → known_name says text ≡ Some name
@@ -310,3 +325,302 @@ module _ (says : FileReading) where
             ∙ ap (λ o. option_or o (definition_in (line_readings says names texts) name))
             (line_defined name text name true ((bytes_eq-Decides name name).1 refl));
       }))
+
+  -- ---- the definitions of the new file
+
+  module _ (texts names : List (List ℕ)) (named : AreNames says texts names) (one other : List FieldReading)
+      (whole : one ++ other ≡ says.abbreviations) where
+    abbrev added : List FieldReading
+    added = line_readings says names texts
+
+    abbrev pub all_definitions : List FieldReading
+    all_definitions = one ++ (added ++ other)
+
+    abbrev old : Definitions
+    old = definition_in says.abbreviations
+
+    abbrev new : Definitions
+    new = definition_in all_definitions
+
+    found_new : (name : List ℕ) → new name ≡ option_or (option_or (definition_in other name) (definition_in added name)) (definition_in one name)
+    found_new name =
+        defined_append one (added ++ other) name
+        ∙ ap (λ o. option_or o (definition_in one name)) (defined_append added other name)
+
+    found_old : (name : List ℕ) → old name ≡ option_or (definition_in other name) (definition_in one name)
+    found_old name = ap (λ fs. definition_in fs name) (sym whole) ∙ defined_append one other name
+
+    -- a name of the file has the definition that it had
+    same_in_file : (name : List ℕ) → InFile name → new name ≡ old name
+    same_in_file name inside =
+        found_new name
+        ∙ ap (λ o. option_or (option_or (definition_in other name) o) (definition_in one name)) (none_new named name inside)
+        ∙ ap (λ o. option_or o (definition_in one name)) (or_nothing (definition_in other name))
+        ∙ sym (found_old name)
+
+    -- a name that the file hasn't has no definition there
+    no_other : (name : List ℕ) → is_one_in_any_case (names_of_file says) name ≡ false → definition_in other name ≡ None
+    no_other name fresh =
+        first_none (definition_in other name) (definition_in one name)
+        (sym (found_old name)
+        ∙ absent says.abbreviations name
+        (left_false (is_one_in_any_case (definition_names says.abbreviations) name) _
+        (sym (list_any-append (λ o. is_word o name) (definition_names says.abbreviations) (flat_map (λ e. used_names e.fields) says.entries))
+        ∙ fresh)))
+      where
+        first_none : {A : Type 0} (o p : Option A) → option_or o p ≡ None → o ≡ None
+        first_none None p is = refl
+        first_none (Some x) p is = cc
+
+    -- the name of a text is defined as this text
+    defines_text : (name text : List ℕ) → NameMeans added name text
+        → (part : Part) × (new name ≡ Some (literal part ∷ [])) × (part.text ≡ text)
+    defines_text name text means = by_case (is_one_in_any_case (names_of_file says) name) refl
+      where
+        by_case : (b : Bool) → is_one_in_any_case (names_of_file says) name ≡ b
+            → (part : Part) × (new name ≡ Some (literal part ∷ [])) × (part.text ≡ text)
+        by_case true is = let m = means.inside is in (m.0, same_in_file name is ∙ m.1, m.2)
+        by_case false is = (
+          text_at 0 text,
+          found_new name
+          ∙ ap (λ o. option_or (option_or o (definition_in added name)) (definition_in one name)) (no_other name is)
+          ∙ ap (λ o. option_or o (definition_in one name)) (means.fresh is),
+          refl,
+        )
+
+    -- ---- values of which no name changes
+
+    AllInFile : List Piece → Type 0
+    AllInFile ps = (name : List ℕ) → HoldsName ps name → InFile name
+
+    module _ (closed : (name : List ℕ) (definition : List Piece) → old name ≡ Some definition → AllInFile definition) where
+      rest_in : {p : Piece} {ps : List Piece} → AllInFile (p ∷ ps) → AllInFile ps
+      rest_in {p = literal p} all name held = all name held
+      rest_in {p = abbreviation p} all name held = all name (inr held)
+
+      stays_value : {is_verbatim : Bool} {ps : List Piece} {atoms : List Atom} → AllInFile ps → Evaluates old is_verbatim ps atoms
+          → Evaluates new is_verbatim ps atoms
+      stays_value all evaluates.none = evaluates.none
+      stays_value all (evaluates.text x more) = evaluates.text x (stays_value (rest_in all) more)
+      stays_value all (evaluates.defined {p = p} {definition = definition} d x more) =
+          evaluates.defined (same_in_file p.text (all p.text (inl refl)) ∙ d) (stays_value (closed p.text definition d) x)
+          (stays_value (rest_in all) more)
+      stays_value all (evaluates.month_name {p = p} d m more) =
+          evaluates.month_name (same_in_file p.text (all p.text (inl refl)) ∙ d) m (stays_value (rest_in all) more)
+
+      -- pieces reach the same names, all of which are in the file
+      reached_in : {ps : List Piece} {name : List ℕ} → AllInFile ps → Reaches old ps name → InFile name
+      reached_in all (reaches.held {name = name} held) = all name held
+      reached_in all (reaches.through {name = name} {next = next} {definition = definition} before d held) =
+          closed name definition d next held
+
+      reaches_back : {ps : List Piece} {name : List ℕ} → AllInFile ps → Reaches new ps name → Reaches old ps name
+      reaches_back all (reaches.held held) = reaches.held held
+      reaches_back all (reaches.through {name = name} before d held) =
+          let earlier = reaches_back all before in
+          reaches.through earlier (sym (same_in_file name (reached_in all earlier)) ∙ d) held
+
+      stays_readable : {is_verbatim : Bool} {ps : List Piece} → AllInFile ps → IsReadable old is_verbatim ps → IsReadable new is_verbatim ps
+      stays_readable {is_verbatim} {ps} all read = record {
+        known = λ name there. by_known name (reached_in all (reaches_back all there)) (read.known name (reaches_back all there));
+        no_cycle = λ name definition there is again.
+            let back = reaches_back all there in
+            let was : old name ≡ Some definition = sym (same_in_file name (reached_in all back)) ∙ is in
+            read.no_cycle name definition back was (reaches_back (closed name definition was) again);
+        texts = read.texts;
+        inner_texts = λ name definition there is.
+            let back = reaches_back all there in
+            read.inner_texts name definition back (sym (same_in_file name (reached_in all back)) ∙ is);
+      }
+        where
+          by_known : (name : List ℕ) → InFile name → IsKnown old name → IsKnown new name
+          by_known name inside (inl defined) = inl (defined.0, same_in_file name inside ∙ defined.1)
+          by_known name inside (inr english) = inr english
+
+      stays_same : (ps : List Piece) → AllInFile ps → MeanTheSame old new ps ps
+      stays_same ps all = record {
+        value = λ is_verbatim atoms says. stays_value all says;
+        readable = λ is_verbatim read. stays_readable all read;
+      }
+
+      -- ---- a text that is replaced by its abbreviation
+
+      reaches_none : {q : Part} {name : List ℕ} → Reaches new (literal q ∷ []) name → ⊥
+      reaches_none (reaches.held held) = held
+      reaches_none (reaches.through before d held) = reaches_none before
+
+      module _ (p q : Part) (own : List ℕ) (d : new own ≡ Some (literal q ∷ [])) (same : q.text ≡ p.text) where
+        abbrev replacement : List Piece
+        replacement = abbreviation (text_at 0 own) ∷ []
+
+        reaches_own : {name : List ℕ} → Reaches new replacement name → own ≡ name
+        reaches_own (reaches.held (inl is)) = is
+        reaches_own (reaches.held (inr held)) = absurd held
+        reaches_own (reaches.through {name = name} {next = next} {definition = definition} before is held) =
+            let pieces : literal q ∷ [] ≡ definition = some_same (sym d ∙ ap new (reaches_own before) ∙ is) in
+            absurd (subst (λ ps. HoldsName ps next) (sym pieces) held)
+
+        replaced_value : {is_verbatim : Bool} {atoms : List Atom} → Evaluates old is_verbatim (literal p ∷ []) atoms
+            → Evaluates new is_verbatim replacement atoms
+        replaced_value {is_verbatim} (evaluates.text {first = a} x evaluates.none) =
+            subst (λ atoms. Evaluates new is_verbatim replacement atoms) (append-nil (a ++ []))
+            (evaluates.defined {first = a ++ []} {more = []} d
+            (evaluates.text {first = a} {more = []} (subst (λ t. IsContent is_verbatim (chars t) a) (sym same) x) evaluates.none)
+            evaluates.none)
+
+        replaced_readable : {is_verbatim : Bool} → IsReadable old is_verbatim (literal p ∷ []) → IsReadable new is_verbatim replacement
+        replaced_readable {is_verbatim} read = record {
+          known = λ name there. inl (literal q ∷ [], ap new (sym (reaches_own there)) ∙ d);
+          no_cycle = λ name definition there is again.
+              let pieces : definition ≡ literal q ∷ [] = some_same (sym is ∙ ap new (sym (reaches_own there)) ∙ d) in
+              reaches_none (subst (λ ps. Reaches new ps name) pieces again);
+          texts = λ text held. absurd held;
+          inner_texts = λ name definition there is text held.
+              let pieces : definition ≡ literal q ∷ [] = some_same (sym is ∙ ap new (sym (reaches_own there)) ∙ d) in
+              by_held text (subst (λ ps. HoldsText ps text) pieces held);
+        }
+          where
+            by_held : (text : List ℕ) → (q.text ≡ text) ⊎ ⊥ → (atoms : List Atom) × IsContent is_verbatim (chars text) atoms
+            by_held text (inl is) = read.texts text (inl (sym same ∙ is))
+            by_held text (inr none) = absurd none
+
+        replaced_same : MeanTheSame old new (literal p ∷ []) replacement
+        replaced_same = record {
+          value = λ is_verbatim atoms says. replaced_value says;
+          readable = λ is_verbatim read. replaced_readable read;
+        }
+
+      -- ---- a field
+
+      zip_last : (ns ts : List (List ℕ)) (text : List ℕ) (i : ℕ) → AllZip (NameMeans added) ns ts → text_index ts text ≡ Some i
+          → NameMeans added (slice_index_or ns i []) text
+      zip_last ns [] text i all is = cc
+      zip_last [] (t ∷ ts) text i all is = absurd all
+      zip_last (n ∷ ns) (t ∷ ts) text i all is =
+          by_rest (text_index ts text) refl (λ j found. zip_last ns ts text j all.1 found) is
+        where
+          by_test : (b : Bool) → bytes_eq t text ≡ b → cond b (Some 0) None ≡ Some i → NameMeans added (slice_index_or (n ∷ ns) i []) text
+          by_test false test found = cc
+          by_test true test found =
+              subst (λ k. NameMeans added (slice_index_or (n ∷ ns) k []) text) (some_same found)
+              (subst (NameMeans added n) ((bytes_eq-Decides t text).0 test) all.0)
+
+          by_rest : (o : Option ℕ) → text_index ts text ≡ o
+              → ((j : ℕ) → text_index ts text ≡ Some j → NameMeans added (slice_index_or ns j []) text)
+              → or_first (bytes_eq t text) o ≡ Some i → NameMeans added (slice_index_or (n ∷ ns) i []) text
+          by_rest None none later found = by_test (bytes_eq t text) refl found
+          by_rest (Some j) some later found =
+              subst (λ k. NameMeans added (slice_index_or (n ∷ ns) k []) text) (some_same found) (later j some)
+
+      module _ (fields : List (List ℕ)) where
+        text_means : (ps : List Piece) (text : List ℕ) (o : Option ℕ) → text_index texts text ≡ o → single_text ps ≡ Some text
+            → AllInFile ps
+            → MeanTheSame old new ps (exchanged_pieces (option_map (λ i. name_value (slice_index_or names i [])) o) ps)
+        text_means ps text None found one inside = stays_same ps inside
+        text_means ps text (Some i) found one inside =
+            let l = one_literal ps text one in
+            let means = defines_text (slice_index_or names i []) text (zip_last names texts text i (names_mean named) found) in
+            subst (λ xs. MeanTheSame old new xs (abbreviation (text_at 0 (slice_index_or names i [])) ∷ [])) (sym l.is)
+            (replaced_same l.part means.0 (slice_index_or names i []) means.1 (means.2 ∙ sym l.same))
+
+        named_means : (f : FieldReading) (o : Option (List ℕ)) → named_text fields f ≡ o → AllInFile (elements f)
+            → MeanTheSame old new (elements f) (exchanged_pieces (text_value (text_index texts) names o) (elements f))
+        named_means f None is inside = stays_same (elements f) inside
+        named_means f (Some text) is inside =
+            text_means (elements f) text (text_index texts text) refl (by_name (is_named_by fields f) is) inside
+          where
+            by_name : (b : Bool) → cond b (single_text (elements f)) None ≡ Some text → single_text (elements f) ≡ Some text
+            by_name true found = found
+            by_name false found = cc
+
+        fields_mean : (fs : List FieldReading) → AllByRecursion (λ f. AllInFile (elements f)) fs
+            → AllByRecursion
+            (λ f. MeanTheSame old new f.value.pieces (exchanged_pieces (collection fields texts names f) f.value.pieces)) fs
+        fields_mean [] all = _
+        fields_mean (f ∷ fs) all = (named_means f (named_text fields f) refl all.0, fields_mean fs all.1)
+
+        pub entries_mean : (es : List EntryReading) → AllByRecursion (λ e. AllByRecursion (λ f. AllInFile (elements f)) e.fields) es
+            → EachMeansTheSame old new (collection fields texts names) es
+        entries_mean [] all = _
+        entries_mean (e ∷ es) all = (fields_mean e.fields all.0, entries_mean es all.1)
+
+  -- ---- the names that a file uses are names of the file
+
+  held_listed : (ps : List Piece) (name : List ℕ) → HoldsName ps name → is_one_in_any_case (element_names ps) name ≡ true
+  held_listed [] name held = absurd held
+  held_listed (literal p ∷ ps) name held = held_listed ps name held
+  held_listed (abbreviation p ∷ ps) name (inl is) =
+      ap (λ b. b || is_one_in_any_case (element_names ps) name) (subst (λ n. is_word p.text n ≡ true) is (own_word p.text))
+  held_listed (abbreviation p ∷ ps) name (inr held) = right_true (is_word p.text name) _ (held_listed ps name held)
+
+  left_listed : (xs ys : List (List ℕ)) (name : List ℕ) → is_one_in_any_case xs name ≡ true → is_one_in_any_case (xs ++ ys) name ≡ true
+  left_listed xs ys name is = list_any-append (λ o. is_word o name) xs ys ∙ ap (λ b. b || is_one_in_any_case ys name) is
+
+  right_listed : (xs ys : List (List ℕ)) (name : List ℕ) → is_one_in_any_case ys name ≡ true → is_one_in_any_case (xs ++ ys) name ≡ true
+  right_listed xs ys name is = list_any-append (λ o. is_word o name) xs ys ∙ right_true (is_one_in_any_case xs name) _ is
+
+  uses_in : (fs : List FieldReading) → ((name : List ℕ) → is_one_in_any_case (used_names fs) name ≡ true → InFile name)
+      → AllByRecursion (λ f. (name : List ℕ) → HoldsName (elements f) name → InFile name) fs
+  uses_in [] inside = _
+  uses_in (f ∷ fs) inside = (
+    λ name held. inside name (left_listed (element_names (elements f)) (used_names fs) name (held_listed (elements f) name held)),
+    uses_in fs (λ name listed. inside name (right_listed (element_names (elements f)) (used_names fs) name listed)),
+  )
+
+  entries_in : (es : List EntryReading)
+      → ((name : List ℕ) → is_one_in_any_case (flat_map (λ e. used_names e.fields) es) name ≡ true → InFile name)
+      → AllByRecursion (λ e. AllByRecursion (λ f. (name : List ℕ) → HoldsName (elements f) name → InFile name) e.fields) es
+  entries_in [] inside = _
+  entries_in (e ∷ es) inside = (
+    uses_in e.fields (λ name listed. inside name (left_listed (used_names e.fields) (flat_map (λ e. used_names e.fields) es) name listed)),
+    entries_in es (λ name listed. inside name (right_listed (used_names e.fields) (flat_map (λ e. used_names e.fields) es) name listed)),
+  )
+
+  definitions_in : (fs : List FieldReading) → ((name : List ℕ) → is_one_in_any_case (definition_names fs) name ≡ true → InFile name)
+      → AllByRecursion (λ f. (name : List ℕ) → HoldsName (elements f) name → InFile name) fs
+  definitions_in [] inside = _
+  definitions_in (f ∷ fs) inside = (
+    λ name held.
+        inside name
+        (left_listed (f.name.text ∷ element_names (elements f)) (definition_names fs) name
+        (right_true (is_word f.name.text name) _ (held_listed (elements f) name held))),
+    definitions_in fs
+        (λ name listed. inside name (right_listed (f.name.text ∷ element_names (elements f)) (definition_names fs) name listed)),
+  )
+
+  all_reverse : {A : Type 0} (P : A → Type 0) (xs : List A) → AllByRecursion P xs → AllByRecursion P (reverse xs)
+  all_reverse P [] all = tt
+  all_reverse P (x ∷ xs) all =
+      subst (AllByRecursion P) (sym (reverse-append (x ∷ []) xs)) (all_append P (reverse xs) (x ∷ []) (all_reverse P xs all.1) (all.0, tt))
+
+  definitions_closed : (name : List ℕ) (definition : List Piece) → definition_in says.abbreviations name ≡ Some definition
+      → (next : List ℕ) → HoldsName definition next → InFile next
+  definitions_closed name definition is next held =
+      by_found (find (λ f. bytes_eq name f.name.text) (reverse says.abbreviations)) refl is
+    where
+      by_found : (o : Option FieldReading) → find (λ f. bytes_eq name f.name.text) (reverse says.abbreviations) ≡ o
+          → option_map elements o ≡ Some definition → InFile next
+      by_found None found none = cc
+      by_found (Some f) found some =
+          found_has (λ f. (name : List ℕ) → HoldsName (elements f) name → InFile name) (λ f. bytes_eq name f.name.text)
+          (reverse says.abbreviations) f
+          (all_reverse (λ f. (name : List ℕ) → HoldsName (elements f) name → InFile name) says.abbreviations
+          (definitions_in says.abbreviations
+          (λ n listed.
+          left_listed (definition_names says.abbreviations) (flat_map (λ e. used_names e.fields) says.entries) n listed)))
+          found next (subst (λ ps. HoldsName ps next) (sym (some_same some)) held)
+
+-- a file is alike to what its text with collected texts reads as
+pub files_collected : (d : Document) → IsDocument d → (fields : List (List ℕ)) (least : ℕ) (text : List ℕ)
+    (made : AreMadeAbbreviations d fields least text) → AreAlikeFiles d.says made.read.tells
+files_collected d read fields least text made =
+    let at : ℕ = first_start d.says.entries in
+    let one : List FieldReading = filter (is_before at) d.says.abbreviations in
+    let other : List FieldReading = filter (λ f. not (is_before at f)) d.says.abbreviations in
+    files_exchanged (collection fields made.texts made.names) d.says made.read.tells
+    (one ++ (line_readings d.says made.names made.texts ++ other))
+    (entries_mean d.says made.texts made.names made.named one other (definitions_parted d read) (definitions_closed d.says) fields
+    d.says.entries
+    (entries_in d.says d.says.entries
+    (λ name listed. right_listed d.says (definition_names d.says.abbreviations) (flat_map (λ e. used_names e.fields) d.says.entries) name listed)))
+    made.read.alike

@@ -1,4 +1,5 @@
 pub mod AlikeFacts
+pub mod CollectedFacts
 pub mod ExchangedFacts
 pub mod ExpandedFacts
 pub mod FoundFacts

@@ -10,6 +10,7 @@ ghost use Rattle.bib_syntax.specs.Reading.{FileReading};
 ghost use Rattle.bib_syntax.specs.declared.raw.ParseError.{ParseError};
 ghost use Rattle.biblatex.specs.Headline.{IsAcceptedText, IsBibliographyOf, IsErrorOf};
 ghost use Rattle.edit_laws.specs.Alike.{AreAlike};
+ghost use Rattle.edit_strings.specs.Collected.{AreMadeAbbreviations};
 ghost use Rattle.edit_strings.specs.Expanded.{IsExpanded};
 
 /// If a text is accepted, a formatted text is too, and gives the same bibliography, except for spans and the borders of chunks.
@@ -29,4 +30,13 @@ pub fn expanded_is_alike()
         → IsErrorOf text e → ⊥ }
     ensures alike { (d : Document) (text : List ℕ) (one other : Bibliography) → IsDocument d → IsExpanded d text
         → IsBibliographyOf d.text one → IsBibliographyOf text other → AreAlike one other }
+{}
+
+/// If a text is accepted, its text with collected abbreviations is too, and gives the same bibliography, except for spans and the borders
+/// of chunks.
+pub fn collected_is_alike()
+    ensures accepted { (d : Document) (fields : List (List ℕ)) (least : ℕ) (text : List ℕ) (e : ParseError) → IsDocument d
+        → AreMadeAbbreviations d fields least text → IsAcceptedText d.text → IsErrorOf text e → ⊥ }
+    ensures alike { (d : Document) (fields : List (List ℕ)) (least : ℕ) (text : List ℕ) (one other : Bibliography) → IsDocument d
+        → AreMadeAbbreviations d fields least text → IsBibliographyOf d.text one → IsBibliographyOf text other → AreAlike one other }
 {}

@@ -1,0 +1,96 @@
+//! Runs `recode`, which writes a file as UTF-8.
+
+use crate::edits::{Editing, Mode, write_new};
+use crate::stops::{Stop, bytes_of, output_stop};
+use bib_recode::decoding::{DecodeError, decode};
+use bib_recode::encoding::{Encoding, detect};
+use bib_recode::line_ends::{LineEnds, with_line_ends};
+use biblatex::{Output, Sink};
+use std::alloc::{AllocError, Global};
+use std::io;
+
+/// The encoding of a file, and how its text is written.
+#[derive(Clone, Copy)]
+pub struct Recoding {
+    /// The encoding, or `None` if the bytes must tell it.
+    pub from: Option<Encoding>,
+    /// The line ends of the new text, or `None` to keep them.
+    pub line_ends: Option<LineEnds>,
+    /// Whether the new text begins with a byte order mark.
+    pub has_mark: bool,
+}
+
+// Returns the encoding of a file. Fails with a message and status 2 if it isn't given, and the bytes don't tell it.
+fn encoding_of(
+    alloc: Global,
+    name: &str,
+    recoding: &Recoding,
+    bytes: &[u8],
+) -> Result<Encoding, Stop> {
+    match recoding.from.or(detect(bytes)) {
+        Some(encoding) => Ok(encoding),
+        None => {
+            let said = format!(in alloc;
+                "bibkit: {name}: not UTF-8; `--from` names its encoding, such as windows-1252\n"
+            )?;
+            Err(Stop::Said(said, 2))
+        }
+    }
+}
+
+// Returns the message for an error of decoding a file, or fails if out of memory.
+fn decode_line(alloc: Global, name: &str, error: DecodeError) -> Result<String, AllocError> {
+    match error {
+        DecodeError::NotUtf8 { at } => {
+            format!(in alloc; "bibkit: {name}: not UTF-8 from byte {at} on\n")
+        }
+        DecodeError::UnpairedSurrogate { at } => {
+            format!(in alloc; "bibkit: {name}: not UTF-16: a surrogate without a partner at byte {at}\n")
+        }
+        DecodeError::OddByte { at } => {
+            format!(in alloc; "bibkit: {name}: not UTF-16: only one byte at byte {at}\n")
+        }
+        DecodeError::OutOfMemory => Err(AllocError),
+    }
+}
+
+// Decodes the bytes of a file. Fails with a message and status 1 if they aren't in this encoding.
+fn decoded(alloc: Global, name: &str, bytes: &[u8], encoding: Encoding) -> Result<String, Stop> {
+    match decode(alloc, bytes, encoding) {
+        Ok(text) => Ok(text),
+        Err(error) => Err(Stop::Said(decode_line(alloc, name, error)?, 1)),
+    }
+}
+
+// Returns a text with the line ends and the byte order mark of `recoding`.
+fn recoded(alloc: Global, recoding: &Recoding, text: String) -> Result<String, AllocError> {
+    match recoding.line_ends {
+        Some(ends) => with_line_ends(alloc, &text, ends, recoding.has_mark),
+        None if recoding.has_mark => format!(in alloc; "\u{FEFF}{text}"),
+        None => Ok(text),
+    }
+}
+
+// Prints a text to standard output.
+fn print(rt: &HostRuntime, text: &str) -> Result<(), Stop> {
+    let mut output = Output::new(io::writer(rt));
+    if output.write_str(text) {
+        Ok(())
+    } else {
+        Err(output_stop(rt.alloc())?)
+    }
+}
+
+/// Prints a file as UTF-8, or writes the new text into the file.
+pub fn recode(rt: &HostRuntime, editing: &Editing<'_>, recoding: &Recoding) -> Result<(), Stop> {
+    let name = editing.name;
+    let bytes = bytes_of(rt, name)?;
+    let encoding = encoding_of(rt.alloc(), name, recoding, &bytes)?;
+    let text = decoded(rt.alloc(), name, &bytes, encoding)?;
+    let new = recoded(rt.alloc(), recoding, text)?;
+    if editing.mode == Mode::Write {
+        write_new(rt, name, &bytes, &new)
+    } else {
+        print(rt, &new)
+    }
+}
