@@ -12,7 +12,7 @@ use Rattle.bib_syntax.specs.Grammar.{Gap as gap}
 use Rattle.bib_syntax.proofs.FieldFacts.{ahead_elements, ahead_field, ahead_gap, ahead_identifier}
 use Rattle.bib_syntax.proofs.FileFacts.{ahead_head}
 use Rattle.bib_syntax.proofs.LawFacts.{start_not_white, start_plain}
-use Rattle.edit_entries.specs.Changes.{NewField, field_before, field_reading, name_edit, new_field_text}
+use Rattle.edit_entries.specs.Changes.{NewField, field_before, field_reading, name_edit, signed_field_text}
 use Rattle.edit_entries.specs.Documents.{Document, IsDocument, text_at}
 use Rattle.edit_entries.specs.Edits.{Edit, edited, moved_field, moved_place}
 use Rattle.edit_entries.proofs.EditFacts.{after_frame, moved_after, moved_before, new_bytes, text_stands, zone_after}
@@ -22,7 +22,7 @@ use Rattle.edit_entries.proofs.GrammarFacts.{below_between, below_char, elements
 use Rattle.edit_entries.proofs.KindFacts.{IsWithin}
 use Rattle.edit_entries.proofs.MadeFacts.{IsPut}
 use Rattle.edit_entries.proofs.MovedFacts.{char_within}
-use Rattle.edit_entries.proofs.NewFieldFacts.{CanBePut, field_read}
+use Rattle.edit_entries.proofs.NewFieldFacts.{CanBePut, IsSign, signed_read}
 use Rattle.edit_entries.proofs.PartFacts.{IsIn}
 use Rattle.edit_entries.proofs.PlacelessFacts.{file_placeless}
 use Rattle.edit_entries.proofs.PutFacts.{Begins, NewFields, fields_put, fields_put_read}
@@ -140,16 +140,16 @@ field_behind text f lead {u} {v} same inside_text field =
     }
 
 -- a new field and a field after it, in the place of the field
-pub preceded_put : (d : Document) (f : FieldReading) (n : NewField) (white : List ℕ) → CanBePut n → AreWhite white → IsIn d.text f
-    → IsPut d f (name_edit f (field_before n white)) (field_reading n ∷ f ∷ [])
-preceded_put d f n white can all is = record {
+pub preceded_put : (d : Document) (f : FieldReading) (n : NewField) (sign white : List ℕ) → CanBePut n → IsSign sign → AreWhite white
+    → IsIn d.text f → IsPut d f (name_edit f (field_before n sign white)) (field_reading n ∷ f ∷ [])
+preceded_put d f n sign white can is_sign all is = record {
   start = omega arith;
   inside = omega (arith, is.name.some, is.ordered, is.value);
   read = λ at k after entry j past agrees read here there'. put_read k after entry j read here there';
 }
   where
     lead : List ℕ
-    lead = field_before n white
+    lead = field_before n sign white
 
     edit : Edit
     edit = name_edit f lead
@@ -184,7 +184,7 @@ preceded_put d f n white can all is = record {
         let within : edit.start ≤ length text = omega (arith, some, past_name, inside_text) in
         let from : Place = place (edited edit text) edit.start in
         let stands = first_part lead f.name.text (bytes_stand edit text within) in
-        let written : List ℕ = new_field_text n in
+        let written : List ℕ = signed_field_text sign n in
         let s1 = first_part written (44 ∷ white) stands in
         let s2 = last_part written (44 ∷ white) stands in
         let comma = ascii 44 (omega arith) (first_part (44 ∷ []) white s2) in
@@ -193,7 +193,7 @@ preceded_put d f n white can all is = record {
         let none : Longest is_whitespace (past from written) (past from written) =
         record { run = stop; stops = stops_at is_whitespace comma refl } in
         let x =
-        field_read n can s1
+        signed_read n sign can is_sign s1
         (record { char = 44; next = _; here = comma; no_name = refl; no_digit = refl; no_point = refl }) none
         (stops_at (λ c. c == 35) comma refl) in
         let gap1 = gap.white none (stops_at (λ c. c == 37) comma refl) in

@@ -17,7 +17,7 @@ use Rattle.edit_entries.proofs.BeforeFacts.{preceded_put}
 use Rattle.edit_entries.proofs.EditFacts.{moved_before}
 use Rattle.edit_entries.proofs.FieldNameFacts.{name_exchanged_read, name_stretch, with_name}
 use Rattle.edit_entries.proofs.MadeFacts.{IsPut, Made, MadeFrom, field_gone, field_made, kind_made, less_made, less_made_from, of_entries, stays_made}
-use Rattle.edit_entries.proofs.NewFieldFacts.{CanBePut, divided_put}
+use Rattle.edit_entries.proofs.NewFieldFacts.{CanBePut, IsSign, divided_put}
 use Rattle.edit_entries.proofs.NewValueFacts.{CanBeRead}
 use Rattle.edit_entries.proofs.PartFacts.{AreEntriesIn, AreFieldsIn, IsIn, edits_in_order, file_in}
 use Rattle.edit_entries.proofs.PlacelessFacts.{file_placeless}
@@ -63,7 +63,7 @@ name_put d f name can is = record {
 -- text between a comma and a new field is white space. A removed field has another field after it.
 abbrev pub CanChange : List FieldReading → FieldChange → Type 0
 CanChange following FieldChange.kept = Unit {0}
-CanChange following (FieldChange.preceded n white) = CanBePut n × AreWhite white
+CanChange following (FieldChange.preceded n sign white) = CanBePut n × IsSign sign × AreWhite white
 CanChange following (FieldChange.renamed name) = CanBeName name
 CanChange following (FieldChange.valued new) = CanBeRead new
 CanChange following (FieldChange.replaced n ns white) = CanBePut n × AllByRecursion CanBePut ns × AreWhite white
@@ -128,9 +128,9 @@ module _ (d : Document) (changes : EntryReading → EntryChange) (read : IsDocum
       let there : slice_get e.fields (length fb) ≡ Some f = ap (λ xs. slice_get xs (length fb)) cut ∙ get_here fb f fs in
       less_made_from d later _ f.value.end at _ _ _ (omega (arith, is.name.some, is.ordered, is.value))
       (stays_made d later _ (length before) (length fb) e f fs here there from.made)
-  field_case before rest others later e fb f fs now at (FieldChange.preceded n white) can whole cut less is trimmed from =
-      put_case before rest others later e fb f fs now at (name_edit f (field_before n white)) _
-      (preceded_put d f n white can.0 can.1 is) whole cut less from
+  field_case before rest others later e fb f fs now at (FieldChange.preceded n sign white) can whole cut less is trimmed from =
+      put_case before rest others later e fb f fs now at (name_edit f (field_before n sign white)) _
+      (preceded_put d f n sign white can.0 can.1 can.2 is) whole cut less from
   field_case before rest others later e fb f fs now at (FieldChange.renamed name) can whole cut less is trimmed from =
       put_case before rest others later e fb f fs now at (name_stretch f name) _ (name_put d f name can is) whole cut less from
   field_case before rest others later e fb f fs now at (FieldChange.valued new) can whole cut less is trimmed from =

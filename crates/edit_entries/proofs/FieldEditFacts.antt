@@ -11,35 +11,38 @@ use Rattle.edit_entries.specs.Edits.{Edit}
 use Rattle.edit_entries.specs.Documents.{CanBeName, Document, IsDocument, has_name}
 use Rattle.edit_entries.specs.FieldEdits.{CantBeEdited, FieldEditIsRefused, HasFitValue, first_start, edit_name, entry_edited_by, has_named, name_change, names_changed, new_field_first, selected_edited, unchanged}
 use Rattle.edit_entries.specs.FieldTexts.{EditTextIsRefused, HaveFieldsPlaced}
+use Rattle.edit_entries.specs.Layouts.{new_sign}
 use Rattle.edit_entries.specs.Placed.{IsNamePlaced, IsPlaced}
 use Rattle.edit_entries.specs.Setting.{CanBeNewName, Value, new_field, new_value, value_of, values_set, white_before}
 use Rattle.edit_entries.specs.declared.errors.EditError.{EditError}
 use Rattle.edit_entries.specs.declared.errors.EditError.TheVariants.{UnknownKey, KeyIsThere, NotAKey, NotAName, NotInBraces, NotBare, DefinitionIsThere, NoFieldLeft, OutOfMemory}
 use Rattle.edit_entries.specs.declared.field_edits.FieldEdit.{FieldEdit}
 use Rattle.edit_entries.specs.declared.field_edits.FieldEdit.TheVariants.{Set, Add, Rename}
-use Rattle.edit_entries.proofs.AllFacts.{all_both, all_placed, all_weaker}
+use Rattle.edit_entries.proofs.AllFacts.{all_placed}
 use Rattle.edit_entries.proofs.ChangesFacts.{CanChange, CanEntryChange, CanFieldsChange}
 use Rattle.edit_entries.proofs.EntryChangeFacts.{can_be_kept, no_edits}
 use Rattle.edit_entries.proofs.FitFacts.{fit_read}
 use Rattle.edit_entries.proofs.NewValueFacts.{CanBeRead}
 use Rattle.edit_entries.proofs.PartFacts.{AreEntriesIn, file_in}
-use Rattle.edit_entries.proofs.SetFacts.{first_within, names_in, put_can, set_can}
+use Rattle.edit_entries.proofs.SetFacts.{first_within, names_in, put_can, set_can, signs_in}
 
 -- ---- where fields stand
 
-entries_named : (text : List ℕ) (at : ℕ) (es : List EntryReading) → AreEntriesIn text at es
-    → AllByRecursion (λ e. AllByRecursion (IsNamePlaced text) e.fields) es
-entries_named text at [] order = tt
-entries_named text at (e ∷ es) order = (names_in text e.kind.end order.0 e.fields order.3, entries_named text order.0 es order.4)
+entries_placed : (text : List ℕ) (at : ℕ) (es : List EntryReading) → AreEntriesIn text at es
+    → AllByRecursion (λ e. AllByRecursion (IsPlaced text) e.fields) es → AllByRecursion (HaveFieldsPlaced text) es
+entries_placed text at [] order all = tt
+entries_placed text at (e ∷ es) order all = (
+  record {
+    names = names_in text e.kind.end order.0 e.fields order.3;
+    values = all.0;
+    signs = signs_in text e.kind.end order.0 e.fields order.3 all.0;
+  },
+  entries_placed text order.0 es order.4 all.1,
+)
 
--- the names and values of a document's fields may be cut out of its text
+-- the names and values of a document's fields, and the texts between them, may be cut out of its text
 pub fields_placed : (d : Document) → IsDocument d → AllByRecursion (HaveFieldsPlaced d.text) d.says.entries
-fields_placed d read =
-    let names = entries_named d.text 0 d.says.entries (file_in d.text refl read) in
-    all_weaker (λ e. AllByRecursion (IsNamePlaced d.text) e.fields × AllByRecursion (IsPlaced d.text) e.fields)
-    (HaveFieldsPlaced d.text) (λ e both. record { names = both.0; values = both.1 }) d.says.entries
-    (all_both (λ e. AllByRecursion (IsNamePlaced d.text) e.fields) (λ e. AllByRecursion (IsPlaced d.text) e.fields) d.says.entries names
-    (all_placed d read))
+fields_placed d read = entries_placed d.text 0 d.says.entries (file_in d.text refl read) (all_placed d read)
 
 -- ---- the changes
 
@@ -87,9 +90,9 @@ edited_can text definitions at (Rename old new) e placed can_name can_value =
 pub field_first_edits : (text name : List ℕ) (value : Value) (fs : List FieldReading) (first : FieldReading) (others : List FieldReading)
     → fs ≡ first ∷ others
     → edits_of_fields text fs (new_field_first text name value fs).fields
-    ≡ name_edit first (field_before (new_field name value) (white_before text first.name.start)) ∷ []
+    ≡ name_edit first (field_before (new_field name value) (new_sign text name first (first ∷ others)) (white_before text first.name.start)) ∷ []
 field_first_edits text name value fs first others are =
-    let lead : List ℕ = field_before (new_field name value) (white_before text first.name.start) in
+    let lead : List ℕ = field_before (new_field name value) (new_sign text name first (first ∷ others)) (white_before text first.name.start) in
     ap (λ l. edits_of_fields text l (new_field_first text name value l).fields) are
     ∙ ap (λ es. name_edit first lead ∷ es) (no_edits text others)
 

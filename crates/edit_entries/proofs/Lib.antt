@@ -21,6 +21,7 @@ pub mod GrammarFacts
 pub mod JoinedFacts
 mod KeyFacts
 pub mod KindFacts
+mod LayoutFacts
 mod LineEndFacts
 mod LineFacts
 pub mod MadeFacts

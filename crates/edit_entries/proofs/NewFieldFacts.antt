@@ -25,7 +25,7 @@ use Rattle.edit_entries.proofs.ValueFacts.{elements_opens}
 use Rattle.edit_entries.proofs.ZoneFacts.{Inside, char_there, inside, run_there, stops_there, there}
 use Rattle.edit_entries.proofs.ElementFacts.{Ending}
 use Rattle.edit_entries.proofs.StandsFacts.{AreWhite, Stands, ascii, first_part, last_part, past, run_white}
-use Rattle.edit_entries.specs.Changes.{IsTrimmed, field_stretch, NewField, field_reading, new_field_text, more_field_texts}
+use Rattle.edit_entries.specs.Changes.{IsTrimmed, field_stretch, NewField, field_reading, new_field_text, signed_field_text, more_field_texts}
 use Rattle.edit_entries.proofs.NewValueFacts.{CanBeRead, after_ending, run_ending}
 use Rattle.edit_entries.proofs.ElementStandsFacts.{element_stands}
 use Rattle.edit_entries.proofs.KindFacts.{IsWithin}
@@ -62,20 +62,36 @@ pub record IsRead (n : NewField) (u w : Place) : Type 0 where
   pub start : reading.name.start ≡ u.at
   pub alike : moved_field (λ n. 0) reading ≡ moved_field (λ n. 0) (field_reading n)
 
-pub field_read : {u v w : Place} (n : NewField) → CanBePut n → Stands u (new_field_text n) v → Ending v
-    → Longest is_whitespace v w → Stops (λ c. c == 35) w → IsRead n u w
-field_read {u} {v} {w} n can s ending over no_hash =
+-- a text can be between a name and a value: an equals sign with white space around it
+pub record IsSign (sign : List ℕ) : Type 0 where
+  pub before : List ℕ
+  pub after : List ℕ
+  pub is : sign ≡ before ++ 61 ∷ after
+  pub white : AreWhite before
+  pub white' : AreWhite after
+
+pub usual_sign : IsSign (codes " = ")
+usual_sign = record { before = 32 ∷ []; after = 32 ∷ []; is = refl; white = ((omega arith, refl), tt); white' = ((omega arith, refl), tt) }
+
+pub signed_read : {u v w : Place} (n : NewField) (sign : List ℕ) → CanBePut n → IsSign sign → Stands u (signed_field_text sign n) v
+    → Ending v → Longest is_whitespace v w → Stops (λ c. c == 35) w → IsRead n u w
+signed_read {u} {v} {w} n sign can is s ending over no_hash =
     let bytes : List ℕ = n.value.bytes in
-    let name = first_part n.name (codes " = " ++ bytes) s in
-    let s1 = last_part n.name (codes " = " ++ bytes) s in
-    let space = ascii 32 (omega arith) (first_part (32 ∷ []) (61 ∷ 32 ∷ bytes) s1) in
-    let s2 = last_part (32 ∷ []) (61 ∷ 32 ∷ bytes) s1 in
-    let sign = ascii 61 (omega arith) (first_part (61 ∷ []) (32 ∷ bytes) s2) in
-    let s3 = last_part (61 ∷ []) (32 ∷ bytes) s2 in
-    let space' = ascii 32 (omega arith) (first_part (32 ∷ []) bytes s3) in
-    let s4 = last_part (32 ∷ []) bytes s3 in
+    let from_sign : List ℕ = 61 ∷ (is.after ++ bytes) in
+    let whole : signed_field_text sign n ≡ n.name ++ (is.before ++ from_sign) =
+    ap (λ t. n.name ++ t) (ap (λ t. t ++ bytes) is.is ∙ append_assoc is.before (61 ∷ is.after) bytes) in
+    let s0 = subst (λ t. Stands u t v) whole s in
+    let name = first_part n.name (is.before ++ from_sign) s0 in
+    let s1 = last_part n.name (is.before ++ from_sign) s0 in
+    let white = run_white is.before is.white (first_part is.before from_sign s1) in
+    let s2 = last_part is.before from_sign s1 in
+    let equals = ascii 61 (omega arith) (first_part (61 ∷ []) (is.after ++ bytes) s2) in
+    let s3 = last_part (61 ∷ []) (is.after ++ bytes) s2 in
+    let white' = run_white is.after is.white' (first_part is.after bytes s3) in
+    let s4 = last_part is.after bytes s3 in
     let value = can.value _ v w s4 ending over no_hash in
     let opens = elements_opens value.elements in
+    let following = run_ending white (record { char = 61; next = _; here = equals; no_name = refl; no_digit = refl; no_point = refl }) in
     let build : List Piece → FieldReading =
     λ (ps : List Piece).
     record {
@@ -89,10 +105,10 @@ field_read {u} {v} {w} n can s ending over no_hash =
         before_sign = _;
         after_sign = _;
         value_start = _;
-        name = name_stands u.text _ n.name u.at 32 can.name name.here space refl;
-        white = record { run = step space refl stop; stops = stops_at is_whitespace sign refl };
-        sign = sign;
-        white' = record { run = step space' refl stop; stops = stops_at is_whitespace opens.here opens.dark };
+        name = name_stands u.text _ n.name u.at following.char can.name name.here following.here following.no_name;
+        white = record { run = white; stops = stops_at is_whitespace equals refl };
+        sign = equals;
+        white' = record { run = white'; stops = stops_at is_whitespace opens.here opens.dark };
         elements = value.elements;
         starts = refl;
         ends = refl;
@@ -100,6 +116,10 @@ field_read {u} {v} {w} n can s ending over no_hash =
       start = refl;
       alike = ap build value.alike;
     }
+
+pub field_read : {u v w : Place} (n : NewField) → CanBePut n → Stands u (new_field_text n) v → Ending v
+    → Longest is_whitespace v w → Stops (λ c. c == 35) w → IsRead n u w
+field_read n can s ending over no_hash = signed_read n (codes " = ") can usual_sign s ending over no_hash
 
 -- ---- all of them
 

@@ -173,7 +173,7 @@ field_in_order : (text : List ℕ) (at end : ℕ) (f : FieldReading) (fs : List 
 field_in_order text at end f fs FieldChange.kept more before is placed fields order =
     edits_earlier text (first_place f.value.end fs) at more
     (omega (arith, is.name.some, is.ordered, is.value, (first_in text f.value.end end fs fields).0)) order
-field_in_order text at end f fs (FieldChange.preceded n white) more before is placed fields order = (
+field_in_order text at end f fs (FieldChange.preceded n sign white) more before is placed fields order = (
   before,
   omega (arith, is.name.some),
   is.name.start,

@@ -13,7 +13,7 @@ use Rattle.bib_syntax.proofs.FileFacts.{ahead_head}
 use Rattle.edit_entries.specs.Changes.{FieldChange, NewField, edits_of_entry, edits_of_field, edits_of_fields, field_before, field_reading, name_edit}
 use Rattle.edit_entries.specs.Documents.{Document, HasEntry, IsEdited, IsDocument, entry_edited, first_position, has_name, is_keyed}
 use Rattle.edit_entries.specs.Edits.{Edit, edited, edited_all, moved_entry, moved_field, moved_place, placeless}
-use Rattle.edit_entries.specs.Placed.{HasComma, IsNamePlaced, IsPlaced}
+use Rattle.edit_entries.specs.Placed.{HasComma, IsNamePlaced, IsPlaced, IsSignPlaced}
 use Rattle.edit_entries.specs.SetTexts.{CanBeSetIn, CantBeSetIn, IsSetText, SetTextIsRefused}
 use Rattle.edit_entries.specs.Setting.{CanBeNewName, CantBeSet, FieldSet, IsFit, IsSet, SetIsRefused, Value, field_put, has_other_value, new_field, new_value, only_field_text, set_change, values_set, white_before}
 use Rattle.edit_entries.specs.declared.errors.EditError.{EditError}
@@ -22,7 +22,9 @@ use Rattle.edit_entries.proofs.AddedFacts.{only_field_read}
 use Rattle.edit_entries.proofs.AllFacts.{all_found}
 use Rattle.edit_entries.proofs.ChangesFacts.{CanChange, CanEntryChange, CanFieldsChange}
 use Rattle.edit_entries.proofs.EntryChangeFacts.{can_be_kept, entry_changed_read, entry_edits_in_order, no_edits}
+use Rattle.edit_entries.specs.Layouts.{new_sign}
 use Rattle.edit_entries.proofs.FitFacts.{fit_read}
+use Rattle.edit_entries.proofs.LayoutFacts.{new_sign_is}
 use Rattle.edit_entries.proofs.MadeFacts.{entry_alike, of_entries, says_alike}
 use Rattle.edit_entries.proofs.UnsetEntryFacts.{around, set_here}
 use Rattle.edit_entries.proofs.NewFieldFacts.{CanBePut}
@@ -64,6 +66,23 @@ names_in text at end (f ∷ fs) order = (
   names_in text f.value.end end fs order.2,
 )
 
+pub signs_in : (text : List ℕ) (at end : ℕ) (fs : List FieldReading) → AreFieldsIn text at fs end → AllByRecursion (IsPlaced text) fs
+    → AllByRecursion (IsSignPlaced text) fs
+signs_in text at end [] order all = tt
+signs_in text at end (f ∷ fs) order all = (
+  record { ordered = order.1.ordered; start = order.1.name.end; end = all.0.start },
+  signs_in text f.value.end end fs order.2 all.1,
+)
+
+signs_placed : (text : List ℕ) (at k : ℕ) (es : List EntryReading) (e : EntryReading) → AreEntriesIn text at es
+    → slice_get es k ≡ Some e → AllByRecursion (IsPlaced text) e.fields → AllByRecursion (IsSignPlaced text) e.fields
+signs_placed text at k [] e order here all = absurd (cc)
+signs_placed text at zero (x ∷ xs) e order here all =
+    let same : x ≡ e = cc in
+    subst (λ y. AllByRecursion (IsSignPlaced text) y.fields) same
+    (signs_in text x.kind.end order.0 x.fields order.3 (subst (λ y. AllByRecursion (IsPlaced text) y.fields) (sym same) all))
+signs_placed text at (suc k) (x ∷ xs) e order here all = signs_placed text order.0 k xs e order.4 here all
+
 names_placed : (text : List ℕ) (at k : ℕ) (es : List EntryReading) (e : EntryReading) → AreEntriesIn text at es
     → slice_get es k ≡ Some e → AllByRecursion (IsNamePlaced text) e.fields
 names_placed text at k [] e order here = absurd (cc)
@@ -79,6 +98,9 @@ set_asked d k e name value read utf8 here = record {
   comma = comma_known d k e read here;
   values = all_found (IsPlaced d.text) e.fields (λ j f there. field_placed d k e j f read here there);
   names = names_placed d.text 0 k d.says.entries e (file_in d.text refl read) here;
+  signs =
+      signs_placed d.text 0 k d.says.entries e (file_in d.text refl read) here
+      (all_found (IsPlaced d.text) e.fields (λ j f there. field_placed d k e j f read here there));
   ordered = entry_edits_in_order d k e (values_set name value e) read utf8 here;
 }
 
@@ -114,12 +136,12 @@ set_can name value e can = record { kind = λ n is. absurd (cc); fields = values
 
 pub put_can : (text name : List ℕ) (value : Value) (e : EntryReading) (first : FieldReading) (others : List FieldReading)
     → e.fields ≡ first ∷ others → CanBeNewName name → CanBeRead (new_value value) → first.name.start ≤ length text
-    → CanEntryChange e (field_put text name value first)
+    → CanEntryChange e (field_put text name value first others)
 put_can text name value e first others are can_name can_value within = record {
   kind = λ n is. absurd (cc);
   fields =
-      subst (λ fs. CanFieldsChange fs (field_put text name value first).fields) (sym are) (
-        (record { name = can_name.name; value = can_value }, before_white text first.name.start within),
+      subst (λ fs. CanFieldsChange fs (field_put text name value first others).fields) (sym are) (
+        (record { name = can_name.name; value = can_value }, new_sign_is text name first (first ∷ others), before_white text first.name.start within),
         can_be_kept others,
       );
 }
@@ -150,12 +172,12 @@ no_element (x ∷ xs) short = absurd (omega (arith, short))
 -- a field before the first one
 pub put_made : (definitions : List FieldReading) (text : List ℕ) (e : EntryReading) (name : List ℕ) (value : Value) (first : FieldReading)
     (others : List FieldReading) (new : List ℕ) → list_any (has_name name) e.fields ≡ false → e.fields ≡ first ∷ others
-    → new ≡ edited (name_edit first (field_before (new_field name value) (white_before text first.name.start))) text
+    → new ≡ edited (name_edit first (field_before (new_field name value) (new_sign text name first (first ∷ others)) (white_before text first.name.start))) text
     → CanBeNewName name → IsFit definitions e.start value → IsSetText definitions text e name value new
 put_made definitions text e name value first others new none are is can_name can_value =
-    let lead : List ℕ = field_before (new_field name value) (white_before text first.name.start) in
-    let edits : edits_of_entry text e (field_put text name value first) ≡ name_edit first lead ∷ [] =
-    ap (λ fs. edits_of_fields text fs (field_put text name value first).fields) are
+    let lead : List ℕ = field_before (new_field name value) (new_sign text name first (first ∷ others)) (white_before text first.name.start) in
+    let edits : edits_of_entry text e (field_put text name value first others) ≡ name_edit first lead ∷ [] =
+    ap (λ fs. edits_of_fields text fs (field_put text name value first others).fields) are
     ∙ ap (λ es. name_edit first lead ∷ es) (no_edits text others) in
     IsSetText.added none are can_name can_value (is ∙ ap (λ es. edited_all es text) (sym edits))
 
@@ -182,7 +204,7 @@ text_set d key name value new k e read utf8 entry (IsSetText.added {first = firs
     let names = names_placed d.text 0 k d.says.entries e (file_in d.text refl read) entry.here in
     let can =
     put_can d.text name value e first others are can_name (fit_read d.says.abbreviations e.start value can_value) (first_within d.text e.fields first others names are) in
-    let r = entry_changed_read d k e (field_put d.text name value first) read utf8 entry.here can in
+    let r = entry_changed_read d k e (field_put d.text name value first others) read utf8 entry.here can in
     record {
       document = record { text = new; says = r.tells };
       outcome = FieldSet.added entry none are (record { text = is; alike = r.alike });

@@ -276,10 +276,10 @@ set_there {d} {after} {key} {name} {value} (FieldSet.changed {k = k} {e = e} ent
           ∙ value_is_set name value last.element last.passes;
     }
 set_there {d} {after} {key} {name} {value} (FieldSet.added {k = k} {e = e} {first = first} {others = others} entry none are is) =
-    let x = entry_there d after key k e (entry_changed e (field_put d.text name value first)) entry refl is.alike in
+    let x = entry_there d after key k e (entry_changed e (field_put d.text name value first others)) entry refl is.alike in
     let new : FieldReading = field_reading (new_field name value) in
-    let put : fields_changed e.fields (field_put d.text name value first).fields ≡ new ∷ e.fields =
-    ap (λ fs. fields_changed fs (field_put d.text name value first).fields) are
+    let put : fields_changed e.fields (field_put d.text name value first others).fields ≡ new ∷ e.fields =
+    ap (λ fs. fields_changed fs (field_put d.text name value first others).fields) are
     ∙ ap (λ fs. new ∷ first ∷ fs) (fields_kept others) ∙ ap (λ fs. new ∷ fs) (sym are) in
     let fields : map field_no_offsets x.entry.fields ≡ map field_no_offsets (new ∷ e.fields) =
     ap (λ y. y.fields) x.alike ∙ ap (map field_no_offsets) put in

@@ -39,11 +39,11 @@ braced_value text = record { bytes = in_braces text; pieces = literal (text_at 1
 abbrev pub braced_field : List ℕ → List ℕ → NewField
 braced_field name text = record { name = name; value = braced_value text }
 
--- the change of a field: it is kept, is preceded by a new field, has a new name or a new value, is replaced by one or more fields, or is
--- removed. A comma and this white space follow each new field that another field follows.
+-- the change of a field: it is kept, is preceded by a new field with this text between its name and its value, has a new name or a new
+-- value, is replaced by one or more fields, or is removed. A comma and this white space follow each new field that another field follows.
 pub data FieldChange : Type 0 where
   kept : FieldChange
-  preceded : NewField → List ℕ → FieldChange
+  preceded : NewField → List ℕ → List ℕ → FieldChange
   renamed : List ℕ → FieldChange
   valued : NewValue → FieldChange
   replaced : NewField → List NewField → List ℕ → FieldChange
@@ -65,17 +65,21 @@ value_end text f = f.value.start + length (trim_end (value_stretch text f))
 abbrev pub IsTrimmed : List ℕ → FieldReading → Type 0
 IsTrimmed text f = Run is_whitespace (place text (value_end text f)) (place text f.value.end)
 
+-- the text of a new field with this text between its name and its value
+abbrev pub signed_field_text : List ℕ → NewField → List ℕ
+signed_field_text sign n = n.name ++ (sign ++ n.value.bytes)
+
 -- the text of a new field
 abbrev pub new_field_text : NewField → List ℕ
-new_field_text n = n.name ++ (codes " = " ++ n.value.bytes)
+new_field_text n = signed_field_text (codes " = ") n
 
 -- the text of new fields after another one, with a comma and white space before each
 abbrev pub more_field_texts : List ℕ → List NewField → List ℕ
 more_field_texts white fields = flat_map (λ n. char.comma ∷ (white ++ new_field_text n)) fields
 
 -- the text of a new field before another one, with a comma and white space after it
-abbrev pub field_before : NewField → List ℕ → List ℕ
-field_before n white = new_field_text n ++ char.comma ∷ white
+abbrev pub field_before : NewField → List ℕ → List ℕ → List ℕ
+field_before n sign white = signed_field_text sign n ++ char.comma ∷ white
 
 -- the edit that puts bytes before a field's name
 abbrev pub name_edit : FieldReading → List ℕ → Edit
@@ -102,7 +106,7 @@ removal_edits f (g ∷ gs) = record { start = f.name.start; end = g.name.start; 
 -- the edits of a field before others, by its change
 abbrev pub edits_of_field : List ℕ → FieldReading → List FieldReading → FieldChange → List Edit
 edits_of_field text f following FieldChange.kept = []
-edits_of_field text f following (FieldChange.preceded n white) = name_edit f (field_before n white) ∷ []
+edits_of_field text f following (FieldChange.preceded n sign white) = name_edit f (field_before n sign white) ∷ []
 edits_of_field text f following (FieldChange.renamed name) = record { start = f.name.start; end = f.name.end; bytes = name } ∷ []
 edits_of_field text f following (FieldChange.valued new) = value_stretch_edit text f new.bytes ∷ []
 edits_of_field text f following (FieldChange.replaced n ns white) =
@@ -141,7 +145,7 @@ field_reading n = record { name = text_at 0 n.name; value = record { pieces = n.
 -- the fields that a field becomes, by its change
 abbrev pub field_changed : FieldReading → FieldChange → List FieldReading
 field_changed f FieldChange.kept = f ∷ []
-field_changed f (FieldChange.preceded n white) = field_reading n ∷ f ∷ []
+field_changed f (FieldChange.preceded n sign white) = field_reading n ∷ f ∷ []
 field_changed f (FieldChange.renamed name) = (record f { name = record f.name { text = name } }) ∷ []
 field_changed f (FieldChange.valued new) = (record f { value = record f.value { pieces = new.pieces } }) ∷ []
 field_changed f (FieldChange.replaced n ns white) = map field_reading (n ∷ ns)

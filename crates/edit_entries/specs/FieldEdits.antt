@@ -21,7 +21,7 @@ unchanged = record { kind = None; fields = [] }
 -- the change of an entry with these fields that gets a new one before them; an entry without fields is kept
 abbrev pub new_field_first : List ℕ → List ℕ → Value → List FieldReading → EntryChange
 new_field_first text name value [] = unchanged
-new_field_first text name value (first ∷ others) = field_put text name value first
+new_field_first text name value (first ∷ others) = field_put text name value first others
 
 -- whether an entry has a field with a name, in any ASCII case
 abbrev pub has_named : List ℕ → EntryReading → Bool

@@ -4,17 +4,18 @@ use Rattle.std.specs.Prelude.{◌≡◌, ℕ, List, ⊤}
 use Rattle.std.specs.List.{AllByRecursion}
 use Rattle.bib_syntax.specs.Reading.{EntryReading, FieldReading}
 use Rattle.edit_entries.specs.FieldEdits.{HasFitValue, IsValueError, edit_name}
-use Rattle.edit_entries.specs.Placed.{IsNamePlaced, IsPlaced}
+use Rattle.edit_entries.specs.Placed.{IsNamePlaced, IsPlaced, IsSignPlaced}
 use Rattle.edit_entries.specs.Setting.{CanBeNewName, new_value, value_of}
 use Rattle.edit_entries.specs.declared.errors.EditError.{EditError}
 use Rattle.edit_entries.specs.declared.errors.EditError.TheVariants.{UnknownKey, KeyIsThere, NotAKey, NotAName, NotInBraces, NotBare, DefinitionIsThere, NoFieldLeft, OutOfMemory}
 use Rattle.edit_entries.specs.declared.field_edits.FieldEdit.{FieldEdit}
 use Rattle.edit_entries.specs.declared.field_edits.FieldEdit.TheVariants.{Set, Add, Rename}
 
--- the names and values of an entry's fields may be cut out of a text
+-- the names and values of an entry's fields, and the texts between them, may be cut out of a text
 pub record HaveFieldsPlaced (text : List ℕ) (e : EntryReading) : Type 0 where
   pub names : AllByRecursion (IsNamePlaced text) e.fields
   pub values : AllByRecursion (IsPlaced text) e.fields
+  pub signs : AllByRecursion (IsSignPlaced text) e.fields
 
 -- a text is the value of an edit as it is written, if it has one
 abbrev pub IsValueText : FieldEdit → List ℕ → Type 0

@@ -41,6 +41,12 @@ pub record HasComma (text : List ℕ) (e : EntryReading) : Type 0 where
   pub at : ℕ
   pub is : IsAfterComma text e at
 
+-- the text between the name and the value of a field may be cut out of a text
+pub record IsSignPlaced (text : List ℕ) (f : FieldReading) : Type 0 where
+  pub ordered : f.name.end ≤ f.value.start
+  pub start : IsCharBoundary text f.name.end
+  pub end : IsCharBoundary text f.value.start
+
 -- the name of a field may be cut out of a text
 pub record IsNamePlaced (text : List ℕ) (f : FieldReading) : Type 0 where
   pub ordered : f.name.start ≤ f.name.end

@@ -7,7 +7,7 @@ use Rattle.edit_entries.specs.Changes.{edits_of_entry, edits_of_fields}
 use Rattle.edit_entries.specs.Documents.{has_name}
 use Rattle.edit_entries.specs.EditList.{AreEditsInOrder}
 use Rattle.edit_entries.specs.Edits.{edited, edited_all}
-use Rattle.edit_entries.specs.Placed.{HasComma, IsNamePlaced, IsPlaced}
+use Rattle.edit_entries.specs.Placed.{HasComma, IsNamePlaced, IsPlaced, IsSignPlaced}
 use Rattle.edit_entries.specs.Setting.{CanBeNewName, IsAfterComma, IsFit, Value, field_put, has_other_value, only_field_text, set_change, unfit_error, values_set}
 use Rattle.edit_entries.specs.declared.errors.EditError.{EditError}
 use Rattle.edit_entries.specs.declared.errors.EditError.TheVariants.{UnknownKey, KeyIsThere, NotAKey, NotAName, NotInBraces, NotBare, DefinitionIsThere, NoFieldLeft, OutOfMemory}
@@ -17,6 +17,7 @@ pub record CanBeSetIn (text : List ℕ) (e : EntryReading) (name : List ℕ) (va
   pub comma : HasComma text e
   pub values : AllByRecursion (IsPlaced text) e.fields
   pub names : AllByRecursion (IsNamePlaced text) e.fields
+  pub signs : AllByRecursion (IsSignPlaced text) e.fields
   pub ordered : AreEditsInOrder text 0 (edits_of_fields text e.fields (map (set_change name value) e.fields))
 
 -- the text after a field of an entry is set
@@ -26,7 +27,7 @@ pub data IsSetText (definitions : List FieldReading) (text : List ℕ) (e : Entr
       → new ≡ edited_all (edits_of_entry text e (values_set name value e)) text → IsSetText definitions text e name value new
   added : {first : FieldReading} {others : List FieldReading} → list_any (has_name name) e.fields ≡ false
       → e.fields ≡ first ∷ others → CanBeNewName name → IsFit definitions e.start value
-      → new ≡ edited_all (edits_of_entry text e (field_put text name value first)) text → IsSetText definitions text e name value new
+      → new ≡ edited_all (edits_of_entry text e (field_put text name value first others)) text → IsSetText definitions text e name value new
   only : {at : ℕ} → e.fields ≡ [] → IsAfterComma text e at → CanBeNewName name → IsFit definitions e.start value
       → new ≡ edited (record { start = at; end = at; bytes = only_field_text name value }) text → IsSetText definitions text e name value new
 

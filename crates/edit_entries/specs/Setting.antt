@@ -13,6 +13,7 @@ use Rattle.edit_entries.specs.Balance.{IsBalanced}
 use Rattle.edit_entries.specs.Changes.{EntryChange, FieldChange, NewField, NewValue, braced_value, edits_of_entry, entry_changed, field_reading, new_field_text}
 use Rattle.edit_entries.specs.Documents.{CanBeName, CanStandInBraces, Document, HasEntry, HasField, first_position, has_name, is_keyed, is_value, text_at}
 use Rattle.edit_entries.specs.Edits.{edited, edited_all, placeless}
+use Rattle.edit_entries.specs.Layouts.{new_sign}
 use Rattle.edit_entries.specs.declared.errors.EditError.{EditError}
 use Rattle.edit_entries.specs.declared.field_value.FieldValue.{FieldValue}
 use Rattle.edit_entries.specs.declared.field_value.FieldValue.TheVariants.{Bare, Text}
@@ -119,11 +120,13 @@ white_before text at = drop (at - suffix_len is_ascii_whitespace (take at text))
 abbrev pub new_field : List ℕ → Value → NewField
 new_field name value = record { name = name; value = new_value value }
 
--- the change of an entry with a new field before the first one, which gets the white space before that one
-abbrev pub field_put : List ℕ → List ℕ → Value → FieldReading → EntryChange
-field_put text name value first = record {
+-- the change of an entry with a new field before these, which gets the white space before the first one, and the layout of their equals
+-- signs
+abbrev pub field_put : List ℕ → List ℕ → Value → FieldReading → List FieldReading → EntryChange
+field_put text name value first others = record {
   kind = None;
-  fields = FieldChange.preceded (new_field name value) (white_before text first.name.start) ∷ [];
+  fields =
+      FieldChange.preceded (new_field name value) (new_sign text name first (first ∷ others)) (white_before text first.name.start) ∷ [];
 }
 
 -- an entry of a document has a change, and all else is as it was, except for byte offsets
@@ -159,7 +162,7 @@ pub data FieldSet (d : Document) (key name : List ℕ) (value : Value) : Documen
       → IsEntryChanged d k e (values_set name value e) after → FieldSet d key name value after
   added : {k : ℕ} {e : EntryReading} {first : FieldReading} {others : List FieldReading} {after : Document} → HasEntry d key k e
       → list_any (has_name name) e.fields ≡ false → e.fields ≡ first ∷ others
-      → IsEntryChanged d k e (field_put d.text name value first) after → FieldSet d key name value after
+      → IsEntryChanged d k e (field_put d.text name value first others) after → FieldSet d key name value after
   only : {k : ℕ} {e : EntryReading} {after : Document} → HasEntry d key k e → e.fields ≡ []
       → IsFirstAdded d k e name value after → FieldSet d key name value after
 

@@ -10,13 +10,14 @@ ghost use Rattle.edit_entries.specs.EditList.{edit_of};
 ghost use Rattle.edit_entries.specs.FieldEdits as spec;
 ghost use Rattle.edit_entries.specs.FieldEdits.{HasFitValue, edit_name, entry_edited_by, name_change, new_field_first, selected_edited};
 ghost use Rattle.edit_entries.specs.FieldTexts.{EditTextIsRefused, HaveFieldsPlaced, IsValueText};
-ghost use Rattle.edit_entries.specs.Placed.{IsNamePlaced, IsPlaced};
+ghost use Rattle.edit_entries.specs.Placed.{IsNamePlaced, IsPlaced, IsSignPlaced};
 ghost use Rattle.edit_entries.specs.Setting as setting;
 ghost use Rattle.edit_entries.specs.Setting.{CanBeNewName, value_of};
 
 use crate::editing::Edit;
 use crate::errors::EditError;
 use crate::field_value::FieldValue;
+use crate::layout::new_sign;
 use crate::names::can_be_new_name;
 use crate::setting::{has_field, new_value, push_values, text_before, white_before};
 use bib_syntax::raw::{Pair, RawEntry, is_word};
@@ -98,6 +99,7 @@ fn push_field_first(
     written: &str,
 ) -> Result<(), AllocError>
     requires placed { AllByRecursion (IsNamePlaced text.now) (map field_of fields.now) }
+    requires signs { AllByRecursion (IsSignPlaced text.now) (map field_of fields.now) }
     requires written { written.now ≡ (setting.new_value (value_of value)).bytes }
     ensures { OnOk result (map edit_of edits.new.items ≡ map edit_of edits.old.items ++
         edits_of_fields text.now (map field_of fields.now) (new_field_first text.now name.now (value_of value.entry) (map field_of fields.now)).fields) }
@@ -107,10 +109,11 @@ fn push_field_first(
     };
     let start = first.key.span.start;
     let white = white_before(text, start);
+    let sign = new_sign(alloc, text, name, first, fields)?;
     edits.push(Edit {
         start,
         end: first.key.span.end,
-        text: text_before(alloc, name, written, white, first.key.v)?,
+        text: text_before(alloc, name, &sign, written, white, first.key.v)?,
     })?;
     Ok(())
 }

@@ -22,6 +22,7 @@ pub mod field_edits;
 pub mod field_value;
 mod joining;
 mod keys;
+mod layout;
 pub mod laws;
 pub mod line_ends;
 mod lookup;

@@ -11,7 +11,8 @@ ghost use Rattle.edit_entries.specs.Changes.{edits_of_entry, edits_of_field, edi
 ghost use Rattle.edit_entries.specs.Documents as documents;
 ghost use Rattle.edit_entries.specs.EditList.{edit_of};
 ghost use Rattle.edit_entries.specs.Edits as edits;
-ghost use Rattle.edit_entries.specs.Placed.{HasComma, IsNamePlaced, IsPlaced};
+ghost use Rattle.edit_entries.specs.Placed.{HasComma, IsNamePlaced, IsPlaced, IsSignPlaced};
+ghost use Rattle.edit_entries.specs.Layouts as layouts;
 ghost use Rattle.edit_entries.specs.SetTexts.{AddIsRefused, CanBeSetIn, IsSetText, SetTextIsRefused};
 ghost use Rattle.edit_entries.specs.Setting as spec;
 ghost use Rattle.edit_entries.specs.Setting.{CanBeNewName, IsAfterComma, IsFit, unfit_error, value_of};
@@ -21,6 +22,7 @@ use crate::adding::{after_comma, only_field_text};
 use crate::editing::{Edit, edited, edited_all};
 use crate::errors::EditError;
 use crate::field_value::{FieldValue, is_same_value, value_text};
+use crate::layout::new_sign;
 use crate::names::can_be_new_name;
 use crate::values::value_end;
 use bib_syntax::raw::{Pair, RawEntry, is_word};
@@ -143,19 +145,20 @@ pub(crate) fn white_before(text: &str, at: usize) -> &str
     &before[rest.len()..]
 }
 
-// Returns a new field, a comma, white space, and the name of the field that follows.
+// Returns a new field, a comma, white space, and the name of the field that follows. `sign` is the text between its name and its value.
 pub(crate) fn text_before(
     alloc: Global,
     name: &str,
+    sign: &str,
     written: &str,
     white: &str,
     following: &str,
 ) -> Result<String, AllocError>
-    ensures { IfOk result (λ text. string_bytes text ≡ (name.now ++ (codes " = " ++ written.now) ++ char.comma ∷ white.now) ++ following.now) }
+    ensures { IfOk result (λ text. string_bytes text ≡ (name.now ++ (sign.now ++ written.now) ++ char.comma ∷ white.now) ++ following.now) }
 {
     let mut text = String::new(alloc);
     text.push_str(name)?;
-    text.push_str(" = ")?;
+    text.push_str(sign)?;
     text.push_str(written)?;
     text.push_str(",")?;
     text.push_str(white)?;
@@ -182,23 +185,28 @@ pub(crate) fn new_value(
     value_text(alloc, definitions, at, value)
 }
 
-// Returns the text with a new field before the first field of an entry. `written` is its value as it is written.
+// Returns the text with a new field before these fields, of which `first` is the first. `written` is its value as it is written.
 fn with_field_before(
     alloc: Global,
     text: &str,
     first: &Pair<'_>,
+    fields: &[Pair<'_>],
     name: &str,
     value: FieldValue<'_>,
     written: &str,
 ) -> Result<String, AllocError>
     requires placed { IsNamePlaced text.now (field_of first.now) }
+    requires sign { IsSignPlaced text.now (field_of first.now) }
+    requires signs { AllByRecursion (IsSignPlaced text.now) (map field_of fields.now) }
     requires written { written.now ≡ (spec.new_value (value_of value)).bytes }
     ensures { IfOk result (λ new. string_bytes new ≡ edits.edited (name_edit (field_of first.now)
-        (field_before (spec.new_field name.now (value_of value.entry)) (spec.white_before text.now (field_of first.now).name.start))) text.now) }
+        (field_before (spec.new_field name.now (value_of value.entry)) (layouts.new_sign text.now name.now (field_of first.now) (map field_of fields.now))
+        (spec.white_before text.now (field_of first.now).name.start))) text.now) }
 {
     let start = first.key.span.start;
     let white = white_before(text, start);
-    let bytes = text_before(alloc, name, written, white, first.key.v)?;
+    let sign = new_sign(alloc, text, name, first, fields)?;
+    let bytes = text_before(alloc, name, &sign, written, white, first.key.v)?;
     edited(alloc, text, start, first.key.span.end, &bytes)
 }
 
@@ -242,7 +250,7 @@ pub(crate) fn with_field_set(
     }
     let written = new_value(alloc, definitions, entry.span.start, name, value)?;
     match fields {
-        [first, ..] => Ok(with_field_before(alloc, text, first, name, value, &written)?),
+        [first, ..] => Ok(with_field_before(alloc, text, first, fields, name, value, &written)?),
         [] => Ok(with_only_field(alloc, text, entry, name, value, &written)?),
     }
 }

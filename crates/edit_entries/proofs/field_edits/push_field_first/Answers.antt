@@ -7,6 +7,7 @@ use Rattle.bib_syntax.specs.Views.{field_of}
 use Rattle.edit_entries.specs.Changes.{field_before}
 use Rattle.edit_entries.specs.Edits.{Edit}
 use Rattle.edit_entries.specs.EditList.{edit_of}
+use Rattle.edit_entries.specs.Layouts.{new_sign}
 use Rattle.edit_entries.specs.Setting.{Value, new_field, value_of, white_before}
 use Rattle.edit_entries.proofs.FieldEditFacts.{field_first_edits}
 use Rattle.edit_entries.proofs.field_edits.push_field_first.Goals as goal
@@ -25,9 +26,15 @@ returns c =
     let before : List Edit = map edit_of c.args.edits.now.items in
     let build : List ℕ → List Edit = λ (bs : List ℕ).
     before ++ (record { start = f.name.start; end = f.name.end; bytes = bs }) ∷ [] in
-    let bytes : string_bytes c.in_ok-text_before.field-0 ≡ field_before (new_field name value) white ++ f.name.text =
+    let sign : List ℕ = new_sign text name f (map field_of fields) in
+    let signed : c.deref.result.now ≡ sign = c.deref.ensures ∙ c.in_ok-sign.ensures in
+    let bytes : string_bytes c.in_ok-text_before.field-0 ≡ field_before (new_field name value) sign white ++ f.name.text =
     c.in_ok-text_before.ensures
-    ∙ ap₂ (λ b w. (name ++ (codes " = " ++ b) ++ 44 ∷ w) ++ f.name.text) c.requires.written c.white_before-white.ensures in
-    ap (map edit_of) c.in_ok-push.ensures.items ∙ map-append edit_of c.args.edits.now.items _ ∙ ap build bytes
+    ∙ ap₂ (λ b w. (name ++ (c.deref.result.now ++ b) ++ 44 ∷ w) ++ f.name.text) c.requires.written c.white_before-white.ensures
+    ∙ ap (λ s. field_before (new_field name value) s white ++ f.name.text) signed in
+    ap (map edit_of) c.in_ok-push.ensures.items ∙ map-append edit_of c.args.edits.now.items _
+    ∙ ap build
+    (bytes
+    ∙ ap (λ fs. field_before (new_field name value) (new_sign text name f fs) white ++ f.name.text) cut)
     ∙ ap (λ es. before ++ es)
     (sym (field_first_edits text name value (map field_of fields) f (map field_of (drop 1 fields)) cut))

@@ -6,7 +6,10 @@ use Rattle.bib_syntax.specs.declared.raw.Pair.{Pair}
 use Rattle.bib_syntax.specs.Views.{entry_reading_of, field_of}
 use Rattle.edit_entries.specs.Documents.{has_name}
 use Rattle.edit_entries.specs.SetTexts.{IsSetText}
-use Rattle.edit_entries.specs.Setting.{value_of}
+use Rattle.edit_entries.specs.Changes.{field_before, name_edit}
+use Rattle.edit_entries.specs.Edits.{edited}
+use Rattle.edit_entries.specs.Layouts.{new_sign}
+use Rattle.edit_entries.specs.Setting.{new_field, value_of, white_before}
 use Rattle.edit_entries.proofs.SetFacts.{no_element, put_made}
 use Rattle.edit_entries.proofs.setting.with_field_set.Goals as goal
 
@@ -21,7 +24,14 @@ returns-in-len1-up-clause-set c =
     ap (list_any (has_name c.args.name.now)) (sym listed) ∙ sym c.has_field.ensures ∙ c.if-has_field.false in
     put_made (map field_of c.args.definitions.now) c.args.text.now (entry_reading_of c.args.entry.now) c.args.name.now
     (value_of c.args.value) (field_of first) (map field_of (drop 1 fields)) (string_bytes c.in_ok-with_field_before-in-len1-up.field-0)
-    none (sym listed ∙ cut) c.in_ok-with_field_before-in-len1-up.ensures c.in_ok-written.ensures.name c.in_ok-written.ensures.value
+    none (sym listed ∙ cut)
+    (c.in_ok-with_field_before-in-len1-up.ensures
+    ∙ ap
+    (λ fs.
+    edited
+    (name_edit (field_of first) (field_before (new_field c.args.name.now (value_of c.args.value))
+    (new_sign c.args.text.now c.args.name.now (field_of first) fs) (white_before c.args.text.now (field_of first).name.start)))
+    c.args.text.now) cut) c.in_ok-written.ensures.name c.in_ok-written.ensures.value
 
 pub returns-clause-set : goal.returns-clause-set
 returns-clause-set c =

@@ -1,0 +1,59 @@
+-- The text between the name and the value of a new field is an equals sign with white space around it.
+use Rattle.std.proofs.Common.{◌≡◌, ℕ, ◌<◌, Bool, true, false, cond, List, [], ◌∷◌, ◌++◌, codes, refl, sym, subst, arith}
+use Rattle.std.specs.Prelude.{◌&&◌, ◌==◌, ◌||◌, max, ◌-◌, length}
+use Rattle.std.specs.Char.{is_whitespace}
+use Rattle.std.specs.List.{list_all}
+use Rattle.std.proofs.lemmas.Bool.Decides.{nat_tests}
+use Rattle.bib_syntax.specs.Reading.{FieldReading}
+use Rattle.edit_entries.specs.Layouts.{after_sign, are_aligned, before_sign, is_blank_byte, new_sign, padding, sign_column}
+use Rattle.edit_entries.proofs.NewFieldFacts.{IsSign, usual_sign}
+use Rattle.edit_entries.proofs.StandsFacts.{AreWhite, spaces_white}
+
+both : (a b : Bool) → (a && b) ≡ true → (a ≡ true) × (b ≡ true)
+both true b is = (refl, is)
+both false b is = absurd (cc)
+
+blank_white : (b : ℕ) → is_blank_byte b ≡ true → (b < 128) × (is_whitespace b ≡ true)
+blank_white b blank = by_case (b == 32) (b == 9) refl refl blank
+  where
+    by_case : (s t : Bool) → (b == 32) ≡ s → (b == 9) ≡ t → (s || t) ≡ true → (b < 128) × (is_whitespace b ≡ true)
+    by_case true t is tab some =
+        let same : b ≡ 32 = grind (arith, nat_tests) in
+        (omega (arith, same), subst (λ x. is_whitespace x ≡ true) (sym same) refl)
+    by_case false true is tab some =
+        let same : b ≡ 9 = grind (arith, nat_tests) in
+        (omega (arith, same), subst (λ x. is_whitespace x ≡ true) (sym same) refl)
+    by_case false false is tab some = absurd (cc)
+
+blanks_white : (bytes : List ℕ) → list_all is_blank_byte bytes ≡ true → AreWhite bytes
+blanks_white [] all = tt
+blanks_white (b ∷ bs) all =
+    let parts = both (is_blank_byte b) (list_all is_blank_byte bs) all in
+    (blank_white b parts.0, blanks_white bs parts.1)
+
+pub new_sign_is : (text name : List ℕ) (first : FieldReading) (fields : List FieldReading) → IsSign (new_sign text name first fields)
+new_sign_is text name first fields =
+    by_case (list_all is_blank_byte (before_sign text first) && list_all is_blank_byte (after_sign text first)) refl
+  where
+    column : ℕ
+    column = sign_column text first
+
+    aligned : (b : Bool) → AreWhite (before_sign text first) → AreWhite (cond b (padding column name) (before_sign text first))
+    aligned true white = spaces_white (max 1 (column - length name))
+    aligned false white = white
+
+    by_case : (b : Bool) → (list_all is_blank_byte (before_sign text first) && list_all is_blank_byte (after_sign text first)) ≡ b
+        → IsSign
+        (cond b
+        (cond (are_aligned text column fields) (padding column name) (before_sign text first) ++ 61 ∷ after_sign text first)
+        (codes " = "))
+    by_case false is = usual_sign
+    by_case true is =
+        let parts = both (list_all is_blank_byte (before_sign text first)) (list_all is_blank_byte (after_sign text first)) is in
+        record {
+          before = cond (are_aligned text column fields) (padding column name) (before_sign text first);
+          after = after_sign text first;
+          is = refl;
+          white = aligned (are_aligned text column fields) (blanks_white (before_sign text first) parts.0);
+          white' = blanks_white (after_sign text first) parts.1;
+        }

@@ -1,0 +1,50 @@
+-- Meaning: words of public contracts.
+-- The text between the name and the value of a new field: as in the other fields of its entry.
+use Rattle.std.specs.Prelude.{◌==◌, ◌&&◌, ◌||◌, ℕ, ◌+◌, ◌-◌, max, Bool, if◌then◌else◌, List, [], ◌∷◌, ◌++◌, codes, length, nat_lt, replicate}
+use Rattle.std.specs.List.{after_first, before_first, list_all, list_any}
+use Rattle.bib_text.specs.Characters as char
+use Rattle.bib_text.specs.Places.{between, place}
+use Rattle.bib_syntax.specs.Reading.{FieldReading}
+use lib.Dec.{eqb}
+
+-- the text between a field's name and its value
+abbrev pub sign_text : List ℕ → FieldReading → List ℕ
+sign_text text f = between (place text f.name.end) (place text f.value.start)
+
+-- the white space before and after the equals sign of a field
+abbrev pub before_sign : List ℕ → FieldReading → List ℕ
+before_sign text f = before_first (λ b. eqb b char.equals) (sign_text text f)
+
+abbrev pub after_sign : List ℕ → FieldReading → List ℕ
+after_sign text f = after_first (λ b. eqb b char.equals) (sign_text text f)
+
+-- whether a byte is a space or a tab
+abbrev pub is_blank_byte : ℕ → Bool
+is_blank_byte b = b == char.space || b == 9
+
+-- the bytes from the start of a field's name to its equals sign
+abbrev pub sign_column : List ℕ → FieldReading → ℕ
+sign_column text f = length f.name.text + length (before_sign text f)
+
+-- whether the equals signs of fields are in one column: each is this far from the start of its name, and one has more than one byte of
+-- white space before it
+abbrev pub are_aligned : List ℕ → ℕ → List FieldReading → Bool
+are_aligned text column fields =
+    list_all (λ f. sign_column text f == column) fields && list_any (λ f. nat_lt 1 (length (before_sign text f))) fields
+
+-- spaces from the end of a name to a column, at least one
+abbrev pub padding : ℕ → List ℕ → List ℕ
+padding column name = replicate (max 1 (column - length name)) char.space
+
+-- the white space before the equals sign of a new field: up to the column of the others if they are aligned, or else that of the first
+abbrev pub new_before_sign : List ℕ → List ℕ → FieldReading → List FieldReading → List ℕ
+new_before_sign text name first fields =
+    if are_aligned text (sign_column text first) fields then padding (sign_column text first) name else before_sign text first
+
+-- the text between the name and the value of a new field before these, of which this is the first: as in the first one, if that has
+-- only spaces and tabs there
+abbrev pub new_sign : List ℕ → List ℕ → FieldReading → List FieldReading → List ℕ
+new_sign text name first fields =
+    if list_all is_blank_byte (before_sign text first) && list_all is_blank_byte (after_sign text first)
+    then new_before_sign text name first fields ++ char.equals ∷ after_sign text first
+    else codes " = "
