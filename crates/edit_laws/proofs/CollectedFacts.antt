@@ -1,13 +1,14 @@
 -- Texts that are replaced by abbreviations: each field of the new file means the same.
-use Rattle.std.proofs.Common.{◌≡◌, ◌⊎◌, ℕ, zero, suc, ◌+◌, ◌<◌, List, [], ◌∷◌, ◌++◌, Bool, true, false, cond, filter, length, map, reverse, refl, sym, ap, ◌∙◌, subst, arith, inl, inr, Some, None, Option, option_map}
+use Rattle.std.proofs.Common.{◌≡◌, ◌⊎◌, ℕ, ◌+◌, List, [], ◌∷◌, ◌++◌, Bool, true, false, cond, filter, length, reverse, refl, sym, ap, ◌∙◌, subst, arith, inl, inr, Some, None, Option, option_map}
 use Rattle.std.specs.Prelude.{◌==◌, ◌&&◌, ◌||◌, ◌≤◌, bytes_eq, count_by, find, is_some, not, slice_index_or}
-use Rattle.std.specs.List.{AllByRecursion, AllZip, flat_map, list_any}
+use Rattle.std.specs.List.{AllByRecursion, AllZip, flat_map}
 use Rattle.std.specs.Option.{option_map_or, option_or}
 use Rattle.std.specs.Str.{chars, str_to_ascii_lowercase}
 use Rattle.std.proofs.lemmas.Bool.{both_ways}
 use Rattle.std.proofs.lemmas.Bool.Decides.{nat_tests}
 use Rattle.std.proofs.lemmas.List.{append-nil, append_assoc, reverse-append}
 use Rattle.std.proofs.lemmas.List.Folds.{find-append, list_any-append}
+use Rattle.std.proofs.lemmas.List.Sums.{sum_by-append}
 use Rattle.std.proofs.lemmas.Slice.Eq.{bytes_eq-Decides}
 use Rattle.bib_abbreviations.specs.Abbreviations.{Definitions, Evaluates, HoldsName, HoldsText, IsKnown, IsReadable, Reaches}
 use Rattle.bib_abbreviations.specs.Abbreviations.{Evaluates as evaluates, Reaches as reaches}
@@ -153,7 +154,7 @@ module _ (says : FileReading) where
 
   data In (f : FieldReading) : List FieldReading → Type 0 where
     here : {fs : List FieldReading} → In f (f ∷ fs)
-    later : {g : FieldReading} {fs : List FieldReading} → In f fs → In f (g ∷ fs)
+    further : {g : FieldReading} {fs : List FieldReading} → In f fs → In f (g ∷ fs)
 
   found_in : (test : FieldReading → Bool) (fs : List FieldReading) (f : FieldReading) → find test fs ≡ Some f → In f fs
   found_in test [] f is = cc
@@ -161,43 +162,52 @@ module _ (says : FileReading) where
     where
       by_case : (b : Bool) → (find test fs ≡ Some f → In f fs) → cond b (Some g) (find test fs) ≡ Some f → In f (g ∷ fs)
       by_case true rest found = subst (λ x. In x (g ∷ fs)) (some_same found) In.here
-      by_case false rest found = In.later (rest found)
+      by_case false rest found = In.further (rest found)
+
+  abbrev counts : Bool → ℕ
+  counts b = cond b 1 0
+
+  count_more : (p : FieldReading → Bool) (g : FieldReading) (fs : List FieldReading) (b : Bool) → p g ≡ b
+      → count_by p (g ∷ fs) ≡ counts b + count_by p fs
+  count_more p g fs b is =
+      let parted : count_by p (g ∷ fs) ≡ (0 + counts (p g)) + count_by p fs = sum_by-append (λ x. counts (p x)) (g ∷ []) fs in
+      let first : counts (p g) ≡ counts b = ap counts is in
+      omega (arith, parted, first)
 
   none_counted : (p q : FieldReading → Bool) → ((g : FieldReading) → q g ≡ true → p g ≡ true) → (fs : List FieldReading)
       → count_by p fs ≡ 0 → find q (reverse fs) ≡ None
   none_counted p q implies [] none = refl
-  none_counted p q implies (g ∷ fs) none = by_case (p g) (q g) refl refl none
+  none_counted p q implies (g ∷ fs) none =
+      by_case (p g) (q g) refl refl (λ less. none_counted p q implies fs less)
     where
-      by_case : (b c : Bool) → p g ≡ b → q g ≡ c → cond b 1 0 + count_by p fs ≡ 0 → find q (reverse (g ∷ fs)) ≡ None
-      by_case true c passes tests none' = absurd (omega (arith, none'))
-      by_case false true passes tests none' = absurd (both_ways _ passes (implies g tests))
-      by_case false false passes tests none' =
+      by_case : (b c : Bool) → p g ≡ b → q g ≡ c → (count_by p fs ≡ 0 → find q (reverse fs) ≡ None) → find q (reverse (g ∷ fs)) ≡ None
+      by_case true c passes tests rest = absurd (omega (arith, none, count_more p g fs true passes))
+      by_case false true passes tests rest = absurd (both_ways _ passes (implies g tests))
+      by_case false false passes tests rest =
           ap (find q) (reverse-append (g ∷ []) fs) ∙ find-append q (reverse fs) (g ∷ [])
-          ∙ ap (λ o. option_or o (cond (q g) (Some g) None)) (none_counted p q implies fs none')
+          ∙ ap (λ o. option_or o (cond (q g) (Some g) None)) (rest (omega (arith, none, count_more p g fs false passes)))
           ∙ ap (λ c. cond c (Some g) None) tests
 
   some_counted : (p : FieldReading → Bool) (fs : List FieldReading) (f : FieldReading) → In f fs → p f ≡ true → 1 ≤ count_by p fs
-  some_counted p (f ∷ fs) f In.here passes = omega (arith, ap (λ b. cond b 1 0) passes)
-  some_counted p (g ∷ fs) f (In.later there) passes = omega (arith, some_counted p fs f there passes)
+  some_counted p [] f there passes = elim there [ ]
+  some_counted p (_ ∷ fs) f In.here passes = omega (arith, count_more p f fs true passes)
+  some_counted p (g ∷ fs) f (In.further there) passes =
+      omega (arith, some_counted p fs f there passes, count_more p g fs (p g) refl)
 
   -- the last element that passes a test is the only one that passes a weaker test
   only_last : (p q : FieldReading → Bool) → ((g : FieldReading) → q g ≡ true → p g ≡ true) → (fs : List FieldReading) (f : FieldReading)
       → count_by p fs ≡ 1 → In f fs → q f ≡ true → find q (reverse fs) ≡ Some f
-  only_last p q implies (f ∷ fs) f one In.here tests =
-      let passes : p f ≡ true = implies f tests in
-      let rest : count_by p fs ≡ 0 = omega (arith, one, ap (λ b. cond b 1 0) passes) in
+  only_last p q implies [] f one there tests = elim there [ ]
+  only_last p q implies (_ ∷ fs) f one In.here tests =
+      let rest : count_by p fs ≡ 0 = omega (arith, one, count_more p f fs true (implies f tests)) in
       ap (find q) (reverse-append (f ∷ []) fs) ∙ find-append q (reverse fs) (f ∷ [])
       ∙ ap (λ o. option_or o (cond (q f) (Some f) None)) (none_counted p q implies fs rest)
       ∙ ap (λ c. cond c (Some f) None) tests
-  only_last p q implies (g ∷ fs) f one (In.later there) tests =
+  only_last p q implies (g ∷ fs) f one (In.further there) tests =
       let some = some_counted p fs f there (implies f tests) in
-      let rest : count_by p fs ≡ 1 = by_first (p g) refl one some in
+      let rest : count_by p fs ≡ 1 = omega (arith, one, some, count_more p g fs (p g) refl) in
       ap (find q) (reverse-append (g ∷ []) fs) ∙ find-append q (reverse fs) (g ∷ [])
       ∙ ap (λ o. option_or o (cond (q g) (Some g) None)) (only_last p q implies fs f rest there tests)
-    where
-      by_first : (b : Bool) → p g ≡ b → cond b 1 0 + count_by p fs ≡ 1 → 1 ≤ count_by p fs → count_by p fs ≡ 1
-      by_first true passes all some = absurd (omega (arith, all, some))
-      by_first false passes all some = omega (arith, all)
 
   -- the pieces of a known name's definition
   record IsLiteral (pieces : List Piece) (text : List ℕ) : Type 0 where
@@ -390,23 +400,23 @@ module _ (says : FileReading) where
 
     -- ---- values of which no name changes
 
-    AllInFile : List Piece → Type 0
+    abbrev pub AllInFile : List Piece → Type 0
     AllInFile ps = (name : List ℕ) → HoldsName ps name → InFile name
 
     module _ (closed : (name : List ℕ) (definition : List Piece) → old name ≡ Some definition → AllInFile definition) where
-      rest_in : {p : Piece} {ps : List Piece} → AllInFile (p ∷ ps) → AllInFile ps
-      rest_in {p = literal p} all name held = all name held
-      rest_in {p = abbreviation p} all name held = all name (inr held)
+      rest_in : (p : Piece) (ps : List Piece) → AllInFile (p ∷ ps) → AllInFile ps
+      rest_in (literal p) ps all name held = all name held
+      rest_in (abbreviation p) ps all name held = all name (inr held)
 
       stays_value : {is_verbatim : Bool} {ps : List Piece} {atoms : List Atom} → AllInFile ps → Evaluates old is_verbatim ps atoms
           → Evaluates new is_verbatim ps atoms
       stays_value all evaluates.none = evaluates.none
-      stays_value all (evaluates.text x more) = evaluates.text x (stays_value (rest_in all) more)
-      stays_value all (evaluates.defined {p = p} {definition = definition} d x more) =
+      stays_value all (evaluates.text {p = p} {rest = rest} x more) = evaluates.text x (stays_value (rest_in (literal p) rest all) more)
+      stays_value all (evaluates.defined {p = p} {rest = rest} {definition = definition} d x more) =
           evaluates.defined (same_in_file p.text (all p.text (inl refl)) ∙ d) (stays_value (closed p.text definition d) x)
-          (stays_value (rest_in all) more)
-      stays_value all (evaluates.month_name {p = p} d m more) =
-          evaluates.month_name (same_in_file p.text (all p.text (inl refl)) ∙ d) m (stays_value (rest_in all) more)
+          (stays_value (rest_in (abbreviation p) rest all) more)
+      stays_value all (evaluates.month_name {p = p} {rest = rest} d m more) =
+          evaluates.month_name (same_in_file p.text (all p.text (inl refl)) ∙ d) m (stays_value (rest_in (abbreviation p) rest all) more)
 
       -- pieces reach the same names, all of which are in the file
       reached_in : {ps : List Piece} {name : List ℕ} → AllInFile ps → Reaches old ps name → InFile name

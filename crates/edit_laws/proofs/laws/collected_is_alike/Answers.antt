@@ -1,4 +1,4 @@
-use Rattle.std.proofs.Common.{sym, subst}
+use Rattle.std.proofs.Common.{subst}
 use Rattle.bib_syntax.proofs.FileFacts.{file_same}
 use Rattle.bib_syntax.proofs.ModeFacts.{file_any}
 use Rattle.biblatex.specs.Headline.{IsErrorOf}
