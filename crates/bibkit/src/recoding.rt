@@ -38,7 +38,7 @@ fn encoding_of(
     }
 }
 
-// Returns the message for an error of decoding a file, or fails if out of memory.
+// Returns the message for an error of decoding a file.
 fn decode_line(alloc: Global, name: &str, error: DecodeError) -> Result<String, AllocError> {
     match error {
         DecodeError::NotUtf8 { at } => {
@@ -50,7 +50,15 @@ fn decode_line(alloc: Global, name: &str, error: DecodeError) -> Result<String, 
         DecodeError::OddByte { at } => {
             format!(in alloc; "bibkit: {name}: not UTF-16: only one byte at byte {at}\n")
         }
+        DecodeError::OutOfMemory => format!(in alloc; "bibkit: out of memory\n"),
+    }
+}
+
+// Returns `AllocError` for out of memory, and `Ok` with any other error.
+fn unless_out_of_memory(error: DecodeError) -> Result<DecodeError, AllocError> {
+    match error {
         DecodeError::OutOfMemory => Err(AllocError),
+        error => Ok(error),
     }
 }
 
@@ -58,7 +66,10 @@ fn decode_line(alloc: Global, name: &str, error: DecodeError) -> Result<String, 
 fn decoded(alloc: Global, name: &str, bytes: &[u8], encoding: Encoding) -> Result<String, Stop> {
     match decode(alloc, bytes, encoding) {
         Ok(text) => Ok(text),
-        Err(error) => Err(Stop::Said(decode_line(alloc, name, error)?, 1)),
+        Err(error) => {
+            let error = unless_out_of_memory(error)?;
+            Err(Stop::Said(decode_line(alloc, name, error)?, 1))
+        }
     }
 }
 

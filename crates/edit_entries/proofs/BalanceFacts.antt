@@ -138,7 +138,8 @@ opened_each : (text : List ℕ) (n m : ℕ) → closes_opened n text ≡ true �
 opened_each text n zero is within = omega arith
 opened_each text zero (suc m) is within = absurd (omega (arith, within))
 opened_each text (suc n) (suc m) is within =
-    let parts = both_true (not (nat_lt (byte_count 123 (take (suc n) text)) (byte_count 125 (take (suc n) text)))) (closes_opened n text) is in
+    let parts =
+    both_true (not (nat_lt (byte_count 123 (take (suc n) text)) (byte_count 125 (take (suc n) text)))) (closes_opened n text) is in
     let first = parts.0 in
     let last : byte_count 125 (take (suc n) text) ≤ byte_count 123 (take (suc n) text) = grind (arith, nat_tests, first) in
     elim (at_or_before (suc m) n (omega (arith, within))) [
@@ -159,7 +160,8 @@ each_opened text (suc n) each =
 pub balanced_test : (text : List ℕ) → IsBalanced text → is_balanced text ≡ true
 balanced_test text balanced =
     let closed = balanced.closed in
-    and_true (closes_opened (length text) text) (byte_count 123 text == byte_count 125 text) (each_opened text (length text) balanced.closes)
+    and_true (closes_opened (length text) text) (byte_count 123 text == byte_count 125 text)
+    (each_opened text (length text) balanced.closes)
     (grind (arith, nat_tests, closed))
 
 pub test_balanced : (text : List ℕ) → is_balanced text ≡ true → IsBalanced text

@@ -58,7 +58,8 @@ pieces_moved move [] = refl
 pieces_moved move (literal p ∷ ps) = ap (λ b. is_unbalanced (literal p) || b) (pieces_moved move ps)
 pieces_moved move (abbreviation p ∷ ps) = pieces_moved move ps
 
-unbalanced_moved : (move : ℕ → ℕ) (fs : List FieldReading) → list_any has_unbalanced (map (moved_field move) fs) ≡ list_any has_unbalanced fs
+unbalanced_moved : (move : ℕ → ℕ) (fs : List FieldReading)
+    → list_any has_unbalanced (map (moved_field move) fs) ≡ list_any has_unbalanced fs
 unbalanced_moved move [] = refl
 unbalanced_moved move (f ∷ fs) =
     ap (λ b. b || list_any has_unbalanced (map (moved_field move) fs)) (pieces_moved move f.value.pieces)
@@ -426,4 +427,5 @@ entry_read line_end style text {a} {b} {u} {v} {e} ends same x s = by_comment (i
         let in_its_order : entry_in_order style text e ≡ ordered style e = ap (λ c. cond c e (ordered style e)) is in
         subst (λ r. EntryRead line_end style (entry_in_style line_end style text e) r u v) (sym in_its_order)
         (subst (λ t. EntryRead line_end style t (ordered style e) u v) (sym laid_out)
-        (laid_out_read line_end style ends (second_false (has_comment text e) (list_any has_unbalanced e.fields) is) x (subst (λ t. Stands u t v) laid_out s)))
+        (laid_out_read line_end style ends (second_false (has_comment text e) (list_any has_unbalanced e.fields) is) x
+        (subst (λ t. Stands u t v) laid_out s)))

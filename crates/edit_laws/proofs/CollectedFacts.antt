@@ -118,7 +118,10 @@ record IsNew (says : FileReading) (earlier : List (List ℕ)) (name : List ℕ) 
 is_new : (says : FileReading) (earlier : List (List ℕ)) (name : List ℕ) → is_new_name says earlier name ≡ true → IsNew says earlier name
 is_new says earlier name new =
     let free = right_false (is_month name) _ (not_true _ new) in
-    record { no_earlier = left_false (is_one_in_any_case earlier name) _ free; no_other = right_false (is_one_in_any_case earlier name) _ free }
+    record {
+      no_earlier = left_false (is_one_in_any_case earlier name) _ free;
+      no_other = right_false (is_one_in_any_case earlier name) _ free;
+    }
 
 module _ (says : FileReading) where
   abbrev InFile : List ℕ → Type 0
@@ -352,7 +355,8 @@ module _ (says : FileReading) where
     abbrev new : Definitions
     new = definition_in all_definitions
 
-    found_new : (name : List ℕ) → new name ≡ option_or (option_or (definition_in other name) (definition_in added name)) (definition_in one name)
+    found_new : (name : List ℕ)
+        → new name ≡ option_or (option_or (definition_in other name) (definition_in added name)) (definition_in one name)
     found_new name =
         defined_append one (added ++ other) name
         ∙ ap (λ o. option_or o (definition_in one name)) (defined_append added other name)
@@ -375,7 +379,9 @@ module _ (says : FileReading) where
         (sym (found_old name)
         ∙ absent says.abbreviations name
         (left_false (is_one_in_any_case (definition_names says.abbreviations) name) _
-        (sym (list_any-append (λ o. is_word o name) (definition_names says.abbreviations) (flat_map (λ e. used_names e.fields) says.entries))
+        (sym
+        (list_any-append (λ o. is_word o name) (definition_names says.abbreviations)
+        (flat_map (λ e. used_names e.fields) says.entries))
         ∙ fresh)))
       where
         first_none : {A : Type 0} (o p : Option A) → option_or o p ≡ None → o ≡ None
@@ -632,5 +638,7 @@ files_collected d read fields least text made =
     (entries_mean d.says made.texts made.names made.named one other (definitions_parted d read) (definitions_closed d.says) fields
     d.says.entries
     (entries_in d.says d.says.entries
-    (λ name listed. right_listed d.says (definition_names d.says.abbreviations) (flat_map (λ e. used_names e.fields) d.says.entries) name listed)))
+    (λ name listed.
+    right_listed d.says (definition_names d.says.abbreviations) (flat_map (λ e. used_names e.fields) d.says.entries) name
+    listed)))
     made.read.alike

@@ -218,7 +218,9 @@ module _ (one other : Definitions) where
   fields_faultless [] (g ∷ gs) are read error = absurd are
   fields_faultless (f ∷ fs) [] are read error = absurd are
   fields_faultless (f ∷ fs) (g ∷ gs) are read (IsFirstErrorOfFields.here error unread) =
-      unread (subst (λ name. IsReadable other (is_verbatim_field name) g.value.pieces) are.0.name (are.0.means.readable (is_verbatim_field (name_of f)) read.0))
+      unread
+      (subst (λ name. IsReadable other (is_verbatim_field name) g.value.pieces) are.0.name
+      (are.0.means.readable (is_verbatim_field (name_of f)) read.0))
   fields_faultless (f ∷ fs) (g ∷ gs) are read (IsFirstErrorOfFields.following also error) = fields_faultless fs gs are.1 read.1 error
 
   -- entries that are alike to accepted ones have no error
@@ -270,7 +272,8 @@ module _ {says tells : FileReading} (are : AreAlikeFiles says tells) where
   module _ (own others : List Entry) (first : AreOwn says own) (second : AreOwn tells others) where
     own_alike : AllZip AreAlikeOwn own others
     own_alike =
-        all_alike (definition_in says.abbreviations) (definition_in tells.abbreviations) [] says.entries tells.entries are.entries first second
+        all_alike (definition_in says.abbreviations) (definition_in tells.abbreviations) [] says.entries tells.entries
+        are.entries first second
 
     names_alike : names_of own ≡ names_of others
     names_alike = names_zip empty_bibliography empty_bibliography own others refl refl own_alike
