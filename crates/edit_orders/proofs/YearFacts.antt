@@ -89,7 +89,8 @@ year_before text before digits k is hyphen some same =
 
 -- the year of a text with some digits, not only after a hyphen
 pub year_after : (text before digits : List ℕ) (k : ℕ) → year_by_digits text ≡ counted (bytes_eq before (codes "-")) digits
-    → bytes_eq before (codes "-") ≡ false → 0 < length digits → k ≡ min (digits_value 10 digits) most → Some (most + k) ≡ year_by_digits text
+    → bytes_eq before (codes "-") ≡ false → 0 < length digits → k ≡ min (digits_value 10 digits) most
+    → Some (most + k) ≡ year_by_digits text
 year_after text before digits k is other some same =
     sym (is ∙ ap (λ b. counted b digits) other ∙ counted_some false digits some ∙ ap (λ m. Some (most + m)) (sym same))
 
