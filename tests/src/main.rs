@@ -22,6 +22,7 @@ mod imports;
 mod items;
 mod keys;
 mod orders;
+mod recodings;
 mod resolutions;
 mod selections;
 mod sortings;
@@ -51,6 +52,7 @@ fn rows(alloc: Global, layer: &str, input: &str) -> Result<String, AllocError> {
         "items" => answered::<items::CslItems>(alloc, input),
         "orders" => answered::<orders::Orders>(alloc, input),
         "keys" => answered::<keys::Keys>(alloc, input),
+        "recodings" => answered::<recodings::Recodings>(alloc, input),
         "resolutions" => answered::<resolutions::Resolutions>(alloc, input),
         "selections" => answered::<selections::Selections>(alloc, input),
         "sortings" => answered::<sortings::Sortings>(alloc, input),

@@ -8,17 +8,18 @@ use Rattle.std.proofs.lemmas.List.{length-take-le, take-append-drop}
 use Rattle.std.proofs.lemmas.Bool.{cases_Bool, true≢false}
 use Rattle.std.proofs.lemmas.Bool.Decides.{nat_tests}
 use Rattle.std.proofs.Common.{inl, inr, Option}
-use Rattle.bib_recode.specs.Units.{begins_unpaired, character_len, is_pair, is_surrogate}
+use Rattle.bib_recode.specs.Units.{begins_unpaired, character_len, is_surrogate_pair, is_surrogate}
 
 is_lone : (u : ℕ) → not (is_some (lone_unit_char u)) ≡ is_surrogate u
 is_lone u = grind (arith, nat_tests)
 
-chars_pair : (u v : ℕ) (us : List ℕ) → is_pair u v ≡ true → utf16_chars (u ∷ v ∷ us) ≡ Some (surrogate_pair_char u v) ∷ utf16_chars us
+chars_pair : (u v : ℕ) (us : List ℕ) → is_surrogate_pair u v ≡ true
+    → utf16_chars (u ∷ v ∷ us) ≡ Some (surrogate_pair_char u v) ∷ utf16_chars us
 unfolding utf16_chars
 chars_pair u v us is =
     ap (λ b. cond b (Some (surrogate_pair_char u v) ∷ utf16_chars us) (lone_unit_char u ∷ utf16_chars (v ∷ us))) is
 
-chars_lone : (u v : ℕ) (us : List ℕ) → is_pair u v ≡ false → utf16_chars (u ∷ v ∷ us) ≡ lone_unit_char u ∷ utf16_chars (v ∷ us)
+chars_lone : (u v : ℕ) (us : List ℕ) → is_surrogate_pair u v ≡ false → utf16_chars (u ∷ v ∷ us) ≡ lone_unit_char u ∷ utf16_chars (v ∷ us)
 unfolding utf16_chars
 chars_lone u v us is =
     ap (λ b. cond b (Some (surrogate_pair_char u v) ∷ utf16_chars us) (lone_unit_char u ∷ utf16_chars (v ∷ us))) is
@@ -35,10 +36,10 @@ has_one : (u : ℕ) → has_unpaired_surrogate (u ∷ []) ≡ is_surrogate u
 unfolding utf16_chars
 has_one u = or_false (not (is_some (lone_unit_char u))) ∙ is_lone u
 
-has_pair : (u v : ℕ) (us : List ℕ) → is_pair u v ≡ true → has_unpaired_surrogate (u ∷ v ∷ us) ≡ has_unpaired_surrogate us
+has_pair : (u v : ℕ) (us : List ℕ) → is_surrogate_pair u v ≡ true → has_unpaired_surrogate (u ∷ v ∷ us) ≡ has_unpaired_surrogate us
 has_pair u v us is = ap (list_any (λ (o : Option ℕ). not (is_some o))) (chars_pair u v us is)
 
-has_lone : (u v : ℕ) (us : List ℕ) → is_pair u v ≡ false
+has_lone : (u v : ℕ) (us : List ℕ) → is_surrogate_pair u v ≡ false
     → has_unpaired_surrogate (u ∷ v ∷ us) ≡ (is_surrogate u || has_unpaired_surrogate (v ∷ us))
 has_lone u v us is =
     ap (list_any (λ (o : Option ℕ). not (is_some o))) (chars_lone u v us is)
@@ -56,7 +57,7 @@ second_false : (a b : Bool) → (a || b) ≡ false → b ≡ false
 second_false true b h = absurd (true≢false h)
 second_false false b h = h
 
-no_pair : (u v : ℕ) → is_surrogate u ≡ false → is_pair u v ≡ false
+no_pair : (u v : ℕ) → is_surrogate u ≡ false → is_surrogate_pair u v ≡ false
 no_pair u v h = left_false (is_high_surrogate u) (is_low_surrogate u) (is_low_surrogate v) h
 
 -- after units that spell characters, only the units after them count
@@ -67,7 +68,7 @@ complete (u ∷ []) (y ∷ ys) h =
     let plain = sym (has_one u) ∙ h in
     has_lone u y ys (no_pair u y plain) ∙ ap (λ b. b || has_unpaired_surrogate (y ∷ ys)) plain
 complete (u ∷ v ∷ us) ys h =
-    elim (cases_Bool (is_pair u v)) [
+    elim (cases_Bool (is_surrogate_pair u v)) [
       | inl pair ↦
           has_pair u v (us ++ ys) pair ∙ complete us ys (sym (has_pair u v us pair) ∙ h)
       | inr lone ↦
@@ -86,17 +87,18 @@ step : (xs : List ℕ) → begins_unpaired xs ≡ false → has_unpaired_surroga
 step [] h = has_none
 step (u ∷ []) h = has_one u ∙ h
 step (u ∷ v ∷ us) h =
-    elim (cases_Bool (is_pair u v)) [
+    elim (cases_Bool (is_surrogate_pair u v)) [
       | inl pair ↦
           ap (λ b. has_unpaired_surrogate (take (cond b 2 1) (u ∷ v ∷ us))) pair ∙ has_pair u v [] pair ∙ has_none
       | inr lone ↦
-          ap (λ b. has_unpaired_surrogate (take (cond b 2 1) (u ∷ v ∷ us))) lone ∙ has_one u ∙ and_true (is_surrogate u) (is_pair u v) lone h
+          ap (λ b. has_unpaired_surrogate (take (cond b 2 1) (u ∷ v ∷ us))) lone ∙ has_one u
+          ∙ and_true (is_surrogate u) (is_surrogate_pair u v) lone h
     ]
 
 len_within : (xs : List ℕ) → 0 < length xs → character_len xs ≤ length xs
 len_within [] p = absurd (omega arith)
 len_within (u ∷ []) p = omega arith
-len_within (u ∷ v ∷ us) p = both (is_pair u v)
+len_within (u ∷ v ∷ us) p = both (is_surrogate_pair u v)
   where
     both : (b : Bool) → cond b 2 1 ≤ length (u ∷ v ∷ us)
     both true = omega arith
@@ -106,7 +108,7 @@ len_within (u ∷ v ∷ us) p = both (is_pair u v)
 pub len_some : (xs : List ℕ) → 1 ≤ character_len xs
 len_some [] = omega arith
 len_some (u ∷ []) = omega arith
-len_some (u ∷ v ∷ us) = both (is_pair u v)
+len_some (u ∷ v ∷ us) = both (is_surrogate_pair u v)
   where
     both : (b : Bool) → 1 ≤ cond b 2 1
     both true = omega arith

@@ -4,7 +4,7 @@ use Rattle.std.specs.Prelude.{◌≡◌, ◌+◌, ◌*◌, ◌%◌, ⊤, ℕ, Bo
 use Rattle.std.specs.Str.{IsUtf8}
 use Rattle.std.specs.String.{IsUtf16Of}
 use Rattle.bib_source.specs.Encoding.{IsFirstInvalid, windows_1252_text}
-use Rattle.bib_recode.specs.Encodings.{after_mark, mark_length}
+use Rattle.bib_recode.specs.Encodings.{after_mark, length_of_mark}
 use Rattle.bib_recode.specs.Units.{IsFirstUnpaired, units_of}
 use Rattle.bib_recode.specs.declared.decoding.DecodeError.{DecodeError}
 use Rattle.bib_recode.specs.declared.decoding.DecodeError.TheVariants.{NotUtf8, UnpairedSurrogate, OddByte, OutOfMemory}
@@ -59,7 +59,7 @@ IsUtf8Refused bytes OutOfMemory = ⊤
 abbrev pub IsRefused : Encoding → List ℕ → DecodeError → Type 0
 IsRefused Utf8 bytes why = IsUtf8Refused bytes why
 IsRefused Utf16LittleEndian bytes why =
-    IsUtf16Refused false (mark_length Utf16LittleEndian bytes) (after_mark Utf16LittleEndian bytes) why
-IsRefused Utf16BigEndian bytes why = IsUtf16Refused true (mark_length Utf16BigEndian bytes) (after_mark Utf16BigEndian bytes) why
+    IsUtf16Refused false (length_of_mark Utf16LittleEndian bytes) (after_mark Utf16LittleEndian bytes) why
+IsRefused Utf16BigEndian bytes why = IsUtf16Refused true (length_of_mark Utf16BigEndian bytes) (after_mark Utf16BigEndian bytes) why
 IsRefused Windows1252 bytes why = why ≡ OutOfMemory
 IsRefused Latin1 bytes why = why ≡ OutOfMemory

@@ -30,20 +30,20 @@ abbrev pub big_endian_mark : List ℕ
 big_endian_mark = 0xFE ∷ 0xFF ∷ []
 
 -- the byte order mark in an encoding, or no bytes if it has none
-abbrev pub mark_of : Encoding → List ℕ
-mark_of Utf8 = byte_order_mark
-mark_of Utf16LittleEndian = little_endian_mark
-mark_of Utf16BigEndian = big_endian_mark
-mark_of Windows1252 = []
-mark_of Latin1 = []
+abbrev pub encoding_mark : Encoding → List ℕ
+encoding_mark Utf8 = byte_order_mark
+encoding_mark Utf16LittleEndian = little_endian_mark
+encoding_mark Utf16BigEndian = big_endian_mark
+encoding_mark Windows1252 = []
+encoding_mark Latin1 = []
 
 -- the length in bytes of the byte order mark at the start of a file in an encoding; 0 if it has none
-abbrev pub mark_length : Encoding → List ℕ → ℕ
-mark_length encoding bytes = if starts_with nat_eq bytes (mark_of encoding) then length (mark_of encoding) else 0
+abbrev pub length_of_mark : Encoding → List ℕ → ℕ
+length_of_mark encoding bytes = if starts_with nat_eq bytes (encoding_mark encoding) then length (encoding_mark encoding) else 0
 
 -- the bytes of a file after its byte order mark; all bytes if it has none
 abbrev pub after_mark : Encoding → List ℕ → List ℕ
-after_mark encoding bytes = drop (mark_length encoding bytes) bytes
+after_mark encoding bytes = drop (length_of_mark encoding bytes) bytes
 
 -- the encoding whose byte order mark is at the start of a file
 abbrev pub marked_as : List ℕ → Option Encoding

@@ -13,16 +13,16 @@ line_ends_named name =
     if str_eq_ignore_ascii_case name (codes "lf") then Some Lf else if str_eq_ignore_ascii_case name (codes "crlf") then Some CrLf else None
 
 -- a line end of this kind
-abbrev pub line_end : LineEnds → List ℕ
-line_end Lf = char.line_feed ∷ []
-line_end CrLf = char.carriage_return ∷ char.line_feed ∷ []
+abbrev pub end_of_line : LineEnds → List ℕ
+end_of_line Lf = char.line_feed ∷ []
+end_of_line CrLf = char.carriage_return ∷ char.line_feed ∷ []
 
 -- a character in UTF-8, or the line end if a line ends at it. The flag says whether the character before it is a carriage return. A line
 -- feed after a carriage return ends no line, because that line has ended.
 abbrev pub ended_bytes : LineEnds → Bool → ℕ → List ℕ
 ended_bytes ends is_after_return c =
-    if c == char.carriage_return then line_end ends
-    else if c == char.line_feed then (if is_after_return then [] else line_end ends)
+    if c == char.carriage_return then end_of_line ends
+    else if c == char.line_feed then (if is_after_return then [] else end_of_line ends)
     else encode_utf8 c
 
 -- characters in UTF-8 with line ends of one kind; the flag says whether the character before them is a carriage return

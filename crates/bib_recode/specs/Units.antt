@@ -17,14 +17,14 @@ abbrev pub units_of : Bool → List ℕ → List ℕ
 units_of is_big_endian bytes = map (unit_at is_big_endian bytes) (range_with_len 0 (length bytes / 2))
 
 -- whether two units are a pair, which is one character
-abbrev pub is_pair : ℕ → ℕ → Bool
-is_pair first second = is_high_surrogate first && is_low_surrogate second
+abbrev pub is_surrogate_pair : ℕ → ℕ → Bool
+is_surrogate_pair first second = is_high_surrogate first && is_low_surrogate second
 
 -- the number of units of the first character: 2 for a pair, otherwise 1
 abbrev pub character_len : List ℕ → ℕ
 character_len [] = 1
 character_len (u ∷ []) = 1
-character_len (u ∷ v ∷ us) = if is_pair u v then 2 else 1
+character_len (u ∷ v ∷ us) = if is_surrogate_pair u v then 2 else 1
 
 -- whether a unit is a surrogate
 abbrev pub is_surrogate : ℕ → Bool
@@ -34,7 +34,7 @@ is_surrogate u = is_high_surrogate u || is_low_surrogate u
 abbrev pub begins_unpaired : List ℕ → Bool
 begins_unpaired [] = false
 begins_unpaired (u ∷ []) = is_surrogate u
-begins_unpaired (u ∷ v ∷ us) = is_surrogate u && not (is_pair u v)
+begins_unpaired (u ∷ v ∷ us) = is_surrogate u && not (is_surrogate_pair u v)
 
 -- the unit at an index is the first surrogate without a partner: the units before it spell characters
 pub record IsFirstUnpaired (units : List ℕ) (index : ℕ) : Type 0 where

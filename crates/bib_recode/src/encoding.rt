@@ -2,7 +2,7 @@
 
 ghost use Rattle.std.specs.Prelude.{◌≡◌, ◌≢◌, ◌≤◌, None, Some, length};
 ghost use Rattle.std.specs.Str.{IsUtf8};
-ghost use Rattle.bib_recode.specs.Encodings.{encoding_named, mark_length, mark_of, marked_as};
+ghost use Rattle.bib_recode.specs.Encodings.{encoding_mark, encoding_named, length_of_mark, marked_as};
 
 use std::str::from_utf8;
 
@@ -47,7 +47,7 @@ impl Encoding {
 
     // Returns the byte order mark in this encoding, or no bytes if it has none.
     fn mark(self) -> &'static [u8]
-        ensures { result.now ≡ mark_of self }
+        ensures { result.now ≡ encoding_mark self }
     {
         match self {
             Encoding::Utf8 => b"\xEF\xBB\xBF",
@@ -59,7 +59,7 @@ impl Encoding {
 
     // Returns the length in bytes of the byte order mark at the start of a file, or 0 if it has none.
     pub(crate) fn mark_length(self, bytes: &[u8]) -> usize
-        ensures is { result ≡ mark_length self bytes.now }
+        ensures is { result ≡ length_of_mark self bytes.now }
         ensures within { result ≤ length bytes.now }
     {
         let mark = self.mark();

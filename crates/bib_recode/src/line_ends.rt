@@ -30,7 +30,7 @@ impl LineEnds {
 
     // Returns a line end of this kind.
     fn text(self) -> &'static str
-        ensures { result.now ≡ spec.line_end self }
+        ensures { result.now ≡ spec.end_of_line self }
     {
         match self {
             LineEnds::Lf => "\n",

@@ -26,7 +26,7 @@ pub(crate) fn units_of(
 ) -> Result<Vec<u16>, AllocError>
     ensures { IfOk result (λ units. units.items ≡ units_of is_big_endian bytes.now) }
 {
-    let mut units = Vec::with_capacity(alloc, bytes.len() / 2)?;
+    let mut units = Vec::new(alloc);
     'indices: for index in 0..bytes.len() / 2 {
         units.push(unit(is_big_endian, bytes[2 * index], bytes[2 * index + 1]))?;
     }
@@ -49,7 +49,7 @@ fn is_low(unit: u16) -> bool
 
 // Returns whether two units are a pair.
 fn is_pair(first: u16, second: u16) -> bool
-    ensures { result ≡ spec.is_pair first second }
+    ensures { result ≡ spec.is_surrogate_pair first second }
 {
     is_high(first) && is_low(second)
 }

@@ -25,8 +25,8 @@ use Rattle.edit_sort.specs.Sorted.{IsReadSorted, IsSortedText}
 use Rattle.edit_strings.specs.Collected.{AreMadeAbbreviations}
 use Rattle.edit_strings.specs.Expanded.{IsExpanded}
 use Rattle.bibkit_edits.specs.Edited.{AreFieldsEdited, AreMade, AreRefused, AreTextsCollected, IsDocumentConverted, IsEditRefused, IsInOrder, IsInStyle, IsMade, IsDocumentOf, IsResolvedDocument, IsWrittenOut, TextAdded}
-use Rattle.edit_orders.specs.Orders.{parts_of}
-use Rattle.edit_orders.specs.Places.{IsPlaced}
+use Rattle.edit_orders.specs.Orders.{order_parts}
+use Rattle.edit_orders.specs.Places.{ArePlacesIn}
 use Rattle.edit_orders.specs.declared.order.Order.{Order}
 use Rattle.bibkit_edits.specs.Edited.AreMade.{none, next}
 use Rattle.bibkit_edits.specs.Steps.{AddsError, AddsUnread, AreFirstMade, IsTextRefused, StepIsRefused, edit_refusal, refusal_at, unless_no_memory}
@@ -47,7 +47,7 @@ style_made style d new is alike = record {
 }
 
 -- a sorted text that parses like the sorted document is an outcome of `Sort`
-pub order_made : (order : Order) (d : Document) (places new : List ℕ) → IsPlaced (parts_of order) d.says places
+pub order_made : (order : Order) (d : Document) (places new : List ℕ) → ArePlacesIn (order_parts order) d.says places
     → IsSortedText d places new → IsReadSorted d places new → IsEdited (IsInOrder order d) new
 order_made order d places new placed is read = record {
   document = record { text = new; says = read.tells };

@@ -24,8 +24,8 @@ use Rattle.bib_tables.specs.declared.dialects.Dialect.{Dialect}
 use Rattle.bib_tables.specs.declared.dialects.Dialect.TheVariants.{Biblatex, Bibtex}
 use Rattle.edit_format.specs.Formatted.{content, says_in_order, text_in_style}
 use Rattle.edit_format.specs.declared.style.Style.{Style}
-use Rattle.edit_orders.specs.Orders.{parts_of}
-use Rattle.edit_orders.specs.Places.{IsPlaced}
+use Rattle.edit_orders.specs.Orders.{order_parts}
+use Rattle.edit_orders.specs.Places.{ArePlacesIn}
 use Rattle.edit_orders.specs.declared.order.Order.{Order}
 use Rattle.edit_resolve.specs.Resolved.{IsResolved, ResolveIsRefused}
 use Rattle.edit_resolve.specs.declared.errors.ResolveError.TheVariants as resolve_error
@@ -65,7 +65,7 @@ pub record SaysSorted (d : Document) (places : List ℕ) (says : FileReading) : 
 -- content is otherwise that of `d`, except positions
 pub record IsInOrder (order : Order) (d after : Document) : Type 0 where
   pub places : List ℕ
-  pub placed : IsPlaced (parts_of order) d.says places
+  pub placed : ArePlacesIn (order_parts order) d.says places
   pub text : IsSortedText d places after.text
   pub alike : SaysSorted d places after.says
 

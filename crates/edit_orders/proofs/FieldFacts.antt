@@ -12,7 +12,7 @@ use Rattle.bib_chunks.specs.Values.{Value}
 use Rattle.bib_syntax.specs.Views.{piece_of}
 use Rattle.bib_syntax.specs.declared.raw.RawChunk.{RawChunk}
 use Rattle.bib_text.specs.declared.spanned.Spanned.{Spanned}
-use Rattle.edit_orders.specs.Fields.{AreContentsOf, definition_in, plain_contents}
+use Rattle.edit_orders.specs.Fields.{AreContentsOf, file_definition, plain_contents}
 use Rattle.edit_orders.specs.Fields.AreContentsOf.{plain}
 
 -- a test of an element of a mapped list
@@ -22,13 +22,13 @@ any_of_map f test (x ∷ xs) = ap (λ b. test (f x) || b) (any_of_map f test xs)
 
 -- a definition at the end of the list is the last one of its name
 definition-push : (fields : List FieldReading) (f : FieldReading) (name : List ℕ)
-    → definition_in (fields ++ f ∷ []) name ≡ cond (bytes_eq name f.name.text) (Some f.value.pieces) (definition_in fields name)
+    → file_definition (fields ++ f ∷ []) name ≡ cond (bytes_eq name f.name.text) (Some f.value.pieces) (file_definition fields name)
 definition-push fields f name =
     ap (λ l. option_map (λ (g : FieldReading). g.value.pieces) (find (λ g. bytes_eq name g.name.text) l)) (reverse-append fields (f ∷ []))
     ∙ elim (bytes_eq name f.name.text) as
     (λ b.
     option_map (λ (g : FieldReading). g.value.pieces) (cond b (Some f) (find (λ g. bytes_eq name g.name.text) (reverse fields)))
-    ≡ cond b (Some f.value.pieces) (definition_in fields name)) [ true ↦ refl | false ↦ refl ]
+    ≡ cond b (Some f.value.pieces) (file_definition fields name)) [ true ↦ refl | false ↦ refl ]
 
 chosen : {A B : Type 0} (f : A → B) (b : Bool) (a : A) (o : Option A)
     → option_map f (cond b (Some a) o) ≡ cond b (Some (f a)) (option_map f o)
@@ -39,9 +39,9 @@ chosen f false a o = refl
 pub defined_more : {F : Type 0} (f : F → List Piece) (pairs : List Pair) (i : ℕ) (p : Pair) (field : F) (name : List ℕ)
     (before after : Option F)
     → i < length pairs → p ≡ get_or pairs i p → f field ≡ (field_of p).value.pieces
-    → option_map f before ≡ definition_in (map field_of (take i pairs)) name
+    → option_map f before ≡ file_definition (map field_of (take i pairs)) name
     → after ≡ cond (bytes_eq p.key.v.now name) (Some field) before
-    → option_map f after ≡ definition_in (map field_of (take (i + 1) pairs)) name
+    → option_map f after ≡ file_definition (map field_of (take (i + 1) pairs)) name
 defined_more f pairs i p field name before after within here same so_far updated =
     ap (option_map f) updated
     ∙ chosen f (bytes_eq p.key.v.now name) field before
@@ -49,8 +49,8 @@ defined_more f pairs i p field name before after within here same so_far updated
     ∙ ap (λ a. cond (bytes_eq name p.key.v.now) (Some a) (option_map f before)) same
     ∙ ap (cond (bytes_eq name p.key.v.now) (Some (field_of p).value.pieces)) so_far
     ∙ sym (definition-push (map field_of (take i pairs)) (field_of p) name)
-    ∙ sym (ap (λ l. definition_in l name) (map_push field_of (take i pairs) p))
-    ∙ ap (λ l. definition_in (map field_of l) name)
+    ∙ sym (ap (λ l. file_definition l name) (map_push field_of (take i pairs) p))
+    ∙ ap (λ l. file_definition (map field_of l) name)
     (ap (λ q. take i pairs ++ q ∷ []) here ∙ sym (take_more pairs i p within))
 
 -- the texts of pieces are the contents of a field that can't be parsed
@@ -76,8 +76,10 @@ AllZip-more R xs i d ys new y within all last is =
     (subst (AllZip R (take i xs ++ get_or xs i d ∷ [])) (sym is) (AllZip-push R (take i xs) ys (get_or xs i d) y all last))
 
 -- the same for mapped elements
-pub AllZip-more_of : {A B C : Type 0} (R : C → B → Type 0) (f : A → C) (xs : List A) (i : ℕ) (d : A) (ys new : List B) (y : B) → i < length xs
+pub AllZip-more_of : {A B C : Type 0} (R : C → B → Type 0) (f : A → C) (xs : List A) (i : ℕ) (d : A) (ys new : List B)
+    (y : B) → i < length xs
     → AllZip R (map f (take i xs)) ys → R (f (get_or xs i d)) y → new ≡ ys ++ y ∷ [] → AllZip R (map f (take (i + 1) xs)) new
 AllZip-more_of R f xs i d ys new y within all last is =
     subst (λ l. AllZip R l new) (sym (ap (map f) (take_more xs i d within) ∙ map_push f (take i xs) (get_or xs i d)))
-    (subst (AllZip R (map f (take i xs) ++ f (get_or xs i d) ∷ [])) (sym is) (AllZip-push R (map f (take i xs)) ys (f (get_or xs i d)) y all last))
+    (subst (AllZip R (map f (take i xs) ++ f (get_or xs i d) ∷ [])) (sym is)
+    (AllZip-push R (map f (take i xs)) ys (f (get_or xs i d)) y all last))

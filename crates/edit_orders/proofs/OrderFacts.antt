@@ -4,7 +4,7 @@ use Rattle.std.specs.Prelude.{◌&&◌, is_some}
 use Rattle.std.specs.List.{list_all}
 use Rattle.std.proofs.lemmas.List.{length-map, length-take-le, take-append-drop, take_more}
 use Rattle.std.proofs.lemmas.List.Folds.{list_all-append}
-use Rattle.edit_orders.specs.Orders.{AreTooMany, IsFirstUnknown, is_part, part_named, parts_of}
+use Rattle.edit_orders.specs.Orders.{AreTooMany, IsFirstUnknown, is_part, part_named, order_parts}
 use Rattle.edit_orders.specs.declared.order.Order.{Order}
 use Rattle.edit_orders.specs.declared.order.Order.TheVariants.{File, One, Two, Three, Four}
 use Rattle.edit_orders.specs.declared.order.SortBy.{SortBy}
@@ -36,7 +36,7 @@ first_unknown parts words i word below here so_far unknown = record {
 }
 
 -- an order has at most four properties
-few : (order : Order) → length (parts_of order) ≤ 4
+few : (order : Order) → length (order_parts order) ≤ 4
 few File = omega arith
 few (One a) = omega arith
 few (Two a b) = omega arith
@@ -45,16 +45,16 @@ few (Four a b c d) = omega arith
 
 -- a fifth word that names a property is one too many
 pub too_many : (order : Order) (words : List (List ℕ)) (i : ℕ) (word : List ℕ) (part : SortBy) → i < length words
-    → word ≡ get_or words i word → map Some (parts_of order) ≡ map part_named (take i words) → part_named word ≡ Some part
-    → 4 ≤ length (parts_of order) → AreTooMany words
+    → word ≡ get_or words i word → map Some (order_parts order) ≡ map part_named (take i words) → part_named word ≡ Some part
+    → 4 ≤ length (order_parts order) → AreTooMany words
 too_many order words i word part below here so_far names full =
     let least = few order in
-    let counted : length (parts_of order) ≡ i =
-    sym (length-map (parts_of order) Some) ∙ ap length so_far ∙ length-map (take i words) part_named
+    let counted : length (order_parts order) ≡ i =
+    sym (length-map (order_parts order) Some) ∙ ap length so_far ∙ length-map (take i words) part_named
     ∙ length-take-le i words (omega arith) in
     let one : is_part word ≡ true = ap is_some names in
     let all : list_all is_part (take (i + 1) words) ≡ true =
     ap (list_all is_part) (take_more words i word below) ∙ list_all-append is_part (take i words) (get_or words i word ∷ [])
-    ∙ ap₂ (λ a b. a && (b && true)) (known (parts_of order) (take i words) so_far) (ap is_part (sym here) ∙ one) in
+    ∙ ap₂ (λ a b. a && (b && true)) (known (order_parts order) (take i words) so_far) (ap is_part (sym here) ∙ one) in
     let five : i + 1 ≡ 5 = omega arith in
     record { more = omega arith; known = subst (λ n. list_all is_part (take n words) ≡ true) five all }

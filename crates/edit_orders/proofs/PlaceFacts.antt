@@ -10,8 +10,8 @@ use Rattle.std.proofs.lemmas.List.Sorted.{Contains-permutation, ranks_by, sorted
 use Rattle.std.specs.List.{AllZip}
 use Rattle.bib_abbreviations.specs.Abbreviations.{Definitions}
 use Rattle.bib_syntax.specs.Reading.{EntryReading, FileReading}
-use Rattle.edit_orders.specs.Fields.{definition_in}
-use Rattle.edit_orders.specs.Places.{ArePlacesOf, AreValuesOf, IsPlaceIn, IsPlaced}
+use Rattle.edit_orders.specs.Fields.{file_definition}
+use Rattle.edit_orders.specs.Places.{ArePlacesOf, AreValuesOf, IsPlaceIn, ArePlacesIn}
 use Rattle.edit_orders.specs.Values.{values_cmp}
 use Rattle.edit_orders.specs.declared.order.SortBy.{SortBy}
 use Rattle.edit_orders.specs.declared.values.SortValue.{SortValue}
@@ -121,7 +121,8 @@ module _ (order : List SortBy) where
   less_first f any xs t up i j d ordered within less =
       let size : length (map f xs) ≡ length xs = length-map xs f in
       let far =
-      sorted_far (λ x y. is_lt (cmp x y)) (ranks_by (values_total order) {X = Values} (λ x. x)) (map f xs) up i j (f d) ordered (omega arith) in
+      sorted_far (λ x y. is_lt (cmp x y)) (ranks_by (values_total order) {X = Values} (λ x. x)) (map f xs) up i j (f d) ordered
+      (omega arith) in
       less_through (f (get_or xs i d)) (f (get_or xs j d)) t
       (ap (λ x. is_lt (cmp x (f (get_or xs i d)))) (sym (get_or-map f xs j d (f d) within))
       ∙ ap (λ x. is_lt (cmp (get_or (map f xs) j (f d)) x)) (sym (get_or-map f xs i d (f d) (omega arith))) ∙ far)
@@ -154,12 +155,13 @@ module _ (order : List SortBy) where
 
 -- entries with sort values are placed by them
 pub placed_by : (says : FileReading) (order parts lent : List SortBy) (d : Definitions) (entries : List EntryReading)
-    (all kept : List Values) (places : List ℕ) → parts ≡ order → lent ≡ order → d ≡ definition_in says.abbreviations → entries ≡ says.entries
-    → kept ≡ all → AllZip (AreValuesOf d parts) entries all → ArePlacesOf lent kept places → IsPlaced order says places
+    (all kept : List Values) (places : List ℕ) → parts ≡ order → lent ≡ order → d ≡ file_definition says.abbreviations
+    → entries ≡ says.entries → kept ≡ all → AllZip (AreValuesOf d parts) entries all → ArePlacesOf lent kept places
+    → ArePlacesIn order says places
 placed_by says order parts lent d entries all kept places same again defined listed kept_same values placed = record {
   all = all;
   values =
-      subst (λ es. AllZip (AreValuesOf (definition_in says.abbreviations) order) es all) listed
+      subst (λ es. AllZip (AreValuesOf (file_definition says.abbreviations) order) es all) listed
       (subst (λ e. AllZip (AreValuesOf e order) entries all) defined (subst (λ o. AllZip (AreValuesOf d o) entries all) same values));
   placed = subst (λ vs. ArePlacesOf order vs places) kept_same (subst (λ o. ArePlacesOf o kept places) again placed);
 }

@@ -5,7 +5,7 @@ use Rattle.std.specs.Cmp.Lexicographic.{options_total, slice_cmp}
 use Rattle.std.specs.Option.{option_cmp}
 use Rattle.std.specs.Ordering.{flip_args, nat_cmp, on, ordering_then, then_cmp}
 use Rattle.std.proofs.lemmas.Cmp.{back_total, lists_total, nat_cmp_total, nat_list_cmp_total, on_total, then_total}
-use Rattle.edit_orders.specs.Values.{directed_cmp, first_of, last_cmp, rest_of, value_cmp, values_cmp}
+use Rattle.edit_orders.specs.Values.{directed_cmp, head_value, last_cmp, later_values, value_cmp, values_cmp}
 use Rattle.edit_orders.specs.declared.order.Direction.{Direction}
 use Rattle.edit_orders.specs.declared.order.Direction.TheVariants.{Ascending, Descending}
 use Rattle.edit_orders.specs.declared.order.SortBy.{SortBy}
@@ -66,4 +66,4 @@ last_total direction =
 -- the order of entries by some properties is a total order
 pub values_total : (order : List SortBy) → IsTotalOrder (values_cmp order)
 values_total [] = on_total (λ vs. 0) nat_cmp_total
-values_total (s ∷ order) = then_total (on_total first_of (last_total s.direction)) (on_total rest_of (values_total order))
+values_total (s ∷ order) = then_total (on_total head_value (last_total s.direction)) (on_total later_values (values_total order))

@@ -9,7 +9,7 @@ use Rattle.std.proofs.lemmas.Bool.{cases_lt, eqb-true}
 use Rattle.std.proofs.lemmas.Bool.Decides.{nat_tests}
 use Rattle.std.proofs.lemmas.List.Sums.{prefix_len-le-length, prefix_len_passes, prefix_len_stops}
 use Rattle.std.proofs.lemmas.Str.{IsCharBoundary-after_ascii, IsCharBoundary-before_ascii, IsCharBoundary-end, IsCharBoundary-start}
-use Rattle.edit_orders.specs.Years.{counted, from_digits, most, year_of}
+use Rattle.edit_orders.specs.Years.{counted, from_digits, most, year_by_digits}
 
 digit_is_low : (b : ℕ) → is_ascii_digit b ≡ true → digit_value b < 10
 digit_is_low b h = grind (arith, nat_tests)
@@ -56,7 +56,8 @@ before_digits bs n is =
         elim (cases_lt m (length bs)) [
           | inl within ↦
               let stops = prefix_len_stops (λ b. not (is_ascii_digit b)) bs 0 (subst (λ k. k < length bs) same within) in
-              IsCharBoundary-before_ascii bs m within (is_digit (get_or bs m 0) (ap (λ k. not (is_ascii_digit (get_or bs k 0))) same ∙ stops))
+              IsCharBoundary-before_ascii bs m within
+              (is_digit (get_or bs m 0) (ap (λ k. not (is_ascii_digit (get_or bs k 0))) same ∙ stops))
           | inr end ↦ let whole : length bs ≡ m = omega arith in subst (IsCharBoundary bs) whole (IsCharBoundary-end bs)
         ]
 
@@ -74,29 +75,31 @@ counted_none is_before (d ∷ ds) h = absurd (omega arith)
 -- the year of a text in terms of its cuts
 pub year_is : (text before rest digits : List ℕ) (n : ℕ) → n ≡ prefix_len (λ b. not (is_ascii_digit b)) text → before ≡ take n text
     → rest ≡ drop n text → digits ≡ take (prefix_len is_ascii_digit rest) rest
-    → year_of text ≡ counted (bytes_eq before (codes "-")) digits
+    → year_by_digits text ≡ counted (bytes_eq before (codes "-")) digits
 year_is text before rest digits n is front back run =
     let from : from_digits text ≡ rest = sym (back ∙ ap (λ k. drop k text) is) in
     ap₂ (λ b ds. counted (bytes_eq b (codes "-")) ds) (sym (front ∙ ap (λ k. take k text) is))
     (ap (λ t. take (prefix_len is_ascii_digit t) t) from ∙ sym run)
 
 -- the year of a text with some digits after a hyphen
-pub year_before : (text before digits : List ℕ) (k : ℕ) → year_of text ≡ counted (bytes_eq before (codes "-")) digits
-    → bytes_eq before (codes "-") ≡ true → 0 < length digits → k ≡ min (digits_value 10 digits) most → Some (most - k) ≡ year_of text
+pub year_before : (text before digits : List ℕ) (k : ℕ) → year_by_digits text ≡ counted (bytes_eq before (codes "-")) digits
+    → bytes_eq before (codes "-") ≡ true → 0 < length digits → k ≡ min (digits_value 10 digits) most → Some (most - k) ≡ year_by_digits text
 year_before text before digits k is hyphen some same =
     sym (is ∙ ap (λ b. counted b digits) hyphen ∙ counted_some true digits some ∙ ap (λ m. Some (most - m)) (sym same))
 
 -- the year of a text with some digits, not only after a hyphen
-pub year_after : (text before digits : List ℕ) (k : ℕ) → year_of text ≡ counted (bytes_eq before (codes "-")) digits
-    → bytes_eq before (codes "-") ≡ false → 0 < length digits → k ≡ min (digits_value 10 digits) most → Some (most + k) ≡ year_of text
+pub year_after : (text before digits : List ℕ) (k : ℕ) → year_by_digits text ≡ counted (bytes_eq before (codes "-")) digits
+    → bytes_eq before (codes "-") ≡ false → 0 < length digits → k ≡ min (digits_value 10 digits) most
+    → Some (most + k) ≡ year_by_digits text
 year_after text before digits k is other some same =
     sym (is ∙ ap (λ b. counted b digits) other ∙ counted_some false digits some ∙ ap (λ m. Some (most + m)) (sym same))
 
 -- a text without digits has no year
-pub year_none : (text before digits : List ℕ) → year_of text ≡ counted (bytes_eq before (codes "-")) digits
-    → (length digits == 0) ≡ true → None ≡ year_of text
+pub year_none : (text before digits : List ℕ) → year_by_digits text ≡ counted (bytes_eq before (codes "-")) digits
+    → (length digits == 0) ≡ true → None ≡ year_by_digits text
 year_none text before [] is empty = sym is
-year_none text before (d ∷ ds) is empty = absurd (let zero : length (d ∷ ds) ≡ 0 = eqb-true (length (d ∷ ds)) 0 empty in omega (arith, zero))
+year_none text before (d ∷ ds) is empty =
+    absurd (let zero : length (d ∷ ds) ≡ 0 = eqb-true (length (d ∷ ds)) 0 empty in omega (arith, zero))
 
 -- a list that isn't empty has a length
 pub some_left : (digits : List ℕ) → (length digits == 0) ≡ false → 0 < length digits

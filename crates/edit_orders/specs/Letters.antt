@@ -10,13 +10,13 @@ use Rattle.unicode_normalization.specs.Forms.{nfkd}
 use Rattle.bib_text.specs.Characters as char
 
 -- whether `c` separates words: white space, a slash, a hyphen or a dash
-abbrev pub is_gap : ℕ → Bool
-is_gap c = is_whitespace c || (c == char.slash || (c == char.hyphen || (c == char.en_dash || c == char.em_dash)))
+abbrev pub separates_words : ℕ → Bool
+separates_words c = is_whitespace c || (c == char.slash || (c == char.hyphen || (c == char.en_dash || c == char.em_dash)))
 
 -- the letters that a small letter is sorted as, in UTF-8. Those of the first eight don't decompose, but Unicode's default collation
 -- doesn't tell them from these letters at its first level: ß æ œ ð đ ħ ł ø. Any other letter is sorted as itself.
-abbrev pub letters : ℕ → List ℕ
-letters c =
+abbrev pub sort_letters : ℕ → List ℕ
+sort_letters c =
     if c == 0xDF then codes "ss"
     else if c == 0xE6 then codes "ae"
     else if c == 0x153 then codes "oe"
@@ -27,10 +27,10 @@ letters c =
     else if c == 0xF8 then codes "o"
     else encode_utf8 c
 
--- a character of a decomposed text in lowercase, in UTF-8: a letter or a digit, a space for a gap, and nothing otherwise, such as for
--- punctuation and the marks of accents
-abbrev pub plain : ℕ → List ℕ
-plain c = if is_gap c then char.space ∷ [] else if is_alphabetic c || is_numeric c then letters c else []
+-- a character of a decomposed text in lowercase, in UTF-8: a letter or a digit, a space if it separates words, and nothing otherwise, such
+-- as for punctuation and the marks of accents
+abbrev pub sort_character : ℕ → List ℕ
+sort_character c = if separates_words c then char.space ∷ [] else if is_alphabetic c || is_numeric c then sort_letters c else []
 
 -- whether a character belongs to the name of a LaTeX command, given the same of the character before it: a backslash does, and so do
 -- the ASCII letters after it
@@ -38,22 +38,22 @@ abbrev pub is_in_name : Bool → ℕ → Bool
 is_in_name before c = c == char.backslash || (before && is_ascii_alphabetic c)
 
 -- the characters of a text without the names of LaTeX commands; the flag says whether the character before the text belongs to one
-abbrev pub kept_after : Bool → List ℕ → List ℕ
-kept_after before [] = []
-kept_after before (c ∷ cs) = (if is_in_name before c then [] else c ∷ []) ++ kept_after (is_in_name before c) cs
+abbrev pub outside_names : Bool → List ℕ → List ℕ
+outside_names before [] = []
+outside_names before (c ∷ cs) = (if is_in_name before c then [] else c ∷ []) ++ outside_names (is_in_name before c) cs
 
 -- the characters of a text without the names of LaTeX commands
 abbrev pub without_commands : List ℕ → List ℕ
-without_commands cs = kept_after false cs
+without_commands cs = outside_names false cs
 
 -- the letters, digits and gaps of a text, in lowercase and without accents, by Unicode's compatibility decomposition (NFKD)
 abbrev pub plain_text : List ℕ → List ℕ
-plain_text text = flat_map plain (chars (str_to_lowercase (encode_utf8_all (nfkd (without_commands (chars text))))))
+plain_text text = flat_map sort_character (chars (str_to_lowercase (encode_utf8_all (nfkd (without_commands (chars text))))))
 
 -- a word and a space, or nothing for an empty word
-abbrev pub spaced : List ℕ → List ℕ
-spaced word = if length word == 0 then [] else word ++ char.space ∷ []
+abbrev pub word_and_space : List ℕ → List ℕ
+word_and_space word = if length word == 0 then [] else word ++ char.space ∷ []
 
 -- a text as it is compared: its words in lowercase and without accents, each followed by a space
 abbrev pub sort_text : List ℕ → List ℕ
-sort_text text = flat_map spaced (slice_split (λ byte. byte == char.space) (plain_text text))
+sort_text text = flat_map word_and_space (slice_split (λ byte. byte == char.space) (plain_text text))

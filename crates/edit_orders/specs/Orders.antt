@@ -27,23 +27,24 @@ directed direction found = option_map (λ one. record { property = one; directio
 -- the property with its direction that a word names: the name of a property, with a hyphen before it if descending
 abbrev pub part_named : List ℕ → Option SortBy
 part_named word =
-    if starts_with nat_eq word (codes "-") then directed Descending (property_named (drop 1 word)) else directed Ascending (property_named word)
+    if starts_with nat_eq word (codes "-") then directed Descending (property_named (drop 1 word))
+    else directed Ascending (property_named word)
 
 -- the words of a text between its commas
-abbrev pub words_of : List ℕ → List (List ℕ)
-words_of text = slice_split (λ byte. byte == char.comma) text
+abbrev pub comma_words : List ℕ → List (List ℕ)
+comma_words text = slice_split (λ byte. byte == char.comma) text
 
 -- whether a word names a property
 abbrev pub is_part : List ℕ → Bool
 is_part word = is_some (part_named word)
 
 -- the properties of an order, the first one first
-abbrev pub parts_of : Order → List SortBy
-parts_of File = []
-parts_of (One a) = a ∷ []
-parts_of (Two a b) = a ∷ b ∷ []
-parts_of (Three a b c) = a ∷ b ∷ c ∷ []
-parts_of (Four a b c d) = a ∷ b ∷ c ∷ d ∷ []
+abbrev pub order_parts : Order → List SortBy
+order_parts File = []
+order_parts (One a) = a ∷ []
+order_parts (Two a b) = a ∷ b ∷ []
+order_parts (Three a b c) = a ∷ b ∷ c ∷ []
+order_parts (Four a b c d) = a ∷ b ∷ c ∷ d ∷ []
 
 -- a word is the first of some words that names no property
 pub record IsFirstUnknown (words : List (List ℕ)) (word : List ℕ) : Type 0 where
@@ -59,6 +60,6 @@ pub record AreTooMany (words : List (List ℕ)) : Type 0 where
   pub known : list_all is_part (take 5 words) ≡ true
 
 -- words are no order, for this reason
-abbrev pub IsOrderError : List (List ℕ) → OrderError → Type 0
-IsOrderError words (UnknownProperty word) = IsFirstUnknown words word.now
-IsOrderError words TooManyProperties = AreTooMany words
+abbrev pub IsOrderRefused : List (List ℕ) → OrderError → Type 0
+IsOrderRefused words (UnknownProperty word) = IsFirstUnknown words word.now
+IsOrderRefused words TooManyProperties = AreTooMany words

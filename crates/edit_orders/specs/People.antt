@@ -11,15 +11,15 @@ family_by (Some false) prefix name = name
 family_by None prefix name = name
 
 -- the family name of a person, after the prefix if that is part of it (`useprefix=true` in the extended name format)
-abbrev pub family_name : Person → List ℕ
-family_name p = family_by p.use_prefix p.prefix p.name
+abbrev pub sort_family : Person → List ℕ
+sort_family p = family_by p.use_prefix p.prefix p.name
 
 -- a text as it is compared
-abbrev pub one_text : List ℕ → List (List ℕ)
-one_text text = sort_text text ∷ []
+abbrev pub person_part : List ℕ → List (List ℕ)
+person_part text = sort_text text ∷ []
 
 -- the texts by which a person is compared; the word `others` at the end of a list of authors has none
 abbrev pub person_texts : Person → List (List ℕ)
 person_texts p =
     if bytes_eq p.name (codes "others") then []
-    else one_text (family_name p) ++ (one_text p.given_name ++ (one_text p.suffix ++ one_text p.prefix))
+    else person_part (sort_family p) ++ (person_part p.given_name ++ (person_part p.suffix ++ person_part p.prefix))

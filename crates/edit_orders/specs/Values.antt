@@ -28,8 +28,8 @@ abbrev pub some_texts : List (List ℕ) → Option SortValue
 some_texts texts = if are_empty texts then None else Some (Texts texts)
 
 -- a text as a sort value
-abbrev pub one_text : List ℕ → Option SortValue
-one_text text = Some (Texts (text ∷ []))
+abbrev pub text_as_value : List ℕ → Option SortValue
+text_as_value text = Some (Texts (text ∷ []))
 
 -- the sort value of the year in the contents of a field
 abbrev pub year_value : Value → Option SortValue
@@ -71,17 +71,18 @@ last_cmp direction (Some v) None = Less
 last_cmp direction (Some v) (Some w) = directed_cmp direction v w
 
 -- the first of some sort values
-abbrev pub first_of : List (Option SortValue) → Option SortValue
-first_of [] = None
-first_of (v ∷ vs) = v
+abbrev pub head_value : List (Option SortValue) → Option SortValue
+head_value [] = None
+head_value (v ∷ vs) = v
 
 -- the sort values after the first one
-abbrev pub rest_of : List (Option SortValue) → List (Option SortValue)
-rest_of [] = []
-rest_of (v ∷ vs) = vs
+abbrev pub later_values : List (Option SortValue) → List (Option SortValue)
+later_values [] = []
+later_values (v ∷ vs) = vs
 
 -- the order of two entries by some properties, given their sort values of these properties: the first property by which they differ
 -- decides
 abbrev pub values_cmp : List SortBy → List (Option SortValue) → List (Option SortValue) → Ordering
 values_cmp [] vs ws = Equal
-values_cmp (s ∷ order) vs ws = ordering_then (last_cmp s.direction (first_of vs) (first_of ws)) (values_cmp order (rest_of vs) (rest_of ws))
+values_cmp (s ∷ order) vs ws =
+    ordering_then (last_cmp s.direction (head_value vs) (head_value ws)) (values_cmp order (later_values vs) (later_values ws))

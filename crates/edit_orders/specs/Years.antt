@@ -29,9 +29,9 @@ counted is_before (d ∷ ds) =
     Some (if is_before then most - min (digits_value 10 (d ∷ ds)) most else most + min (digits_value 10 (d ∷ ds)) most)
 
 -- the year in a text: the first digits in a row, before year 0 if the text is a hyphen up to them
-abbrev pub year_of : List ℕ → Option ℕ
-year_of text = counted (bytes_eq (before_digits text) (codes "-")) (first_digits text)
+abbrev pub year_by_digits : List ℕ → Option ℕ
+year_by_digits text = counted (bytes_eq (before_digits text) (codes "-")) (first_digits text)
 
 -- the year in a text, without regard to white space at its ends
 abbrev pub year_number : List ℕ → Option ℕ
-year_number text = year_of (trim text)
+year_number text = year_by_digits (trim text)

@@ -65,7 +65,7 @@ fn compared_at(
     first: &[Option<SortValue>],
     second: &[Option<SortValue>],
 ) -> Ordering
-    ensures { result ≡ spec.last_cmp direction (spec.first_of (drop index first.now)) (spec.first_of (drop index second.now)) }
+    ensures { result ≡ spec.last_cmp direction (spec.head_value (drop index first.now)) (spec.head_value (drop index second.now)) }
 {
     match (first.get(index), second.get(index)) {
         (Some(first), Some(second)) => missing_last(direction, first, second),

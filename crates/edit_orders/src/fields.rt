@@ -23,7 +23,7 @@ pub(crate) fn definitions<'f, 's>(
     pairs: &'f [Pair<'s>],
 ) -> Result<BTreeMap<&'s str, &'f Field<'s>>, AllocError>
     ensures { IfOk result (λ definitions. (name : List ℕ) →
-        sorted_in definitions name ≡ spec.definition_in (map field_of pairs.now) name) }
+        sorted_in definitions name ≡ spec.file_definition (map field_of pairs.now) name) }
 {
     let mut definitions = BTreeMap::new(alloc);
     'definitions: for pair in pairs {
@@ -34,7 +34,7 @@ pub(crate) fn definitions<'f, 's>(
 
 // Returns the text of a piece: of a literal, or the name of an abbreviation.
 fn piece_text<'s>(piece: &Spanned<RawChunk<'s>>) -> &'s str
-    ensures { result.now ≡ spec.piece_text (piece_of piece.now) }
+    ensures { result.now ≡ spec.plain_piece (piece_of piece.now) }
 {
     match piece.v {
         RawChunk::Normal(text) => text,
@@ -51,21 +51,21 @@ fn is_given(pieces: &[Spanned<RawChunk<'_>>]) -> bool
 
 // Returns whether a field has this name, in any ASCII case, and a value that isn't empty.
 fn is_named(field: &Pair<'_>, name: &str) -> bool
-    ensures { result ≡ spec.is_named name.now (field_of field.now) }
+    ensures { result ≡ spec.is_field_given name.now (field_of field.now) }
 {
     field.key.v.eq_ignore_ascii_case(name) && is_given(&field.value.v)
 }
 
 // Returns the last field of this name with a value that isn't empty.
 fn last_named<'f, 's>(fields: &'f [Pair<'s>], name: &str) -> Option<&'f Pair<'s>>
-    ensures { option_map (λ f. field_of f.now) result ≡ spec.last_named (map field_of fields.now) name.now }
+    ensures { option_map (λ f. field_of f.now) result ≡ spec.last_given (map field_of fields.now) name.now }
 {
     fields.iter().rev().find(|field| is_named(field, name))
 }
 
 // Returns the field of the first name, or else that of the second name.
 fn either<'f, 's>(fields: &'f [Pair<'s>], name: &str, other: &str) -> Option<&'f Pair<'s>>
-    ensures { option_map (λ f. field_of f.now) result ≡ spec.either (map field_of fields.now) name.now other.now }
+    ensures { option_map (λ f. field_of f.now) result ≡ spec.either_field (map field_of fields.now) name.now other.now }
 {
     match last_named(fields, name) {
         Some(field) => Some(field),

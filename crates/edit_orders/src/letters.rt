@@ -8,14 +8,14 @@ use unicode_normalization::to_nfkd;
 
 // Returns whether a character separates words: white space, a slash, a hyphen or a dash.
 fn is_gap(c: char) -> bool
-    ensures { result ≡ spec.is_gap c }
+    ensures { result ≡ spec.separates_words c }
 {
     c.is_whitespace() || matches!(c, '/' | '-' | '–' | '—')
 }
 
 // Appends a small letter, or the letters that it is sorted as.
 fn push_letters(out: &mut String, c: char) -> Result<(), AllocError>
-    ensures { OnOk result (string_bytes out.new ≡ string_bytes out.old ++ spec.letters c) }
+    ensures { OnOk result (string_bytes out.new ≡ string_bytes out.old ++ spec.sort_letters c) }
 {
     match c {
         'ß' => out.push_str("ss"),
@@ -32,7 +32,7 @@ fn push_letters(out: &mut String, c: char) -> Result<(), AllocError>
 
 // Appends a character of a decomposed text in lowercase: a letter or a digit, a space for a gap, and nothing otherwise.
 fn push_plain(out: &mut String, c: char) -> Result<(), AllocError>
-    ensures { OnOk result (string_bytes out.new ≡ string_bytes out.old ++ spec.plain c) }
+    ensures { OnOk result (string_bytes out.new ≡ string_bytes out.old ++ spec.sort_character c) }
 {
     if is_gap(c) {
         return out.push(' ');
@@ -81,7 +81,7 @@ fn plain_text(alloc: Global, text: &str) -> Result<String, AllocError>
 
 // Appends a word and a space, unless the word is empty.
 fn push_word(out: &mut String, word: &str) -> Result<(), AllocError>
-    ensures { OnOk result (string_bytes out.new ≡ string_bytes out.old ++ spec.spaced word.now) }
+    ensures { OnOk result (string_bytes out.new ≡ string_bytes out.old ++ spec.word_and_space word.now) }
 {
     if word.is_empty() {
         return Ok(());

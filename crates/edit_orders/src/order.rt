@@ -2,7 +2,7 @@
 
 ghost use Rattle.std.specs.Prelude.{◌≡◌, ◌++◌, ◌∷◌, [], ◌≤◌, Some, IfErr, IfOk, MatchOption, length, map};
 ghost use Rattle.edit_orders.specs.Orders as orders;
-ghost use Rattle.edit_orders.specs.Orders.{IsOrderError, parts_of, property_named, part_named, words_of};
+ghost use Rattle.edit_orders.specs.Orders.{IsOrderRefused, order_parts, property_named, part_named, comma_words};
 
 use std::alloc::{AllocError, Global};
 
@@ -106,8 +106,8 @@ impl Order {
     /// Parses an order: names of properties separated by commas, each with a hyphen before it if the greatest value comes first. An
     /// example is `author,-year,title`. Returns an error for the first word that names no property, and for a fifth property.
     pub fn parse(text: &str) -> Result<Order, OrderError<'_>>
-        ensures parsed { IfOk result (λ order. map Some (parts_of order) ≡ map part_named (words_of text.now)) }
-        ensures refused { IfErr result (IsOrderError (words_of text.now)) }
+        ensures parsed { IfOk result (λ order. map Some (order_parts order) ≡ map part_named (comma_words text.now)) }
+        ensures refused { IfErr result (IsOrderRefused (comma_words text.now)) }
     {
         let mut order = Order::File;
         'words: for word in text.split(',') {
@@ -124,7 +124,7 @@ impl Order {
 
     // Returns the order with one more property, or `None` if it has four.
     fn then(self, part: SortBy) -> Option<Order>
-        ensures { MatchOption result (4 ≤ length (parts_of self)) (λ longer. parts_of longer ≡ parts_of self ++ part ∷ []) }
+        ensures { MatchOption result (4 ≤ length (order_parts self)) (λ longer. order_parts longer ≡ order_parts self ++ part ∷ []) }
     {
         match self {
             Order::File => Some(Order::One(part)),
@@ -137,7 +137,7 @@ impl Order {
 
     /// Returns the properties with their directions, the first one first. The only error is out of memory.
     pub fn parts(self, alloc: Global) -> Result<Vec<SortBy>, AllocError>
-        ensures { IfOk result (λ parts. parts.items ≡ parts_of self) }
+        ensures { IfOk result (λ parts. parts.items ≡ order_parts self) }
     {
         match self {
             Order::File => Ok(Vec::new(alloc)),

@@ -14,7 +14,7 @@ use std::alloc::{AllocError, Global};
 
 // Returns the family name of a person, after the prefix if that is part of it.
 fn family_name(alloc: Global, person: &Person) -> Result<String, AllocError>
-    ensures { IfOk result (λ name. string_bytes name ≡ spec.family_name person.now) }
+    ensures { IfOk result (λ name. string_bytes name ≡ spec.sort_family person.now) }
 {
     if person.use_prefix == Some(true) {
         return format!(in alloc; "{} {}", person.prefix.as_str(), person.name.as_str());
@@ -24,7 +24,7 @@ fn family_name(alloc: Global, person: &Person) -> Result<String, AllocError>
 
 // Appends a text as it is compared.
 fn push_text(alloc: Global, texts: &mut Vec<Text>, text: &str) -> Result<(), AllocError>
-    ensures { OnOk result (texts.new.items ≡ texts.old.items ++ spec.one_text text.now) }
+    ensures { OnOk result (texts.new.items ≡ texts.old.items ++ spec.person_part text.now) }
 {
     texts.push(Text::from_string(sort_text(alloc, text)?))?;
     Ok(())

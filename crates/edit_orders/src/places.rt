@@ -5,8 +5,8 @@ ghost use Rattle.std.specs.List.{AllZip};
 ghost use Rattle.std.specs.List.Sorted.{IsPermutation, IsSorted};
 ghost use Rattle.bib_abbreviations.specs.Abbreviations.{given_by};
 ghost use Rattle.bib_syntax.specs.Views.{entry_reading_of, file_of};
-ghost use Rattle.edit_orders.specs.Orders.{parts_of};
-ghost use Rattle.edit_orders.specs.Places.{ArePlacesOf, AreValuesOf, IsPlaceIn, IsPlaced};
+ghost use Rattle.edit_orders.specs.Orders.{order_parts};
+ghost use Rattle.edit_orders.specs.Places.{ArePlacesOf, AreValuesOf, IsPlaceIn, ArePlacesIn};
 ghost use Rattle.edit_orders.specs.Values.{values_cmp};
 
 use crate::comparing::entries_compared;
@@ -117,7 +117,7 @@ pub fn order_places(
     order: Order,
     raw: &RawBibliography<'_>,
 ) -> Result<Vec<usize>, AllocError>
-    ensures { IfOk result (λ places. IsPlaced (parts_of order) (file_of raw.now) places.items) }
+    ensures { IfOk result (λ places. ArePlacesIn (order_parts order) (file_of raw.now) places.items) }
 {
     let parts = order.parts(alloc)?;
     let mut reader = FieldReader::new(alloc, definitions(alloc, &raw.abbreviations)?);

@@ -40,7 +40,7 @@ fn some_texts(texts: Vec<Text>) -> Option<SortValue>
 
 // Returns a text as a sort value.
 pub(crate) fn one_text(alloc: Global, text: String) -> Result<Option<SortValue>, AllocError>
-    ensures { IfOk result (λ value. value ≡ spec.one_text (string_bytes text)) }
+    ensures { IfOk result (λ value. value ≡ spec.text_as_value (string_bytes text)) }
 {
     let mut texts = Vec::new(alloc);
     texts.push(Text::from_string(text))?;

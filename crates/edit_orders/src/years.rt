@@ -53,7 +53,7 @@ fn first_digits(text: &str) -> &str
 // Returns the number of a text: the first digits in a row, before year 0 if the text is a hyphen up to them. Numbers are counted from
 // `-MOST`.
 fn year_of(text: &str) -> Option<u64>
-    ensures { result ≡ spec.year_of text.now }
+    ensures { result ≡ spec.year_by_digits text.now }
 {
     let (before, rest) = text.split_at(start_len(text));
     let digits = first_digits(rest);

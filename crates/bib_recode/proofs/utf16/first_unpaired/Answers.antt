@@ -13,7 +13,8 @@ units-preserved c =
     let units = c.args.units.now in
     let at = c.units.at in
     let size = length-drop at units in
-    let whole : take (length units - at) (drop at units) ≡ drop at units = take_all (length units - at) (drop at units) (omega (arith, size)) in
+    let whole : take (length units - at) (drop at units) ≡ drop at units =
+    take_all (length units - at) (drop at units) (omega (arith, size)) in
     let next : c.character_len-at.result ≡ character_len (drop at units) = c.character_len-at.ensures ∙ ap character_len whole in
     let plain : begins_unpaired (drop at units) ≡ false =
     sym (ap begins_unpaired whole) ∙ sym c.begins_unpaired.ensures ∙ c.if-begins_unpaired.false in

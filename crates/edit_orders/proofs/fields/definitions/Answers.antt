@@ -4,7 +4,7 @@ use Rattle.std.proofs.lemmas.Map.Text.{btree_map_updates_str}
 use Rattle.std.specs.Prelude.{bytes_eq}
 use Rattle.bib_abbreviations.proofs.ExpansionFacts.{lookup_sorted}
 use Rattle.bib_syntax.specs.Views.{field_of, piece_of}
-use Rattle.edit_orders.specs.Fields.{definition_in}
+use Rattle.edit_orders.specs.Fields.{file_definition}
 use Rattle.edit_orders.proofs.FieldFacts.{defined_more}
 use Rattle.edit_orders.proofs.fields.definitions.Goals as goal
 
@@ -19,4 +19,4 @@ definitions-preserved c = λ name.
 pub returns : goal.returns
 returns c = λ name.
     c.definitions.invariant name
-    ∙ ap (λ l. definition_in (map field_of l) name) (take_all c.definitions.pair-index c.args.pairs.now c.definitions-test.false)
+    ∙ ap (λ l. file_definition (map field_of l) name) (take_all c.definitions.pair-index c.args.pairs.now c.definitions-test.false)

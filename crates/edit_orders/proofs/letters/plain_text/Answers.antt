@@ -7,7 +7,7 @@ use Rattle.std.proofs.lemmas.Str.{encodes-chars, encodes_same}
 use Rattle.unicode_normalization.specs.Forms.{nfkd}
 use Rattle.std.proofs.lemmas.Iterator.{YieldsList-from_chars}
 use Rattle.std.proofs.lemmas.Iterator.Consumers.{YieldsList-end}
-use Rattle.edit_orders.specs.Letters.{plain, without_commands}
+use Rattle.edit_orders.specs.Letters.{sort_character, without_commands}
 use Rattle.edit_orders.proofs.letters.plain_text.Goals as goal
 
 pub returns : goal.returns
@@ -18,7 +18,7 @@ returns c =
     let all =
     YieldsList-end (YieldsList-from_chars c.deref-3.result.now c.deref-3.utf8 cc) c.chars.yielded _ c.chars.yielded_by _ _
     c.in-None.is c.next.ensures.steps in
-    c.chars.invariant ∙ ap (flat_map plain) (sym (map-id c.chars.yielded) ∙ all.0
+    c.chars.invariant ∙ ap (flat_map sort_character) (sym (map-id c.chars.yielded) ∙ all.0
     ∙ ap chars
     (c.deref-3.ensures ∙ c.in_ok-lowercase.ensures.value
     ∙ ap str_to_lowercase

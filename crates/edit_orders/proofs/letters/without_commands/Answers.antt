@@ -4,7 +4,7 @@ use Rattle.std.proofs.lemmas.List.{append-nil, map-id}
 use Rattle.std.proofs.lemmas.Str.{encodes-append}
 use Rattle.std.proofs.lemmas.Iterator.{YieldsList-from_chars}
 use Rattle.std.proofs.lemmas.Iterator.Consumers.{YieldsList-end}
-use Rattle.edit_orders.specs.Letters.{is_in_name, kept_after, without_commands}
+use Rattle.edit_orders.specs.Letters.{is_in_name, outside_names, without_commands}
 use Rattle.edit_orders.proofs.LetterFacts.{ends_push, kept_skip, kept_take}
 use Rattle.edit_orders.proofs.letters.without_commands.Goals as goal
 
@@ -14,8 +14,8 @@ chars-preserved-in-Continue-1 c =
     record {
       kept = c.in_ok-push.ensures.bytes ∙ ap (λ t. t ++ encode_utf8 c.in-Some.c) c.chars.invariant.kept
           ∙ sym (ap encode_utf8_all (kept_take c.chars.yielded c.in-Some.c (sym same ∙ c.if-not-is_name.true))
-          ∙ encodes-append (kept_after false c.chars.yielded) (c.in-Some.c ∷ [])
-          ∙ ap (λ t. encode_utf8_all (kept_after false c.chars.yielded) ++ t) (append-nil (encode_utf8 c.in-Some.c)));
+          ∙ encodes-append (outside_names false c.chars.yielded) (c.in-Some.c ∷ [])
+          ∙ ap (λ t. encode_utf8_all (outside_names false c.chars.yielded) ++ t) (append-nil (encode_utf8 c.in-Some.c)));
       flag = same ∙ sym (ends_push _ c.chars.yielded c.in-Some.c);
     }
 

@@ -14,14 +14,16 @@ number-requires-2-clause-some c = some_left c.first_digits-digits.result.now (sy
 pub returns-then-is_empty : goal.returns-then-is_empty
 returns-then-is_empty c =
     year_none c.args.text.now c.split_at.result.0.now c.first_digits-digits.result.now
-    (year_is c.args.text.now c.split_at.result.0.now c.split_at.result.1.now c.first_digits-digits.result.now c.start_len.result c.start_len.ensures c.split_at.ensures.front
+    (year_is c.args.text.now c.split_at.result.0.now c.split_at.result.1.now c.first_digits-digits.result.now
+    c.start_len.result c.start_len.ensures c.split_at.ensures.front
     c.split_at.ensures.back c.first_digits-digits.ensures.value)
     (sym c.is_empty.ensures ∙ c.if-is_empty.true)
 
 pub returns-then-eq : goal.returns-then-eq
 returns-then-eq c =
     year_before c.args.text.now c.split_at.result.0.now c.first_digits-digits.result.now c.number.result
-    (year_is c.args.text.now c.split_at.result.0.now c.split_at.result.1.now c.first_digits-digits.result.now c.start_len.result c.start_len.ensures c.split_at.ensures.front
+    (year_is c.args.text.now c.split_at.result.0.now c.split_at.result.1.now c.first_digits-digits.result.now
+    c.start_len.result c.start_len.ensures c.split_at.ensures.front
     c.split_at.ensures.back c.first_digits-digits.ensures.value)
     (sym c.eq.ensures ∙ c.if-eq.true)
     (some_left c.first_digits-digits.result.now (sym c.is_empty.ensures ∙ c.if-is_empty.false)) c.number.ensures
@@ -29,7 +31,8 @@ returns-then-eq c =
 pub returns : goal.returns
 returns c =
     year_after c.args.text.now c.split_at.result.0.now c.first_digits-digits.result.now c.number-2.result
-    (year_is c.args.text.now c.split_at.result.0.now c.split_at.result.1.now c.first_digits-digits.result.now c.start_len.result c.start_len.ensures c.split_at.ensures.front
+    (year_is c.args.text.now c.split_at.result.0.now c.split_at.result.1.now c.first_digits-digits.result.now
+    c.start_len.result c.start_len.ensures c.split_at.ensures.front
     c.split_at.ensures.back c.first_digits-digits.ensures.value)
     (sym c.eq.ensures ∙ c.if-eq.false)
     (some_left c.first_digits-digits.result.now (sym c.is_empty.ensures ∙ c.if-is_empty.false)) c.number-2.ensures

@@ -1,7 +1,7 @@
 use Rattle.std.proofs.Common.{◌∙◌, sym, ap, length, lit<, map}
 use Rattle.std.proofs.lemmas.Iterator.Consumers.{YieldsList-end, YieldsList-so_far, YieldsList-turn}
 use Rattle.std.proofs.lemmas.Iterator.Splits.{YieldsList-from_str_split}
-use Rattle.edit_orders.specs.Orders.{part_named, words_of}
+use Rattle.edit_orders.specs.Orders.{part_named, comma_words}
 use Rattle.edit_orders.proofs.OrderFacts.{first_unknown, too_many}
 use Rattle.edit_orders.proofs.order.Order.parse.Goals as goal
 
@@ -13,7 +13,7 @@ returns-in_default-clause-refused c =
     let so_far =
     YieldsList-so_far (YieldsList-from_str_split 44 c.args.text.now (lit< tt) (cc) (cc) (cc)) c.words.yielded _
     c.words.yielded_by in
-    first_unknown _ (words_of c.args.text.now) (length c.words.yielded) c.in-Some.word.now turn.0 turn.1
+    first_unknown _ (comma_words c.args.text.now) (length c.words.yielded) c.in-Some.word.now turn.0 turn.1
     (c.words.invariant ∙ ap (map part_named) so_far) (sym c.part_named.ensures ∙ c.in_default.is)
 
 pub returns-in_default-then-clause-refused : goal.returns-in_default-then-clause-refused
@@ -24,7 +24,7 @@ returns-in_default-then-clause-refused c =
     let so_far =
     YieldsList-so_far (YieldsList-from_str_split 44 c.args.text.now (lit< tt) (cc) (cc) (cc)) c.words.yielded _
     c.words.yielded_by in
-    too_many c.words.order (words_of c.args.text.now) (length c.words.yielded) c.in-Some.word.now c.in-Some-part_named.part turn.0 turn.1
+    too_many c.words.order (comma_words c.args.text.now) (length c.words.yielded) c.in-Some.word.now c.in-Some-part_named.part turn.0 turn.1
     (c.words.invariant ∙ ap (map part_named) so_far)
     (sym c.part_named.ensures ∙ c.in-Some-part_named.is) c.in_default-then.ensures
 
