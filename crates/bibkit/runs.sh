@@ -483,8 +483,8 @@ run 'what is collected is written out' 0 '@string{jota = {Journal of the ACM}}
 # names: one that the file defines, one that it uses, a month's, one of another text, none of letters
 while IFS='|' read -r name before text words; do
     printf '%s@book{a, publisher={%s}}\n@book{b, publisher={%s}%s}\n' "$before" "$text" "$text" "$words" >named.bib
-    run "the name $name" 0 "@string{$name = {$text}}
-$before@book{a, publisher=$name}
+    run "the name $name" 0 "$before@string{$name = {$text}}
+@book{a, publisher=$name}
 @book{b, publisher=$name$words}
 " strings --collect -f named.bib
 done <<'ROWS'
@@ -505,6 +505,8 @@ printf '@book{a, publisher="{", series={S} # {T}}\n@book{b, publisher="{", serie
 run 'texts that can not stand in braces, and joined ones, stay' 0 "$(cat uncollected.bib)"$'\n' strings --collect -f uncollected.bib
 printf '\xef\xbb\xbf@book{a, publisher={X}}\n@book{b, publisher={X}}\n' >collect-mark.bib
 run 'definitions stand after a byte order mark' 0 $'\xef\xbb\xbf@string{x = {X}}\n@book{a, publisher=x}\n@book{b, publisher=x}\n' strings --collect -f collect-mark.bib
+printf '%% Encoding: UTF-8\r\n@string{acm = {ACM}}\r\n\r\n@book{a, publisher={ACM}, series={A B}}\r\n@book{b, publisher={ACM}, series={A B}}\r\n' >reused.bib
+run 'a definition is used again, and new lines are before the first entry' 0 $'% Encoding: UTF-8\r\n@string{acm = {ACM}}\r\n\r\n@string{ab = {A B}}\r\n@book{a, publisher=acm, series=ab}\r\n@book{b, publisher=acm, series=ab}\r\n' strings --collect -f reused.bib
 run 'abbreviations, and nothing that is done with them' 2 '' strings -f two.bib
 run 'abbreviations that are written out and collected' 2 '' strings --expand --collect -f two.bib
 for option in '--fields publisher' '--at-least 3'; do run "$option where nothing is collected" 2 '' strings --expand $option -f two.bib; done
