@@ -36,10 +36,13 @@ are_aligned text column fields =
 abbrev pub padding : ℕ → List ℕ → List ℕ
 padding column name = replicate (max 1 (column - length name)) char.space
 
--- the white space before the equals sign of a new field: up to the column of the others if they are aligned, or else that of the first
+-- the white space before the equals sign of a new field: up to the column of the first field if that has more than one byte there or the
+-- fields are aligned, or else that of the first field
 abbrev pub new_before_sign : List ℕ → List ℕ → FieldReading → List FieldReading → List ℕ
 new_before_sign text name first fields =
-    if are_aligned text (sign_column text first) fields then padding (sign_column text first) name else before_sign text first
+    if nat_lt 1 (length (before_sign text first)) || are_aligned text (sign_column text first) fields
+    then padding (sign_column text first) name
+    else before_sign text first
 
 -- the text between the name and the value of a new field before these, of which this is the first: as in the first one, if that has
 -- only spaces and tabs there

@@ -111,7 +111,7 @@ fn push_before_sign(
         spec.new_before_sign text.now name.now (field_of first.now) (map field_of fields.now)) }
 {
     let column = sign_column(text, first);
-    if are_aligned(text, column, fields) {
+    if 1 < signs(text, first).0.len() || are_aligned(text, column, fields) {
         return push_spaces(out, column.saturating_sub(name.len()).max(1));
     }
     out.push_str(signs(text, first).0)
