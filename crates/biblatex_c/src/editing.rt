@@ -3,7 +3,7 @@
 ghost use Rattle.std.specs.Prelude.{◌≡◌, [], ◌∷◌, IfOk, IfErr};
 ghost use Rattle.std.specs.String.{string_bytes};
 ghost use Rattle.edit_entries.specs.Documents.{EntryIsRefused, EntryRemoved, UnsetIsRefused};
-ghost use Rattle.edit_entries.specs.Setting.{FieldSet, SetIsRefused, Value};
+ghost use Rattle.edit_entries.specs.Setting.{FieldSet, SetIsRefused, SetValue};
 ghost use Rattle.edit_entries.specs.Unset.{FieldUnset};
 ghost use Rattle.edit_entries.specs.References.{KeyRenamed, RenameIsRefused};
 ghost use Rattle.biblatex_c.specs.Calls.{AddFails, EditFails, IsEditedText, IsLaidOut, IsNoFile, IsNumberedEnd, TextFails, WithEntriesOf};
@@ -43,8 +43,8 @@ fn set_in(
     name: &[u8],
     value: &[u8],
 ) -> Result<String, Status>
-    ensures made { IfOk result (λ edited. IsEditedText (λ d. FieldSet d key.now name.now (Value.plain_text value.now)) text.now (string_bytes edited)) }
-    ensures fails { IfErr result (EditFails (λ d why. SetIsRefused d key.now name.now (Value.plain_text value.now) why) text.now (key.now ∷ name.now ∷ value.now ∷ [])) }
+    ensures made { IfOk result (λ edited. IsEditedText (λ d. FieldSet d key.now name.now (SetValue.plain_text value.now)) text.now (string_bytes edited)) }
+    ensures fails { IfErr result (EditFails (λ d why. SetIsRefused d key.now name.now (SetValue.plain_text value.now) why) text.now (key.now ∷ name.now ∷ value.now ∷ [])) }
 {
     let document = RawDocument::parse(alloc, text_of(text)?)?;
     let key = text_of(key)?;
@@ -66,8 +66,8 @@ pub extern "C" fn biblatex_set(
     out: &mut [u8],
     size: &mut usize,
 ) -> u32
-    ensures { IsNumberedEnd (IsEditedText (λ d. FieldSet d key.now name.now (Value.plain_text value.now)) text.now)
-        (EditFails (λ d why. SetIsRefused d key.now name.now (Value.plain_text value.now) why) text.now (key.now ∷ name.now ∷ value.now ∷ []))
+    ensures { IsNumberedEnd (IsEditedText (λ d. FieldSet d key.now name.now (SetValue.plain_text value.now)) text.now)
+        (EditFails (λ d why. SetIsRefused d key.now name.now (SetValue.plain_text value.now) why) text.now (key.now ∷ name.now ∷ value.now ∷ []))
         out.old size.old out.new size.new result }
 {
     end(set_in(alloc, text, key, name, value), out, size).number()

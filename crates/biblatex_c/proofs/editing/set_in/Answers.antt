@@ -1,6 +1,6 @@
 use Rattle.std.proofs.Common.{◌∙◌, [], ◌∷◌, sym}
 use Rattle.std.proofs.lemmas.Result.{err_from_is_err_and}
-use Rattle.edit_entries.specs.Setting.{SetIsRefused, Value}
+use Rattle.edit_entries.specs.Setting.{SetIsRefused, SetValue}
 use Rattle.biblatex_c.proofs.FailureFacts.{edit_fails, unread_fails}
 use Rattle.biblatex_c.proofs.editing.set_in.Goals as goal
 
@@ -8,14 +8,14 @@ pub returns-in_err-document-clause-fails : goal.returns-in_err-document-clause-f
 returns-in_err-document-clause-fails c =
     let p = err_from_is_err_and c.from_residual-in_err-document.result c.from_residual-in_err-document.ensures.1 in
     rw (p.1, p.2)
-    (unread_fails (λ d why. SetIsRefused d c.args.key.now c.args.name.now (Value.plain_text c.args.value.now) why) c.args.text.now
+    (unread_fails (λ d why. SetIsRefused d c.args.key.now c.args.name.now (SetValue.plain_text c.args.value.now) why) c.args.text.now
     (c.args.key.now ∷ c.args.name.now ∷ c.args.value.now ∷ []) c.in_ok-text_of.field-0.now
     c.in_err-document.field-0.0 c.in_ok-text_of.ensures.text c.in_err-document.ensures.refused)
 
 pub returns-in_err-set_field-clause-fails : goal.returns-in_err-set_field-clause-fails
 returns-in_err-set_field-clause-fails c =
     let p = err_from_is_err_and c.from_residual-in_err-set_field.result c.from_residual-in_err-set_field.ensures.1 in
-    rw (p.1, p.2) (edit_fails (λ d why. SetIsRefused d c.args.key.now c.args.name.now (Value.plain_text c.args.value.now) why)
+    rw (p.1, p.2) (edit_fails (λ d why. SetIsRefused d c.args.key.now c.args.name.now (SetValue.plain_text c.args.value.now) why)
     c.args.text.now (c.args.key.now ∷ c.args.name.now ∷ c.args.value.now ∷ []) c.in_ok-document.document
     c.in_err-set_field.field-0.0
     (c.in_ok-document.ensures.same ∙ c.in_ok-text_of.ensures.text) c.in_ok-document.ensures.read
