@@ -362,7 +362,7 @@ holds 'the file has the order' cmp -s ordered.bib <(printf '@misc{a,\n}\n\n\n@mi
 # edits: the new text is printed, and the file stays
 entry='@misc{a, title={A}, author={B}}'
 run 'a field that is there is set' 0 $'@misc{a, title={C d}, author={B}}\n\n@misc{b, title={x y}, author={Knuth, D.}, year={1984}}\n' set a 'title=C d' -f two.bib
-run 'a field that is not there is added' 0 $'@misc{a, year = {2000}, title={A}, author={B}}\n\n@misc{b, title={x y}, author={Knuth, D.}, year={1984}}\n' set a year=2000 --file two.bib
+run 'a field that is not there is added' 0 $'@misc{a, year={2000}, title={A}, author={B}}\n\n@misc{b, title={x y}, author={Knuth, D.}, year={1984}}\n' set a year=2000 --file two.bib
 run 'two fields are set' 0 $'@misc{a, title={C}, author={D}}\n\n@misc{b, title={x y}, author={Knuth, D.}, year={1984}}\n' set a title=C AUTHOR=D -f two.bib
 run 'a value that is there changes nothing' 0 "$(cat two.bib)"$'\n' set b year=1984 -f two.bib
 run 'a value with an equals sign' 0 $'@misc{a, title={A=B}, author={B}}\n\n@misc{b, title={x y}, author={Knuth, D.}, year={1984}}\n' set a title=A=B -f two.bib
@@ -1192,10 +1192,10 @@ run 'a condition that ends too early: nothing is printed' 2 '' select --where 'y
 run 'a file that is not there, and selected keys' 2 $'n\n' select --keys --where 'key = n' nothing.bib select.bib
 
 # edit
-edited='@article{church1936, langid = {english}, note = {x}, author={Church, Alonzo}, title={A Note}, journal={JSL}, date={1936-03}, doi={10/x}}'
+edited='@article{church1936, langid={english}, note={x}, author={Church, Alonzo}, title={A Note}, journal={JSL}, date={1936-03}, doi={10/x}}'
 run 'fields of selected entries' 0 "$(head -1 select.bib)"$'\n'"$edited"$'\n@misc{n, title={No Year}}\n' \
     edit --where 'type = article' --add langid=english --set note=x --rename journaltitle=journal --file select.bib
-run 'fields of all entries' 0 $'@misc{a, note = {x}, title={A}, author={B}}\n\n@misc{b, note = {x}, title={x y}, author={Knuth, D.}, year={1984}}\n' \
+run 'fields of all entries' 0 $'@misc{a, note={x}, title={A}, author={B}}\n\n@misc{b, note={x}, title={x y}, author={Knuth, D.}, year={1984}}\n' \
     edit --set note=x -f two.bib
 run 'fields of no entry' 0 "$(cat two.bib)"$'\n' edit --where 'key = none' --set note=x -f two.bib
 cp two.bib input
@@ -1203,7 +1203,7 @@ run 'fields of entries of standard input' 0 $'@misc{a, title={A}, author={B}}\n\
     edit --rename year=date
 cp two.bib edited.bib
 run 'edited fields are written' 0 '' edit --where 'key = a' --add note=x --write --file edited.bib
-holds 'the file has the edited fields' eval 'printf "@misc{a, note = {x}, title={A}, author={B}}\n\n@misc{b, title={x y}, author={Knuth, D.}, year={1984}}\n" | cmp -s - edited.bib'
+holds 'the file has the edited fields' eval 'printf "@misc{a, note={x}, title={A}, author={B}}\n\n@misc{b, title={x y}, author={Knuth, D.}, year={1984}}\n" | cmp -s - edited.bib'
 run_messages 'a value that can not be written' 1 $'bibkit: two.bib: `note`: the value can\'t be written in braces\n' edit --set 'note=}' -f two.bib
 run_messages 'a name that can not be one' 1 $'bibkit: two.bib: `1a`: the text can\'t be the name of a field\n' edit --rename title=1a -f two.bib
 run_messages 'an edit without an equals sign' 2 $'bibkit: `note` isn\'t FIELD=VALUE; use `--file` for the name of the file\n' edit --set note -f two.bib

@@ -8,7 +8,7 @@ use Rattle.biblatex.specs.Syntax.{Bibliography, Entry, FileReading, IsFile, IsRa
 use Rattle.bib_queries.specs.Answers.{lines_of_keys}
 use Rattle.bibkit_convert.specs.Converted.{end, is_first_after, texts_after}
 use Rattle.edit_entries.specs.Documents.{Document, EntriesAdded, EntriesAreRefused, IsDocument, IsEdited}
-use Rattle.edit_entries.specs.Setting.{Value}
+use Rattle.edit_entries.specs.Setting.{SetValue}
 use Rattle.edit_entries.specs.declared.errors.EditError.{EditError}
 use Rattle.edit_entries.specs.declared.errors.EditError.TheVariants as edit_error
 use Rattle.edit_format.specs.Formatted.{text_in_style}
@@ -128,9 +128,9 @@ EditFails Refuses text others NoFieldLeft = IsRefusedFor Refuses text edit_error
 EditFails Refuses text others NotBare = IsRefusedFor Refuses text edit_error.NotBare
 
 -- the value with a text: without braces if the flag is true
-abbrev pub value_with : Bool → List ℕ → Value
-value_with false text = Value.plain_text text
-value_with true text = Value.bare_text text
+abbrev pub value_with : Bool → List ℕ → SetValue
+value_with false text = SetValue.plain_text text
+value_with true text = SetValue.bare_text text
 
 -- the second document is the first with a line feed and the document of the text `added` after it
 abbrev pub WithEntriesOf : List ℕ → Document → Document → Type 0

@@ -5,7 +5,7 @@ use Rattle.bib_syntax.specs.Reading.{EntryReading, FieldReading}
 use Rattle.bib_tables.specs.declared.dialects.Dialect.{Dialect}
 use Rattle.edit_entries.specs.Changes.{FieldChange}
 use Rattle.edit_entries.proofs.ChangesFacts.{CanChange, CanEntryChange, CanFieldsChange}
-use Rattle.edit_entries.proofs.NewFieldFacts.{CanBePut}
+use Rattle.edit_entries.proofs.NewFieldFacts.{CanBePut, usual_sign}
 use Rattle.bib_tables.specs.EntryType.{entry_type_of}
 use Rattle.edit_convert.specs.Conversions.{Replacement, can_be_removed, conversion, date_field, field_change, field_changes, field_replacement, is_date_part, keeps_one, missing_type, printed_type, with_missing_type}
 use Rattle.edit_convert.specs.Tables.{pending_after, pending_change}
@@ -51,7 +51,7 @@ CanBePending pending = (value : List ℕ) → pending ≡ Some value → CanBePu
 
 pending_can : (text : List ℕ) (f : FieldReading) (pending : Option (List ℕ)) (following : List FieldReading) (o : Option Replacement)
     → CanBePending pending → CanBeMade o → CanChange following (pending_change text f pending following o)
-pending_can text f (Some value) following None waits can = (waits value refl, ((omega arith, refl), tt))
+pending_can text f (Some value) following None waits can = (waits value refl, usual_sign, ((omega arith, refl), tt))
 pending_can text f (Some value) following (Some o) waits can = field_can text f following (Some o) can
 pending_can text f None following None waits can = tt
 pending_can text f None following (Some o) waits can = field_can text f following (Some o) can

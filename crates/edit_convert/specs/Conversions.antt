@@ -229,7 +229,7 @@ field_changes text replacement (f ∷ fs) = field_change text f fs (replacement 
 -- these changes, with a new field before the first field that is kept
 abbrev pub with_field_before_kept : NewField → List FieldChange → List FieldChange
 with_field_before_kept new [] = []
-with_field_before_kept new (FieldChange.kept ∷ changes) = FieldChange.preceded new (char.space ∷ []) ∷ changes
+with_field_before_kept new (FieldChange.kept ∷ changes) = FieldChange.preceded new (codes " = ") (char.space ∷ []) ∷ changes
 with_field_before_kept new (change ∷ changes) = change ∷ with_field_before_kept new changes
 
 -- the same with a field `type`, if it is missing

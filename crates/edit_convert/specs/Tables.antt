@@ -1,6 +1,6 @@
 -- Machinery: words of private contracts.
 -- Names, dates and edits, by the values that the code uses.
-use Rattle.std.specs.Prelude.{ℕ, Bool, List, [], ◌∷◌, map, None, Option, Some}
+use Rattle.std.specs.Prelude.{codes, ℕ, Bool, List, [], ◌∷◌, map, None, Option, Some}
 use Rattle.std.specs.Borrow.{Bor}
 use Rattle.std.specs.Option.{option_map}
 use Rattle.std.specs.String.{string_bytes}
@@ -52,7 +52,7 @@ replacement_by_one changes f =
 
 -- the change of a field before others, if a missing value of `type` is still to be added: before the first field that is kept
 abbrev pub pending_change : List ℕ → FieldReading → Option (List ℕ) → List FieldReading → Option Replacement → FieldChange
-pending_change text f (Some value) following None = FieldChange.preceded (type_field value) (char.space ∷ [])
+pending_change text f (Some value) following None = FieldChange.preceded (type_field value) (codes " = ") (char.space ∷ [])
 pending_change text f pending following replacement = field_change text f following replacement
 
 -- the value that is still to be added after a field

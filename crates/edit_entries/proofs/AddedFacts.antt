@@ -40,7 +40,10 @@ pub record FirstAdded (d : Document) (k : ℕ) (e : EntryReading) (edit : Edit) 
   pub reading : FieldReading
   pub alike : moved_field (λ n. 0) reading ≡ moved_field (λ n. 0) (field_reading n)
   pub read : IsDocument
-      (entry_edited d edit k (record (moved_entry (moved_place edit) e) { fields = reading ∷ map (moved_field (moved_place edit)) e.fields }))
+      (entry_edited d edit k (record (moved_entry (moved_place edit) e) {
+        fields = reading ∷ map (moved_field
+            (moved_place edit)) e.fields;
+      }))
 
 pub only_field_read : (d : Document) (k : ℕ) (e : EntryReading) (at : ℕ) (n : NewField) → IsDocument d
     → slice_get d.says.entries k ≡ Some e → IsAfterComma d.text e at → CanBePut n

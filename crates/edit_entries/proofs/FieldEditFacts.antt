@@ -13,7 +13,7 @@ use Rattle.edit_entries.specs.FieldEdits.{CantBeEdited, FieldEditIsRefused, HasF
 use Rattle.edit_entries.specs.FieldTexts.{EditTextIsRefused, HaveFieldsPlaced}
 use Rattle.edit_entries.specs.Layouts.{new_sign}
 use Rattle.edit_entries.specs.Placed.{IsNamePlaced, IsPlaced}
-use Rattle.edit_entries.specs.Setting.{CanBeNewName, Value, new_field, new_value, value_of, values_set, white_before}
+use Rattle.edit_entries.specs.Setting.{CanBeNewName, SetValue, field_with_value, new_value, value_of, values_set, white_before}
 use Rattle.edit_entries.specs.declared.errors.EditError.{EditError}
 use Rattle.edit_entries.specs.declared.errors.EditError.TheVariants.{UnknownKey, KeyIsThere, NotAKey, NotAName, NotInBraces, NotBare, DefinitionIsThere, NoFieldLeft, OutOfMemory}
 use Rattle.edit_entries.specs.declared.field_edits.FieldEdit.{FieldEdit}
@@ -49,7 +49,7 @@ fields_placed d read = entries_placed d.text 0 d.says.entries (file_in d.text re
 unchanged_can : (e : EntryReading) → CanEntryChange e unchanged
 unchanged_can e = record { kind = λ name is. absurd (cc); fields = can_be_kept e.fields }
 
-field_first_can : (text name : List ℕ) (value : Value) (e : EntryReading) (fs : List FieldReading) → e.fields ≡ fs
+field_first_can : (text name : List ℕ) (value : SetValue) (e : EntryReading) (fs : List FieldReading) → e.fields ≡ fs
     → AllByRecursion (IsNamePlaced text) e.fields → CanBeNewName name → CanBeRead (new_value value)
     → CanEntryChange e (new_field_first text name value fs)
 field_first_can text name value e [] are placed can_name can_value = unchanged_can e
@@ -87,12 +87,14 @@ edited_can text definitions at (Rename old new) e placed can_name can_value =
 -- ---- the edits
 
 -- the edit that puts a new field before the first one
-pub field_first_edits : (text name : List ℕ) (value : Value) (fs : List FieldReading) (first : FieldReading) (others : List FieldReading)
+pub field_first_edits : (text name : List ℕ) (value : SetValue) (fs : List FieldReading) (first : FieldReading) (others : List FieldReading)
     → fs ≡ first ∷ others
     → edits_of_fields text fs (new_field_first text name value fs).fields
-    ≡ name_edit first (field_before (new_field name value) (new_sign text name first (first ∷ others)) (white_before text first.name.start)) ∷ []
+    ≡ name_edit first (field_before (field_with_value name value) (new_sign text name first (first ∷ others))
+    (white_before text first.name.start)) ∷ []
 field_first_edits text name value fs first others are =
-    let lead : List ℕ = field_before (new_field name value) (new_sign text name first (first ∷ others)) (white_before text first.name.start) in
+    let lead : List ℕ = field_before (field_with_value name value) (new_sign text name first (first ∷ others))
+    (white_before text first.name.start) in
     ap (λ l. edits_of_fields text l (new_field_first text name value l).fields) are
     ∙ ap (λ es. name_edit first lead ∷ es) (no_edits text others)
 

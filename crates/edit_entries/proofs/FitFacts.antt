@@ -14,7 +14,7 @@ use Rattle.bib_syntax.specs.Reading.Piece.{abbreviation, literal}
 use Rattle.bib_syntax.specs.Grammar.{Element, Identifier, NoDigit, Number, longest}
 use Rattle.edit_entries.specs.Changes.{braced_value}
 use Rattle.edit_entries.specs.Documents.{CanStandInBraces, in_braces, text_at}
-use Rattle.edit_entries.specs.Setting.{CanBeNewName, IsBare, IsFit, Value, begins_with_digit, is_number, new_value}
+use Rattle.edit_entries.specs.Setting.{CanBeNewName, IsBare, IsWritableAt, SetValue, begins_with_digit, is_bare_number, new_value}
 use Rattle.edit_entries.proofs.NewFieldFacts.{element_read}
 use Rattle.edit_entries.proofs.NewValueFacts.{CanBeRead}
 use Rattle.edit_entries.proofs.StandsFacts.{Stands, ascii, first_part, last_part, nothing, past}
@@ -64,16 +64,18 @@ digits_run {u} {v} (b ∷ bs) all s =
 number_of : {u v : Place} (text : List ℕ) → v ≡ place text (length text) → Run is_ascii_digit u v → (u ≡ v → ⊥) → Number longest u v
 number_of {u} text end stop some = absurd (some refl)
 number_of {u} {v} text end (step char digit rest) some =
-    let last = λ (test : ℕ → Bool). subst (λ p. (c : ℕ) (w : Place) → CharAt p c w → test c ≡ false) (sym end) (stops_at_end test {u = place text (length text)} refl) in
+    let last = λ (test : ℕ → Bool). subst (λ p. (c : ℕ) (w : Place) → CharAt p c w
+    → test c ≡ false) (sym end) (stops_at_end test {u = place text (length text)} refl) in
     Number.whole char digit (record { run = rest; stops = last is_ascii_digit }) (last (λ d. d == 46))
 
-number_read : (text : List ℕ) → is_number text ≡ true → CanBeRead (record { bytes = text; pieces = literal (text_at 0 text) ∷ [] })
+number_read : (text : List ℕ) → is_bare_number text ≡ true → CanBeRead (record { bytes = text; pieces = literal (text_at 0 text) ∷ [] })
 number_read [] is = absurd (cc)
 number_read (b ∷ bs) is =
     let text : List ℕ = b ∷ bs in
     let whole : Stands (place text 0) text (place text (length text)) = record {
       same = refl;
-      here = sym (append-nil text) ∙ ap (λ r. text ++ r) (sym (drop_at text [] (length text) refl) ∙ ap (drop (length text)) (append-nil text));
+      here = sym (append-nil text) ∙ ap (λ r. text ++ r) (sym (drop_at text [] (length text) refl) ∙ ap (drop (length text))
+          (append-nil text));
       next = omega arith;
     } in
     let run = digits_run text is whole in
@@ -94,20 +96,23 @@ no_digit text none c v char digit =
 name_read : (text : List ℕ) → CanBeNewName text → CanBeRead (record { bytes = text; pieces = abbreviation (text_at 0 text) ∷ [] })
 name_read text can =
     let i : Identifier longest (place text 0) (text_at 0 text) (place text (length text)) =
-    subst (λ p. Identifier longest (place text 0) p (place text (length text))) (whole_part text can.name.0 can.name.1.reading) can.name.1 in
+    subst (λ p. Identifier longest (place text 0) p (place text (length text)))
+    (whole_part text can.name.0 can.name.1.reading) can.name.1 in
     element_read {a = place text 0} text (Element.named (no_digit text can.no_digit) i) (omega arith) (whole_bytes text)
 
-no_number : (text : List ℕ) → begins_with_digit text ≡ false → is_number text ≡ false
+no_number : (text : List ℕ) → begins_with_digit text ≡ false → is_bare_number text ≡ false
 no_number [] none = refl
 no_number (b ∷ bs) none = ap (λ d. d && list_all is_ascii_digit bs) none
 
 -- ---- each value that is fit
 
-pub fit_read : (definitions : List FieldReading) (at : ℕ) (value : Value) → IsFit definitions at value → CanBeRead (new_value value)
-fit_read definitions at (Value.plain_text text) fit = braced_read text fit.braced
-fit_read definitions at (Value.bare_text text) (IsBare.number is) =
-    subst (λ b. CanBeRead (record { bytes = text; pieces = cond b (literal (text_at 0 text)) (abbreviation (text_at 0 text)) ∷ [] })) (sym is)
+pub fit_read : (definitions : List FieldReading) (at : ℕ) (value : SetValue) → IsWritableAt definitions at value
+    → CanBeRead (new_value value)
+fit_read definitions at (SetValue.plain_text text) fit = braced_read text fit.braced
+fit_read definitions at (SetValue.bare_text text) (IsBare.number is) =
+    subst (λ b. CanBeRead (record { bytes = text; pieces = cond b (literal (text_at 0 text)) (abbreviation (text_at 0 text)) ∷ [] }))
+    (sym is)
     (number_read text is)
-fit_read definitions at (Value.bare_text text) (IsBare.named can known) =
+fit_read definitions at (SetValue.bare_text text) (IsBare.named can known) =
     subst (λ b. CanBeRead (record { bytes = text; pieces = cond b (literal (text_at 0 text)) (abbreviation (text_at 0 text)) ∷ [] }))
     (sym (no_number text can.no_digit)) (name_read text can)

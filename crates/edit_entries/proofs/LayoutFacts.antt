@@ -5,7 +5,7 @@ use Rattle.std.specs.Char.{is_whitespace}
 use Rattle.std.specs.List.{list_all}
 use Rattle.std.proofs.lemmas.Bool.Decides.{nat_tests}
 use Rattle.bib_syntax.specs.Reading.{FieldReading}
-use Rattle.edit_entries.specs.Layouts.{after_sign, are_aligned, before_sign, is_blank_byte, new_sign, padding, sign_column}
+use Rattle.edit_entries.specs.Layouts.{after_equals, are_aligned, before_equals, is_blank_byte, new_sign, name_padding, sign_column}
 use Rattle.edit_entries.proofs.NewFieldFacts.{IsSign, usual_sign}
 use Rattle.edit_entries.proofs.StandsFacts.{AreWhite, spaces_white}
 
@@ -33,27 +33,27 @@ blanks_white (b ∷ bs) all =
 
 pub new_sign_is : (text name : List ℕ) (first : FieldReading) (fields : List FieldReading) → IsSign (new_sign text name first fields)
 new_sign_is text name first fields =
-    by_case (list_all is_blank_byte (before_sign text first) && list_all is_blank_byte (after_sign text first)) refl
+    by_case (list_all is_blank_byte (before_equals text first) && list_all is_blank_byte (after_equals text first)) refl
   where
     column : ℕ
     column = sign_column text first
 
-    aligned : (b : Bool) → AreWhite (before_sign text first) → AreWhite (cond b (padding column name) (before_sign text first))
+    aligned : (b : Bool) → AreWhite (before_equals text first) → AreWhite (cond b (name_padding column name) (before_equals text first))
     aligned true white = spaces_white (max 1 (column - length name))
     aligned false white = white
 
-    by_case : (b : Bool) → (list_all is_blank_byte (before_sign text first) && list_all is_blank_byte (after_sign text first)) ≡ b
+    by_case : (b : Bool) → (list_all is_blank_byte (before_equals text first) && list_all is_blank_byte (after_equals text first)) ≡ b
         → IsSign
         (cond b
-        (cond (are_aligned text column fields) (padding column name) (before_sign text first) ++ 61 ∷ after_sign text first)
+        (cond (are_aligned text column fields) (name_padding column name) (before_equals text first) ++ 61 ∷ after_equals text first)
         (codes " = "))
     by_case false is = usual_sign
     by_case true is =
-        let parts = both (list_all is_blank_byte (before_sign text first)) (list_all is_blank_byte (after_sign text first)) is in
+        let parts = both (list_all is_blank_byte (before_equals text first)) (list_all is_blank_byte (after_equals text first)) is in
         record {
-          before = cond (are_aligned text column fields) (padding column name) (before_sign text first);
-          after = after_sign text first;
+          before = cond (are_aligned text column fields) (name_padding column name) (before_equals text first);
+          after = after_equals text first;
           is = refl;
-          white = aligned (are_aligned text column fields) (blanks_white (before_sign text first) parts.0);
-          white' = blanks_white (after_sign text first) parts.1;
+          white = aligned (are_aligned text column fields) (blanks_white (before_equals text first) parts.0);
+          white' = blanks_white (after_equals text first) parts.1;
         }

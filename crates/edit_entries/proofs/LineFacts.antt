@@ -20,7 +20,7 @@ use Rattle.bib_syntax.proofs.FileFacts.{ahead_head}
 use Rattle.edit_entries.specs.Changes.{IsTrimmed, value_end}
 use Rattle.edit_entries.specs.Documents.{Document, IsDocument}
 use Rattle.edit_entries.specs.Edits.{Edit, edited, moved_place, moved_entry, moved_field, moved_part}
-use Rattle.edit_entries.specs.Unset.{end_before, has_byte, line_edit}
+use Rattle.edit_entries.specs.Unset.{end_before, has_byte_at, line_edit}
 use Rattle.edit_entries.proofs.EditFacts.{Fits, ascii_stands, before_frame, after_frame, moved_after, moved_before, zone_before, zone_after}
 use Rattle.edit_entries.proofs.ZoneFacts.{Frame, Inside, Zone, char_there, inside, inside_between, longest_there, part_there, there}
 use Rattle.edit_entries.proofs.GrammarFacts.{below_between, below_char, field_there, fields_there, gap_there, head_there}
@@ -33,23 +33,23 @@ use Rattle.edit_entries.proofs.ValueFacts.{Stands, gap_stands, run_stands}
 
 -- ---- bytes and characters
 
-byte_drop : (text : List ℕ) (at c : ℕ) → has_byte text at c ≡ true → drop at text ≡ c ∷ drop (at + 1) text
+byte_drop : (text : List ℕ) (at c : ℕ) → has_byte_at text at c ≡ true → drop at text ≡ c ∷ drop (at + 1) text
 byte_drop [] at c is = absurd (cc)
 byte_drop (b ∷ bs) zero c is = let same : b ≡ c = grind (arith, nat_tests) in ap (λ x. x ∷ bs) same
 byte_drop (b ∷ bs) (suc at) c is =
     let next : suc at + 1 ≡ suc (at + 1) = omega arith in
     byte_drop bs at c is ∙ ap (λ n. c ∷ drop n (b ∷ bs)) (sym next)
 
-drop_byte : (text rest : List ℕ) (at c : ℕ) → drop at text ≡ c ∷ rest → has_byte text at c ≡ true
+drop_byte : (text rest : List ℕ) (at c : ℕ) → drop at text ≡ c ∷ rest → has_byte_at text at c ≡ true
 drop_byte [] rest zero c here = absurd (cc)
 drop_byte [] rest (suc at) c here = absurd (cc)
 drop_byte (b ∷ bs) rest zero c here = let same : b ≡ c = cc in grind (arith, nat_tests)
 drop_byte (b ∷ bs) rest (suc at) c here = drop_byte bs rest at c here
 
-pub byte_char : (text : List ℕ) (at c : ℕ) → c < 128 → has_byte text at c ≡ true → CharAt (place text at) c (place text (at + 1))
+pub byte_char : (text : List ℕ) (at c : ℕ) → c < 128 → has_byte_at text at c ≡ true → CharAt (place text at) c (place text (at + 1))
 byte_char text at c small is = ascii_stands text (drop (at + 1) text) at c small (byte_drop text at c is)
 
-char_byte : {u v : Place} (c : ℕ) → c < 128 → CharAt u c v → has_byte u.text u.at c ≡ true
+char_byte : {u v : Place} (c : ℕ) → c < 128 → CharAt u c v → has_byte_at u.text u.at c ≡ true
 char_byte {u} {v} c small char =
     drop_byte u.text (drop v.at u.text) u.at c (char.here ∙ ap (λ bs. bs ++ drop v.at u.text) (encode_ascii c small))
 
@@ -175,8 +175,8 @@ record FieldsFrom (text : List ℕ) (at : ℕ) (fs : List FieldReading) (v : Pla
   rest : GapAndFields from fs v
 
 fields_from : {u v w : Place} {fs : List FieldReading} (text : List ℕ) (f : FieldReading) → u ≡ place text f.value.end
-    → Stops is_whitespace u → IsTrimmed text f → has_byte text f.value.end 37 ≡ false → (b : Bool)
-    → has_byte text f.value.end 44 ≡ b → FieldsAfter u fs v → CharAt v 125 w
+    → Stops is_whitespace u → IsTrimmed text f → has_byte_at text f.value.end 37 ≡ false → (b : Bool)
+    → has_byte_at text f.value.end 44 ≡ b → FieldsAfter u fs v → CharAt v 125 w
     → FieldsFrom text (cond b (f.value.end + 1) (value_end text f)) fs v
 fields_from text f here stops trimmed plain true is (FieldsAfter.last gap) closes =
     let comma = subst (λ p. CharAt p 44 (place text (f.value.end + 1))) (sym here) (byte_char text f.value.end 44 (omega arith) is) in
@@ -204,11 +204,11 @@ fields_from {u} text f here stops trimmed plain true is (FieldsAfter.more {v = s
 fields_from text f here stops trimmed plain false is (FieldsAfter.more {w = after} (gap.white white ends) comma gap' rest) closes =
     let same = run_stopped white.run stops in
     let found = char_byte 44 (omega arith) (subst (λ p. CharAt p 44 after) (sym same ∙ here) comma) in
-    absurd (test_clash (has_byte text f.value.end 44) found is)
+    absurd (test_clash (has_byte_at text f.value.end 44) found is)
 fields_from text f here stops trimmed plain false is (FieldsAfter.more (gap.line_comment white m white') comma gap' rest) closes =
     let same = run_stopped white.run stops in
     let found = char_byte 37 (omega arith) (subst (λ p. CharAt p 37 m.inside) (sym same ∙ here) m.sign) in
-    absurd (test_clash (has_byte text f.value.end 37) found plain)
+    absurd (test_clash (has_byte_at text f.value.end 37) found plain)
 
 fields_stand : {u v w : Place} {fs : List FieldReading} → Fields longest u fs v → CharAt v 125 w → Stands u
 fields_stand (fields.none white) closes = run_stands white.run closes
@@ -229,7 +229,7 @@ pub record LineRemoved (d : Document) (k : ℕ) (e : EntryReading) (j : ℕ) (ed
 
 pub line_removed : (d : Document) (k : ℕ) (e : EntryReading) (j : ℕ) (f : FieldReading) → IsDocument d
     → slice_get d.says.entries k ≡ Some e → slice_get e.fields j ≡ Some f → IsTrimmed d.text f
-    → has_byte d.text (end_before e j) 44 ≡ true → has_byte d.text f.value.end 37 ≡ false
+    → has_byte_at d.text (end_before e j) 44 ≡ true → has_byte_at d.text f.value.end 37 ≡ false
     → LineRemoved d k e j (line_edit d.text e j f)
 line_removed d k e j f read here there' trimmed comma plain =
     let text : List ℕ = d.text in
@@ -264,14 +264,23 @@ line_removed d k e j f read here there' trimmed comma plain =
     let value_is : g.end ≡ place text f.value.end =
     same_place {u = g.end} {v = place text f.value.end} at_value.text (sym g.field.ends) in
     let r =
-    fields_from text f value_is (elements_stop g.field.elements).0 trimmed plain (has_byte text f.value.end 44) refl g.rest b.closes in
+    fields_from text f value_is (elements_stop g.field.elements).0 trimmed plain (has_byte_at text f.value.end 44) refl g.rest b.closes in
     let rest = r.rest in
     let over_name =
     ahead_then (ahead_run name.rest.run)
     (ahead_then (ahead_run g.field.white.run)
     (ahead_then (ahead_char g.field.sign) (ahead_run g.field.white'.run))) in
     let value_past : f.value.start ≤ r.from.at =
-    omega (arith, r.is, end_past text f (has_byte text f.value.end 44) (omega (arith, g.field.starts, g.field.ends, (ahead_elements g.field.elements).at))) in
+    omega (
+      arith,
+      r.is,
+      end_past text f (has_byte_at text f.value.end 44) (omega (
+        arith,
+        g.field.starts,
+        g.field.ends,
+        (ahead_elements g.field.elements).at,
+      )),
+    ) in
     let some : edit.start < edit.end =
     omega (
       arith,
@@ -304,8 +313,11 @@ line_removed d k e j f read here there' trimmed comma plain =
     let after_goes : move c.after.at ≡ edit.start = moved_before edit c.after.at (omega (arith, start_is, some)) ∙ sym start_is in
     let same : move r.from.at ≡ move c.after.at = rest_goes ∙ sym after_goes in
     let border : Border (place new edit.start) =
-    inr (opens.char, goes edit text opens.next,
-    subst (λ n. CharAt (place new n) opens.char (goes edit text opens.next)) rest_goes (char_there z2 jr jn opens.here)) in
+    inr (
+      opens.char,
+      goes edit text opens.next,
+      subst (λ n. CharAt (place new n) opens.char (goes edit text opens.next)) rest_goes (char_there z2 jr jn opens.here),
+    ) in
     let fits : Fits edit text = record { ordered = omega (arith, some); within = within; border = border } in
     let z1 = zone_before edit text fits in
     let from_comma = ahead_then (ahead_char b.comma) up in

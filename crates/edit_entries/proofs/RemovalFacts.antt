@@ -46,7 +46,8 @@ abbrev pub begins : EntryReading → ℕ → ℕ
 begins e n = option_map_or (λ f. f.name.start) (slice_get e.fields n) e.end
 
 -- what is known where the fields from an index on were gone through
-pub record Removed (d : Document) (before others : List EntryReading) (e : EntryReading) (name : List ℕ) (fb fs : List FieldReading) : Type 0 where
+pub record Removed (d : Document) (before others : List EntryReading) (e : EntryReading) (name : List ℕ)
+    (fb fs : List FieldReading) : Type 0 where
   pub after : Document
   pub read : IsDocument after
   pub text : after.text ≡ edited_all (removals name e (length fb) fs) d.text
@@ -131,7 +132,8 @@ module _ (d : Document) (before others : List EntryReading) (e : EntryReading) (
     here = is_here;
     fields = λ i f less found. found;
     limit = refl;
-    alike = ap (λ es. placeless (of_entries d.says es)) whole ∙ ap (λ l. placeless (of_entries d.says (before ++ with_fields e l ∷ others))) cut;
+    alike = ap (λ es. placeless (of_entries d.says es)) whole ∙ ap (λ l. placeless (of_entries d.says
+        (before ++ with_fields e l ∷ others))) cut;
   }
   all_removed fb (f ∷ fs) cut =
       let rest = all_removed (fb ++ f ∷ []) fs (cut ∙ sym (append_assoc fb (f ∷ []) fs)) in
@@ -220,4 +222,3 @@ removals_more view name e xs i x within is =
     ∙ removals-append name e 0 (map view (take i xs)) (view x ∷ [])
     ∙ ap (λ n. removals name e 0 (map view (take i xs)) ++ removals name e n (view x ∷ [])) index
     ∙ ap (λ l. removals name e 0 (map view (take i xs)) ++ l) (append-nil (cond (has_name name (view x)) (field_edit e i (view x) ∷ []) []))
-

@@ -15,7 +15,7 @@ use Rattle.edit_entries.specs.Documents.{Document, HasEntry, IsEdited, IsDocumen
 use Rattle.edit_entries.specs.Edits.{Edit, edited, edited_all, moved_entry, moved_field, moved_place, placeless}
 use Rattle.edit_entries.specs.Placed.{HasComma, IsNamePlaced, IsPlaced, IsSignPlaced}
 use Rattle.edit_entries.specs.SetTexts.{CanBeSetIn, CantBeSetIn, IsSetText, SetTextIsRefused}
-use Rattle.edit_entries.specs.Setting.{CanBeNewName, CantBeSet, FieldSet, IsFit, IsSet, SetIsRefused, Value, field_put, has_other_value, new_field, new_value, only_field_text, set_change, values_set, white_before}
+use Rattle.edit_entries.specs.Setting.{CanBeNewName, CantBeSet, FieldSet, IsWritableAt, IsSet, SetIsRefused, SetValue, field_put, has_other_value, field_with_value, new_value, only_field_text, set_change, values_set, white_before}
 use Rattle.edit_entries.specs.declared.errors.EditError.{EditError}
 use Rattle.edit_entries.specs.declared.errors.EditError.TheVariants.{UnknownKey, KeyIsThere, NotAKey, NotAName, NotInBraces, NotBare, DefinitionIsThere, NoFieldLeft, OutOfMemory}
 use Rattle.edit_entries.proofs.AddedFacts.{only_field_read}
@@ -92,7 +92,7 @@ names_placed text at zero (x ∷ xs) e order here =
 names_placed text at (suc k) (x ∷ xs) e order here = names_placed text order.0 k xs e order.4 here
 
 -- the edits of the fields that get a value are those of their entry
-pub set_asked : (d : Document) (k : ℕ) (e : EntryReading) (name : List ℕ) (value : Value) → IsDocument d → IsUtf8 d.text
+pub set_asked : (d : Document) (k : ℕ) (e : EntryReading) (name : List ℕ) (value : SetValue) → IsDocument d → IsUtf8 d.text
     → slice_get d.says.entries k ≡ Some e → CanBeSetIn d.text e name value
 set_asked d k e name value read utf8 here = record {
   comma = comma_known d k e read here;
@@ -106,7 +106,7 @@ set_asked d k e name value read utf8 here = record {
 
 -- ---- the changes can be made
 
-change_can : (value : Value) (following : List FieldReading) (b : Bool) → (b ≡ true → CanBeRead (new_value value))
+change_can : (value : SetValue) (following : List FieldReading) (b : Bool) → (b ≡ true → CanBeRead (new_value value))
     → CanChange following (cond b (FieldChange.valued (new_value value)) FieldChange.kept)
 change_can value following true can = can refl
 change_can value following false can = tt
@@ -119,7 +119,8 @@ or_second : (a b : Bool) → b ≡ true → (a || b) ≡ true
 or_second true b is = refl
 or_second false b is = is
 
-values_can : (name : List ℕ) (value : Value) (fs : List FieldReading) → (list_any (has_other_value name value) fs ≡ true → CanBeRead (new_value value))
+values_can : (name : List ℕ) (value : SetValue) (fs : List FieldReading) → (list_any (has_other_value name value) fs ≡ true
+    → CanBeRead (new_value value))
     → CanFieldsChange fs (map (set_change name value) fs)
 values_can name value [] can = tt
 values_can name value (f ∷ fs) can =
@@ -129,25 +130,30 @@ values_can name value (f ∷ fs) can =
       values_can name value fs (λ is. can (or_second here later is)),
     )
 
-pub set_can : (name : List ℕ) (value : Value) (e : EntryReading)
+pub set_can : (name : List ℕ) (value : SetValue) (e : EntryReading)
     → (list_any (has_other_value name value) e.fields ≡ true → CanBeRead (new_value value))
     → CanEntryChange e (values_set name value e)
 set_can name value e can = record { kind = λ n is. absurd (cc); fields = values_can name value e.fields can }
 
-pub put_can : (text name : List ℕ) (value : Value) (e : EntryReading) (first : FieldReading) (others : List FieldReading)
+pub put_can : (text name : List ℕ) (value : SetValue) (e : EntryReading) (first : FieldReading) (others : List FieldReading)
     → e.fields ≡ first ∷ others → CanBeNewName name → CanBeRead (new_value value) → first.name.start ≤ length text
     → CanEntryChange e (field_put text name value first others)
 put_can text name value e first others are can_name can_value within = record {
   kind = λ n is. absurd (cc);
   fields =
       subst (λ fs. CanFieldsChange fs (field_put text name value first others).fields) (sym are) (
-        (record { name = can_name.name; value = can_value }, new_sign_is text name first (first ∷ others), before_white text first.name.start within),
+        (
+          record { name = can_name.name; value = can_value },
+          new_sign_is text name first
+              (first ∷ others),
+          before_white text first.name.start within,
+        ),
         can_be_kept others,
       );
 }
 
 -- fields that all have the value get no edits
-pub no_value_edits : (text name : List ℕ) (value : Value) (fs : List FieldReading) → list_any (has_other_value name value) fs ≡ false
+pub no_value_edits : (text name : List ℕ) (value : SetValue) (fs : List FieldReading) → list_any (has_other_value name value) fs ≡ false
     → edits_of_fields text fs (map (set_change name value) fs) ≡ []
 no_value_edits text name value [] none = refl
 no_value_edits text name value (f ∷ fs) none = by_case (has_other_value name value f) refl none (no_value_edits text name value fs)
@@ -170,12 +176,15 @@ no_element [] short = refl
 no_element (x ∷ xs) short = absurd (omega (arith, short))
 
 -- a field before the first one
-pub put_made : (definitions : List FieldReading) (text : List ℕ) (e : EntryReading) (name : List ℕ) (value : Value) (first : FieldReading)
+pub put_made : (definitions : List FieldReading) (text : List ℕ) (e : EntryReading) (name : List ℕ) (value : SetValue)
+    (first : FieldReading)
     (others : List FieldReading) (new : List ℕ) → list_any (has_name name) e.fields ≡ false → e.fields ≡ first ∷ others
-    → new ≡ edited (name_edit first (field_before (new_field name value) (new_sign text name first (first ∷ others)) (white_before text first.name.start))) text
-    → CanBeNewName name → IsFit definitions e.start value → IsSetText definitions text e name value new
+    → new ≡ edited (name_edit first (field_before (field_with_value name value) (new_sign text name first (first ∷ others))
+    (white_before text first.name.start))) text
+    → CanBeNewName name → IsWritableAt definitions e.start value → IsSetText definitions text e name value new
 put_made definitions text e name value first others new none are is can_name can_value =
-    let lead : List ℕ = field_before (new_field name value) (new_sign text name first (first ∷ others)) (white_before text first.name.start) in
+    let lead : List ℕ = field_before (field_with_value name value) (new_sign text name first (first ∷ others))
+    (white_before text first.name.start) in
     let edits : edits_of_entry text e (field_put text name value first others) ≡ name_edit first lead ∷ [] =
     ap (λ fs. edits_of_fields text fs (field_put text name value first others).fields) are
     ∙ ap (λ es. name_edit first lead ∷ es) (no_edits text others) in
@@ -190,10 +199,11 @@ first_within text (f ∷ fs) first others all are =
     let same : f ≡ first = cc in
     subst (λ g. g.name.start ≤ length text) same all.0.start.0
 
-pub text_set : (d : Document) (key name : List ℕ) (value : Value) (new : List ℕ) (k : ℕ) (e : EntryReading) → IsDocument d
+pub text_set : (d : Document) (key name : List ℕ) (value : SetValue) (new : List ℕ) (k : ℕ) (e : EntryReading) → IsDocument d
     → IsUtf8 d.text → HasEntry d key k e → IsSetText d.says.abbreviations d.text e name value new → IsEdited (FieldSet d key name value) new
 text_set d key name value new k e read utf8 entry (IsSetText.changed there can is) =
-    let r = entry_changed_read d k e (values_set name value e) read utf8 entry.here (set_can name value e (λ there. fit_read d.says.abbreviations e.start value (can there))) in
+    let r = entry_changed_read d k e (values_set name value e) read utf8 entry.here (set_can name value e
+    (λ there. fit_read d.says.abbreviations e.start value (can there))) in
     record {
       document = record { text = new; says = r.tells };
       outcome = FieldSet.changed entry there (record { text = is; alike = r.alike });
@@ -203,7 +213,8 @@ text_set d key name value new k e read utf8 entry (IsSetText.changed there can i
 text_set d key name value new k e read utf8 entry (IsSetText.added {first = first} {others = others} none are can_name can_value is) =
     let names = names_placed d.text 0 k d.says.entries e (file_in d.text refl read) entry.here in
     let can =
-    put_can d.text name value e first others are can_name (fit_read d.says.abbreviations e.start value can_value) (first_within d.text e.fields first others names are) in
+    put_can d.text name value e first others are can_name (fit_read d.says.abbreviations e.start value can_value)
+    (first_within d.text e.fields first others names are) in
     let r = entry_changed_read d k e (field_put d.text name value first others) read utf8 entry.here can in
     record {
       document = record { text = new; says = r.tells };
@@ -212,7 +223,7 @@ text_set d key name value new k e read utf8 entry (IsSetText.added {first = firs
       read = subst (λ t. IsRawReading t r.tells) (sym is) r.read;
     }
 text_set d key name value new k e read utf8 entry (IsSetText.only {at = at} none comma can_name can_value is) =
-    let n : NewField = new_field name value in
+    let n : NewField = field_with_value name value in
     let edit : Edit = record { start = at; end = at; bytes = only_field_text name value } in
     let move = moved_place edit in
     let put : CanBePut n = record { name = can_name.name; value = fit_read d.says.abbreviations e.start value can_value } in
@@ -224,9 +235,11 @@ text_set d key name value new k e read utf8 entry (IsSetText.only {at = at} none
     let added : EntryReading = build (moved_entry move e) (x.reading ∷ map (moved_field move) e.fields) in
     let whole : placeless d.says ≡ placeless (of_entries d.says (a.before ++ e ∷ a.following)) =
     ap (λ es. placeless (of_entries d.says es)) a.whole in
-    let here : slice_get d.says.entries (length a.before) ≡ Some e = subst (λ m. slice_get d.says.entries m ≡ Some e) (sym a.index) entry.here in
+    let here : slice_get d.says.entries (length a.before) ≡ Some e = subst (λ m. slice_get d.says.entries m ≡ Some e)
+    (sym a.index) entry.here in
     let same : moved_entry (λ m. 0) added ≡ moved_entry (λ m. 0) changed =
-    ap (λ y. build y (view x.reading ∷ map view (map (moved_field move) e.fields))) (entry_alike d d edit a.before a.following e whole e here)
+    ap (λ y. build y (view x.reading ∷ map view (map (moved_field move) e.fields)))
+    (entry_alike d d edit a.before a.following e whole e here)
     ∙ ap (λ fs. build (moved_entry (λ m. 0) e) (view x.reading ∷ map view (map (moved_field move) fs))) none
     ∙ ap (λ r. build (moved_entry (λ m. 0) e) (r ∷ [])) x.alike in
     let set : slice_set d.says.entries k changed ≡ a.before ++ changed ∷ a.following =
@@ -263,7 +276,7 @@ same_entry d key k n e x one other =
     let here : slice_get d.says.entries n ≡ Some e = subst (λ i. slice_get d.says.entries i ≡ Some e) index one.here in
     cc
 
-cant_be_set : (d : Document) (key name : List ℕ) (value : Value) (k : ℕ) (e : EntryReading) (error : EditError) → HasEntry d key k e
+cant_be_set : (d : Document) (key name : List ℕ) (value : SetValue) (k : ℕ) (e : EntryReading) (error : EditError) → HasEntry d key k e
     → CantBeSetIn d.says.abbreviations e name value error → CantBeSet d key name value error
 cant_be_set d key name value k e error entry why = record {
   index = k;
@@ -282,7 +295,7 @@ cant_be_set d key name value k e error entry why = record {
         (why.new (subst (λ x. list_any (has_name name) x.fields ≡ true) (sym same) set.named)) in
         absurd (cc)
 
-pub set_refused : (d : Document) (key name : List ℕ) (value : Value) (k : ℕ) (e : EntryReading) (error : EditError) → HasEntry d key k e
+pub set_refused : (d : Document) (key name : List ℕ) (value : SetValue) (k : ℕ) (e : EntryReading) (error : EditError) → HasEntry d key k e
     → SetTextIsRefused d.says.abbreviations e name value error → SetIsRefused d key name value error
 set_refused d key name value k e UnknownKey entry why = absurd why
 set_refused d key name value k e KeyIsThere entry why = why
@@ -296,13 +309,14 @@ set_refused d key name value k e OutOfMemory entry why = tt
 
 -- ---- the results of calls
 
-pub all_set : {S : Type 0} (bytes : S → List ℕ) (r : Result S EditError) (d : Document) (key name : List ℕ) (value : Value) (k : ℕ)
+pub all_set : {S : Type 0} (bytes : S → List ℕ) (r : Result S EditError) (d : Document) (key name : List ℕ) (value : SetValue) (k : ℕ)
     (e : EntryReading) → IsDocument d → IsUtf8 d.text → HasEntry d key k e
-    → IfOk r (λ new. IsSetText d.says.abbreviations d.text e name value (bytes new)) → IfOk r (λ new. IsEdited (FieldSet d key name value) (bytes new))
+    → IfOk r (λ new. IsSetText d.says.abbreviations d.text e name value (bytes new))
+    → IfOk r (λ new. IsEdited (FieldSet d key name value) (bytes new))
 all_set bytes (Err error) d key name value k e read utf8 entry set = _
 all_set bytes (Ok new) d key name value k e read utf8 entry set = text_set d key name value (bytes new) k e read utf8 entry set
 
-pub all_refused : {S : Type 0} (r : Result S EditError) (d : Document) (key name : List ℕ) (value : Value) (k : ℕ) (e : EntryReading)
+pub all_refused : {S : Type 0} (r : Result S EditError) (d : Document) (key name : List ℕ) (value : SetValue) (k : ℕ) (e : EntryReading)
     → HasEntry d key k e → IfErr r (SetTextIsRefused d.says.abbreviations e name value) → IfErr r (SetIsRefused d key name value)
 all_refused (Ok new) d key name value k e entry why = _
 all_refused (Err error) d key name value k e entry why = set_refused d key name value k e error entry why

@@ -10,7 +10,7 @@ use Rattle.bib_syntax.specs.Grammar.{is_word}
 use Rattle.edit_entries.specs.Changes.{FieldChange, entry_changed, field_changed, field_reading, fields_changed}
 use Rattle.edit_entries.specs.Documents.{Document, HasEntry, first_position, has_name, is_keyed, is_value, last_position, next_index, or_first, text_at}
 use Rattle.edit_entries.specs.Edits.{moved_entry, moved_field, moved_piece, placeless}
-use Rattle.edit_entries.specs.Setting.{FieldSet, HasValue, Value, field_put, has_other_value, is_bare_piece, is_number, is_same_value, new_field, new_value, set_change, values_set}
+use Rattle.edit_entries.specs.Setting.{FieldSet, HasValue, SetValue, field_put, has_other_value, is_bare_piece, is_bare_number, is_same_value, field_with_value, new_value, set_change, values_set}
 use Rattle.edit_entries.proofs.EntryChangeFacts.{fields_kept}
 
 -- ---- indices at which a test is passed
@@ -150,13 +150,13 @@ text_no_offsets move value (abbreviation p ∷ rest) = refl
 text_no_offsets move value (literal p ∷ []) = refl
 text_no_offsets move value (literal p ∷ other ∷ rest) = refl
 
-value_no_offsets : (move : ℕ → ℕ) (value : Value) (pieces : List Piece)
+value_no_offsets : (move : ℕ → ℕ) (value : SetValue) (pieces : List Piece)
     → is_same_value value (map (moved_piece move) pieces) ≡ is_same_value value pieces
-value_no_offsets move (Value.plain_text text) pieces = text_no_offsets move text pieces
-value_no_offsets move (Value.bare_text text) [] = refl
-value_no_offsets move (Value.bare_text text) (literal p ∷ []) = refl
-value_no_offsets move (Value.bare_text text) (abbreviation p ∷ []) = refl
-value_no_offsets move (Value.bare_text text) (p ∷ other ∷ rest) = refl
+value_no_offsets move (SetValue.plain_text text) pieces = text_no_offsets move text pieces
+value_no_offsets move (SetValue.bare_text text) [] = refl
+value_no_offsets move (SetValue.bare_text text) (literal p ∷ []) = refl
+value_no_offsets move (SetValue.bare_text text) (abbreviation p ∷ []) = refl
+value_no_offsets move (SetValue.bare_text text) (p ∷ other ∷ rest) = refl
 
 -- the changed entry, in the document after the change
 record IsThere (after : Document) (key : List ℕ) (k : ℕ) (changed : EntryReading) : Type 0 where
@@ -188,21 +188,21 @@ same_text : (text : List ℕ) → bytes_eq text text ≡ true
 same_text text = (bytes_eq-Decides text text).1 refl
 
 -- a new value is the value
-new_is_same : (value : Value) → is_same_value value (new_value value).pieces ≡ true
-new_is_same (Value.plain_text text) = same_text text
-new_is_same (Value.bare_text text) = by_case (is_number text) refl
+new_is_same : (value : SetValue) → is_same_value value (new_value value).pieces ≡ true
+new_is_same (SetValue.plain_text text) = same_text text
+new_is_same (SetValue.bare_text text) = by_case (is_bare_number text) refl
   where
-    by_case : (b : Bool) → is_number text ≡ b
+    by_case : (b : Bool) → is_bare_number text ≡ b
         → is_bare_piece text (cond b (literal (text_at 0 text)) (abbreviation (text_at 0 text))) ≡ true
     by_case true is = ap (λ n. n && bytes_eq text text) is ∙ same_text text
     by_case false is = same_text (str_to_ascii_lowercase text)
 
 -- a field after its value is set
-abbrev set_field : List ℕ → Value → FieldReading → FieldReading
+abbrev set_field : List ℕ → SetValue → FieldReading → FieldReading
 set_field name value f =
     cond (has_other_value name value f) (record f { value = record f.value { pieces = (new_value value).pieces } }) f
 
-fields_set : (name : List ℕ) (value : Value) (fs : List FieldReading)
+fields_set : (name : List ℕ) (value : SetValue) (fs : List FieldReading)
     → fields_changed fs (map (set_change name value) fs) ≡ map (set_field name value) fs
 fields_set name value [] = refl
 fields_set name value (f ∷ fs) = by_case (has_other_value name value f) ∙ ap (λ gs. set_field name value f ∷ gs) (fields_set name value fs)
@@ -216,7 +216,8 @@ fields_set name value (f ∷ fs) = by_case (has_other_value name value f) ∙ ap
     by_case true = refl
     by_case false = refl
 
-name_kept : (name : List ℕ) (value : Value) (other : List ℕ) (f : FieldReading) → has_name other (field_no_offsets (set_field name value f)) ≡ has_name other f
+name_kept : (name : List ℕ) (value : SetValue) (other : List ℕ) (f : FieldReading)
+    → has_name other (field_no_offsets (set_field name value f)) ≡ has_name other f
 name_kept name value other f = by_case (has_other_value name value f)
   where
     by_case : (b : Bool)
@@ -225,7 +226,7 @@ name_kept name value other f = by_case (has_other_value name value f)
     by_case true = refl
     by_case false = refl
 
-value_is_set : (name : List ℕ) (value : Value) (f : FieldReading) → has_name name f ≡ true
+value_is_set : (name : List ℕ) (value : SetValue) (f : FieldReading) → has_name name f ≡ true
     → is_same_value value (set_field name value f).value.pieces ≡ true
 value_is_set name value f named = by_case (is_same_value value f.value.pieces) refl
   where
@@ -247,7 +248,8 @@ map_map : {A B C : Type 0} (f : A → B) (g : B → C) (xs : List A) → map g (
 map_map f g [] = refl
 map_map f g (y ∷ ys) = ap (λ zs. g (f y) ∷ zs) (map_map f g ys)
 
-pub set_there : {d after : Document} {key name : List ℕ} {value : Value} → FieldSet d key name value after → HasValue after key name value
+pub set_there : {d after : Document} {key name : List ℕ} {value : SetValue} → FieldSet d key name value after
+    → HasValue after key name value
 set_there {d} {after} {key} {name} {value} (FieldSet.changed {k = k} {e = e} entry there is) =
     let x = entry_there d after key k e (entry_changed e (values_set name value e)) entry refl is.alike in
     let view : FieldReading → FieldReading = λ (f : FieldReading). field_no_offsets (set_field name value f) in
@@ -277,7 +279,7 @@ set_there {d} {after} {key} {name} {value} (FieldSet.changed {k = k} {e = e} ent
     }
 set_there {d} {after} {key} {name} {value} (FieldSet.added {k = k} {e = e} {first = first} {others = others} entry none are is) =
     let x = entry_there d after key k e (entry_changed e (field_put d.text name value first others)) entry refl is.alike in
-    let new : FieldReading = field_reading (new_field name value) in
+    let new : FieldReading = field_reading (field_with_value name value) in
     let put : fields_changed e.fields (field_put d.text name value first others).fields ≡ new ∷ e.fields =
     ap (λ fs. fields_changed fs (field_put d.text name value first others).fields) are
     ∙ ap (λ fs. new ∷ first ∷ fs) (fields_kept others) ∙ ap (λ fs. new ∷ fs) (sym are) in
@@ -304,7 +306,7 @@ set_there {d} {after} {key} {name} {value} (FieldSet.added {k = k} {e = e} {firs
           ∙ value_no_offsets (λ n. 0) value (new_value value).pieces ∙ new_is_same value;
     }
 set_there {d} {after} {key} {name} {value} (FieldSet.only {k = k} {e = e} entry none is) =
-    let new : FieldReading = field_reading (new_field name value) in
+    let new : FieldReading = field_reading (field_with_value name value) in
     let changed : EntryReading = record e { fields = new ∷ [] } in
     let x = entry_there d after key k e changed entry refl is.alike in
     let fields : map field_no_offsets x.entry.fields ≡ field_no_offsets new ∷ [] = ap (λ y. y.fields) x.alike in

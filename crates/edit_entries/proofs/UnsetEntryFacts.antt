@@ -8,7 +8,7 @@ use Rattle.edit_entries.specs.Changes.{IsTrimmed}
 use Rattle.edit_entries.specs.Documents.{Document, HasEntry, IsDocument, IsEdited, entry_edited, first_position, has_name, have_only, next_index}
 use Rattle.edit_entries.specs.EditList.{AreEditsInOrder}
 use Rattle.edit_entries.specs.Edits.{Edit, edited_all, moved_entry, moved_field, moved_place, placeless}
-use Rattle.edit_entries.specs.Unset.{FieldUnset, edits_at, edits_from, end_before, has_byte, has_percent, is_uncommented, line_edit, removals, unset_edits, without_named}
+use Rattle.edit_entries.specs.Unset.{FieldUnset, edits_at, edits_from, end_before, has_byte_at, has_percent, is_uncommented, line_edit, removals, unset_edits, without_named}
 use Rattle.edit_entries.proofs.LineFacts.{line_removed}
 use Rattle.edit_entries.proofs.MadeFacts.{none_put, of_entries, put_alike}
 use Rattle.edit_entries.proofs.PutFacts.{put_at}
@@ -121,7 +121,8 @@ three true true c is = absurd (cc)
 three false b c is = absurd (cc)
 
 module _ (d : Document) (before others : List EntryReading) (e : EntryReading) (name : List ℕ) (read : IsDocument d)
-    (whole : d.says.entries ≡ before ++ e ∷ others) (trimmed : (j : ℕ) (f : FieldReading) → slice_get e.fields j ≡ Some f → IsTrimmed d.text f) where
+    (whole : d.says.entries ≡ before ++ e ∷ others) (trimmed : (j : ℕ) (f : FieldReading) → slice_get e.fields j ≡ Some f
+    → IsTrimmed d.text f) where
   abbrev k : ℕ
   k = length before
 
@@ -160,7 +161,8 @@ module _ (d : Document) (before others : List EntryReading) (e : EntryReading) (
       → has_name name f ≡ true → list_any (has_name name) (drop (suc j) e.fields) ≡ false → is_uncommented d.text e j f ≡ true
       → unset_edits d.text name e ≡ line_edit d.text e j f ∷ [] → EntryUnset d before others e name
   one j f first there named none free edits =
-      let parts = three (has_byte d.text (end_before e j) 44) (has_percent d.text (end_before e j) f.name.start) (has_byte d.text f.value.end 37) free in
+      let parts = three (has_byte_at d.text (end_before e j) 44) (has_percent d.text (end_before e j) f.name.start)
+      (has_byte_at d.text f.value.end 37) free in
       let edit : Edit = line_edit d.text e j f in
       let x = line_removed d k e j f read is_here there (trimmed j f there) parts.0 parts.1 in
       let a = around e.fields j f there in
@@ -203,7 +205,8 @@ module _ (d : Document) (before others : List EntryReading) (e : EntryReading) (
           (line_edit d.text e j f ∷ [])
           → EntryUnset d before others e name
       by_case j f first there named true more free uncommented edits =
-          several (edits ∙ ap (λ b. cond (b || not (is_uncommented d.text e j f)) (removals name e 0 e.fields) (line_edit d.text e j f ∷ [])) more)
+          several (edits ∙ ap (λ b. cond (b || not (is_uncommented d.text e j f)) (removals name e 0 e.fields)
+          (line_edit d.text e j f ∷ [])) more)
       by_case j f first there named false more false uncommented edits =
           several
           (edits ∙ ap (λ b. cond (b || not (is_uncommented d.text e j f)) (removals name e 0 e.fields) (line_edit d.text e j f ∷ [])) more

@@ -8,7 +8,7 @@ use Rattle.bib_queries.specs.Sets.{is_in_set}
 use Rattle.bib_syntax.specs.Reading.{EntryReading, FieldReading}
 use Rattle.edit_entries.specs.Changes.{EntryChange, FieldChange}
 use Rattle.edit_entries.specs.Documents.{Document, has_name}
-use Rattle.edit_entries.specs.Setting.{CanBeNewName, IsFit, Value, field_put, unfit_error, value_of, values_set}
+use Rattle.edit_entries.specs.Setting.{CanBeNewName, IsWritableAt, SetValue, field_put, unfit_error, value_of, values_set}
 use Rattle.edit_entries.specs.declared.errors.EditError.{EditError}
 use Rattle.edit_entries.specs.declared.errors.EditError.TheVariants.{UnknownKey, KeyIsThere, NotAKey, NotAName, NotInBraces, NotBare, DefinitionIsThere, NoFieldLeft, OutOfMemory}
 use Rattle.edit_entries.specs.declared.field_edits.FieldEdit.{FieldEdit}
@@ -19,7 +19,7 @@ abbrev pub unchanged : EntryChange
 unchanged = record { kind = None; fields = [] }
 
 -- the change of an entry with these fields that gets a new one before them; an entry without fields is kept
-abbrev pub new_field_first : List ℕ → List ℕ → Value → List FieldReading → EntryChange
+abbrev pub new_field_first : List ℕ → List ℕ → SetValue → List FieldReading → EntryChange
 new_field_first text name value [] = unchanged
 new_field_first text name value (first ∷ others) = field_put text name value first others
 
@@ -40,7 +40,8 @@ names_changed old new e = record { kind = None; fields = map (name_change old ne
 abbrev pub entry_edited_by : List ℕ → FieldEdit → EntryReading → EntryChange
 entry_edited_by text (Set name value) e =
     if has_named name.now e then values_set name.now (value_of value) e else new_field_first text name.now (value_of value) e.fields
-entry_edited_by text (Add name value) e = if has_named name.now e then unchanged else new_field_first text name.now (value_of value) e.fields
+entry_edited_by text (Add name value) e = if has_named name.now e then unchanged else new_field_first text name.now
+    (value_of value) e.fields
 entry_edited_by text (Rename old new) e = if has_named new.now e then unchanged else names_changed old.now new.now e
 
 -- the changes of entries by an edit of those with the keys of a set
@@ -55,8 +56,8 @@ edit_name (Rename old new) = new.now
 
 -- the value of an edit can be written at a byte offset, if it has one
 abbrev pub HasFitValue : List FieldReading → ℕ → FieldEdit → Type 0
-HasFitValue definitions at (Set name value) = IsFit definitions at (value_of value)
-HasFitValue definitions at (Add name value) = IsFit definitions at (value_of value)
+HasFitValue definitions at (Set name value) = IsWritableAt definitions at (value_of value)
+HasFitValue definitions at (Add name value) = IsWritableAt definitions at (value_of value)
 HasFitValue definitions at (Rename old new) = ⊤
 
 -- an error is the one of the value of an edit

@@ -1,6 +1,6 @@
 -- Meaning: words of public contracts.
 -- The text between the name and the value of a new field: as in the other fields of its entry.
-use Rattle.std.specs.Prelude.{◌==◌, ◌&&◌, ◌||◌, ℕ, ◌+◌, ◌-◌, max, Bool, if◌then◌else◌, List, [], ◌∷◌, ◌++◌, codes, length, nat_lt, replicate}
+use Rattle.std.specs.Prelude.{◌==◌, ◌&&◌, ◌||◌, ℕ, ◌+◌, ◌-◌, max, Bool, if◌then◌else◌, List, ◌∷◌, ◌++◌, codes, length, nat_lt, replicate}
 use Rattle.std.specs.List.{after_first, before_first, list_all, list_any}
 use Rattle.bib_text.specs.Characters as char
 use Rattle.bib_text.specs.Places.{between, place}
@@ -12,11 +12,11 @@ abbrev pub sign_text : List ℕ → FieldReading → List ℕ
 sign_text text f = between (place text f.name.end) (place text f.value.start)
 
 -- the white space before and after the equals sign of a field
-abbrev pub before_sign : List ℕ → FieldReading → List ℕ
-before_sign text f = before_first (λ b. eqb b char.equals) (sign_text text f)
+abbrev pub before_equals : List ℕ → FieldReading → List ℕ
+before_equals text f = before_first (λ b. eqb b char.equals) (sign_text text f)
 
-abbrev pub after_sign : List ℕ → FieldReading → List ℕ
-after_sign text f = after_first (λ b. eqb b char.equals) (sign_text text f)
+abbrev pub after_equals : List ℕ → FieldReading → List ℕ
+after_equals text f = after_first (λ b. eqb b char.equals) (sign_text text f)
 
 -- whether a byte is a space or a tab
 abbrev pub is_blank_byte : ℕ → Bool
@@ -24,30 +24,30 @@ is_blank_byte b = b == char.space || b == 9
 
 -- the bytes from the start of a field's name to its equals sign
 abbrev pub sign_column : List ℕ → FieldReading → ℕ
-sign_column text f = length f.name.text + length (before_sign text f)
+sign_column text f = length f.name.text + length (before_equals text f)
 
 -- whether the equals signs of fields are in one column: each is this far from the start of its name, and one has more than one byte of
 -- white space before it
 abbrev pub are_aligned : List ℕ → ℕ → List FieldReading → Bool
 are_aligned text column fields =
-    list_all (λ f. sign_column text f == column) fields && list_any (λ f. nat_lt 1 (length (before_sign text f))) fields
+    list_all (λ f. sign_column text f == column) fields && list_any (λ f. nat_lt 1 (length (before_equals text f))) fields
 
 -- spaces from the end of a name to a column, at least one
-abbrev pub padding : ℕ → List ℕ → List ℕ
-padding column name = replicate (max 1 (column - length name)) char.space
+abbrev pub name_padding : ℕ → List ℕ → List ℕ
+name_padding column name = replicate (max 1 (column - length name)) char.space
 
 -- the white space before the equals sign of a new field: up to the column of the first field if that has more than one byte there or the
 -- fields are aligned, or else that of the first field
 abbrev pub new_before_sign : List ℕ → List ℕ → FieldReading → List FieldReading → List ℕ
 new_before_sign text name first fields =
-    if nat_lt 1 (length (before_sign text first)) || are_aligned text (sign_column text first) fields
-    then padding (sign_column text first) name
-    else before_sign text first
+    if nat_lt 1 (length (before_equals text first)) || are_aligned text (sign_column text first) fields
+    then name_padding (sign_column text first) name
+    else before_equals text first
 
 -- the text between the name and the value of a new field before these, of which this is the first: as in the first one, if that has
 -- only spaces and tabs there
 abbrev pub new_sign : List ℕ → List ℕ → FieldReading → List FieldReading → List ℕ
 new_sign text name first fields =
-    if list_all is_blank_byte (before_sign text first) && list_all is_blank_byte (after_sign text first)
-    then new_before_sign text name first fields ++ char.equals ∷ after_sign text first
+    if list_all is_blank_byte (before_equals text first) && list_all is_blank_byte (after_equals text first)
+    then new_before_sign text name first fields ++ char.equals ∷ after_equals text first
     else codes " = "

@@ -8,12 +8,12 @@ use Rattle.edit_entries.specs.Documents.{has_name}
 use Rattle.edit_entries.specs.EditList.{AreEditsInOrder}
 use Rattle.edit_entries.specs.Edits.{edited, edited_all}
 use Rattle.edit_entries.specs.Placed.{HasComma, IsNamePlaced, IsPlaced, IsSignPlaced}
-use Rattle.edit_entries.specs.Setting.{CanBeNewName, IsAfterComma, IsFit, Value, field_put, has_other_value, only_field_text, set_change, unfit_error, values_set}
+use Rattle.edit_entries.specs.Setting.{CanBeNewName, IsAfterComma, IsWritableAt, SetValue, field_put, has_other_value, only_field_text, set_change, unfit_error, values_set}
 use Rattle.edit_entries.specs.declared.errors.EditError.{EditError}
 use Rattle.edit_entries.specs.declared.errors.EditError.TheVariants.{UnknownKey, KeyIsThere, NotAKey, NotAName, NotInBraces, NotBare, DefinitionIsThere, NoFieldLeft, OutOfMemory}
 
 -- what setting a field of an entry asks of the entry in its text
-pub record CanBeSetIn (text : List ℕ) (e : EntryReading) (name : List ℕ) (value : Value) : Type 0 where
+pub record CanBeSetIn (text : List ℕ) (e : EntryReading) (name : List ℕ) (value : SetValue) : Type 0 where
   pub comma : HasComma text e
   pub values : AllByRecursion (IsPlaced text) e.fields
   pub names : AllByRecursion (IsNamePlaced text) e.fields
@@ -21,23 +21,25 @@ pub record CanBeSetIn (text : List ℕ) (e : EntryReading) (name : List ℕ) (va
   pub ordered : AreEditsInOrder text 0 (edits_of_fields text e.fields (map (set_change name value) e.fields))
 
 -- the text after a field of an entry is set
-pub data IsSetText (definitions : List FieldReading) (text : List ℕ) (e : EntryReading) (name : List ℕ) (value : Value) (new : List ℕ) : Type 0 where
+pub data IsSetText (definitions : List FieldReading) (text : List ℕ) (e : EntryReading) (name : List ℕ) (value : SetValue)
+    (new : List ℕ) : Type 0 where
   changed : list_any (has_name name) e.fields ≡ true
-      → (list_any (has_other_value name value) e.fields ≡ true → IsFit definitions e.start value)
+      → (list_any (has_other_value name value) e.fields ≡ true → IsWritableAt definitions e.start value)
       → new ≡ edited_all (edits_of_entry text e (values_set name value e)) text → IsSetText definitions text e name value new
   added : {first : FieldReading} {others : List FieldReading} → list_any (has_name name) e.fields ≡ false
-      → e.fields ≡ first ∷ others → CanBeNewName name → IsFit definitions e.start value
+      → e.fields ≡ first ∷ others → CanBeNewName name → IsWritableAt definitions e.start value
       → new ≡ edited_all (edits_of_entry text e (field_put text name value first others)) text → IsSetText definitions text e name value new
-  only : {at : ℕ} → e.fields ≡ [] → IsAfterComma text e at → CanBeNewName name → IsFit definitions e.start value
-      → new ≡ edited (record { start = at; end = at; bytes = only_field_text name value }) text → IsSetText definitions text e name value new
+  only : {at : ℕ} → e.fields ≡ [] → IsAfterComma text e at → CanBeNewName name → IsWritableAt definitions e.start value
+      → new ≡ edited (record { start = at; end = at; bytes = only_field_text name value }) text
+      → IsSetText definitions text e name value new
 
 -- a value can't be written at a byte offset; this is the error for it
-pub record IsUnfit (definitions : List FieldReading) (at : ℕ) (value : Value) (error : EditError) : Type 0 where
+pub record IsUnfit (definitions : List FieldReading) (at : ℕ) (value : SetValue) (error : EditError) : Type 0 where
   pub because : error ≡ unfit_error value
-  pub unfit : IsFit definitions at value → ⊥
+  pub unfit : IsWritableAt definitions at value → ⊥
 
 -- the conditions under which a new field is refused
-abbrev pub AddIsRefused : List FieldReading → ℕ → List ℕ → Value → EditError → Type 0
+abbrev pub AddIsRefused : List FieldReading → ℕ → List ℕ → SetValue → EditError → Type 0
 AddIsRefused definitions at name value UnknownKey = ⊥
 AddIsRefused definitions at name value KeyIsThere = ⊥
 AddIsRefused definitions at name value NotAKey = ⊥
@@ -49,13 +51,14 @@ AddIsRefused definitions at name value NoFieldLeft = ⊥
 AddIsRefused definitions at name value OutOfMemory = ⊤
 
 -- a value can't be written, and the entry doesn't have it; this is the error for it
-pub record CantBeSetIn (definitions : List FieldReading) (e : EntryReading) (name : List ℕ) (value : Value) (error : EditError) : Type 0 where
+pub record CantBeSetIn (definitions : List FieldReading) (e : EntryReading) (name : List ℕ) (value : SetValue)
+    (error : EditError) : Type 0 where
   pub because : error ≡ unfit_error value
-  pub unfit : IsFit definitions e.start value → ⊥
+  pub unfit : IsWritableAt definitions e.start value → ⊥
   pub new : list_any (has_name name) e.fields ≡ true → list_any (has_other_value name value) e.fields ≡ true
 
 -- the conditions under which setting a field of an entry is refused
-abbrev pub SetTextIsRefused : List FieldReading → EntryReading → List ℕ → Value → EditError → Type 0
+abbrev pub SetTextIsRefused : List FieldReading → EntryReading → List ℕ → SetValue → EditError → Type 0
 SetTextIsRefused definitions e name value UnknownKey = ⊥
 SetTextIsRefused definitions e name value KeyIsThere = ⊥
 SetTextIsRefused definitions e name value NotAKey = ⊥

@@ -38,39 +38,39 @@ pub record CanBeNewName (text : List ℕ) : Type 0 where
   pub no_digit : begins_with_digit text ≡ false
 
 -- a value that a field gets: a text, which is written in braces, or a number or the name of an abbreviation, written as it is
-pub data Value : Type 0 where
-  plain_text : List ℕ → Value
-  bare_text : List ℕ → Value
+pub data SetValue : Type 0 where
+  plain_text : List ℕ → SetValue
+  bare_text : List ℕ → SetValue
 
 -- the value of a call
-abbrev pub value_of : FieldValue → Value
-value_of (Text text) = Value.plain_text text.now
-value_of (Bare text) = Value.bare_text text.now
+abbrev pub value_of : FieldValue → SetValue
+value_of (Text text) = SetValue.plain_text text.now
+value_of (Bare text) = SetValue.bare_text text.now
 
 -- whether a text consists of digits
-abbrev pub is_number : List ℕ → Bool
-is_number [] = false
-is_number (b ∷ bs) = list_all is_ascii_digit (b ∷ bs)
+abbrev pub is_bare_number : List ℕ → Bool
+is_bare_number [] = false
+is_bare_number (b ∷ bs) = list_all is_ascii_digit (b ∷ bs)
 
 -- the value as bytes, with the pieces that they read as
-abbrev pub new_value : Value → NewValue
-new_value (Value.plain_text text) = braced_value text
-new_value (Value.bare_text text) = record {
+abbrev pub new_value : SetValue → NewValue
+new_value (SetValue.plain_text text) = braced_value text
+new_value (SetValue.bare_text text) = record {
   bytes = text;
-  pieces = (if is_number text then literal (text_at 0 text) else abbreviation (text_at 0 text)) ∷ [];
+  pieces = (if is_bare_number text then literal (text_at 0 text) else abbreviation (text_at 0 text)) ∷ [];
 }
 
 -- whether a piece is this number, or this abbreviation in any ASCII case
 abbrev pub is_bare_piece : List ℕ → Piece → Bool
-is_bare_piece text (literal p) = is_number text && bytes_eq p.text text
+is_bare_piece text (literal p) = is_bare_number text && bytes_eq p.text text
 is_bare_piece text (abbreviation p) = is_word p.text text
 
 -- whether pieces are this value
-abbrev pub is_same_value : Value → List Piece → Bool
-is_same_value (Value.plain_text text) pieces = is_value text pieces
-is_same_value (Value.bare_text text) [] = false
-is_same_value (Value.bare_text text) (p ∷ []) = is_bare_piece text p
-is_same_value (Value.bare_text text) (p ∷ other ∷ rest) = false
+abbrev pub is_same_value : SetValue → List Piece → Bool
+is_same_value (SetValue.plain_text text) pieces = is_value text pieces
+is_same_value (SetValue.bare_text text) [] = false
+is_same_value (SetValue.bare_text text) (p ∷ []) = is_bare_piece text p
+is_same_value (SetValue.bare_text text) (p ∷ other ∷ rest) = false
 
 -- whether a definition has a name, in any ASCII case, and begins before a byte offset
 abbrev pub is_defined_before : ℕ → List ℕ → FieldReading → Bool
@@ -84,32 +84,32 @@ is_defined definitions at name =
 
 -- a text can be a value without braces at a byte offset: a number, or the name of an abbreviation that is defined before it
 pub data IsBare (definitions : List FieldReading) (at : ℕ) (text : List ℕ) : Type 0 where
-  number : is_number text ≡ true → IsBare definitions at text
+  number : is_bare_number text ≡ true → IsBare definitions at text
   named : CanBeNewName text → is_defined definitions at text ≡ true → IsBare definitions at text
 
 -- a value can be written at a byte offset
-abbrev pub IsFit : List FieldReading → ℕ → Value → Type 0
-IsFit definitions at (Value.plain_text text) = CanBeValue text
-IsFit definitions at (Value.bare_text text) = IsBare definitions at text
+abbrev pub IsWritableAt : List FieldReading → ℕ → SetValue → Type 0
+IsWritableAt definitions at (SetValue.plain_text text) = CanBeValue text
+IsWritableAt definitions at (SetValue.bare_text text) = IsBare definitions at text
 
 -- the error of a value that can't be written
-abbrev pub unfit_error : Value → EditError
-unfit_error (Value.plain_text text) = NotInBraces
-unfit_error (Value.bare_text text) = NotBare
+abbrev pub unfit_error : SetValue → EditError
+unfit_error (SetValue.plain_text text) = NotInBraces
+unfit_error (SetValue.bare_text text) = NotBare
 
 -- whether a field has a name, in any ASCII case, and another value than this one
-abbrev pub has_other_value : List ℕ → Value → FieldReading → Bool
+abbrev pub has_other_value : List ℕ → SetValue → FieldReading → Bool
 has_other_value name value f = has_name name f && not (is_same_value value f.value.pieces)
 
 -- ---- the change
 
 -- the change of a field that gets a value if it has a name
-abbrev pub set_change : List ℕ → Value → FieldReading → FieldChange
+abbrev pub set_change : List ℕ → SetValue → FieldReading → FieldChange
 set_change name value f = if has_other_value name value f then FieldChange.valued (new_value value) else FieldChange.kept
 
 -- the change of an entry in which each field with a name gets a value: BibTeX reads the first of these fields, Biber and this library
 -- the last
-abbrev pub values_set : List ℕ → Value → EntryReading → EntryChange
+abbrev pub values_set : List ℕ → SetValue → EntryReading → EntryChange
 values_set name value e = record { kind = None; fields = map (set_change name value) e.fields }
 
 -- the ASCII white space directly before a byte offset of a text
@@ -117,16 +117,17 @@ abbrev pub white_before : List ℕ → ℕ → List ℕ
 white_before text at = drop (at - suffix_len is_ascii_whitespace (take at text)) (take at text)
 
 -- a new field with a value
-abbrev pub new_field : List ℕ → Value → NewField
-new_field name value = record { name = name; value = new_value value }
+abbrev pub field_with_value : List ℕ → SetValue → NewField
+field_with_value name value = record { name = name; value = new_value value }
 
 -- the change of an entry with a new field before these, which gets the white space before the first one, and the layout of their equals
 -- signs
-abbrev pub field_put : List ℕ → List ℕ → Value → FieldReading → List FieldReading → EntryChange
+abbrev pub field_put : List ℕ → List ℕ → SetValue → FieldReading → List FieldReading → EntryChange
 field_put text name value first others = record {
   kind = None;
   fields =
-      FieldChange.preceded (new_field name value) (new_sign text name first (first ∷ others)) (white_before text first.name.start) ∷ [];
+      FieldChange.preceded (field_with_value name value) (new_sign text name first (first ∷ others))
+      (white_before text first.name.start) ∷ [];
 }
 
 -- an entry of a document has a change, and all else is as it was, except for byte offsets
@@ -143,21 +144,26 @@ pub record IsAfterComma (text : List ℕ) (e : EntryReading) (at : ℕ) : Type 0
   pub comma : CharAt before char.comma (place text at)
 
 -- a space, a field, and a comma
-abbrev pub only_field_text : List ℕ → Value → List ℕ
-only_field_text name value = codes " " ++ (new_field_text (new_field name value) ++ codes ",")
+abbrev pub only_field_text : List ℕ → SetValue → List ℕ
+only_field_text name value = codes " " ++ (new_field_text (field_with_value name value) ++ codes ",")
 
 -- an entry of a document gets its first field, after the comma that follows its key, and all else is as it was, except for byte offsets
-pub record IsFirstAdded (d : Document) (k : ℕ) (e : EntryReading) (name : List ℕ) (value : Value) (after : Document) : Type 0 where
+pub record IsFirstAdded (d : Document) (k : ℕ) (e : EntryReading) (name : List ℕ) (value : SetValue) (after : Document) : Type 0 where
   pub at : ℕ
   pub comma : IsAfterComma d.text e at
   pub text : after.text ≡ edited (record { start = at; end = at; bytes = only_field_text name value }) d.text
   pub alike : placeless after.says
-      ≡ placeless (record d.says { entries = slice_set d.says.entries k (record e { fields = field_reading (new_field name value) ∷ [] }) })
+      ≡ placeless (record d.says {
+        entries = slice_set d.says.entries k (record e {
+          fields = field_reading
+              (field_with_value name value) ∷ [];
+        });
+      })
 
 -- ---- the outcome
 
 -- the outcome of setting a field of the first entry with a key
-pub data FieldSet (d : Document) (key name : List ℕ) (value : Value) : Document → Type 0 where
+pub data FieldSet (d : Document) (key name : List ℕ) (value : SetValue) : Document → Type 0 where
   changed : {k : ℕ} {e : EntryReading} {after : Document} → HasEntry d key k e → list_any (has_name name) e.fields ≡ true
       → IsEntryChanged d k e (values_set name value e) after → FieldSet d key name value after
   added : {k : ℕ} {e : EntryReading} {first : FieldReading} {others : List FieldReading} {after : Document} → HasEntry d key k e
@@ -167,7 +173,7 @@ pub data FieldSet (d : Document) (key name : List ℕ) (value : Value) : Documen
       → IsFirstAdded d k e name value after → FieldSet d key name value after
 
 -- the last field with a name, of the first entry with a key, has a value
-pub record HasValue (d : Document) (key name : List ℕ) (value : Value) : Type 0 where
+pub record HasValue (d : Document) (key name : List ℕ) (value : SetValue) : Type 0 where
   pub index : ℕ
   pub entry : EntryReading
   pub at : ℕ
@@ -177,7 +183,7 @@ pub record HasValue (d : Document) (key name : List ℕ) (value : Value) : Type 
   pub is : is_same_value value field.value.pieces ≡ true
 
 -- the first entry with a key has a field with a name, and each such field has this value
-pub record IsSet (d : Document) (key name : List ℕ) (value : Value) : Type 0 where
+pub record IsSet (d : Document) (key name : List ℕ) (value : SetValue) : Type 0 where
   pub index : ℕ
   pub entry : EntryReading
   pub has : HasEntry d key index entry
@@ -185,16 +191,16 @@ pub record IsSet (d : Document) (key name : List ℕ) (value : Value) : Type 0 w
   pub same : list_any (has_other_value name value) entry.fields ≡ false
 
 -- the value can't be written in the first entry with a key, which doesn't have it yet; this is the error for it
-pub record CantBeSet (d : Document) (key name : List ℕ) (value : Value) (error : EditError) : Type 0 where
+pub record CantBeSet (d : Document) (key name : List ℕ) (value : SetValue) (error : EditError) : Type 0 where
   pub index : ℕ
   pub entry : EntryReading
   pub has : HasEntry d key index entry
   pub because : error ≡ unfit_error value
-  pub unfit : IsFit d.says.abbreviations entry.start value → ⊥
+  pub unfit : IsWritableAt d.says.abbreviations entry.start value → ⊥
   pub new : IsSet d key name value → ⊥
 
 -- the conditions under which setting a field is refused
-abbrev pub SetIsRefused : Document → List ℕ → List ℕ → Value → EditError → Type 0
+abbrev pub SetIsRefused : Document → List ℕ → List ℕ → SetValue → EditError → Type 0
 SetIsRefused d key name value UnknownKey = first_position (is_keyed key) d.says.entries ≡ None
 SetIsRefused d key name value KeyIsThere = ⊥
 SetIsRefused d key name value NotAKey = ⊥

@@ -13,8 +13,8 @@ use Rattle.edit_entries.specs.Edits.{Edit, edited_all, placeless}
 -- ---- a field without comments
 
 -- whether a text has a byte at a byte offset
-abbrev pub has_byte : List ℕ → ℕ → ℕ → Bool
-has_byte text at c = option_map_or (λ b. b == c) (slice_get text at) false
+abbrev pub has_byte_at : List ℕ → ℕ → ℕ → Bool
+has_byte_at text at c = option_map_or (λ b. b == c) (slice_get text at) false
 
 -- the byte offset at which the value before the field with an index ends, or the key before the first field
 abbrev pub end_before : EntryReading → ℕ → ℕ
@@ -28,12 +28,12 @@ has_percent text start end = list_any (λ b. b == char.percent) (between (place 
 -- whether no comment is before a field or directly after its value: a comma ends what is before it
 abbrev pub is_uncommented : List ℕ → EntryReading → ℕ → FieldReading → Bool
 is_uncommented text e j f =
-    has_byte text (end_before e j) char.comma && not (has_percent text (end_before e j) f.name.start)
-    && not (has_byte text f.value.end char.percent)
+    has_byte_at text (end_before e j) char.comma && not (has_percent text (end_before e j) f.name.start)
+    && not (has_byte_at text f.value.end char.percent)
 
 -- the byte offset after the comma of such a field, or where its value ends if it has none
 abbrev pub comma_end : List ℕ → FieldReading → ℕ
-comma_end text f = if has_byte text f.value.end char.comma then f.value.end + 1 else value_end text f
+comma_end text f = if has_byte_at text f.value.end char.comma then f.value.end + 1 else value_end text f
 
 -- the edit that removes such a field, with the white space before it and the comma after it: what is after its comma stays
 abbrev pub line_edit : List ℕ → EntryReading → ℕ → FieldReading → Edit

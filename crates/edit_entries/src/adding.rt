@@ -26,7 +26,11 @@ pub(crate) fn after_comma(text: &str, entry: &Spanned<RawEntry<'_>>) -> usize
 }
 
 // Returns a space, a field, and a comma. `written` is the value as it is written.
-pub(crate) fn only_field_text(alloc: Global, name: &str, written: &str) -> Result<String, AllocError>
+pub(crate) fn only_field_text(
+    alloc: Global,
+    name: &str,
+    written: &str,
+) -> Result<String, AllocError>
     ensures { IfOk result (λ field. string_bytes field ≡ codes " " ++ ((name.now ++ (codes " = " ++ written.now)) ++ codes ",")) }
 {
     let mut field = String::new(alloc);

@@ -65,7 +65,11 @@ pub(crate) fn edit_text(
 {
     match *edit {
         FieldEdit::Set { name, value } | FieldEdit::Add { name, value } => new_value(
-            alloc, definitions, at, name, value,
+            alloc,
+            definitions,
+            at,
+            name,
+            value,
         ),
         FieldEdit::Rename { new, .. } => {
             if !can_be_new_name(new) {
@@ -77,7 +81,11 @@ pub(crate) fn edit_text(
 }
 
 // Returns the byte offset at which the first entry with one of these keys begins, or the length of the text.
-pub(crate) fn first_start(text: &str, entries: &[Spanned<RawEntry<'_>>], keys: &BTreeSet<&str>) -> usize
+pub(crate) fn first_start(
+    text: &str,
+    entries: &[Spanned<RawEntry<'_>>],
+    keys: &BTreeSet<&str>,
+) -> usize
     ensures { result ≡ spec.first_start (is_in_set keys.now) (length text.now) (map entry_reading_of entries.now) }
 {
     'entries: for entry in entries {

@@ -7,7 +7,7 @@ ghost use Rattle.std.specs.String.{string_bytes};
 ghost use Rattle.bib_syntax.specs.Views.{field_of, piece_of};
 ghost use Rattle.edit_entries.specs.Documents as documents;
 ghost use Rattle.edit_entries.specs.Setting as spec;
-ghost use Rattle.edit_entries.specs.Setting.{CanBeValue, IsBare, IsFit, unfit_error, value_of};
+ghost use Rattle.edit_entries.specs.Setting.{CanBeValue, IsBare, IsWritableAt, unfit_error, value_of};
 ghost use Rattle.edit_entries.specs.declared.errors.EditError.TheVariants.{NotInBraces, OutOfMemory};
 
 use crate::balance::is_balanced;
@@ -37,7 +37,7 @@ fn are_digits(bytes: &[u8]) -> bool
 
 // Returns whether a text consists of digits.
 fn is_number(text: &str) -> bool
-    ensures { result ≡ spec.is_number text.now }
+    ensures { result ≡ spec.is_bare_number text.now }
 {
     match text.as_bytes() {
         [] => false,
@@ -127,9 +127,9 @@ pub(crate) fn value_text(
     value: FieldValue<'_>,
 ) -> Result<String, EditError>
     ensures found { IfOk result (λ written. string_bytes written ≡ (spec.new_value (value_of value.entry)).bytes) }
-    ensures can { OnOk result (IsFit (map field_of definitions.now) at (value_of value.entry)) }
+    ensures can { OnOk result (IsWritableAt (map field_of definitions.now) at (value_of value.entry)) }
     ensures refused { IfErr result (λ e. (e ≡ OutOfMemory) ⊎
-        ((e ≡ unfit_error (value_of value.entry)) × (IsFit (map field_of definitions.now) at (value_of value.entry) → ⊥))) }
+        ((e ≡ unfit_error (value_of value.entry)) × (IsWritableAt (map field_of definitions.now) at (value_of value.entry) → ⊥))) }
 {
     match value {
         FieldValue::Text(text) => value_in_braces(alloc, text),

@@ -14,8 +14,8 @@ use std::alloc::{AllocError, Global};
 // Returns the white space before and after the equals sign of a field.
 fn signs<'t>(text: &'t str, field: &Pair<'_>) -> (&'t str, &'t str)
     requires { IsSignPlaced text.now (field_of field.now) }
-    ensures before { result.0.now ≡ spec.before_sign text.now (field_of field.now) }
-    ensures after { result.1.now ≡ spec.after_sign text.now (field_of field.now) }
+    ensures before { result.0.now ≡ spec.before_equals text.now (field_of field.now) }
+    ensures after { result.1.now ≡ spec.after_equals text.now (field_of field.now) }
 {
     let sign = &text[field.key.span.end..field.value.span.start];
     match sign.split_once('=') {
@@ -69,7 +69,7 @@ fn are_in_column(text: &str, column: usize, fields: &[Pair<'_>]) -> bool
 // Returns whether one of these fields has more than one byte of white space before its equals sign.
 fn has_wide_sign(text: &str, fields: &[Pair<'_>]) -> bool
     requires { AllByRecursion (IsSignPlaced text.now) (map field_of fields.now) }
-    ensures { result ≡ list_any (λ f. nat_lt 1 (length (spec.before_sign text.now f))) (map field_of fields.now) }
+    ensures { result ≡ list_any (λ f. nat_lt 1 (length (spec.before_equals text.now f))) (map field_of fields.now) }
 {
     'fields: for field in fields {
         if 1 < signs(text, field).0.len() {

@@ -141,7 +141,7 @@ fn has_percent(text: &str, start: usize, end: usize) -> bool
 
 // Returns whether a text has a byte at a byte offset.
 fn has_byte(text: &str, at: usize, byte: u8) -> bool
-    ensures is { result ≡ unset.has_byte text.now at byte }
+    ensures is { result ≡ unset.has_byte_at text.now at byte }
     ensures bound { OnTrue result (at < 2 ^ 64 - 1) }
 {
     match text.as_bytes().get(at) {
@@ -162,12 +162,7 @@ fn end_before(entry: &Spanned<RawEntry<'_>>, index: usize) -> usize
 }
 
 // Returns whether no comment is before a field or directly after its value.
-fn is_uncommented(
-    text: &str,
-    entry: &Spanned<RawEntry<'_>>,
-    index: usize,
-    field: &Pair<'_>,
-) -> bool
+fn is_uncommented(text: &str, entry: &Spanned<RawEntry<'_>>, index: usize, field: &Pair<'_>) -> bool
     requires { index < length (entry_reading_of entry.now).fields }
     ensures is { result ≡ unset.is_uncommented text.now (entry_reading_of entry.now) index (field_of field.now) }
     ensures bound { OnTrue result (unset.end_before (entry_reading_of entry.now) index < 2 ^ 64 - 1) }

@@ -15,7 +15,7 @@ ghost use Rattle.edit_entries.specs.Placed.{HasComma, IsNamePlaced, IsPlaced, Is
 ghost use Rattle.edit_entries.specs.Layouts as layouts;
 ghost use Rattle.edit_entries.specs.SetTexts.{AddIsRefused, CanBeSetIn, IsSetText, SetTextIsRefused};
 ghost use Rattle.edit_entries.specs.Setting as spec;
-ghost use Rattle.edit_entries.specs.Setting.{CanBeNewName, IsAfterComma, IsFit, unfit_error, value_of};
+ghost use Rattle.edit_entries.specs.Setting.{CanBeNewName, IsAfterComma, IsWritableAt, unfit_error, value_of};
 ghost use Rattle.edit_entries.specs.declared.errors.EditError.TheVariants.{OutOfMemory};
 
 use crate::adding::{after_comma, only_field_text};
@@ -120,9 +120,9 @@ fn with_values(
     ensures text { IfOk result (λ new. string_bytes new ≡ edits.edited_all
         (edits_of_entry text.now (entry_reading_of entry.now) (spec.values_set name.now (value_of value.entry) (entry_reading_of entry.now))) text.now) }
     ensures can { OnOk result (list_any (spec.has_other_value name.now (value_of value.entry)) (entry_reading_of entry.now).fields ≡ true →
-        IsFit (map field_of definitions.now) (entry_reading_of entry.now).start (value_of value.entry)) }
+        IsWritableAt (map field_of definitions.now) (entry_reading_of entry.now).start (value_of value.entry)) }
     ensures refused { IfErr result (λ e. (e ≡ OutOfMemory) ⊎ ((e ≡ unfit_error (value_of value.entry))
-        × (IsFit (map field_of definitions.now) (entry_reading_of entry.now).start (value_of value.entry) → ⊥)
+        × (IsWritableAt (map field_of definitions.now) (entry_reading_of entry.now).start (value_of value.entry) → ⊥)
         × (list_any (spec.has_other_value name.now (value_of value.entry)) (entry_reading_of entry.now).fields ≡ true))) }
 {
     let fields = entry.v.fields.as_slice();
@@ -176,7 +176,7 @@ pub(crate) fn new_value(
 ) -> Result<String, EditError>
     ensures found { IfOk result (λ written. string_bytes written ≡ (spec.new_value (value_of value.entry)).bytes) }
     ensures name { OnOk result (CanBeNewName name.now) }
-    ensures value { OnOk result (IsFit (map field_of definitions.now) at (value_of value.entry)) }
+    ensures value { OnOk result (IsWritableAt (map field_of definitions.now) at (value_of value.entry)) }
     ensures refused { IfErr result (AddIsRefused (map field_of definitions.now) at name.now (value_of value.entry)) }
 {
     if !can_be_new_name(name) {
@@ -200,7 +200,7 @@ fn with_field_before(
     requires signs { AllByRecursion (IsSignPlaced text.now) (map field_of fields.now) }
     requires written { written.now ≡ (spec.new_value (value_of value)).bytes }
     ensures { IfOk result (λ new. string_bytes new ≡ edits.edited (name_edit (field_of first.now)
-        (field_before (spec.new_field name.now (value_of value.entry)) (layouts.new_sign text.now name.now (field_of first.now) (map field_of fields.now))
+        (field_before (spec.field_with_value name.now (value_of value.entry)) (layouts.new_sign text.now name.now (field_of first.now) (map field_of fields.now))
         (spec.white_before text.now (field_of first.now).name.start))) text.now) }
 {
     let start = first.key.span.start;

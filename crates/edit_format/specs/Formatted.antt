@@ -13,6 +13,7 @@ use Rattle.bib_syntax.specs.Reading.Piece.{literal, abbreviation}
 use Rattle.edit_entries.specs.Balance.{is_balanced}
 use Rattle.edit_entries.specs.Edits.{moved_entry, moved_field}
 pub use Rattle.edit_entries.specs.LineEnds.{line_end_of}
+pub use Rattle.edit_entries.specs.Unset.{has_percent}
 use Rattle.edit_format.specs.Delimited.{piece_as_written}
 use Rattle.edit_format.specs.Ordered.{in_order, order_of}
 use Rattle.edit_format.specs.declared.style.Style.{Style}
@@ -94,10 +95,6 @@ entry_laid_out line_end style text e =
     (flat_map (field_laid_out line_end style text (padded_width style e.fields))
     (in_order (order_of style) e.fields)
     ++ (last_comma style e.fields ++ (line_end ++ codes "}"))))))
-
--- whether a text contains a percent sign between two offsets
-abbrev pub has_percent : List ℕ → ℕ → ℕ → Bool
-has_percent text start end = list_any (λ b. b == char.percent) (between (place text start) (place text end))
 
 -- whether a text contains a percent sign between an offset, the fields after it and the closing brace
 abbrev pub has_percent_between : List ℕ → ℕ → List FieldReading → ℕ → Bool

@@ -12,8 +12,8 @@ text-preserved c =
     let cs = c.text.yielded in
     let ch = c.in-Some.c in (
       c.in_ok-push.ensures.bytes ∙ c.in_ok-push_return.ensures
-      ∙ ap (λ b. string_bytes c.text.new ++ encode_utf8_all (with_return b ch)) c.text.invariant.1
-      ∙ ap (λ t. t ++ encode_utf8_all (with_return (last_of 32 cs) ch)) c.text.invariant.0 ∙ sym (encoded_push 32 cs ch),
+          ∙ ap (λ b. string_bytes c.text.new ++ encode_utf8_all (with_return b ch)) c.text.invariant.1
+          ∙ ap (λ t. t ++ encode_utf8_all (with_return (last_of 32 cs) ch)) c.text.invariant.0 ∙ sym (encoded_push 32 cs ch),
       sym (last_push 32 cs ch),
     )
 

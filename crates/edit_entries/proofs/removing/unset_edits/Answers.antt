@@ -80,7 +80,8 @@ returns c =
     let lines =
     chosen c.args.text.now c.args.name.now e c.as_slice-fields.result.now c.args.entry.now.v.fields.items c.in-Some.index
     c.as_slice-fields.ensures.value refl c.in-Some.ensures.is c.in-Some.ensures.bound c.index-fields-index.result c.index-fields-index.is
-    false true false (sym c.has_field.ensures ∙ c.if-has_field.false) (λ same. sym c.is_uncommented.ensures.is ∙ c.if-not-is_uncommented.false) refl in
+    false true false (sym c.has_field.ensures ∙ c.if-has_field.false)
+    (λ same. sym c.is_uncommented.ensures.is ∙ c.if-not-is_uncommented.false) refl in
     pushed _ _ _ _ c.in_ok-push.ensures.items c.new-edits.ensures.items
     (line_is c.args.text.now e c.in-Some.index (field_of c.index-fields-index.result) _ _ _ c.end_before.ensures c.comma_end.ensures
     c.new.ensures.bytes) ∙ sym lines

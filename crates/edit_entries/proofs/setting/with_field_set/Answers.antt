@@ -9,7 +9,7 @@ use Rattle.edit_entries.specs.SetTexts.{IsSetText}
 use Rattle.edit_entries.specs.Changes.{field_before, name_edit}
 use Rattle.edit_entries.specs.Edits.{edited}
 use Rattle.edit_entries.specs.Layouts.{new_sign}
-use Rattle.edit_entries.specs.Setting.{new_field, value_of, white_before}
+use Rattle.edit_entries.specs.Setting.{field_with_value, value_of, white_before}
 use Rattle.edit_entries.proofs.SetFacts.{no_element, put_made}
 use Rattle.edit_entries.proofs.setting.with_field_set.Goals as goal
 
@@ -29,7 +29,7 @@ returns-in-len1-up-clause-set c =
     ∙ ap
     (λ fs.
     edited
-    (name_edit (field_of first) (field_before (new_field c.args.name.now (value_of c.args.value))
+    (name_edit (field_of first) (field_before (field_with_value c.args.name.now (value_of c.args.value))
     (new_sign c.args.text.now c.args.name.now (field_of first) fs) (white_before c.args.text.now (field_of first).name.start)))
     c.args.text.now) cut) c.in_ok-written.ensures.name c.in_ok-written.ensures.value
 

@@ -77,8 +77,9 @@ returns-in_err-written-clause-refused c =
     c.first_start-at.ensures
     ∙ ap (λ t. first_start (is_in_set c.args.keys.now) (length t) (map entry_reading_of c.deref.result.now)) c.text-text.ensures
     ∙ ap (first_start (is_in_set c.args.keys.now) (length d.text)) entries in
-    let why : EditTextIsRefused d.says.abbreviations (first_start (is_in_set c.args.keys.now) (length d.text) d.says.entries) c.args.edit.now
-        c.in_err-written.field-0.0 =
+    let why : EditTextIsRefused d.says.abbreviations (first_start (is_in_set c.args.keys.now)
+    (length d.text) d.says.entries) c.args.edit.now
+    c.in_err-written.field-0.0 =
     subst (λ n. EditTextIsRefused d.says.abbreviations n c.args.edit.now c.in_err-written.field-0.0) at
     (subst (λ fs. EditTextIsRefused fs c.first_start-at.result c.args.edit.now c.in_err-written.field-0.0) definitions
     c.in_err-written.ensures.refused) in

@@ -42,7 +42,8 @@ returns-in-Some-clause-set c =
     (λ fs. IfOk c.with_field_set.result (λ new. IsSetText fs d.text e c.args.name.now (value_of c.args.value) (string_bytes new)))
     (definitions_are c)
     (subst
-    (λ t. IfOk c.with_field_set.result (λ new. IsSetText (map field_of c.deref-in-Some.result.now) t e c.args.name.now (value_of c.args.value)
+    (λ t. IfOk c.with_field_set.result (λ new. IsSetText (map field_of c.deref-in-Some.result.now) t e c.args.name.now
+    (value_of c.args.value)
     (string_bytes new))) c.text-text.ensures c.with_field_set.ensures.set))
 
 pub returns-in-Some-clause-refused : goal.returns-in-Some-clause-refused
