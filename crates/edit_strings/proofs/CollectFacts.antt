@@ -43,7 +43,7 @@ use Rattle.edit_strings.proofs.ExchangedFacts.{CanBeExchanged, edits_are_changes
 use Rattle.edit_strings.proofs.InsertFacts.{AreBefore, AreFrom, all_before, all_from, all_kept, back_read, from_earlier, front_there, rest_after, split_before, split_from, tail_read}
 use Rattle.edit_strings.proofs.LineFacts.{after_definitions, line_end_by, lines_begin, lines_read}
 use Rattle.edit_strings.proofs.NamesFacts.{find_passes, known_definition, length-names}
-use Rattle.edit_strings.proofs.WrittenFacts.{last_below}
+use Rattle.edit_strings.proofs.IndexFacts.{last_below}
 use Rattle.bib_syntax.proofs.FileFacts.{ahead_block}
 use Rattle.bib_text.proofs.ListFacts.{all_push}
 

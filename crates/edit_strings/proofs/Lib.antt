@@ -3,7 +3,7 @@ pub mod CutFacts
 pub mod DistinctFacts
 pub mod ElementFacts
 pub mod ExchangedFacts
-pub mod ExpandFacts
+pub mod IndexFacts
 pub mod InsertFacts
 pub mod KnownFacts
 pub mod LetterFacts
@@ -14,5 +14,4 @@ pub mod NamesFacts
 pub mod PigeonFacts
 pub mod StandingFacts
 pub mod TextFacts
-pub mod UsedFacts
 pub mod WrittenFacts

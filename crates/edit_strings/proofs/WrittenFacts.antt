@@ -1,309 +1,191 @@
--- Expansions of definitions, in an order in which each definition comes after those that it refers to.
-use Rattle.std.proofs.Common.{◌≡◌, ◌≢◌, inl, inr, ℕ, zero, suc, ◌+◌, ◌<◌, ◌≤◌, Bool, true, false, List, [], ◌∷◌, ◌++◌, length, get_or, set, take, map, refl, sym, ap, ◌∙◌, subst, arith, length-set, get_or-set_same, get_or-set_other, Option, Some, None, cond, ◌⊎◌}
-use Rattle.std.specs.Prelude.{IfSome, fold}
-use Rattle.std.specs.List.{All, AllByRecursion, Contains}
-use Rattle.std.proofs.lemmas.Bool.{false≢true, cases_lt, lt-ltb, le-ltb}
-use Rattle.std.proofs.lemmas.List.{get_or-map, get_or_default, length-map, take_all, take_more}
-use Rattle.std.proofs.lemmas.List.Elements.{All-append, All-contains, All-map, All-nil, Contains-append_right, Contains-get_or, Contains-push_cases}
-use Rattle.std.proofs.lemmas.List.Sums.{fold-append}
-use Rattle.bib_collections.specs.Graph.{IsInRange, IsTopologicalOrder, refs_of}
-use Rattle.bib_collections.proofs.Order.{contains_from_count}
-use Rattle.bib_collections.proofs.Solving.{new_turn}
-use Rattle.bib_collections.proofs.Work.{as_one, times_from_contains}
-use Rattle.std.specs.Borrow.{Bor}
-use Rattle.std.specs.Global.{Vec}
-use Rattle.bib_text.specs.declared.spanned.Spanned.{Spanned}
-use Rattle.bib_syntax.specs.declared.raw.RawChunk.{RawChunk}
-use Rattle.bib_syntax.specs.Views.{piece_of}
-use Rattle.bib_syntax.specs.Reading.{Piece, EntryReading, FieldReading}
-use Rattle.bib_syntax.specs.Reading.Piece.{literal, abbreviation}
-use Rattle.edit_entries.specs.Documents.{last_position, or_first}
-use Rattle.edit_strings.specs.Expanded.{Index, WritesOut, definition_graph, definition_index, elements, elements_at, index_list, is_of_name, piece_index, definition_references}
-use Rattle.edit_strings.specs.Expanded.{WritesOut as writes}
-use Rattle.edit_strings.proofs.ElementFacts.{IsSome}
-use Rattle.edit_strings.specs.Tables.{AreUsedWritten, IsBelow, HasMark, values_of, write_next, written_by, written_in_order, written_piece}
+-- Expansions of pieces, by a stack of the pieces that are still to expand.
+use Rattle.std.proofs.Common.{◌≡◌, ◌⊎◌, inl, inr, ◌+◌, ◌-◌, ℕ, zero, suc, ◌<◌, ◌≤◌, Bool, true, false, List, [], ◌∷◌, ◌++◌, length, get_or, map, reverse, refl, sym, ap, ◌∙◌, subst, arith, append_assoc, Option, Some, None}
+use Rattle.std.specs.Prelude.{IfSome, String}
+use Rattle.std.specs.BTreeMap.{BTreeMap}
+use Rattle.std.specs.Global.{Global}
+use Rattle.std.specs.List.{AllByRecursion, flat_map, list_any}
+use Rattle.std.proofs.lemmas.Bool.{cases_lt}
+use Rattle.std.proofs.lemmas.Grind.{flat_map-append}
+use Rattle.std.proofs.lemmas.List.{get_or-map, get_or_append_left, get_or-append_right, length-append, map-append, length-map, reverse-append, reverse-reverse}
 use Rattle.bib_text.proofs.ListFacts.{all_append}
+use Rattle.bib_syntax.specs.Reading.{Piece, FieldReading}
+use Rattle.bib_syntax.specs.Views.{field_of, piece_of}
+use Rattle.bib_syntax.specs.declared.raw.Pair.{Pair}
+use Rattle.edit_entries.proofs.AllFacts.{all_weaker}
+use Rattle.edit_strings.specs.Expanded.{Index, WritesOut, elements, elements_at, index_before, is_defined_but_not, is_defined_later, is_early, piece_index}
+use Rattle.edit_strings.specs.Expanded.{WritesOut as writes}
+use Rattle.edit_strings.specs.Tables.{AreIndices, AreOrdered, AreRows, IndexedPiece, IsBelow, IsIndexBelow, all_visits, index_in_any_case, indexed_back, indexed_of, row_at, staying, visits, with_index}
+use Rattle.edit_strings.specs.Tables.IndexedPiece.{indexed}
+use Rattle.edit_strings.specs.declared.written.Indexed.{Indexed}
+use Rattle.edit_strings.proofs.ElementFacts.{IsSome}
+use Rattle.edit_strings.proofs.IndexFacts.{before_below, piece_below}
 
--- ---- indices
+-- ---- lists
 
--- the last index of an item that passes a test is less than the length of the list
-pub last_below : {A : Type 0} (test : A → Bool) (xs : List A) → IfSome (last_position test xs) (λ i. i < length xs)
-last_below test [] = tt
-last_below test (x ∷ xs) = by_case (test x) (last_position test xs) (last_below test xs)
+pub staying_append : (xs ys : List (Option Piece)) → staying (xs ++ ys) ≡ staying xs ++ staying ys
+staying_append [] ys = refl
+staying_append (None ∷ xs) ys = staying_append xs ys
+staying_append (Some p ∷ xs) ys = ap (λ l. p ∷ l) (staying_append xs ys)
+
+flat_map_same : {A B : Type 0} (P : A → Type 0) (f g : A → List B) → ((x : A) → P x → f x ≡ g x) → (xs : List A)
+    → AllByRecursion P xs → flat_map f xs ≡ flat_map g xs
+flat_map_same P f g same [] all = refl
+flat_map_same P f g same (x ∷ xs) all =
+    ap (λ l. l ++ flat_map f xs) (same x all.0) ∙ ap (λ l. g x ++ l) (flat_map_same P f g same xs all.1)
+
+below_weaker : (m n : ℕ) → m ≤ n → (x : IndexedPiece) → IsIndexBelow m x → IsIndexBelow n x
+below_weaker m n le (indexed p None) below = tt
+below_weaker m n le (indexed p (Some i)) below = omega arith
+
+-- pieces with the indices of names have indices below a number
+pub indexed_below : (size : ℕ) (index : Index) → IsBelow size index → (ps : List Piece)
+    → AllByRecursion (IsIndexBelow size) (map (with_index index) ps)
+indexed_below size index below [] = tt
+indexed_below size index below (p ∷ ps) = (piece_below size index p below, indexed_below size index below ps)
+
+pub rows_ordered : (definitions : List FieldReading) (rows : List (List IndexedPiece)) → AreRows definitions (length definitions) rows
+    → AreOrdered rows
+rows_ordered definitions rows known i within =
+    subst (AllByRecursion (IsIndexBelow i)) (sym (known.each i (omega (arith, known.as_many))))
+    (indexed_below i (index_before definitions i) (before_below definitions i) (elements_at definitions i))
+
+-- ---- lists of the code
+
+map-reversed : {A B : Type 0} (f : A → B) (xs : List A) → map f (reverse xs) ≡ reverse (map f xs)
+map-reversed f [] = refl
+map-reversed f (x ∷ xs) =
+    ap (map f) (reverse-append (x ∷ []) xs) ∙ map-append f (reverse xs) (x ∷ []) ∙ ap (λ l. l ++ f x ∷ []) (map-reversed f xs)
+    ∙ sym (reverse-append (f x ∷ []) (map f xs))
+
+pub back_reversed : (items : List Indexed) → indexed_back (reverse items) ≡ map indexed_of items
+back_reversed items = ap reverse (map-reversed indexed_of items) ∙ reverse-reverse (map indexed_of items)
+
+-- the pieces of the definition at an index
+pub elements_of_pair : (xs : List Pair) (i : ℕ) (x : Pair) → i < length xs → x ≡ get_or xs i x
+    → elements_at (map field_of xs) i ≡ map piece_of x.value.v.items
+elements_of_pair xs i x within is =
+    get_or-map elements (map field_of xs) i (field_of x) [] (omega (arith, length-map xs field_of))
+    ∙ ap elements (get_or-map field_of xs i x (field_of x) within) ∙ ap (λ (y : Pair). elements (field_of y)) (sym is)
+
+-- whether a definition uses a name before its definition, by the maps of the code
+pub early_is : (xs : List Pair) (i : ℕ) (x : Pair) → i < length xs → x ≡ get_or xs i x → (all earlier : BTreeMap (String Global) ℕ)
+    → AreIndices all (map field_of xs) (length xs) → AreIndices earlier (map field_of xs) i
+    → list_any (is_defined_but_not (index_in_any_case all) (index_in_any_case earlier)) (map piece_of x.value.v.items)
+    ≡ is_early (map field_of xs) i
+early_is xs i x within is all earlier whole before =
+    let defined : List FieldReading = map field_of xs in
+    let last : index_in_any_case all ≡ index_before defined (length xs) = λ k name. whole name k in
+    let first : index_in_any_case earlier ≡ index_before defined i = λ k name. before name k in
+    ap (λ ix. list_any (is_defined_but_not ix (index_in_any_case earlier)) (map piece_of x.value.v.items)) last
+    ∙ ap (λ n. list_any (is_defined_but_not (index_before defined n) (index_in_any_case earlier)) (map piece_of x.value.v.items))
+    (sym (length-map xs field_of))
+    ∙ ap (λ ix. list_any (is_defined_but_not (index_before defined (length defined)) ix) (map piece_of x.value.v.items)) first
+    ∙ ap (list_any (is_defined_later defined i)) (sym (elements_of_pair xs i x within is))
+
+-- one more row
+pub row_push : (definitions : List FieldReading) (n : ℕ) (rows : List (List IndexedPiece)) (row : List IndexedPiece)
+    → AreRows definitions n rows → row ≡ row_at definitions n → AreRows definitions (n + 1) (rows ++ row ∷ [])
+row_push definitions n rows row known is = record {
+  as_many = omega (arith, length-append rows (row ∷ []), known.as_many);
+  each = λ i less. by_case i (cases_lt i n) less;
+}
   where
-    by_case : (b : Bool) (last : Option ℕ) → IfSome last (λ i. i < length xs) → IfSome (or_first b last) (λ i. i < length (x ∷ xs))
-    by_case b (Some i) below = omega arith
-    by_case true None below = omega arith
-    by_case false None below = tt
+    by_case : (i : ℕ) → (i < n) ⊎ (n ≤ i) → i < n + 1 → get_or (rows ++ row ∷ []) i [] ≡ row_at definitions i
+    by_case i (inl below) less = get_or_append_left rows (row ∷ []) [] i (omega (arith, known.as_many)) ∙ known.each i below
+    by_case i (inr past) less =
+        let at : n ≡ i = omega arith in
+        let first : i - n ≡ 0 = omega arith in
+        get_or-append_right rows (row ∷ []) n i [] known.as_many past ∙ ap (λ k. get_or (row ∷ []) k []) first ∙ is
+        ∙ ap (row_at definitions) at
 
-pub index_below : (definitions : List FieldReading) → IsBelow (length definitions) (definition_index definitions)
-index_below definitions name = last_below (is_of_name name) definitions
+-- no early use below one more index
+pub none_more : (definitions : List FieldReading) (n : ℕ) → ((i : ℕ) → i < n → is_early definitions i ≡ false)
+    → is_early definitions n ≡ false → (i : ℕ) → i < n + 1 → is_early definitions i ≡ false
+none_more definitions n none last i less = elim (cases_lt i n) [
+  | inl below ↦ none i below
+  | inr past ↦ let same : i ≡ n = omega arith in ap (is_early definitions) same ∙ last
+]
 
-pub piece_below : (definitions : List FieldReading) (piece : Piece)
-    → IfSome (piece_index (definition_index definitions) piece) (λ i. i < length definitions)
-piece_below definitions (literal p) = tt
-piece_below definitions (abbreviation p) = index_below definitions p.text
+-- ---- the stack
 
-list_below : (n : ℕ) (o : Option ℕ) → IfSome o (λ i. i < n) → All (λ r. r < n) (index_list o)
-list_below n None below = All-nil (λ r. r < n)
-list_below n (Some i) below = single
-  where
-    single : (k d : ℕ) → k < length (i ∷ []) → get_or (i ∷ []) k d < n
-    single zero d within = below
-    single (suc k) d within = absurd (omega arith)
+pub back_push : (rest : List Indexed) (x : Indexed) → indexed_back (rest ++ x ∷ []) ≡ indexed_of x ∷ indexed_back rest
+back_push rest x = ap reverse (map-append indexed_of rest (x ∷ [])) ∙ reverse-append (map indexed_of rest) (indexed_of x ∷ [])
 
-pub references_below : (definitions : List FieldReading) (ps : List Piece)
-    → All (λ r. r < length definitions) (definition_references (definition_index definitions) ps)
-references_below definitions [] = All-nil (λ r. r < length definitions)
-references_below definitions (p ∷ ps) =
-    All-append (λ r. r < length definitions) (index_list (piece_index (definition_index definitions) p))
-    (definition_references (definition_index definitions) ps)
-    (list_below (length definitions) (piece_index (definition_index definitions) p) (piece_below definitions p))
-    (references_below definitions ps)
+pub back_append : (rest row : List Indexed) → indexed_back (rest ++ row) ≡ indexed_back row ++ indexed_back rest
+back_append rest row = ap reverse (map-append indexed_of rest row) ∙ reverse-append (map indexed_of rest) (map indexed_of row)
 
-pub length-graph : (definitions : List FieldReading) → length (definition_graph definitions) ≡ length definitions
-length-graph definitions =
-    length-map (map elements definitions) (definition_references (definition_index definitions))
-    ∙ length-map definitions elements
+module _ (rows : List (List IndexedPiece)) (ordered : AreOrdered rows) where
+  -- a greater depth has the same visits
+  stable : (n : ℕ) → n ≤ length rows → (x : IndexedPiece) → IsIndexBelow n x → visits rows (suc n) x ≡ visits rows (suc (suc n)) x
+  stable n le (indexed p None) below = refl
+  stable zero le (indexed p (Some i)) below = absurd (omega arith)
+  stable (suc n) le (indexed p (Some i)) below =
+      ap (λ l. None ∷ l)
+      (flat_map_same (IsIndexBelow n) (visits rows (suc n)) (visits rows (suc (suc n))) (stable n (omega arith)) (get_or rows i [])
+      (all_weaker (IsIndexBelow i) (IsIndexBelow n) (below_weaker i n (omega arith)) (get_or rows i []) (ordered i (omega arith))))
 
-pub graph_in_range : (definitions : List FieldReading) → IsInRange (definition_graph definitions)
-graph_in_range definitions =
-    subst (λ n. All (λ refs. All (λ r. r < n) refs) (definition_graph definitions)) (sym (length-graph definitions))
-    (All-map (λ refs. All (λ r. r < length definitions) refs) (definition_references (definition_index definitions))
-    (map elements definitions) (λ k d within. references_below definitions (get_or (map elements definitions) k d)))
+  deep : (n i : ℕ) → n ≤ length rows → i < n
+      → flat_map (visits rows n) (get_or rows i []) ≡ flat_map (visits rows (suc n)) (get_or rows i [])
+  deep zero i le less = absurd (omega arith)
+  deep (suc n) i le less =
+      flat_map_same (IsIndexBelow n) (visits rows (suc n)) (visits rows (suc (suc n))) (stable n (omega arith)) (get_or rows i [])
+      (all_weaker (IsIndexBelow i) (IsIndexBelow n) (below_weaker i n (omega arith)) (get_or rows i []) (ordered i (omega arith)))
 
--- ---- pieces, given the expansion of each definition
+  -- the visits of a stack whose top stays
+  pub visits_stay : (rest : List Indexed) (x : Indexed) (p : Piece) → indexed_of x ≡ indexed p None
+      → all_visits rows (indexed_back (rest ++ x ∷ [])) ≡ Some p ∷ all_visits rows (indexed_back rest)
+  visits_stay rest x p is = ap (all_visits rows) (back_push rest x ∙ ap (λ y. y ∷ indexed_back rest) is)
 
--- a list has the expansion of each of some definitions
-abbrev AreWritten : List FieldReading → List (List Piece) → (ℕ → Type 0) → Type 0
-AreWritten definitions written Among = (i : ℕ) → Among i → WritesOut definitions (elements_at definitions i) (get_or written i [])
+  -- the visits of a stack whose top is replaced by the row of its definition
+  pub visits_go : (rest row : List Indexed) (x : Indexed) (p : Piece) (i : ℕ) → indexed_of x ≡ indexed p (Some i) → i < length rows
+      → indexed_back row ≡ get_or rows i []
+      → all_visits rows (indexed_back (rest ++ x ∷ [])) ≡ None ∷ all_visits rows (indexed_back (rest ++ row))
+  visits_go rest row x p i is within here =
+      let depth : ℕ = suc (length rows) in
+      ap (all_visits rows) (back_push rest x ∙ ap (λ y. y ∷ indexed_back rest) is)
+      ∙ ap (λ l. None ∷ (l ++ all_visits rows (indexed_back rest)))
+      (deep (length rows) i (omega arith) within ∙ ap (flat_map (visits rows depth)) (sym here))
+      ∙ ap (λ l. None ∷ l)
+      (sym (flat_map-append (visits rows depth) (indexed_back row) (indexed_back rest))
+      ∙ ap (all_visits rows) (sym (back_append rest row)))
 
-pub elements_written : (definitions : List FieldReading) (written : List (List Piece)) (ps : List Piece)
-    → AreWritten definitions written (Contains (definition_references (definition_index definitions) ps))
-    → WritesOut definitions ps (written_by (definition_index definitions) written ps)
-elements_written definitions written [] known = writes.none
-elements_written definitions written (p ∷ ps) known =
-    by_case (piece_index (definition_index definitions) p) refl known
-    (elements_written definitions written ps
-    (λ i there.
-    known i
-    (Contains-append_right (index_list (piece_index (definition_index definitions) p))
-    (definition_references (definition_index definitions) ps) i there)))
-  where
-    by_case : (o : Option ℕ) → piece_index (definition_index definitions) p ≡ o
-        → AreWritten definitions written
-        (Contains (index_list o ++ definition_references (definition_index definitions) ps))
-        → WritesOut definitions ps (written_by (definition_index definitions) written ps)
-        → WritesOut definitions (p ∷ ps)
-        (written_piece written p o ++ written_by (definition_index definitions) written ps)
-    by_case None is known rest = writes.itself is rest
-    by_case (Some i) is known rest = writes.defined is (known i (zero, omega arith, refl)) rest
+-- ---- expansions
 
--- ---- all definitions, in order
+module _ (definitions : List FieldReading) (rows : List (List IndexedPiece)) (known : AreRows definitions (length definitions) rows) where
+  -- the expansion of pieces after the first `count` definitions, down to a depth
+  abbrev down : ℕ → ℕ → List Piece → List Piece
+  down depth count ps = staying (flat_map (visits rows depth) (map (with_index (index_before definitions count)) ps))
 
-in_order_more : (index : Index) (rows : List (List Piece)) (used : List Bool) (order : List ℕ) (k : ℕ)
-    → k < length order
-    → written_in_order index rows used (take (k + 1) order)
-    ≡ write_next index rows used (written_in_order index rows used (take k order)) (get_or order k 0)
-in_order_more index rows used order k within =
-    ap (written_in_order index rows used) (take_more order k 0 within)
-    ∙ fold-append (write_next index rows used) (map (λ row. []) rows) (take k order) (get_or order k 0 ∷ [])
+  step : (n : ℕ) → ((i : ℕ) → i < n → i ≤ length definitions → (ps : List Piece) → WritesOut definitions i ps (down n i ps))
+      → (count : ℕ) → count ≤ n → count ≤ length definitions → (ps : List Piece) → WritesOut definitions count ps (down (suc n) count ps)
+  step n earlier count le within [] = writes.none
+  step n earlier count le within (p ∷ ps) =
+      by_case (piece_index (index_before definitions count) p) refl
+      (piece_below count (index_before definitions count) p (before_below definitions count)) (step n earlier count le within ps)
+    where
+      by_case : (o : Option ℕ) → piece_index (index_before definitions count) p ≡ o → IfSome o (λ i. i < count)
+          → WritesOut definitions count ps (down (suc n) count ps)
+          → WritesOut definitions count (p ∷ ps)
+          (staying (visits rows (suc n) (indexed p o) ++ flat_map (visits rows (suc n)) (map (with_index (index_before definitions count)) ps)))
+      by_case None is below others = writes.itself is others
+      by_case (Some i) is below others =
+          let row = known.each i (omega arith) in
+          let inner : List (Option Piece) = flat_map (visits rows n) (get_or rows i []) in
+          let rest : List (Option Piece) = flat_map (visits rows (suc n)) (map (with_index (index_before definitions count)) ps) in
+          subst (WritesOut definitions count (p ∷ ps)) (sym (staying_append inner rest))
+          (writes.defined is
+          (subst (λ l. WritesOut definitions i (elements_at definitions i) (staying (flat_map (visits rows n) l))) (sym row)
+          (earlier i (omega arith) (omega arith) (elements_at definitions i))) others)
 
--- one more definition is expanded if it is used
-pub next_written : (index : Index) (rows : List (List Piece)) (used : List Bool) (order : List ℕ) (k : ℕ)
-    (now : List (List Piece)) (new : List Piece) → k < length order
-    → now ≡ written_in_order index rows used (take k order)
-    → get_or used (get_or order k 0) false ≡ true → new ≡ written_by index now (get_or rows (get_or order k 0) [])
-    → set now (get_or order k 0) new ≡ written_in_order index rows used (take (k + 1) order)
-next_written index rows used order k now new within so_far is_used is =
-    let p : ℕ = get_or order k 0 in
-    let next : List (List Piece) → List (List Piece) = λ (t : List (List Piece)). set t p (written_by index t (get_or rows p [])) in
-    ap (set now p) is ∙ ap next so_far
-    ∙ sym
-    (ap
-    (λ b.
-    cond b (next (written_in_order index rows used (take k order)))
-    (written_in_order index rows used (take k order))) is_used)
-    ∙ sym (in_order_more index rows used order k within)
+  writes_down : (n count : ℕ) → count ≤ n → count ≤ length definitions → (ps : List Piece)
+      → WritesOut definitions count ps (down (suc n) count ps)
+  writes_down zero count le within ps = step zero (λ i less. absurd (omega arith)) count le within ps
+  writes_down (suc n) count le within ps = step (suc n) (λ i less inside qs. writes_down n i (omega arith) inside qs) count le within ps
 
--- a definition that isn't used is skipped
-pub next_passed : (index : Index) (rows : List (List Piece)) (used : List Bool) (order : List ℕ) (k : ℕ)
-    (now : List (List Piece)) → k < length order → now ≡ written_in_order index rows used (take k order)
-    → get_or used (get_or order k 0) false ≡ false → now ≡ written_in_order index rows used (take (k + 1) order)
-next_passed index rows used order k now within so_far is_unused =
-    let p : ℕ = get_or order k 0 in
-    let next : List (List Piece) → List (List Piece) = λ (t : List (List Piece)). set t p (written_by index t (get_or rows p [])) in
-    so_far
-    ∙ sym
-    (ap
-    (λ b.
-    cond b (next (written_in_order index rows used (take k order)))
-    (written_in_order index rows used (take k order))) is_unused)
-    ∙ sym (in_order_more index rows used order k within)
-
-module _ (definitions : List FieldReading) (order : List ℕ) (sorted : IsTopologicalOrder (definition_graph definitions) order) where
-  abbrev index : Index
-  index = definition_index definitions
-
-  abbrev rows : List (List Piece)
-  rows = map elements definitions
-
-  turn_below : (k : ℕ) → k < length order → get_or order k 0 < length definitions
-  turn_below k within =
-      let p : ℕ = get_or order k 0 in
-      elim (cases_lt p (length (definition_graph definitions))) [
-        | inl below ↦ omega (arith, below, length-graph definitions)
-        | inr past ↦ absurd
-            (omega (
-              arith,
-              times_from_contains p order (Contains-get_or order k 0 within),
-              sorted.once p,
-              as_one _ _ (le-ltb p (length (definition_graph definitions)) past),
-            ))
-      ]
-
-  pub order_below : All (λ i. i < length definitions) order
-  order_below k d within = subst (λ i. i < length definitions) (get_or_default order k 0 d within) (turn_below k within)
-
-  pub order_all : (i : ℕ) → i < length definitions → Contains order i
-  order_all i within =
-      contains_from_count i order
-      (omega (
-        arith,
-        sorted.once i,
-        as_one _ _
-            (lt-ltb i (length (definition_graph definitions)) (omega (arith, length-graph definitions))),
-      ))
-
-  module _ (used : List Bool)
-      (closed : (i : ℕ) → Contains order i → HasMark used i
-      → All (HasMark used) (refs_of (definition_graph definitions) i)) where
-    -- the expansions after the first `k` definitions of an order
-    abbrev table : ℕ → List (List Piece)
-    table k = written_in_order index rows used (take k order)
-
-    length-next : (b : Bool) (done : List (List Piece)) (i : ℕ) (new : List Piece) → length (cond b (set done i new) done) ≡ length done
-    length-next true done i new = length-set done i new
-    length-next false done i new = refl
-
-    length-fold : (done : List (List Piece)) (turns : List ℕ) → length (fold (write_next index rows used) done turns) ≡ length done
-    length-fold done [] = refl
-    length-fold done (i ∷ turns) =
-        length-fold (write_next index rows used done i) turns
-        ∙ length-next (get_or used i false) done i (written_by index done (get_or rows i []))
-
-    length-table : (turns : List ℕ) → length (written_in_order index rows used turns) ≡ length definitions
-    length-table turns = length-fold (map (λ row. []) rows) turns ∙ length-map rows (λ row. []) ∙ length-map definitions elements
-
-    -- the used definitions among the first `k` of an order are expanded
-    abbrev Good : ℕ → Type 0
-    Good k =
-        (i : ℕ) → Contains (take k order) i → HasMark used i
-        → WritesOut definitions (elements_at definitions i) (get_or (table k) i [])
-
-    -- the next definition of an order
-    turn : (k : ℕ) (i : ℕ) (b : Bool) → k < length order → get_or used (get_or order k 0) false ≡ b → Good k
-        → Contains (take (k + 1) order) i → HasMark used i
-        → WritesOut definitions (elements_at definitions i)
-        (get_or
-        (cond b
-        (set (table k) (get_or order k 0) (written_by index (table k) (get_or rows (get_or order k 0) [])))
-        (table k)) i [])
-    turn k i b within is good there mark =
-        by_case b is
-        (Contains-push_cases (take k order) (get_or order k 0) i
-        (subst (λ l. Contains l i) (take_more order k 0 within) there))
-      where
-        p : ℕ
-        p = get_or order k 0
-
-        by_case : (b : Bool) → get_or used (get_or order k 0) false ≡ b → Contains (take k order) i ⊎ (get_or order k 0 ≡ i)
-            → WritesOut definitions (elements_at definitions i)
-            (get_or
-            (cond b
-            (set (table k) (get_or order k 0)
-            (written_by index (table k) (get_or rows (get_or order k 0) []))) (table k)) i [])
-        by_case false is (inl before) = good i before mark
-        by_case false is (inr same) = absurd (false≢true (sym is ∙ ap (λ n. get_or used n false) same ∙ mark))
-        by_case true is (inl before) =
-            let q : ℕ = get_or order k 0 in
-            let other : i ≢ q =
-            λ same.
-            new_turn (definition_graph definitions) order k sorted within
-            (subst (Contains (take k order)) same before) in
-            subst (WritesOut definitions (elements_at definitions i))
-            (sym (get_or-set_other (table k) q i (written_by index (table k) (get_or rows q [])) [] other))
-            (good i before mark)
-        by_case true is (inr same) =
-            let q : ℕ = get_or order k 0 in
-            let now : List (List Piece) = table k in
-            let new : List Piece = written_by index now (get_or rows q []) in
-            let row : refs_of (definition_graph definitions) q ≡ definition_references index (get_or rows q []) =
-            get_or-map (definition_references index) rows q [] []
-            (omega (arith, turn_below k within, length-map definitions elements)) in
-            let earlier : All (Contains (take k order)) (definition_references index (get_or rows q [])) =
-            subst (All (Contains (take k order))) row (sorted.in_order k within) in
-            let marked : All (HasMark used) (definition_references index (get_or rows q [])) =
-            subst (All (HasMark used)) row (closed q (Contains-get_or order k 0 within) is) in
-            let written : WritesOut definitions (elements_at definitions q) new =
-            elements_written definitions now (elements_at definitions q)
-            (λ r held.
-            good r
-            (All-contains (Contains (take k order)) (definition_references index (get_or rows q [])) r
-            earlier held)
-            (All-contains (HasMark used) (definition_references index (get_or rows q [])) r marked held)) in
-            let at : q < length now = omega (arith, turn_below k within, length-table (take k order)) in
-            subst (λ n. WritesOut definitions (elements_at definitions n) (get_or (set now q new) n [])) same
-            (subst (WritesOut definitions (elements_at definitions q)) (sym (get_or-set_same now q new [] at))
-            written)
-
-    good_more : (k : ℕ) → k < length order → Good k → Good (k + 1)
-    good_more k within good i there mark =
-        subst (λ t. WritesOut definitions (elements_at definitions i) (get_or t i []))
-        (sym (in_order_more index rows used order k within))
-        (turn k i (get_or used (get_or order k 0) false) within refl good there mark)
-
-    good_all : (k : ℕ) → k ≤ length order → Good k
-    good_all zero within = λ i there mark. absurd (omega (arith, there.1))
-    good_all (suc k) within =
-        let next : k + 1 ≡ suc k = omega arith in
-        subst Good next (good_more k (omega arith) (good_all k (omega arith)))
-
-    -- the expansion of an unused definition stays empty
-    none_start : (i : ℕ) (ls : List (List Piece)) → get_or (map (λ row. let l : List Piece = [] in l) ls) i [] ≡ []
-    none_start i [] = refl
-    none_start zero (l ∷ ls) = refl
-    none_start (suc i) (l ∷ ls) = none_start i ls
-
-    none_next : (done : List (List Piece)) (i j : ℕ) (b : Bool) (new : List Piece) → get_or used j false ≡ b
-        → get_or used i false ≡ false → get_or done i [] ≡ [] → get_or (cond b (set done j new) done) i [] ≡ []
-    none_next done i j false new is unused none = none
-    none_next done i j true new is unused none =
-        get_or-set_other done j i new [] (λ same. false≢true (sym unused ∙ ap (λ n. get_or used n false) same ∙ is))
-        ∙ none
-
-    none_fold : (done : List (List Piece)) (turns : List ℕ) (i : ℕ) → get_or used i false ≡ false
-        → get_or done i [] ≡ [] → get_or (fold (write_next index rows used) done turns) i [] ≡ []
-    none_fold done [] i unused none = none
-    none_fold done (j ∷ turns) i unused none =
-        none_fold (write_next index rows used done j) turns i unused
-        (none_next done i j (get_or used j false) (written_by index done (get_or rows j [])) refl unused none)
-
-    -- all used definitions are expanded
-    pub used_written : (entries : List EntryReading)
-        → AllByRecursion
-        (λ e. AllByRecursion (λ f. All (HasMark used) (definition_references index (elements f))) e.fields) entries
-        → AreUsedWritten definitions entries (written_in_order index rows used order)
-    used_written entries fields = record {
-      used = used;
-      as_many = length-table order;
-      each = λ i within mark.
-          let all : take (length order) order ≡ order = take_all (length order) order (omega arith) in
-          subst (λ turns. WritesOut definitions (elements_at definitions i) (get_or (written_in_order index rows used turns) i [])) all
-          (good_all (length order) (omega arith) i (subst (λ l. Contains l i) (sym all) (order_all i within)) mark);
-      others = λ i unused. none_fold (map (λ row. []) rows) order i unused (none_start i rows);
-      fields = fields;
-    }
+  -- the expansion by the rows of the definitions
+  pub expanded_writes : (count : ℕ) → count ≤ length definitions → (ps : List Piece)
+      → WritesOut definitions count ps (down (suc (length rows)) count ps)
+  expanded_writes count within ps = writes_down (length rows) count (omega (arith, known.as_many)) within ps
 
 -- ---- if all pieces have a property, so do the pieces of their expansions
 
@@ -313,43 +195,25 @@ elements_all P [] i all = tt
 elements_all P (f ∷ fs) zero all = all.0
 elements_all P (f ∷ fs) (suc i) all = elements_all P fs i all.1
 
-pub written_all : (P : Piece → Type 0) (definitions : List FieldReading) {ps out : List Piece}
+pub written_all : (P : Piece → Type 0) (definitions : List FieldReading) {count : ℕ} {ps out : List Piece}
     → AllByRecursion (λ f. AllByRecursion P (elements f)) definitions → AllByRecursion P ps
-    → WritesOut definitions ps out → AllByRecursion P out
+    → WritesOut definitions count ps out → AllByRecursion P out
 written_all P definitions each all writes.none = tt
 written_all P definitions each all (writes.itself is rest) = (all.0, written_all P definitions each all.1 rest)
 written_all P definitions each all (writes.defined {index = i} {first = first} {more = more} is inner rest) =
     all_append P first more (written_all P definitions each (elements_all P definitions i each) inner)
     (written_all P definitions each all.1 rest)
 
--- if the item at each index has a property, all items have it
-pub all_by_index : {A : Type 0} (P : A → Type 0) (xs : List A) (d : A) → ((i : ℕ) → i < length xs → P (get_or xs i d)) → AllByRecursion P xs
-all_by_index P [] d each = tt
-all_by_index P (x ∷ xs) d each = (each 0 (omega arith), all_by_index P xs d (λ i within. each (suc i) (omega arith)))
-
--- the pieces of a field are expanded if the definitions that they refer to are used
-pub known_written : (definitions : List FieldReading) (entries : List EntryReading) (written : List (List Piece))
-    (ps : List Piece) → (known : AreUsedWritten definitions entries written)
-    → All (HasMark known.used) (definition_references (definition_index definitions) ps)
-    → WritesOut definitions ps (written_by (definition_index definitions) written ps)
-known_written definitions entries written ps known marked =
-    elements_written definitions written ps
-    (λ i held.
-    known.each i
-    (All-contains (λ r. r < length definitions) (definition_references (definition_index definitions) ps) i
-    (references_below definitions ps) held)
-    (All-contains (HasMark known.used) (definition_references (definition_index definitions) ps) i marked held))
-
 -- the expansion of at least one piece has at least one piece
-pub written_some : (definitions : List FieldReading) {ps out : List Piece}
-    → AllByRecursion (λ f. IsSome (elements f)) definitions → IsSome ps → WritesOut definitions ps out → IsSome out
-written_some definitions each some writes.none = some
-written_some definitions each some (writes.itself is rest) = tt
-written_some definitions each some (writes.defined {piece = p} {index = i} {first = first} {more = more} is inner rest) =
+pub written_some : (definitions : List FieldReading) {count : ℕ} {ps out : List Piece} → count ≤ length definitions
+    → AllByRecursion (λ f. IsSome (elements f)) definitions → IsSome ps → WritesOut definitions count ps out → IsSome out
+written_some definitions within each some writes.none = some
+written_some definitions within each some (writes.itself is rest) = tt
+written_some definitions {count} within each some (writes.defined {piece = p} {index = i} {first = first} {more = more} is inner rest) =
+    let below : i < count = subst (λ o. IfSome o (λ j. j < count)) is
+    (piece_below count (index_before definitions count) p (before_below definitions count)) in
     some_append first more
-    (written_some definitions each
-    (at_index definitions i each
-    (subst (λ o. IfSome o (λ j. j < length definitions)) is (piece_below definitions p))) inner)
+    (written_some definitions (omega arith) each (at_index definitions i each (omega arith)) inner)
   where
     at_index : (fs : List FieldReading) (i : ℕ) → AllByRecursion (λ f. IsSome (elements f)) fs → i < length fs → IsSome (elements_at fs i)
     at_index [] i all within = absurd (omega arith)
@@ -359,26 +223,3 @@ written_some definitions each some (writes.defined {piece = p} {index = i} {firs
     some_append : (xs ys : List Piece) → IsSome xs → IsSome (xs ++ ys)
     some_append [] ys some = absurd some
     some_append (x ∷ xs) ys some = tt
-
--- if some pieces and all expansions of definitions have a property, so does the expansion of these pieces
-pub written_by_all : (P : Piece → Type 0) (names : Index) (written : List (List Piece)) (ps : List Piece)
-    → AllByRecursion (AllByRecursion P) written → AllByRecursion P ps → AllByRecursion P (written_by names written ps)
-written_by_all P names written [] each all = tt
-written_by_all P names written (p ∷ ps) each all =
-    all_append P (written_piece written p (piece_index names p)) (written_by names written ps)
-    (by_case (piece_index names p)) (written_by_all P names written ps each all.1)
-  where
-    at_index : (ls : List (List Piece)) (i : ℕ) → AllByRecursion (AllByRecursion P) ls → AllByRecursion P (get_or ls i [])
-    at_index [] i all = tt
-    at_index (l ∷ ls) zero all = all.0
-    at_index (l ∷ ls) (suc i) all = at_index ls i all.1
-
-    by_case : (o : Option ℕ) → AllByRecursion P (written_piece written p o)
-    by_case None = (all.0, tt)
-    by_case (Some i) = at_index written i each
-
--- there are as many values as definitions
-pub same_count : (definitions : List FieldReading) (values : List (Bor (Vec (Spanned RawChunk))))
-    → values_of values ≡ map elements definitions → length values ≡ length definitions
-same_count definitions values is =
-    sym (length-map values (λ row. map piece_of row.now.items)) ∙ ap length is ∙ length-map definitions elements

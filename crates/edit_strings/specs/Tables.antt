@@ -1,14 +1,14 @@
 -- Machinery: words of private contracts.
 -- Edits, definitions and their expansions, in the types of the code.
-use Rattle.std.specs.Prelude.{◌≡◌, ℕ, ◌<◌, Bool, true, false, if◌then◌else◌, replicate, IfSome, List, [], ◌∷◌, fold, length, map, slice_index_or, slice_set, Option, Some, None}
+use Rattle.std.specs.Prelude.{◌≡◌, ℕ, suc, zero, ◌<◌, ◌≤◌, ⊤, Bool, IfSome, List, [], ◌∷◌, length, map, reverse, slice_index_or, Option, Some, None, String}
 use Rattle.std.specs.Borrow.{Bor}
-use Rattle.std.specs.BTreeMap.{BTreeMap, get_by}
+use Rattle.std.specs.BTreeMap.{BTreeMap, get_by, get_by_text}
 use Rattle.std.specs.Cmp.Lexicographic.{slice_cmp}
-use Rattle.std.specs.Global.{Vec}
-use Rattle.std.specs.List.{All, AllByRecursion, flat_map}
+use Rattle.std.specs.Global.{Global, Vec}
+use Rattle.std.specs.List.{AllByRecursion, flat_map}
 use Rattle.std.specs.Ordering.{nat_cmp}
+use Rattle.std.specs.Str.{str_to_ascii_lowercase}
 use Rattle.bib_text.specs.declared.spanned.Spanned.{Spanned}
-use Rattle.bib_collections.specs.Graph.{Graph, refs_of}
 use Rattle.bib_syntax.specs.Reading.{Piece, EntryReading, FieldReading}
 use Rattle.bib_syntax.specs.Views.{piece_of}
 use Rattle.bib_syntax.specs.declared.raw.RawChunk.{RawChunk}
@@ -17,7 +17,8 @@ use Rattle.edit_entries.specs.Edits as edits
 use Rattle.edit_entries.specs.Placed.{IsPlaced}
 use Rattle.edit_entries.specs.Cuts.{IsPieceCut}
 use Rattle.edit_strings.specs.Exchanged.{Exchange}
-use Rattle.edit_strings.specs.Expanded.{definition_index, definition_references, Index, WritesOut, elements, elements_at, expansion, piece_index}
+use Rattle.edit_strings.specs.Expanded.{Index, count_before, elements, elements_at, expansion, index_before, piece_index}
+use Rattle.edit_strings.specs.declared.written.Indexed.{Indexed}
 
 -- the edit of a field if its value is replaced, as a list
 abbrev pub value_edits : List ℕ → FieldReading → Option NewValue → List edits.Edit
@@ -28,9 +29,13 @@ value_edits text f (Some new) = value_stretch_edit text f new.bytes ∷ []
 abbrev pub field_edits : Exchange → List ℕ → List FieldReading → List edits.Edit
 field_edits exchange text fields = flat_map (λ f. value_edits text f (exchange f)) fields
 
+-- the edits of the fields of entries whose value is replaced, in each entry by its own replacement
+abbrev pub each_edits : (EntryReading → Exchange) → List ℕ → List EntryReading → List edits.Edit
+each_edits exchange text entries = flat_map (λ e. field_edits (exchange e) text e.fields) entries
+
 -- the edits of the fields of entries whose value is replaced
 abbrev pub entry_edits : Exchange → List ℕ → List EntryReading → List edits.Edit
-entry_edits exchange text entries = flat_map (λ e. field_edits exchange text e.fields) entries
+entry_edits exchange text entries = each_edits (λ e. exchange) text entries
 
 -- a field's value lies in a text, and the value and its literals begin at boundaries of characters
 pub record IsFieldCut (text : List ℕ) (f : FieldReading) : Type 0 where
@@ -45,6 +50,14 @@ AreAllFieldsCut text entries = AllByRecursion (λ e. AllByRecursion (IsFieldCut 
 abbrev pub index_in : BTreeMap (Bor (List ℕ)) ℕ → Index
 index_in indices name = get_by (λ k. slice_cmp nat_cmp name k.now) indices
 
+-- the index that a map, whose names are in lowercase, has for each name in any ASCII case
+abbrev pub index_in_any_case : BTreeMap (String Global) ℕ → Index
+index_in_any_case indices name = get_by_text indices (str_to_ascii_lowercase name)
+
+-- a map has the index of the last definition of each name among the first `count` definitions
+abbrev pub AreIndices : BTreeMap (String Global) ℕ → List FieldReading → ℕ → Type 0
+AreIndices indices definitions count = (name : List ℕ) → index_in_any_case indices name ≡ index_before definitions count name
+
 -- each index is less than a number
 abbrev pub IsBelow : ℕ → Index → Type 0
 IsBelow size index = (name : List ℕ) → IfSome (index name) (λ i. i < size)
@@ -53,76 +66,108 @@ IsBelow size index = (name : List ℕ) → IfSome (index name) (λ i. i < size)
 abbrev pub lent_pieces : List (Bor (Spanned RawChunk)) → List Piece
 lent_pieces items = map (λ p. piece_of p.now) items
 
--- the pieces of each of some lists, one list for each definition
-abbrev pub lists_of : List (Vec (Bor (Spanned RawChunk))) → List (List Piece)
-lists_of rows = map (λ row. lent_pieces row.items) rows
+-- ---- pieces with the indices of their definitions
 
--- the pieces of each of some values
-abbrev pub values_of : List (Bor (Vec (Spanned RawChunk))) → List (List Piece)
-values_of rows = map (λ row. map piece_of row.now.items) rows
+-- a piece, and the index of its definition if it has one
+pub data IndexedPiece : Type 0 where
+  indexed : Piece → Option ℕ → IndexedPiece
 
--- the expansion of a piece, given the index of its definition if it has one, and the expansion of each definition
-abbrev pub written_piece : List (List Piece) → Piece → Option ℕ → List Piece
-written_piece written piece None = piece ∷ []
-written_piece written piece (Some i) = slice_index_or written i []
+-- a piece with the index that its name has
+abbrev pub with_index : Index → Piece → IndexedPiece
+with_index index piece = IndexedPiece.indexed piece (piece_index index piece)
 
--- the expansion of some pieces, given the expansion of each definition
-abbrev pub written_by : Index → List (List Piece) → List Piece → List Piece
-written_by index written pieces = flat_map (λ piece. written_piece written piece (piece_index index piece)) pieces
+-- a piece of the code, with the index of its definition
+abbrev pub indexed_of : Indexed → IndexedPiece
+indexed_of i = IndexedPiece.indexed (piece_of i.piece.now) i.definition
 
--- the expansions after the next definition, which is expanded if it is used
-abbrev pub write_next : Index → List (List Piece) → List Bool → List (List Piece) → ℕ → List (List Piece)
-write_next index rows used written i =
-    if slice_index_or used i false then slice_set written i (written_by index written (slice_index_or rows i []))
-    else written
+-- the pieces of a list of the code, whose last piece comes first
+abbrev pub indexed_back : List Indexed → List IndexedPiece
+indexed_back items = reverse (map indexed_of items)
 
--- the expansions of the used definitions, made in an order
-abbrev pub written_in_order : Index → List (List Piece) → List Bool → List ℕ → List (List Piece)
-written_in_order index rows used order = fold (write_next index rows used) (map (λ row. []) rows) order
+-- the pieces of each of some lists of the code
+abbrev pub rows_of : List (Vec Indexed) → List (List IndexedPiece)
+rows_of rows = map (λ row. indexed_back row.items) rows
 
--- the replacement of values with defined names by their expansions, given the expansion of each definition
-abbrev pub expansion_by : List ℕ → Index → List (List Piece) → Exchange
-expansion_by text index written = expansion text index (λ f. written_by index written (elements f))
+-- the pieces of the definition at an index, at its place
+abbrev pub row_at : List FieldReading → ℕ → List IndexedPiece
+row_at definitions i = map (with_index (index_before definitions i)) (elements_at definitions i)
 
--- marks with each of some indices marked too
-abbrev pub marked_all : List Bool → List ℕ → List Bool
-marked_all marks indices = fold (λ m i. slice_set m i true) marks indices
+-- the rows are those of the first `count` definitions
+pub record AreRows (definitions : List FieldReading) (count : ℕ) (rows : List (List IndexedPiece)) : Type 0 where
+  pub as_many : length rows ≡ count
+  pub each : (i : ℕ) → i < count → slice_index_or rows i [] ≡ row_at definitions i
 
--- marks with the references of an index marked too, if it is marked itself
-abbrev pub mark_next : Graph → ℕ → List Bool → List Bool
-mark_next graph i marks = if slice_index_or marks i false then marked_all marks (refs_of graph i) else marks
+-- the index of a piece, if it has one, is less than a number
+abbrev pub IsIndexBelow : ℕ → IndexedPiece → Type 0
+IsIndexBelow size (IndexedPiece.indexed piece index) = IfSome index (λ i. i < size)
 
--- marks with the references of marked indices marked too, from the last index of an order to the first
-abbrev pub marked_back : Graph → List Bool → List ℕ → List Bool
-marked_back graph marks [] = marks
-marked_back graph marks (i ∷ order) = mark_next graph i (marked_back graph marks order)
+-- the pieces of each row only refer to rows before it
+abbrev pub AreOrdered : List (List IndexedPiece) → Type 0
+AreOrdered rows = (i : ℕ) → i < length rows → AllByRecursion (IsIndexBelow i) (slice_index_or rows i [])
 
--- the indices of the definitions that fields refer to
-abbrev pub fields_refer_to : Index → List FieldReading → List ℕ
-fields_refer_to index fields = flat_map (λ f. definition_references index (elements f)) fields
+-- the visits of the expansion of a piece: its own, with the piece if it stays, and those of the row of its definition, down to a depth
+abbrev pub visits : List (List IndexedPiece) → ℕ → IndexedPiece → List (Option Piece)
+visits rows depth (IndexedPiece.indexed piece None) = Some piece ∷ []
+visits rows zero (IndexedPiece.indexed piece (Some i)) = []
+visits rows (suc depth) (IndexedPiece.indexed piece (Some i)) = None ∷ flat_map (visits rows depth) (slice_index_or rows i [])
 
--- the indices of the definitions that the fields of entries refer to
-abbrev pub entries_refer_to : Index → List EntryReading → List ℕ
-entries_refer_to index entries = flat_map (λ e. fields_refer_to index e.fields) entries
+-- the visits of the expansion of some pieces
+abbrev pub all_visits : List (List IndexedPiece) → List IndexedPiece → List (Option Piece)
+all_visits rows pieces = flat_map (visits rows (suc (length rows))) pieces
 
--- marks of the definitions that fields of entries refer to, directly or through other definitions
-abbrev pub used_definitions : Index → Graph → ℕ → List ℕ → List EntryReading → List Bool
-used_definitions index graph count order entries =
-    marked_back graph (marked_all (replicate count false) (entries_refer_to index entries)) order
+-- the pieces that stay
+abbrev pub staying : List (Option Piece) → List Piece
+staying [] = []
+staying (None ∷ rest) = staying rest
+staying (Some piece ∷ rest) = piece ∷ staying rest
 
--- an index is marked
-abbrev pub HasMark : List Bool → ℕ → Type 0
-HasMark marks i = slice_index_or marks i false ≡ true
+-- the expansion of some pieces, given the rows of the definitions
+abbrev pub expanded : List (List IndexedPiece) → List IndexedPiece → List Piece
+expanded rows pieces = staying (all_visits rows pieces)
 
--- each used definition has its expansion, each other an empty list, and the definitions that fields of entries refer to are used
-pub record AreUsedWritten (definitions : List FieldReading) (entries : List EntryReading) (written : List (List Piece)) : Type 0 where
-  pub used : List Bool
-  pub as_many : length written ≡ length definitions
-  pub each : (i : ℕ) → i < length definitions → HasMark used i
-      → WritesOut definitions (elements_at definitions i) (slice_index_or written i [])
-  pub others : (i : ℕ) → slice_index_or used i false ≡ false → slice_index_or written i [] ≡ []
-  pub fields : AllByRecursion
-      (λ e.
-      AllByRecursion
-      (λ f. All (HasMark used) (definition_references (definition_index definitions) (elements f))) e.fields)
-      entries
+-- the expansion of the pieces of a field, given an index and the rows of the definitions
+abbrev pub field_expanded : List (List IndexedPiece) → Index → FieldReading → List Piece
+field_expanded rows index f = expanded rows (map (with_index index) (elements f))
+
+-- the replacement of values with defined names by their expansions, given an index and the rows of the definitions
+abbrev pub expansion_by : List ℕ → List (List IndexedPiece) → Index → Exchange
+expansion_by text rows index = expansion text index (field_expanded rows index)
+
+-- the replacement of the values of an entry, given the rows of the definitions
+abbrev pub entry_expansion : List ℕ → List FieldReading → List (List IndexedPiece) → EntryReading → Exchange
+entry_expansion text definitions rows e = expansion_by text rows (index_before definitions (count_before definitions e))
+
+-- a field's value lies in a text, and the literals of its expansion begin at boundaries of characters
+pub record IsExpansionCut (text : List ℕ) (rows : List (List IndexedPiece)) (index : Index) (f : FieldReading) : Type 0 where
+  pub placed : IsPlaced text f
+  pub pieces : AllByRecursion (IsPieceCut text) (field_expanded rows index f)
+
+-- what holds of each field of some entries holds for their expansions
+abbrev pub AreExpansionsCut : List ℕ → List FieldReading → List (List IndexedPiece) → List EntryReading → Type 0
+AreExpansionsCut text definitions rows entries =
+    AllByRecursion
+    (λ e. AllByRecursion (IsExpansionCut text rows (index_before definitions (count_before definitions e))) e.fields) entries
+
+-- ---- the order of definitions and entries
+
+-- the definitions begin one after the other, between two byte offsets
+abbrev pub AreBetween : ℕ → ℕ → List FieldReading → Type 0
+AreBetween at end [] = at ≤ end
+AreBetween at end (f ∷ fs) = (at ≤ f.name.start) × AreBetween f.name.start end fs
+
+-- the entries begin one after the other, from a byte offset on
+abbrev pub AreFrom : ℕ → List EntryReading → Type 0
+AreFrom at [] = ⊤
+AreFrom at (e ∷ es) = (at ≤ e.start) × AreFrom e.start es
+
+-- the byte offset at which the definition at an index begins
+abbrev pub start_at : List FieldReading → ℕ → ℕ
+start_at definitions i = slice_index_or (map (λ f. f.name.start) definitions) i 0
+
+-- the definitions from an index up to the next one begin before a byte offset
+abbrev pub BeginBefore : List FieldReading → ℕ → ℕ → ℕ → Type 0
+BeginBefore definitions start from next = (i : ℕ) → from ≤ i → i < next → start_at definitions i < start
+
+-- a definition at this index, if there is one, doesn't begin before a byte offset
+abbrev pub IsNextAfter : List FieldReading → ℕ → ℕ → Type 0
+IsNextAfter definitions start next = next < length definitions → start_at definitions next < start → ⊥

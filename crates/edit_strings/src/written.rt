@@ -1,14 +1,15 @@
-//! Expansions of definitions and values.
+//! Expansions of values.
 
-ghost use Rattle.std.specs.Prelude.{◌≡◌, ◌++◌, ◌<◌, [], IfOk, OnOk, length, map};
-ghost use Rattle.std.specs.List.{All};
-ghost use Rattle.bib_syntax.specs.Views.{piece_of};
-ghost use Rattle.edit_strings.specs.Expanded.{piece_index};
+ghost use Rattle.std.specs.Prelude.{◌≡◌, IfErr, IfOk, OnOk, length, map};
+ghost use Rattle.std.specs.List.{AllByRecursion};
+ghost use Rattle.bib_syntax.specs.Views.{field_of, piece_of};
+ghost use Rattle.edit_strings.specs.Expanded.{HasNoEarlyUse, IsExpandError};
 ghost use Rattle.edit_strings.specs.Tables as spec;
-ghost use Rattle.edit_strings.specs.Tables.{IsBelow, index_in, lists_of, lent_pieces, values_of, written_piece};
+ghost use Rattle.edit_strings.specs.Tables.{AreIndices, AreOrdered, AreRows, IsIndexBelow, index_in_any_case, indexed_back, lent_pieces, rows_of, with_index};
 
-use crate::definitions::defined_index;
-use bib_syntax::raw::{Field, RawChunk};
+use crate::definitions::{Indices, add_definition, defined_index, has_early_use};
+use crate::errors::ExpandError;
+use bib_syntax::raw::{Pair, RawChunk};
 use bib_text::spanned::Spanned;
 use std::alloc::{AllocError, Global};
 use std::collections::BTreeMap;
@@ -16,79 +17,72 @@ use std::collections::BTreeMap;
 // Pieces that are borrowed from the file.
 pub(crate) type Elements<'a, 's> = Vec<&'a Spanned<RawChunk<'s>>>;
 
-// Appends the expansion of `piece`: the expansion of its definition, or `piece` itself if it isn't a defined name.
-fn push_written<'a, 's>(
-    found: &mut Elements<'a, 's>,
-    indices: &BTreeMap<&str, usize>,
-    written: &[Elements<'a, 's>],
-    piece: &'a Spanned<RawChunk<'s>>,
-) -> Result<(), AllocError>
-    requires { IsBelow (length written.now) (index_in indices.now) }
-    ensures { OnOk result (lent_pieces found.new.items ≡
-        lent_pieces found.old.items ++ written_piece (lists_of written.now) (piece_of piece.now) (piece_index (index_in indices.now) (piece_of piece.now))) }
-{
-    match defined_index(indices, piece) {
-        Some(index) => found.extend_from_slice(&written[index])?,
-        None => found.push(piece)?,
-    }
-    Ok(())
+// A piece of a value, and the index of its definition if it is a defined name.
+#[derive(Clone, Copy)]
+pub(crate) struct Indexed<'a, 's> {
+    pub(crate) piece: &'a Spanned<RawChunk<'s>>,
+    pub(crate) definition: Option<usize>,
 }
 
-// Returns the expansion of `pieces`, given the expansion of each definition.
-pub(crate) fn written_by<'a, 's>(
+// Returns `pieces` with the indices of their definitions, from the last piece to the first.
+pub(crate) fn with_indices<'a, 's>(
     alloc: Global,
-    indices: &BTreeMap<&str, usize>,
-    written: &[Elements<'a, 's>],
+    indices: &Indices,
     pieces: &'a [Spanned<RawChunk<'s>>],
-) -> Result<Elements<'a, 's>, AllocError>
-    requires { IsBelow (length written.now) (index_in indices.now) }
-    ensures { IfOk result (λ found. lent_pieces found.items ≡
-        spec.written_by (index_in indices.now) (lists_of written.now) (map piece_of pieces.now)) }
+) -> Result<Vec<Indexed<'a, 's>>, AllocError>
+    ensures { IfOk result (λ found. indexed_back found.items ≡ map (with_index (index_in_any_case indices.now)) (map piece_of pieces.now)) }
 {
-    let mut found = Vec::new(alloc);
+    let mut found = Vec::with_capacity(alloc, pieces.len())?;
     'pieces: for piece in pieces {
-        push_written(&mut found, indices, written, piece)?;
+        let definition = defined_index(alloc, indices, piece)?;
+        found.push(Indexed { piece, definition })?;
     }
+    found.reverse();
     Ok(found)
 }
 
-// Returns an empty list for each of `values`.
-fn empty_lists<'a, 's>(
+// Returns the pieces of each definition with the indices of their definitions, which are before it. In `all`, each name has the index
+// of its last definition.
+pub(crate) fn rows<'a, 's>(
     alloc: Global,
-    values: &[&'a Field<'s>],
-) -> Result<Vec<Elements<'a, 's>>, AllocError>
-    ensures written { IfOk result (λ lists. lists_of lists.items ≡ map (λ row. []) (values_of values.now)) }
-    ensures count { IfOk result (λ lists. length lists.items ≡ length values.now) }
+    all: &Indices,
+    definitions: &'a [Pair<'s>],
+) -> Result<Vec<Vec<Indexed<'a, 's>>>, ExpandError>
+    requires all { AreIndices all.now (map field_of definitions.now) (length definitions.now) }
+    ensures rows { IfOk result (λ rows. AreRows (map field_of definitions.now) (length definitions.now) (rows_of rows.items)) }
+    ensures none { OnOk result (HasNoEarlyUse (map field_of definitions.now)) }
+    ensures refused { IfErr result (IsExpandError (map field_of definitions.now)) }
 {
-    let mut lists: Vec<Elements<'a, 's>> = Vec::with_capacity(alloc, values.len())?;
-    'values: for _value in values {
-        let list: Elements<'a, 's> = Vec::new(alloc);
-        lists.push(list)?;
+    let mut indices = BTreeMap::new(alloc);
+    let mut rows = Vec::with_capacity(alloc, definitions.len())?;
+    'definitions: for (index, definition) in definitions.iter().enumerate() {
+        if has_early_use(alloc, &indices, all, &definition.value.v)? {
+            return Err(ExpandError::EarlyUse(index));
+        }
+        rows.push(with_indices(alloc, &indices, &definition.value.v)?)?;
+        add_definition(alloc, &mut indices, definition, index)?;
     }
-    Ok(lists)
+    Ok(rows)
 }
 
-// Returns the expansion of each used definition, and an empty list for each other one. In `order`, each definition comes after
-// those that it refers to.
-pub(crate) fn written_in_order<'a, 's>(
+// Returns the expansion of `pieces`, given the pieces of each definition. All of these lists go from the last piece to the first, and
+// `pieces` is the stack of the pieces that are still to expand.
+pub(crate) fn expanded<'a, 's>(
     alloc: Global,
-    indices: &BTreeMap<&str, usize>,
-    values: &[&'a Field<'s>],
-    used: &[bool],
-    order: &[usize],
-) -> Result<Vec<Elements<'a, 's>>, AllocError>
-    requires count { length used.now ≡ length values.now }
-    requires below { IsBelow (length values.now) (index_in indices.now) }
-    requires order { All (λ index. index < length values.now) order.now }
-    ensures written { IfOk result (λ written. lists_of written.items ≡
-        spec.written_in_order (index_in indices.now) (values_of values.now) used.now order.now) }
-    ensures count { IfOk result (λ written. length written.items ≡ length values.now) }
+    rows: &[Vec<Indexed<'a, 's>>],
+    pieces: Vec<Indexed<'a, 's>>,
+) -> Result<Elements<'a, 's>, AllocError>
+    requires ordered { AreOrdered (rows_of rows.now) }
+    requires below { AllByRecursion (IsIndexBelow (length rows.now)) (indexed_back pieces.items) }
+    ensures { IfOk result (λ found. lent_pieces found.items ≡ spec.expanded (rows_of rows.now) (indexed_back pieces.entry.items)) }
 {
-    let mut written = empty_lists(alloc, values)?;
-    'order: for index in order {
-        if used[*index] {
-            written[*index] = written_by(alloc, indices, &written, values[*index])?;
+    let mut found = Vec::new(alloc);
+    let mut stack = pieces;
+    'stack: while let Some(next) = stack.pop() {
+        match next.definition {
+            Some(index) => stack.extend_from_slice(&rows[index])?,
+            None => found.push(next.piece)?,
         }
     }
-    Ok(written)
+    Ok(found)
 }
