@@ -3,6 +3,7 @@ pub mod CutFacts
 pub mod DistinctFacts
 pub mod ElementFacts
 pub mod ExchangedFacts
+pub mod ExpandFacts
 pub mod IndexFacts
 pub mod InsertFacts
 pub mod KnownFacts
@@ -11,6 +12,7 @@ pub mod LineFacts
 pub mod ListFacts
 pub mod NameFacts
 pub mod NamesFacts
+pub mod OrderFacts
 pub mod PigeonFacts
 pub mod StandingFacts
 pub mod TextFacts

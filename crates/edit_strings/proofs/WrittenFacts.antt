@@ -2,7 +2,7 @@
 use Rattle.std.proofs.Common.{◌≡◌, ◌⊎◌, inl, inr, ◌+◌, ◌-◌, ℕ, zero, suc, ◌<◌, ◌≤◌, Bool, true, false, List, [], ◌∷◌, ◌++◌, length, get_or, map, reverse, refl, sym, ap, ◌∙◌, subst, arith, append_assoc, Option, Some, None}
 use Rattle.std.specs.Prelude.{IfSome, String}
 use Rattle.std.specs.BTreeMap.{BTreeMap}
-use Rattle.std.specs.Global.{Global}
+use Rattle.std.specs.Global.{Global, Vec}
 use Rattle.std.specs.List.{AllByRecursion, flat_map, list_any}
 use Rattle.std.proofs.lemmas.Bool.{cases_lt}
 use Rattle.std.proofs.lemmas.Grind.{flat_map-append}
@@ -14,7 +14,7 @@ use Rattle.bib_syntax.specs.declared.raw.Pair.{Pair}
 use Rattle.edit_entries.proofs.AllFacts.{all_weaker}
 use Rattle.edit_strings.specs.Expanded.{Index, WritesOut, elements, elements_at, index_before, is_defined_but_not, is_defined_later, is_early, piece_index}
 use Rattle.edit_strings.specs.Expanded.{WritesOut as writes}
-use Rattle.edit_strings.specs.Tables.{AreIndices, AreOrdered, AreRows, IndexedPiece, IsBelow, IsIndexBelow, all_visits, index_in_any_case, indexed_back, indexed_of, row_at, staying, visits, with_index}
+use Rattle.edit_strings.specs.Tables.{AreIndices, AreOrdered, AreRows, IndexedPiece, IsBelow, IsIndexBelow, all_visits, index_in_any_case, indexed_back, indexed_of, row_at, rows_of, staying, visits, with_index}
 use Rattle.edit_strings.specs.Tables.IndexedPiece.{indexed}
 use Rattle.edit_strings.specs.declared.written.Indexed.{Indexed}
 use Rattle.edit_strings.proofs.ElementFacts.{IsSome}
@@ -148,6 +148,30 @@ module _ (rows : List (List IndexedPiece)) (ordered : AreOrdered rows) where
       ∙ ap (λ l. None ∷ l)
       (sym (flat_map-append (visits rows depth) (indexed_back row) (indexed_back rest))
       ∙ ap (all_visits rows) (sym (back_append rest row)))
+
+-- a name on top of the stack is replaced by the row of its definition: one visit less is left
+pub top_gone : (rows : List (Vec Indexed)) → AreOrdered (rows_of rows) → (stack rest now : List Indexed) (x : Indexed) (row : Vec Indexed)
+    (i : ℕ) → stack ≡ rest ++ x ∷ [] → x.definition ≡ Some i → row ≡ get_or rows i row → now ≡ rest ++ row.items
+    → AllByRecursion (IsIndexBelow (length rows)) (indexed_back stack)
+    → (all_visits (rows_of rows) (indexed_back stack) ≡ None ∷ all_visits (rows_of rows) (indexed_back now))
+    × AllByRecursion (IsIndexBelow (length rows)) (indexed_back now)
+top_gone rows ordered stack rest now x row i stack_is is row_is now_is below =
+    let size : length (rows_of rows) ≡ length rows = length-map rows (λ r. indexed_back r.items) in
+    let parts = subst (AllByRecursion (IsIndexBelow (length rows))) (ap indexed_back stack_is ∙ back_push rest x) below in
+    let within : i < length rows = subst (λ o. IfSome o (λ j. j < length rows)) is parts.0 in
+    let here : indexed_back row.items ≡ get_or (rows_of rows) i [] =
+    sym (get_or-map (λ r. indexed_back r.items) rows i row [] within ∙ ap (λ (r : Vec Indexed). indexed_back r.items) (sym row_is)) in
+    let own = subst (AllByRecursion (IsIndexBelow i)) (sym here) (ordered i (omega arith)) in
+    (
+      ap (λ l. all_visits (rows_of rows) (indexed_back l)) stack_is
+      ∙ visits_go (rows_of rows) ordered rest row.items x (piece_of x.piece.now) i (ap (indexed (piece_of x.piece.now)) is) (omega arith)
+      here
+      ∙ ap (λ l. None ∷ all_visits (rows_of rows) (indexed_back l)) (sym now_is),
+      subst (AllByRecursion (IsIndexBelow (length rows))) (sym (ap indexed_back now_is ∙ back_append rest row.items))
+      (all_append (IsIndexBelow (length rows)) (indexed_back row.items) (indexed_back rest)
+      (all_weaker (IsIndexBelow i) (IsIndexBelow (length rows)) (below_weaker i (length rows) (omega arith)) (indexed_back row.items) own)
+      parts.1),
+    )
 
 -- ---- expansions
 

@@ -1,9 +1,9 @@
-use Rattle.std.proofs.Common.{◌≡◌, ◌++◌, ◌∷◌, [], get_or, Bool, cond, false, true, length, map, arith, sym, ap, ◌∙◌, subst, Some}
+use Rattle.std.proofs.Common.{◌≡◌, ◌+◌, ◌∷◌, [], get_or, cond, map, arith, sym, ap, ◌∙◌, subst, Some}
 use Rattle.std.specs.List.{list_any}
 use Rattle.std.proofs.lemmas.List.{length-map, map-append}
 use Rattle.bib_syntax.specs.Views.{field_of, piece_of}
 use Rattle.edit_entries.specs.Documents.{has_name}
-use Rattle.edit_strings.specs.Expanded.{index_before, is_defined_but_not, is_early}
+use Rattle.edit_strings.specs.Expanded.{elements, index_before, is_defined_but_not}
 use Rattle.edit_strings.specs.Tables.{AreRows, index_in_any_case, indexed_back, row_at, rows_of, with_index}
 use Rattle.edit_strings.proofs.IndexFacts.{before_step}
 use Rattle.edit_strings.proofs.WrittenFacts.{early_is, elements_of_pair, none_more, row_push}
