@@ -1,12 +1,15 @@
 -- A document with its abbreviations expanded.
-use Rattle.std.proofs.Common.{◌≡◌, ℕ, ◌≤◌, Bool, true, false, cond, List, [], ◌∷◌, length, refl, sym, ap, ◌∙◌, subst, arith, Some, None, map}
+use Rattle.std.proofs.Common.{◌≡◌, ℕ, ◌≤◌, Bool, true, false, cond, List, [], ◌∷◌, length, refl, sym, ap, ◌∙◌, subst, Some, None, map}
 use Rattle.std.specs.List.{AllByRecursion}
 use Rattle.std.specs.Prelude.{nat_lt}
 use Rattle.std.specs.Str.{IsUtf8}
+use Rattle.std.proofs.lemmas.List.{length-map}
 use Rattle.std.proofs.lemmas.List.Sums.{count_by-le-length}
 use Rattle.bib_syntax.specs.Reading.{Piece, FieldReading, EntryReading}
+use Rattle.bib_syntax.specs.Views.{field_of}
+use Rattle.bib_syntax.specs.declared.raw.Pair.{Pair}
 use Rattle.edit_entries.specs.Documents.{Document, IsDocument}
-use Rattle.edit_entries.specs.Edits.{edited_all}
+use Rattle.edit_entries.specs.Edits.{Edit, edited_all}
 use Rattle.edit_entries.specs.Placed.{IsPlaced}
 use Rattle.edit_entries.specs.EditList.{AreEditsInOrder}
 use Rattle.edit_entries.specs.Cuts.{IsPieceCut}
@@ -23,6 +26,23 @@ use Rattle.edit_strings.proofs.WrittenFacts.{expanded_writes, written_all, writt
 all_true : {A : Type 0} (P : A → Type 0) → ((x : A) → P x) → (xs : List A) → AllByRecursion P xs
 all_true P each [] = tt
 all_true P each (x ∷ xs) = (each x, all_true P each xs)
+
+-- the rows of the code are those of the definitions
+pub known_rows : (pairs : List Pair) (definitions : List FieldReading) (rows : List (List IndexedPiece)) → map field_of pairs ≡ definitions
+    → AreRows (map field_of pairs) (length pairs) rows → AreRows definitions (length definitions) rows
+known_rows pairs definitions rows same known =
+    subst (λ fs. AreRows fs (length fs) rows) same
+    (subst (λ n. AreRows (map field_of pairs) n rows) (sym (length-map pairs field_of)) known)
+
+-- the edits of the code are those of a document
+pub known_edits : (d : Document) (rows : List (List IndexedPiece)) (edits : List Edit) (text : List ℕ) (fs : List FieldReading)
+    (es : List EntryReading) → text ≡ d.text → fs ≡ d.says.abbreviations → es ≡ d.says.entries
+    → edits ≡ each_edits (entry_expansion text fs rows) text es
+    → edits ≡ each_edits (entry_expansion d.text d.says.abbreviations rows) d.text d.says.entries
+known_edits d rows edits text fs es same defined listed are =
+    are ∙ ap (λ t. each_edits (entry_expansion t fs rows) t es) same
+    ∙ ap (λ gs. each_edits (entry_expansion d.text gs rows) d.text es) defined
+    ∙ ap (each_edits (entry_expansion d.text d.says.abbreviations rows) d.text) listed
 
 module _ (d : Document) (read : IsDocument d) (rows : List (List IndexedPiece))
     (known : AreRows d.says.abbreviations (length d.says.abbreviations) rows) where

@@ -1,17 +1,19 @@
 -- Indices of definitions, and the order of definitions and entries.
-use Rattle.std.proofs.Common.{◌≡◌, ℕ, zero, suc, ◌+◌, ◌<◌, ◌≤◌, Bool, true, false, cond, List, [], ◌∷◌, ◌++◌, length, get_or, take, map, refl, sym, ap, ◌∙◌, subst, arith, Option, Some, None}
-use Rattle.std.specs.Prelude.{IfSome, count_by, nat_lt}
+use Rattle.std.proofs.Common.{◌≡◌, ℕ, zero, suc, ◌+◌, ◌<◌, ◌≤◌, Bool, true, false, cond, List, [], ◌∷◌, length, get_or, take, map, refl, sym, ap, ◌∙◌, subst, arith, Option, Some, None}
+use Rattle.std.specs.Prelude.{IfSome, String, count_by, nat_lt}
+use Rattle.std.specs.BTreeMap.{BTreeMap}
+use Rattle.std.specs.Global.{Global}
 use Rattle.std.proofs.lemmas.Bool.{le-ltb, lt-ltb}
 use Rattle.std.proofs.lemmas.List.{take-map}
 use Rattle.std.proofs.lemmas.List.Sums.{sum_by-append}
-use Rattle.bib_syntax.specs.Reading.{Piece, EntryReading, FieldReading}
+use Rattle.bib_syntax.specs.Reading.{Piece, FieldReading}
 use Rattle.bib_syntax.specs.Reading.Piece.{literal, abbreviation}
 use Rattle.bib_syntax.specs.Views.{field_of}
 use Rattle.bib_syntax.specs.declared.raw.Pair.{Pair}
 use Rattle.edit_entries.specs.Documents.{has_name, last_position, or_first}
 use Rattle.edit_entries.proofs.PositionFacts.{last_step}
 use Rattle.edit_strings.specs.Expanded.{Index, index_before, piece_index}
-use Rattle.edit_strings.specs.Tables.{AreBetween, IsBelow}
+use Rattle.edit_strings.specs.Tables.{AreBetween, AreIndices, IsBelow, index_in_any_case}
 
 -- ---- indices
 
@@ -43,6 +45,18 @@ before_below definitions count name =
 pub piece_below : (size : ℕ) (index : Index) (piece : Piece) → IsBelow size index → IfSome (piece_index index piece) (λ i. i < size)
 piece_below size index (literal p) below = tt
 piece_below size index (abbreviation p) below = below p.text
+
+-- the indices of a map as a function
+pub indices_are : (definitions : List FieldReading) (count : ℕ) (indices : BTreeMap (String Global) ℕ) → AreIndices indices definitions count
+    → index_in_any_case indices ≡ index_before definitions count
+indices_are definitions count indices known = λ k name. known name k
+
+-- the indices of a map are less than each number from the count of the definitions on
+pub indices_below : (definitions : List FieldReading) (count size : ℕ) (indices : BTreeMap (String Global) ℕ) → count ≤ size
+    → AreIndices indices definitions count → IsBelow size (index_in_any_case indices)
+indices_below definitions count size indices le known name =
+    some_below count size (index_in_any_case indices name) le
+    (subst (λ o. IfSome o (λ i. i < count)) (sym (known name)) (before_below definitions count name))
 
 -- the index of a name after one more definition
 pub before_step : (xs : List Pair) (i : ℕ) (x : Pair) (name : List ℕ) → i < length xs → x ≡ get_or xs i x

@@ -1,9 +1,12 @@
 -- The order of the definitions and of the entries of a file.
-use Rattle.std.proofs.Common.{◌≡◌, ◌⊎◌, inl, inr, ℕ, ◌+◌, ◌<◌, ◌≤◌, List, [], ◌∷◌, ◌++◌, length, ap, arith}
+use Rattle.std.proofs.Common.{◌≡◌, ◌⊎◌, inl, inr, ℕ, ◌+◌, ◌<◌, ◌≤◌, List, [], ◌∷◌, ◌++◌, length, get_or, map, sym, ap, ◌∙◌, subst, arith}
 use Rattle.std.proofs.lemmas.Bool.{cases_lt}
+use Rattle.std.proofs.lemmas.List.{get_or-map, length-map}
 use Rattle.bib_text.specs.Places.{Place}
-use Rattle.bib_text.proofs.PlaceFacts.{ahead_then, ahead_char, ahead_run}
+use Rattle.bib_text.proofs.PlaceFacts.{ahead_then, ahead_char}
 use Rattle.bib_syntax.specs.Reading.{EntryReading, FieldReading, FileReading, Part}
+use Rattle.bib_syntax.specs.Views.{field_of}
+use Rattle.bib_syntax.specs.declared.raw.Pair.{Pair}
 use Rattle.bib_syntax.specs.Grammar.{BlockKind, Body, Fields, File, longest}
 use Rattle.bib_syntax.specs.Grammar.{Body as body}
 use Rattle.bib_syntax.specs.Grammar.{Fields as fields}
@@ -19,9 +22,21 @@ use Rattle.edit_strings.proofs.IndexFacts.{count_is}
 
 -- ---- definitions
 
+-- the byte offset at which a definition of the code begins
+pub pair_start : (xs : List Pair) (i : ℕ) (x : Pair) → i < length xs → x ≡ get_or xs i x
+    → start_at (map field_of xs) i ≡ x.key.span.start
+pair_start xs i x within is =
+    get_or-map (λ f. f.name.start) (map field_of xs) i (field_of x) 0 (omega (arith, length-map xs field_of))
+    ∙ ap (λ (f : FieldReading). f.name.start) (get_or-map field_of xs i x (field_of x) within)
+    ∙ ap (λ (y : Pair). y.key.span.start) (sym is)
+
 between_earlier : (at mid end : ℕ) (fs : List FieldReading) → at ≤ mid → AreBetween mid end fs → AreBetween at end fs
 between_earlier at mid end [] le between = omega arith
 between_earlier at mid end (f ∷ fs) le between = (omega (arith, between.0), between.1)
+
+between_later : (at mid end : ℕ) (fs : List FieldReading) → mid ≤ end → AreBetween at mid fs → AreBetween at end fs
+between_later at mid end [] le between = omega arith
+between_later at mid end (f ∷ fs) le between = (between.0, between_later f.name.start mid end fs le between.1)
 
 between_append : (at mid end : ℕ) (xs ys : List FieldReading) → AreBetween at mid xs → AreBetween mid end ys → AreBetween at end (xs ++ ys)
 between_append at mid end [] ys first second = between_earlier at mid end ys first second
@@ -32,7 +47,7 @@ fields_between (fields.none white) = (ahead_fields (fields.none white)).at
 fields_between (fields.last field gap) =
     let start = ap (λ p. p.start) field.name.reading in
     (omega (arith, start), omega (arith, start, (ahead_fields (fields.last field gap)).at))
-fields_between {u} {v} {f ∷ fs} (fields.more {y = y} field gap comma gap' rest) =
+fields_between {v = v} {fs = f ∷ fs} (fields.more {y = y} field gap comma gap' rest) =
     let start = ap (λ p. p.start) field.name.reading in
     let past = ahead_then (ahead_field field) (ahead_then (ahead_gap gap) (ahead_then (ahead_char comma) (ahead_gap gap'))) in
     (omega (arith, start), between_earlier f.name.start y.at v.at fs (omega (arith, start, past.at)) (fields_between rest))
@@ -42,8 +57,8 @@ body_between : (at : ℕ) {start u v : Place} {kind : Part} {k : BlockKind} {say
 body_between at before past (body.comment brace chars closes) = past
 body_between at before past (body.preamble quoted white closes is_brace) = past
 body_between at {v = v} {says = says} before past (body.strings {u = u} {v = w} fs closes) =
-    between_append at w.at v.at says.abbreviations [] (between_earlier at u.at w.at says.abbreviations before (fields_between fs))
-    (ahead_char closes).at
+    between_later at w.at v.at says.abbreviations (ahead_char closes).at
+    (between_earlier at u.at w.at says.abbreviations before (fields_between fs))
 body_between at before past (body.entry key_end key white comma gap list closes) = past
 
 -- the definitions of a file are in order
@@ -59,7 +74,7 @@ file_between {u} (file.block {v = v} {first = first} {rest = others} b x) =
     let rest = file_between x in (
       rest.0,
       between_append u.at v.at rest.0 first.abbreviations others.abbreviations
-      (body_between u.at (ahead_head b.head).at (ahead_block b).at b.body) rest.1,
+          (body_between u.at (ahead_head b.head).at (ahead_block b).at b.body) rest.1,
     )
 
 -- ---- entries
@@ -79,10 +94,19 @@ document_from d read = entries_from d.text 0 d.says.entries (document_cut d.text
 
 -- ---- the definitions before each entry
 
+-- one more definition begins before a byte offset
+pub one_more : (definitions : List FieldReading) (start from n : ℕ) → BeginBefore definitions start from n
+    → start_at definitions n < start → BeginBefore definitions start from (n + 1)
+one_more definitions start from n before last i at_least less = by_case (cases_lt i n)
+  where
+    by_case : (i < n) ⊎ (n ≤ i) → start_at definitions i < start
+    by_case (inl below) = before i at_least below
+    by_case (inr past) = let same : n ≡ i = omega arith in subst (λ k. start_at definitions k < start) same last
+
 -- some entries begin at or after a byte offset before which the first definitions begin
-pub record IsAhead (definitions : List FieldReading) (next : ℕ) (entries : List EntryReading) : Type 0 where
+pub record IsAhead (definitions : List FieldReading) (next : ℕ) (es : List EntryReading) : Type 0 where
   pub at : ℕ
-  pub entries : AreFrom at entries
+  pub chain : AreFrom at es
   pub passed : (i : ℕ) → i < next → start_at definitions i < at
   pub within : next ≤ length definitions
 
@@ -91,14 +115,13 @@ pub ahead_step : (definitions : List FieldReading) (end : ℕ) → AreBetween 0 
     (es : List EntryReading) → IsAhead definitions from (e ∷ es) → next ≤ length definitions
     → BeginBefore definitions e.start from next → IsNextAfter definitions e.start next
     → (count_before definitions e ≡ next) × IsAhead definitions next es
-ahead_step definitions end between from next e es ahead within before after =
-    (
-      count_is e.start 0 end definitions next between within passed after,
-      record { at = e.start; entries = ahead.entries.1; passed = passed; within = within },
-    )
+ahead_step definitions end between from next e es ahead within before after = (
+  count_is e.start 0 end definitions next between within passed after,
+  record { at = e.start; chain = ahead.chain.1; passed = passed; within = within },
+)
   where
     passed : (i : ℕ) → i < next → start_at definitions i < e.start
     passed i less = elim (cases_lt i from) [
-      | inl below ↦ omega (arith, ahead.passed i below, ahead.entries.0)
+      | inl below ↦ omega (arith, ahead.passed i below, ahead.chain.0)
       | inr past ↦ before i past less
     ]

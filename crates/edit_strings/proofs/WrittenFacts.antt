@@ -1,5 +1,5 @@
 -- Expansions of pieces, by a stack of the pieces that are still to expand.
-use Rattle.std.proofs.Common.{◌≡◌, ◌⊎◌, inl, inr, ◌+◌, ◌-◌, ℕ, zero, suc, ◌<◌, ◌≤◌, Bool, true, false, List, [], ◌∷◌, ◌++◌, length, get_or, map, reverse, refl, sym, ap, ◌∙◌, subst, arith, append_assoc, Option, Some, None}
+use Rattle.std.proofs.Common.{◌≡◌, ◌⊎◌, inl, inr, ◌+◌, ◌-◌, ℕ, zero, suc, ◌<◌, ◌≤◌, false, List, [], ◌∷◌, ◌++◌, length, get_or, map, reverse, refl, sym, ap, ◌∙◌, subst, arith, Option, Some, None}
 use Rattle.std.specs.Prelude.{IfSome, String}
 use Rattle.std.specs.BTreeMap.{BTreeMap}
 use Rattle.std.specs.Global.{Global, Vec}
@@ -161,16 +161,15 @@ top_gone rows ordered stack rest now x row i stack_is is row_is now_is below =
     let within : i < length rows = subst (λ o. IfSome o (λ j. j < length rows)) is parts.0 in
     let here : indexed_back row.items ≡ get_or (rows_of rows) i [] =
     sym (get_or-map (λ r. indexed_back r.items) rows i row [] within ∙ ap (λ (r : Vec Indexed). indexed_back r.items) (sym row_is)) in
-    let own = subst (AllByRecursion (IsIndexBelow i)) (sym here) (ordered i (omega arith)) in
-    (
+    let own = subst (AllByRecursion (IsIndexBelow i)) (sym here) (ordered i (omega arith)) in (
       ap (λ l. all_visits (rows_of rows) (indexed_back l)) stack_is
-      ∙ visits_go (rows_of rows) ordered rest row.items x (piece_of x.piece.now) i (ap (indexed (piece_of x.piece.now)) is) (omega arith)
-      here
-      ∙ ap (λ l. None ∷ all_visits (rows_of rows) (indexed_back l)) (sym now_is),
+          ∙ visits_go (rows_of rows) ordered rest row.items x (piece_of x.piece.now) i (ap (indexed (piece_of x.piece.now)) is) (omega arith)
+          here
+          ∙ ap (λ l. None ∷ all_visits (rows_of rows) (indexed_back l)) (sym now_is),
       subst (AllByRecursion (IsIndexBelow (length rows))) (sym (ap indexed_back now_is ∙ back_append rest row.items))
-      (all_append (IsIndexBelow (length rows)) (indexed_back row.items) (indexed_back rest)
-      (all_weaker (IsIndexBelow i) (IsIndexBelow (length rows)) (below_weaker i (length rows) (omega arith)) (indexed_back row.items) own)
-      parts.1),
+          (all_append (IsIndexBelow (length rows)) (indexed_back row.items) (indexed_back rest)
+          (all_weaker (IsIndexBelow i) (IsIndexBelow (length rows)) (below_weaker i (length rows) (omega arith)) (indexed_back row.items) own)
+          parts.1),
     )
 
 -- ---- expansions

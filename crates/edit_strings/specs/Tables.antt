@@ -1,6 +1,6 @@
 -- Machinery: words of private contracts.
 -- Edits, definitions and their expansions, in the types of the code.
-use Rattle.std.specs.Prelude.{◌≡◌, ℕ, suc, zero, ◌<◌, ◌≤◌, ⊤, Bool, IfSome, List, [], ◌∷◌, length, map, reverse, slice_index_or, Option, Some, None, String}
+use Rattle.std.specs.Prelude.{◌≡◌, ℕ, suc, zero, ◌<◌, ◌≤◌, ⊤, IfSome, List, [], ◌∷◌, length, map, reverse, slice_index_or, Option, Some, None, String}
 use Rattle.std.specs.Borrow.{Bor}
 use Rattle.std.specs.BTreeMap.{BTreeMap, get_by, get_by_text}
 use Rattle.std.specs.Cmp.Lexicographic.{slice_cmp}

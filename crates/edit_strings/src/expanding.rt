@@ -46,7 +46,10 @@ fn add_before(
     ensures next { IfOk result (λ next. IsNextAfter (map field_of definitions.now) start next) }
 {
     let mut next = from;
-    'definitions: while next < definitions.len() && definitions[next].key.span.start < start {
+    'definitions: while next < definitions.len() {
+        if definitions[next].key.span.start >= start {
+            return Ok(next);
+        }
         add_definition(alloc, indices, &definitions[next], next)?;
         next += 1;
     }
@@ -118,7 +121,13 @@ fn expansions<'a, 's>(
     let mut indices = BTreeMap::new(alloc);
     let mut next = 0;
     'entries: for entry in entries {
-        next = add_before(alloc, &mut indices, names.definitions, next, entry.span.start)?;
+        next = add_before(
+            alloc,
+            &mut indices,
+            names.definitions,
+            next,
+            entry.span.start,
+        )?;
         push_expansions(&mut edits, alloc, names, &indices, &entry.v.fields)?;
     }
     Ok(edits)
