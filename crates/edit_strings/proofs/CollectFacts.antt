@@ -43,7 +43,7 @@ use Rattle.edit_strings.proofs.ExchangedFacts.{CanBeExchanged, edits_are_changes
 use Rattle.edit_strings.proofs.InsertFacts.{AreBefore, AreFrom, all_before, all_from, all_kept, back_read, from_earlier, front_there, rest_after, split_before, split_from, tail_read}
 use Rattle.edit_strings.proofs.LineFacts.{after_definitions, line_end_by, lines_begin, lines_read}
 use Rattle.edit_strings.proofs.NamesFacts.{find_passes, known_definition, length-names}
-use Rattle.edit_strings.proofs.WrittenFacts.{last_below}
+use Rattle.edit_strings.proofs.IndexFacts.{last_below}
 use Rattle.bib_syntax.proofs.FileFacts.{ahead_block}
 use Rattle.bib_text.proofs.ListFacts.{all_push}
 
@@ -226,7 +226,7 @@ module _ (d : Document) (read : IsDocument d) (utf8 : IsUtf8 d.text) (exchange :
       let f = first_entry d read e es is in
       let order = subst (AreEntriesIn d.text 0) is (file_in d.text refl read) in
       let placed = subst (OfFields (IsFieldPlaced d.text)) is (values_placed d read utf8) in
-      subst (AreEditsInOrder d.text (e.start + 1)) (sym (edits_are_changes exchange d.text (e ∷ es)))
+      subst (AreEditsInOrder d.text (e.start + 1)) (sym (edits_are_changes (λ e. exchange) d.text (e ∷ es)))
       (edits_in_order (exchanges exchange) d.text (e.start + 1) (e ∷ es) (order.0, f.kind, order.2, order.3, order.4) placed)
 
   -- they come after an insertion before the first entry
@@ -278,7 +278,7 @@ module _ (d : Document) (read : IsDocument d) (utf8 : IsUtf8 d.text) (exchange :
       let inside : at + 1 ≤ length d.text = omega (arith, char_left f.sign, f.sign.next) in
       let order : AreEditsInOrder d.text (at + 1) (edits_of_entries (exchanges exchange) d.text d.says.entries) =
       subst (λ xs. AreEditsInOrder d.text (at + 1) (edits_of_entries (exchanges exchange) d.text xs)) (sym is)
-      (subst (AreEditsInOrder d.text (at + 1)) (edits_are_changes exchange d.text (e ∷ es)) (exchange_from d read utf8 exchange e es is)) in
+      (subst (AreEditsInOrder d.text (at + 1)) (edits_are_changes (λ e. exchange) d.text (e ∷ es)) (exchange_from d read utf8 exchange e es is)) in
       let start = edits_front d.text (at + 1) (edits_of_entries (exchanges exchange) d.text d.says.entries) inside order in
       let within : at ≤ length now = omega (arith, start.1) in
       let same : take at d.text ≡ take at now = less_same d.text now at (at + 1) (omega arith) (sym start.0) in
@@ -407,7 +407,7 @@ module _ (d : Document) (read : IsDocument d) (utf8 : IsUtf8 d.text) (fields tex
   collected_read least chosen =
       let exchange : Exchange = collection fields texts names in
       let meets : List ℕ → Type 0 = RepeatsInBraces least (named_texts fields d.says.entries) in
-      let changed = exchanged_read d exchange read utf8
+      let changed = exchanged_read d (λ e. exchange) read utf8
       (fields_weaker (IsPlaced d.text) (IsPlaced d.text) (CanBeExchanged exchange)
       (λ f placed again value. by_text value (named_text fields f)) d.says.entries (all_placed d read) (all_placed d read)) in
       with_lines_read d read utf8 exchange changed _ names texts

@@ -6,11 +6,11 @@ use Rattle.bib_syntax.specs.Reading.{FieldReading, EntryReading}
 use Rattle.edit_entries.specs.Changes.{IsReadPlaceless, NewValue, edits_of_entries, edits_of_field, edits_of_fields, file_changed, text_changed}
 use Rattle.edit_entries.specs.Documents.{Document, IsDocument}
 use Rattle.edit_entries.specs.EditList.{AreEditsInOrder}
-use Rattle.edit_entries.proofs.AllFacts.{OfFields, all_weaker}
+use Rattle.edit_entries.proofs.AllFacts.{all_weaker}
 use Rattle.edit_entries.proofs.ChangesFacts.{CanChange, CanEntryChange, CanFieldsChange, changed_read, changes_in_order}
 use Rattle.edit_entries.proofs.NewValueFacts.{CanBeRead}
 use Rattle.edit_strings.specs.Exchanged.{Exchange, exchanges, exchange_change}
-use Rattle.edit_strings.specs.Tables.{entry_edits, field_edits, value_edits}
+use Rattle.edit_strings.specs.Tables.{each_edits, field_edits, value_edits}
 
 -- ---- the edits
 
@@ -27,19 +27,20 @@ fields_are exchange text (f ∷ fs) =
     ∙ ap (λ es. value_edits text f (exchange f) ++ es) (fields_are exchange text fs)
 
 -- the edits of replaced values are those of the changes
-pub edits_are_changes : (exchange : Exchange) (text : List ℕ) (es : List EntryReading)
-    → entry_edits exchange text es ≡ edits_of_entries (exchanges exchange) text es
+pub edits_are_changes : (exchange : EntryReading → Exchange) (text : List ℕ) (es : List EntryReading)
+    → each_edits exchange text es ≡ edits_of_entries (λ e. exchanges (exchange e) e) text es
 edits_are_changes exchange text [] = refl
 edits_are_changes exchange text (e ∷ es) =
-    ap (λ xs. xs ++ entry_edits exchange text es) (sym (fields_are exchange text e.fields))
-    ∙ ap (λ xs. edits_of_fields text e.fields (map (λ f. exchange_change (exchange f)) e.fields) ++ xs) (edits_are_changes exchange text es)
+    ap (λ xs. xs ++ each_edits exchange text es) (sym (fields_are (exchange e) text e.fields))
+    ∙ ap (λ xs. edits_of_fields text e.fields (map (λ f. exchange_change (exchange e f)) e.fields) ++ xs)
+    (edits_are_changes exchange text es)
 
 -- the edits of replaced values are in order and don't overlap
-pub exchange_in_order : (d : Document) (exchange : Exchange) → IsDocument d → IsUtf8 d.text
-    → AreEditsInOrder d.text 0 (entry_edits exchange d.text d.says.entries)
+pub exchange_in_order : (d : Document) (exchange : EntryReading → Exchange) → IsDocument d → IsUtf8 d.text
+    → AreEditsInOrder d.text 0 (each_edits exchange d.text d.says.entries)
 exchange_in_order d exchange read utf8 =
     subst (AreEditsInOrder d.text 0) (sym (edits_are_changes exchange d.text d.says.entries))
-    (changes_in_order d (exchanges exchange) read utf8)
+    (changes_in_order d (λ e. exchanges (exchange e) e) read utf8)
 
 -- ---- the text with new values parses
 
@@ -58,15 +59,15 @@ fields_can exchange [] can = tt
 fields_can exchange (f ∷ fs) can = (value_can fs (exchange f) can.0, fields_can exchange fs can.1)
 
 -- the text of a document with replaced values parses to the reading of the document with these values replaced
-pub exchanged_read : (d : Document) (exchange : Exchange) → IsDocument d → IsUtf8 d.text
-    → OfFields (CanBeExchanged exchange) d.says.entries
-    → IsReadPlaceless (file_changed (exchanges exchange) d.says) (text_changed (exchanges exchange) d)
+pub exchanged_read : (d : Document) (exchange : EntryReading → Exchange) → IsDocument d → IsUtf8 d.text
+    → AllByRecursion (λ e. AllByRecursion (CanBeExchanged (exchange e)) e.fields) d.says.entries
+    → IsReadPlaceless (file_changed (λ e. exchanges (exchange e) e) d.says) (text_changed (λ e. exchanges (exchange e) e) d)
 exchanged_read d exchange read utf8 can =
-    changed_read d (exchanges exchange) read utf8
-    (all_weaker (λ e. AllByRecursion (CanBeExchanged exchange) e.fields) (λ e. CanEntryChange e (exchanges exchange e))
+    changed_read d (λ e. exchanges (exchange e) e) read utf8
+    (all_weaker (λ e. AllByRecursion (CanBeExchanged (exchange e)) e.fields) (λ e. CanEntryChange e (exchanges (exchange e) e))
     (λ e all.
     record {
       kind = λ name is. let none : ⊥ = cc in absurd none;
-      fields = fields_can exchange e.fields all;
+      fields = fields_can (exchange e) e.fields all;
     })
     d.says.entries can)

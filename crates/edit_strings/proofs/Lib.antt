@@ -4,6 +4,7 @@ pub mod DistinctFacts
 pub mod ElementFacts
 pub mod ExchangedFacts
 pub mod ExpandFacts
+pub mod IndexFacts
 pub mod InsertFacts
 pub mod KnownFacts
 pub mod LetterFacts
@@ -11,8 +12,8 @@ pub mod LineFacts
 pub mod ListFacts
 pub mod NameFacts
 pub mod NamesFacts
+pub mod OrderFacts
 pub mod PigeonFacts
 pub mod StandingFacts
-pub mod StepFacts
 pub mod TextFacts
 pub mod WrittenFacts

@@ -4,7 +4,7 @@ use Rattle.std.specs.List.{AllByRecursion, flat_map}
 use Rattle.std.proofs.lemmas.List.{drop_more}
 
 module _ {A B : Type 0} (view : A → B) (xs : List A) (i : ℕ) (x : A) (within : i < length xs) (is : x ≡ get_or xs i x) where
-  left : map view (drop i xs) ≡ view x ∷ map view (drop (i + 1) xs)
+  pub left : map view (drop i xs) ≡ view x ∷ map view (drop (i + 1) xs)
   left = ap (map view) (drop_more xs i x within ∙ ap (λ y. y ∷ drop (i + 1) xs) (sym is))
 
   -- after the results of one more item were appended, those of the rest complete the list

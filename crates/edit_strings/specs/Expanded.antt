@@ -1,30 +1,30 @@
 -- Meaning: words of public contracts.
--- Expanded abbreviations: a name that a file defines is replaced by the pieces of its definition.
-use Rattle.std.specs.Prelude.{◌≡◌, ℕ, Bool, List, [], ◌∷◌, ◌++◌, if◌then◌else◌, is_some, map, slice_index_or, Option, Some, None, bytes_eq, codes}
-use Rattle.std.specs.List.{AllByRecursion, flat_map, list_any}
-use Rattle.bib_collections.specs.Graph.{Graph, IsFirstOnCycle}
-use Rattle.bib_syntax.specs.Reading.{Piece, FieldReading, FileReading}
+-- Expanded abbreviations: a name is replaced by the pieces of its last definition before the use. BibTeX, btparse (Biber) and bibtool
+-- read a file from its start to its end, so that a later definition of the name doesn't change an earlier use.
+use Rattle.std.specs.Prelude.{◌≡◌, ◌&&◌, ℕ, ◌<◌, Bool, true, false, List, [], ◌∷◌, ◌++◌, count_by, if◌then◌else◌, is_some, length, map, nat_lt, not, slice_index_or, take, Option, Some, None, codes}
+use Rattle.std.specs.List.{AllByRecursion, list_any}
+use Rattle.bib_syntax.specs.Reading.{Piece, EntryReading, FieldReading, FileReading}
 use Rattle.bib_syntax.specs.Reading.Piece.{literal, abbreviation}
-use Rattle.edit_entries.specs.Documents.{Document, last_position}
+use Rattle.edit_entries.specs.Documents.{Document, has_name, last_position}
 use Rattle.edit_format.specs.Delimited.{piece_as_written}
 use Rattle.edit_format.specs.Formatted.{value_laid_out}
 use Rattle.edit_format.specs.declared.style.Delimiters.TheVariants.{Keep}
 use Rattle.edit_strings.specs.Exchanged.{Exchange, exchanges}
 use Rattle.edit_entries.specs.Changes.{IsChanged}
 use Rattle.edit_strings.specs.declared.errors.ExpandError.{ExpandError}
-use Rattle.edit_strings.specs.declared.errors.ExpandError.TheVariants.{Cycle, OutOfMemory}
-
--- whether a definition has this name, byte for byte
-abbrev pub is_of_name : List ℕ → FieldReading → Bool
-is_of_name name f = bytes_eq f.name.text name
+use Rattle.edit_strings.specs.declared.errors.ExpandError.TheVariants.{EarlyUse, OutOfMemory}
 
 -- the index of the definition of each name that has one
 abbrev pub Index : Type 0
 Index = List ℕ → Option ℕ
 
--- the index of a name's last definition in a file
-abbrev pub definition_index : List FieldReading → Index
-definition_index definitions name = last_position (is_of_name name) definitions
+-- the index of a name's last definition among the first `count` definitions of a file, in any ASCII case
+abbrev pub index_before : List FieldReading → ℕ → Index
+index_before definitions count name = last_position (has_name name) (take count definitions)
+
+-- the number of definitions that begin before an entry
+abbrev pub count_before : List FieldReading → EntryReading → ℕ
+count_before definitions e = count_by (λ f. nat_lt f.name.start e.start) definitions
 
 -- the pieces of a field or a definition
 abbrev pub elements : FieldReading → List Piece
@@ -39,16 +39,18 @@ abbrev pub piece_index : Index → Piece → Option ℕ
 piece_index index (literal p) = None
 piece_index index (abbreviation p) = index p.text
 
--- the second list is the expansion of the first: a literal or an undefined name stays, and a defined name is replaced by the
--- expansion of the pieces of its definition
-pub data WritesOut (definitions : List FieldReading) : List Piece → List Piece → Type 0 where
-  none : WritesOut definitions [] []
-  itself : {piece : Piece} {rest more : List Piece} → piece_index (definition_index definitions) piece ≡ None
-      → WritesOut definitions rest more
-      → WritesOut definitions (piece ∷ rest) (piece ∷ more)
-  defined : {piece : Piece} {index : ℕ} {rest first more : List Piece} → piece_index (definition_index definitions) piece ≡ Some index
-      → WritesOut definitions (elements_at definitions index) first → WritesOut definitions rest more
-      → WritesOut definitions (piece ∷ rest) (first ++ more)
+-- the second list is the expansion of the first, whose place is after the first `count` definitions: a literal or a name without a
+-- definition before this place stays, and each other name is replaced by the expansion of the pieces of its definition, whose place is
+-- after the definitions before it
+pub data WritesOut (definitions : List FieldReading) : ℕ → List Piece → List Piece → Type 0 where
+  none : {count : ℕ} → WritesOut definitions count [] []
+  itself : {count : ℕ} {piece : Piece} {rest more : List Piece} → piece_index (index_before definitions count) piece ≡ None
+      → WritesOut definitions count rest more
+      → WritesOut definitions count (piece ∷ rest) (piece ∷ more)
+  defined : {count : ℕ} {piece : Piece} {index : ℕ} {rest first more : List Piece}
+      → piece_index (index_before definitions count) piece ≡ Some index
+      → WritesOut definitions index (elements_at definitions index) first → WritesOut definitions count rest more
+      → WritesOut definitions count (piece ∷ rest) (first ++ more)
 
 -- whether a defined name occurs among some pieces
 abbrev pub has_defined : Index → List Piece → Bool
@@ -64,39 +66,52 @@ expansion text index written f =
     if has_defined index (elements f) then Some (record { bytes = laid_out text (written f); pieces = written f })
     else None
 
--- a function gives the expansion of each field of the entries of a file
-abbrev pub AreWrittenOut : FileReading → (FieldReading → List Piece) → Type 0
+-- a function gives the expansion of each field of the entries of a file, at the place of its entry
+abbrev pub AreWrittenOut : FileReading → (EntryReading → FieldReading → List Piece) → Type 0
 AreWrittenOut says written =
-    AllByRecursion (λ e. AllByRecursion (λ f. WritesOut says.abbreviations (elements f) (written f)) e.fields)
+    AllByRecursion
+    (λ e.
+    AllByRecursion (λ f. WritesOut says.abbreviations (count_before says.abbreviations e) (elements f) (written e f)) e.fields)
     says.entries
 
--- the replacement of the values of a document that contain a defined name by their expansions
-abbrev pub document_expansion : Document → (FieldReading → List Piece) → Exchange
-document_expansion d written = expansion d.text (definition_index d.says.abbreviations) written
+-- the replacement of the values of an entry that contain a defined name by their expansions
+abbrev pub document_expansion : Document → (EntryReading → FieldReading → List Piece) → EntryReading → Exchange
+document_expansion d written e =
+    expansion d.text (index_before d.says.abbreviations (count_before d.says.abbreviations e)) (written e)
 
 -- a text is that of a document with its abbreviations expanded, and parses to this: no other value changes
 pub record IsExpanded (d : Document) (text : List ℕ) : Type 0 where
-  pub written : FieldReading → List Piece
+  pub written : EntryReading → FieldReading → List Piece
   pub each : AreWrittenOut d.says written
-  pub changed : IsChanged (exchanges (document_expansion d written)) d text
+  pub changed : IsChanged (λ e. exchanges (document_expansion d written e) e) d text
 
--- a list of the index, or an empty list if there is none
-abbrev pub index_list : Option ℕ → List ℕ
-index_list None = []
-index_list (Some index) = index ∷ []
+-- whether a piece is a name that has an index in one way, but none in another way
+abbrev pub is_defined_but_not : Index → Index → Piece → Bool
+is_defined_but_not index other piece = is_some (piece_index index piece) && not (is_some (piece_index other piece))
 
--- the indices of the definitions that some pieces refer to
-abbrev pub definition_references : Index → List Piece → List ℕ
-definition_references index pieces = flat_map (λ piece. index_list (piece_index index piece)) pieces
+-- whether a piece is a name that a definition of the file defines, but none of the first `count`
+abbrev pub is_defined_later : List FieldReading → ℕ → Piece → Bool
+is_defined_later definitions count piece =
+    is_defined_but_not (index_before definitions (length definitions)) (index_before definitions count) piece
 
--- the indices of the definitions to which each definition of a file refers
-abbrev pub definition_graph : List FieldReading → Graph
-definition_graph definitions = map (definition_references (definition_index definitions)) (map elements definitions)
+-- whether the definition at an index uses a name before the name's first definition
+abbrev pub is_early : List FieldReading → ℕ → Bool
+is_early definitions index = list_any (is_defined_later definitions index) (elements_at definitions index)
 
--- why an expansion fails: the definition at this index is the first that refers to itself, directly or through others, or memory
+-- no definition uses a name before the name's first definition
+abbrev pub HasNoEarlyUse : List FieldReading → Type 0
+HasNoEarlyUse definitions = (index : ℕ) → index < length definitions → is_early definitions index ≡ false
+
+-- the definition at an index is the first that uses a name before the name's first definition
+pub record IsFirstEarlyUse (definitions : List FieldReading) (index : ℕ) : Type 0 where
+  pub within : index < length definitions
+  pub early : is_early definitions index ≡ true
+  pub first : (earlier : ℕ) → earlier < index → is_early definitions earlier ≡ false
+
+-- why an expansion fails: the definition at this index is the first that uses a name before the name's first definition, or memory
 -- ran out
 abbrev pub IsExpandError : List FieldReading → ExpandError → Type 0
-IsExpandError definitions (Cycle index) = IsFirstOnCycle (definition_graph definitions) index
+IsExpandError definitions (EarlyUse index) = IsFirstEarlyUse definitions index
 IsExpandError definitions OutOfMemory = Unit {0}
 
 -- why the expansion of a document fails

@@ -1,6 +1,5 @@
 pub mod Collected
 pub mod Collecting
-pub mod Errors
 pub mod Exchanged
 pub mod Expanded
 pub mod Tables

@@ -1,14 +1,14 @@
 -- Machinery: words of private contracts.
 -- Edits, definitions and their expansions, in the types of the code.
-use Rattle.std.specs.Prelude.{ℕ, zero, suc, ◌<◌, IfSome, List, [], ◌∷◌, length, map, reverse, slice_index_or, Option, Some, None}
+use Rattle.std.specs.Prelude.{◌≡◌, ℕ, suc, zero, ◌<◌, ◌≤◌, ⊤, IfSome, List, [], ◌∷◌, length, map, reverse, slice_index_or, Option, Some, None, String}
 use Rattle.std.specs.Borrow.{Bor}
-use Rattle.std.specs.BTreeMap.{BTreeMap, get_by}
+use Rattle.std.specs.BTreeMap.{BTreeMap, get_by, get_by_text}
 use Rattle.std.specs.Cmp.Lexicographic.{slice_cmp}
-use Rattle.std.specs.Global.{Vec}
+use Rattle.std.specs.Global.{Global, Vec}
 use Rattle.std.specs.List.{AllByRecursion, flat_map}
 use Rattle.std.specs.Ordering.{nat_cmp}
+use Rattle.std.specs.Str.{str_to_ascii_lowercase}
 use Rattle.bib_text.specs.declared.spanned.Spanned.{Spanned}
-use Rattle.bib_collections.specs.Graph.{IsTopologicalOrder}
 use Rattle.bib_syntax.specs.Reading.{Piece, EntryReading, FieldReading}
 use Rattle.bib_syntax.specs.Views.{piece_of}
 use Rattle.bib_syntax.specs.declared.raw.RawChunk.{RawChunk}
@@ -17,7 +17,8 @@ use Rattle.edit_entries.specs.Edits as edits
 use Rattle.edit_entries.specs.Placed.{IsPlaced}
 use Rattle.edit_entries.specs.Cuts.{IsPieceCut}
 use Rattle.edit_strings.specs.Exchanged.{Exchange}
-use Rattle.edit_strings.specs.Expanded.{Index, definition_references, elements, expansion, piece_index}
+use Rattle.edit_strings.specs.Expanded.{Index, count_before, elements, elements_at, expansion, index_before, piece_index}
+use Rattle.edit_strings.specs.declared.written.Indexed.{Indexed}
 
 -- the edit of a field if its value is replaced, as a list
 abbrev pub value_edits : List ℕ → FieldReading → Option NewValue → List edits.Edit
@@ -28,9 +29,13 @@ value_edits text f (Some new) = value_stretch_edit text f new.bytes ∷ []
 abbrev pub field_edits : Exchange → List ℕ → List FieldReading → List edits.Edit
 field_edits exchange text fields = flat_map (λ f. value_edits text f (exchange f)) fields
 
+-- the edits of the fields of entries whose value is replaced, in each entry by its own replacement
+abbrev pub each_edits : (EntryReading → Exchange) → List ℕ → List EntryReading → List edits.Edit
+each_edits exchange text entries = flat_map (λ e. field_edits (exchange e) text e.fields) entries
+
 -- the edits of the fields of entries whose value is replaced
 abbrev pub entry_edits : Exchange → List ℕ → List EntryReading → List edits.Edit
-entry_edits exchange text entries = flat_map (λ e. field_edits exchange text e.fields) entries
+entry_edits exchange text entries = each_edits (λ e. exchange) text entries
 
 -- a field's value lies in a text, and the value and its literals begin at boundaries of characters
 pub record IsFieldCut (text : List ℕ) (f : FieldReading) : Type 0 where
@@ -45,6 +50,14 @@ AreAllFieldsCut text entries = AllByRecursion (λ e. AllByRecursion (IsFieldCut 
 abbrev pub index_in : BTreeMap (Bor (List ℕ)) ℕ → Index
 index_in indices name = get_by (λ k. slice_cmp nat_cmp name k.now) indices
 
+-- the index that a map, whose names are in lowercase, has for each name in any ASCII case
+abbrev pub index_in_any_case : BTreeMap (String Global) ℕ → Index
+index_in_any_case indices name = get_by_text indices (str_to_ascii_lowercase name)
+
+-- a map has the index of the last definition of each name among the first `count` definitions
+abbrev pub AreIndices : BTreeMap (String Global) ℕ → List FieldReading → ℕ → Type 0
+AreIndices indices definitions count = (name : List ℕ) → index_in_any_case indices name ≡ index_before definitions count name
+
 -- each index is less than a number
 abbrev pub IsBelow : ℕ → Index → Type 0
 IsBelow size index = (name : List ℕ) → IfSome (index name) (λ i. i < size)
@@ -53,51 +66,108 @@ IsBelow size index = (name : List ℕ) → IfSome (index name) (λ i. i < size)
 abbrev pub lent_pieces : List (Bor (Spanned RawChunk)) → List Piece
 lent_pieces items = map (λ p. piece_of p.now) items
 
--- the pieces of each of some values
-abbrev pub values_of : List (Bor (Vec (Spanned RawChunk))) → List (List Piece)
-values_of rows = map (λ row. map piece_of row.now.items) rows
+-- ---- pieces with the indices of their definitions
 
--- ---- expansions by a walk
+-- a piece, and the index of its definition if it has one
+pub data IndexedPiece : Type 0 where
+  indexed : Piece → Option ℕ → IndexedPiece
 
--- the piece of a step as a list: none for a step into a definition
-abbrev pub piece_list : Option Piece → List Piece
-piece_list None = []
-piece_list (Some piece) = piece ∷ []
+-- a piece with the index that its name has
+abbrev pub with_index : Index → Piece → IndexedPiece
+with_index index piece = IndexedPiece.indexed piece (piece_index index piece)
 
--- the pieces of steps
-abbrev pub pieces_of_steps : List (Option Piece) → List Piece
-pieces_of_steps steps = flat_map piece_list steps
+-- a piece of the code, with the index of its definition
+abbrev pub indexed_of : Indexed → IndexedPiece
+indexed_of i = IndexedPiece.indexed (piece_of i.piece.now) i.definition
 
--- the steps of a piece: one to a piece that stays, or two into the definition of a name and those of the definition
-abbrev pub step_of : (List Piece → List (Option Piece)) → List (List Piece) → Piece → Option ℕ → List (Option Piece)
-step_of inner rows piece None = Some piece ∷ []
-step_of inner rows piece (Some i) = None ∷ None ∷ inner (slice_index_or rows i [])
+-- the pieces of a list of the code, whose last piece comes first
+abbrev pub indexed_back : List Indexed → List IndexedPiece
+indexed_back items = reverse (map indexed_of items)
 
--- the steps of pieces, given the definitions, to a depth: deeper names have none
-abbrev pub steps_to : Index → List (List Piece) → ℕ → List Piece → List (Option Piece)
-steps_to index rows zero pieces = []
-steps_to index rows (suc depth) pieces = flat_map (λ piece. step_of (steps_to index rows depth) rows piece (piece_index index piece)) pieces
+-- the pieces of each of some lists of the code
+abbrev pub rows_of : List (Vec Indexed) → List (List IndexedPiece)
+rows_of rows = map (λ row. indexed_back row.items) rows
 
--- the steps of pieces. If no definition refers to itself, a greater depth makes no difference.
-unfoldable pub steps : Index → List (List Piece) → List Piece → List (Option Piece)
-steps index rows pieces = steps_to index rows (suc (suc (length rows))) pieces
+-- the pieces of the definition at an index, at its place
+abbrev pub row_at : List FieldReading → ℕ → List IndexedPiece
+row_at definitions i = map (with_index (index_before definitions i)) (elements_at definitions i)
 
--- the expansion of pieces
-abbrev pub expanded_pieces : Index → List (List Piece) → List Piece → List Piece
-expanded_pieces index rows pieces = pieces_of_steps (steps index rows pieces)
+-- the rows are those of the first `count` definitions
+pub record AreRows (definitions : List FieldReading) (count : ℕ) (rows : List (List IndexedPiece)) : Type 0 where
+  pub as_many : length rows ≡ count
+  pub each : (i : ℕ) → i < count → slice_index_or rows i [] ≡ row_at definitions i
 
--- the steps of lists of pieces, from the last list to the first
-abbrev pub steps_left : Index → List (List Piece) → List (List Piece) → List (Option Piece)
-steps_left index rows lists = flat_map (steps index rows) (reverse lists)
+-- the index of a piece, if it has one, is less than a number
+abbrev pub IsIndexBelow : ℕ → IndexedPiece → Type 0
+IsIndexBelow size (IndexedPiece.indexed piece index) = IfSome index (λ i. i < size)
 
--- the lists of pieces that are borrowed
-abbrev pub lists_left : List (Bor (List (Spanned RawChunk))) → List (List Piece)
-lists_left items = map (λ s. map piece_of s.now) items
+-- the pieces of each row only refer to rows before it
+abbrev pub AreOrdered : List (List IndexedPiece) → Type 0
+AreOrdered rows = (i : ℕ) → i < length rows → AllByRecursion (IsIndexBelow i) (slice_index_or rows i [])
 
--- definitions have a topological order, so none refers to itself
-abbrev pub IsAcyclic : Index → List (List Piece) → Type 0
-IsAcyclic index rows = (order : List ℕ) × IsTopologicalOrder (map (definition_references index) rows) order
+-- the visits of the expansion of a piece: its own, with the piece if it stays, and those of the row of its definition, down to a depth
+abbrev pub visits : List (List IndexedPiece) → ℕ → IndexedPiece → List (Option Piece)
+visits rows depth (IndexedPiece.indexed piece None) = Some piece ∷ []
+visits rows zero (IndexedPiece.indexed piece (Some i)) = []
+visits rows (suc depth) (IndexedPiece.indexed piece (Some i)) = None ∷ flat_map (visits rows depth) (slice_index_or rows i [])
 
--- the replacement of values with defined names by their expansions
-abbrev pub expansion_by : List ℕ → Index → List (List Piece) → Exchange
-expansion_by text index rows = expansion text index (λ f. expanded_pieces index rows (elements f))
+-- the visits of the expansion of some pieces
+abbrev pub all_visits : List (List IndexedPiece) → List IndexedPiece → List (Option Piece)
+all_visits rows pieces = flat_map (visits rows (suc (length rows))) pieces
+
+-- the pieces that stay
+abbrev pub staying : List (Option Piece) → List Piece
+staying [] = []
+staying (None ∷ rest) = staying rest
+staying (Some piece ∷ rest) = piece ∷ staying rest
+
+-- the expansion of some pieces, given the rows of the definitions
+abbrev pub expanded : List (List IndexedPiece) → List IndexedPiece → List Piece
+expanded rows pieces = staying (all_visits rows pieces)
+
+-- the expansion of the pieces of a field, given an index and the rows of the definitions
+abbrev pub field_expanded : List (List IndexedPiece) → Index → FieldReading → List Piece
+field_expanded rows index f = expanded rows (map (with_index index) (elements f))
+
+-- the replacement of values with defined names by their expansions, given an index and the rows of the definitions
+abbrev pub expansion_by : List ℕ → List (List IndexedPiece) → Index → Exchange
+expansion_by text rows index = expansion text index (field_expanded rows index)
+
+-- the replacement of the values of an entry, given the rows of the definitions
+abbrev pub entry_expansion : List ℕ → List FieldReading → List (List IndexedPiece) → EntryReading → Exchange
+entry_expansion text definitions rows e = expansion_by text rows (index_before definitions (count_before definitions e))
+
+-- a field's value lies in a text, and the literals of its expansion begin at boundaries of characters
+pub record IsExpansionCut (text : List ℕ) (rows : List (List IndexedPiece)) (index : Index) (f : FieldReading) : Type 0 where
+  pub placed : IsPlaced text f
+  pub pieces : AllByRecursion (IsPieceCut text) (field_expanded rows index f)
+
+-- what holds of each field of some entries holds for their expansions
+abbrev pub AreExpansionsCut : List ℕ → List FieldReading → List (List IndexedPiece) → List EntryReading → Type 0
+AreExpansionsCut text definitions rows entries =
+    AllByRecursion
+    (λ e. AllByRecursion (IsExpansionCut text rows (index_before definitions (count_before definitions e))) e.fields) entries
+
+-- ---- the order of definitions and entries
+
+-- the definitions begin one after the other, between two byte offsets
+abbrev pub AreBetween : ℕ → ℕ → List FieldReading → Type 0
+AreBetween at end [] = at ≤ end
+AreBetween at end (f ∷ fs) = (at ≤ f.name.start) × AreBetween f.name.start end fs
+
+-- the entries begin one after the other, from a byte offset on
+abbrev pub AreFrom : ℕ → List EntryReading → Type 0
+AreFrom at [] = ⊤
+AreFrom at (e ∷ es) = (at ≤ e.start) × AreFrom e.start es
+
+-- the byte offset at which the definition at an index begins
+abbrev pub start_at : List FieldReading → ℕ → ℕ
+start_at definitions i = slice_index_or (map (λ f. f.name.start) definitions) i 0
+
+-- the definitions from an index up to the next one begin before a byte offset
+abbrev pub BeginBefore : List FieldReading → ℕ → ℕ → ℕ → Type 0
+BeginBefore definitions start from next = (i : ℕ) → from ≤ i → i < next → start_at definitions i < start
+
+-- a definition at this index, if there is one, doesn't begin before a byte offset
+abbrev pub IsNextAfter : List FieldReading → ℕ → ℕ → Type 0
+IsNextAfter definitions start next = next < length definitions → start_at definitions next < start → ⊥

@@ -1,98 +1,110 @@
-//! The `@string` definitions of a file: an index for each name, and the references of each definition.
+//! The `@string` definitions of a file: the index of each name's definition.
 
-ghost use Rattle.std.specs.Prelude.{◌≡◌, IfOk, map};
-ghost use Rattle.bib_collections.specs.Rows.{rows};
+ghost use Rattle.std.specs.Prelude.{◌≡◌, ℕ, List, IfOk, OnOk, Some, if◌then◌else◌, length, map};
+ghost use Rattle.std.specs.List.{list_any};
 ghost use Rattle.bib_syntax.specs.Views.{field_of, piece_of};
+ghost use Rattle.edit_entries.specs.Documents.{has_name};
 ghost use Rattle.edit_strings.specs.Expanded as spec;
-ghost use Rattle.edit_strings.specs.Expanded.{definition_index, piece_index};
-ghost use Rattle.edit_strings.specs.Tables.{index_in, values_of};
+ghost use Rattle.edit_strings.specs.Expanded.{is_defined_later, piece_index};
+ghost use Rattle.edit_strings.specs.Tables.{AreIndices, index_in_any_case};
 
-use bib_syntax::raw::{Field, Pair, RawChunk};
+use bib_syntax::raw::{Pair, RawChunk};
 use bib_text::spanned::Spanned;
 use std::alloc::{AllocError, Global};
 use std::collections::BTreeMap;
 
-// Returns a map from each name to the index of its last definition.
-pub(crate) fn definition_indices<'s>(
+// Indices of definitions, by their names in lowercase.
+pub(crate) type Indices = BTreeMap<String, usize>;
+
+// Sets the index of the name of `definition`.
+pub(crate) fn add_definition(
     alloc: Global,
-    definitions: &[Pair<'s>],
-) -> Result<BTreeMap<&'s str, usize>, AllocError>
-    ensures { IfOk result (λ indices. index_in indices ≡ definition_index (map field_of definitions.now)) }
+    indices: &mut Indices,
+    definition: &Pair<'_>,
+    index: usize,
+) -> Result<(), AllocError>
+    ensures { OnOk result ((name : List ℕ) → index_in_any_case indices.new name ≡
+        (if has_name name (field_of definition.now) then Some index else index_in_any_case indices.old name)) }
+{
+    indices.insert(definition.key.v.to_ascii_lowercase(alloc)?, index)?;
+    Ok(())
+}
+
+// Returns the index of the last definition of each name, in any ASCII case.
+pub(crate) fn definition_indices(
+    alloc: Global,
+    definitions: &[Pair<'_>],
+) -> Result<Indices, AllocError>
+    ensures { IfOk result (λ indices. AreIndices indices (map field_of definitions.now) (length definitions.now)) }
 {
     let mut indices = BTreeMap::new(alloc);
     'definitions: for (index, definition) in definitions.iter().enumerate() {
-        indices.insert(definition.key.v, index)?;
+        add_definition(alloc, &mut indices, definition, index)?;
     }
     Ok(indices)
 }
 
-// Returns the value of each definition.
-pub(crate) fn definition_values<'a, 's>(
-    alloc: Global,
-    definitions: &'a [Pair<'s>],
-) -> Result<Vec<&'a Field<'s>>, AllocError>
-    ensures { IfOk result (λ values. values_of values.items ≡ map spec.elements (map field_of definitions.now)) }
-{
-    let mut values = Vec::with_capacity(alloc, definitions.len())?;
-    'definitions: for definition in definitions {
-        values.push(&definition.value.v)?;
-    }
-    Ok(values)
-}
-
 // Returns the index of the definition of `piece`, if it is a defined name.
 pub(crate) fn defined_index(
-    indices: &BTreeMap<&str, usize>,
+    alloc: Global,
+    indices: &Indices,
     piece: &Spanned<RawChunk<'_>>,
-) -> Option<usize>
-    ensures { result ≡ piece_index (index_in indices.now) (piece_of piece.now) }
+) -> Result<Option<usize>, AllocError>
+    ensures { IfOk result (λ index. index ≡ piece_index (index_in_any_case indices.now) (piece_of piece.now)) }
 {
     match piece.v {
-        RawChunk::Abbreviation(name) => indices.get(name).copied(),
-        RawChunk::Normal(_) => None,
+        RawChunk::Abbreviation(name) => {
+            let lowercase = name.to_ascii_lowercase(alloc)?;
+            Ok(indices.get(lowercase.as_str()).copied())
+        }
+        RawChunk::Normal(_) => Ok(None),
     }
 }
 
 // Returns whether `pieces` contains a defined name.
-pub(crate) fn has_defined(indices: &BTreeMap<&str, usize>, pieces: &[Spanned<RawChunk<'_>>]) -> bool
-    ensures { result ≡ spec.has_defined (index_in indices.now) (map piece_of pieces.now) }
-{
-    'pieces: for piece in pieces {
-        if defined_index(indices, piece).is_some() {
-            return true;
-        }
-    }
-    false
-}
-
-// Returns the indices of the definitions that `pieces` refer to.
-fn references(
+pub(crate) fn has_defined(
     alloc: Global,
-    indices: &BTreeMap<&str, usize>,
+    indices: &Indices,
     pieces: &[Spanned<RawChunk<'_>>],
-) -> Result<Vec<usize>, AllocError>
-    ensures { IfOk result (λ found. found.items ≡ spec.definition_references (index_in indices.now) (map piece_of pieces.now)) }
+) -> Result<bool, AllocError>
+    ensures { IfOk result (λ has. has ≡ spec.has_defined (index_in_any_case indices.now) (map piece_of pieces.now)) }
 {
-    let mut found = Vec::new(alloc);
     'pieces: for piece in pieces {
-        if let Some(index) = defined_index(indices, piece) {
-            found.push(index)?;
+        if defined_index(alloc, indices, piece)?.is_some() {
+            return Ok(true);
         }
     }
-    Ok(found)
+    Ok(false)
 }
 
-// Returns for each value the indices of the definitions that it refers to.
-pub(crate) fn graph(
+// Returns whether `piece` is a name that has an index in `all`, but none in `earlier`.
+fn is_early_use(
     alloc: Global,
-    indices: &BTreeMap<&str, usize>,
-    values: &[&Field<'_>],
-) -> Result<Vec<Vec<usize>>, AllocError>
-    ensures { IfOk result (λ found. rows found.items ≡ map (spec.definition_references (index_in indices.now)) (values_of values.now)) }
+    earlier: &Indices,
+    all: &Indices,
+    piece: &Spanned<RawChunk<'_>>,
+) -> Result<bool, AllocError>
+    ensures { IfOk result (λ is. is ≡ spec.is_defined_but_not (index_in_any_case all.now) (index_in_any_case earlier.now) (piece_of piece.now)) }
 {
-    let mut found = Vec::with_capacity(alloc, values.len())?;
-    'values: for value in values {
-        found.push(references(alloc, indices, value)?)?;
+    let last = defined_index(alloc, all, piece)?;
+    let before = defined_index(alloc, earlier, piece)?;
+    Ok(last.is_some() && before.is_none())
+}
+
+// Returns whether a name among `pieces` has an index in `all`, but none in `earlier`.
+pub(crate) fn has_early_use(
+    alloc: Global,
+    earlier: &Indices,
+    all: &Indices,
+    pieces: &[Spanned<RawChunk<'_>>],
+) -> Result<bool, AllocError>
+    ensures { IfOk result (λ has. has ≡
+        list_any (spec.is_defined_but_not (index_in_any_case all.now) (index_in_any_case earlier.now)) (map piece_of pieces.now)) }
+{
+    'pieces: for piece in pieces {
+        if is_early_use(alloc, earlier, all, piece)? {
+            return Ok(true);
+        }
     }
-    Ok(found)
+    Ok(false)
 }

@@ -1,21 +1,18 @@
 //! Expanding abbreviations.
 
-ghost use Rattle.std.specs.Prelude.{◌≡◌, ◌++◌, IfErr, IfOk, OnOk, length, map};
+ghost use Rattle.std.specs.Prelude.{◌≡◌, ◌++◌, ◌≤◌, ◌<◌, ℕ, IfErr, IfOk, OnOk, length, map};
 ghost use Rattle.std.specs.List.{AllByRecursion};
 ghost use Rattle.std.specs.String.{string_bytes};
-ghost use Rattle.bib_collections.specs.Graph.{HasNoCycle};
 ghost use Rattle.bib_syntax.specs.Views.{entry_reading_of, field_of};
-ghost use Rattle.edit_entries.specs.Cuts.{IsPieceCut};
-ghost use Rattle.edit_strings.specs.Tables.{entry_edits, field_edits, value_edits, AreAllFieldsCut, IsAcyclic, IsBelow, IsFieldCut, expansion_by, index_in, values_of};
-ghost use Rattle.edit_strings.specs.Expanded.{ExpandIsRefused, IsExpandError, IsExpanded, definition_graph, definition_index, elements};
+ghost use Rattle.edit_strings.specs.Tables.{each_edits, field_edits, value_edits, AreBetween, AreExpansionsCut, AreFrom, AreIndices, AreOrdered, AreRows, BeginBefore, IsBelow, IsExpansionCut, IsNextAfter, entry_expansion, expansion_by, index_in_any_case, rows_of};
+ghost use Rattle.edit_strings.specs.Expanded.{ExpandIsRefused, HasNoEarlyUse, IsExpanded};
 ghost use Rattle.edit_entries.specs.EditList.{edit_of};
 
-use crate::definitions::{definition_indices, definition_values, graph, has_defined};
+use crate::definitions::{Indices, add_definition, definition_indices, has_defined};
 use crate::elements::laid_out;
 use crate::errors::ExpandError;
-use crate::written::expanded_pieces;
-use bib_collections::worklist::{OrderError, topological_order};
-use bib_syntax::raw::{Field, Pair, RawEntry};
+use crate::written::{Indexed, expanded, rows, with_indices};
+use bib_syntax::raw::{Pair, RawEntry};
 use bib_text::spanned::Spanned;
 use edit_entries::document::RawDocument;
 use edit_entries::editing::{Edit, edited_all};
@@ -23,33 +20,62 @@ use edit_entries::values::value_end;
 use std::alloc::{AllocError, Global};
 use std::collections::BTreeMap;
 
-// The text of a file, the index of each name's definition, and the value of each definition.
+// The text of a file, its definitions, and the pieces of each definition with the indices of their definitions.
 #[derive(Drop)]
 struct Names<'a, 's> {
     text: &'a str,
-    indices: BTreeMap<&'s str, usize>,
-    values: Vec<&'a Field<'s>>,
+    definitions: &'a [Pair<'s>],
+    rows: Vec<Vec<Indexed<'a, 's>>>,
 }
 
-// If the value of `field` contains a defined name, appends the edit that expands it.
+// Sets the indices of the definitions from the index `from` on that begin before the byte offset `start`. Returns the index of the
+// first definition that doesn't.
+fn add_before(
+    alloc: Global,
+    indices: &mut Indices,
+    definitions: &[Pair<'_>],
+    from: usize,
+    start: usize,
+) -> Result<usize, AllocError>
+    requires from { from ≤ length definitions.now }
+    requires indices { AreIndices indices.old (map field_of definitions.now) from }
+    ensures indices { IfOk result (λ next. AreIndices indices.new (map field_of definitions.now) next) }
+    ensures from { IfOk result (λ next. from ≤ next) }
+    ensures within { IfOk result (λ next. next ≤ length definitions.now) }
+    ensures before { IfOk result (λ next. BeginBefore (map field_of definitions.now) start from next) }
+    ensures next { IfOk result (λ next. IsNextAfter (map field_of definitions.now) start next) }
+{
+    let mut next = from;
+    'definitions: while next < definitions.len() {
+        if definitions[next].key.span.start >= start {
+            return Ok(next);
+        }
+        add_definition(alloc, indices, &definitions[next], next)?;
+        next += 1;
+    }
+    Ok(next)
+}
+
+// If the value of `field` contains a name that has an index, appends the edit that expands it.
 fn push_expansion<'a, 's>(
     edits: &mut Vec<Edit>,
     alloc: Global,
     names: &Names<'a, 's>,
+    indices: &Indices,
     field: &'a Pair<'s>,
 ) -> Result<(), AllocError>
-    requires below { IsBelow (length names.now.values.items) (index_in names.now.indices) }
-    requires acyclic { IsAcyclic (index_in names.now.indices) (values_of names.now.values.items) }
-    requires values { AllByRecursion (AllByRecursion (IsPieceCut names.now.text.now)) (values_of names.now.values.items) }
-    requires field { IsFieldCut names.now.text.now (field_of field.now) }
+    requires ordered { AreOrdered (rows_of names.now.rows.items) }
+    requires below { IsBelow (length names.now.rows.items) (index_in_any_case indices.now) }
+    requires cut { IsExpansionCut names.now.text.now (rows_of names.now.rows.items) (index_in_any_case indices.now) (field_of field.now) }
     ensures { OnOk result (map edit_of edits.new.items ≡ map edit_of edits.old.items ++
-        value_edits names.now.text.now (field_of field.now) (expansion_by names.now.text.now (index_in names.now.indices) (values_of names.now.values.items) (field_of field.now))) }
+        value_edits names.now.text.now (field_of field.now) (expansion_by names.now.text.now (rows_of names.now.rows.items) (index_in_any_case indices.now) (field_of field.now))) }
 {
-    if !has_defined(&names.indices, &field.value.v) {
+    if !has_defined(alloc, indices, &field.value.v)? {
         return Ok(());
     }
-    let pieces = expanded_pieces(alloc, &names.indices, &names.values, &field.value.v)?;
-    let text = laid_out(alloc, names.text, &pieces)?;
+    let pieces = with_indices(alloc, indices, &field.value.v)?;
+    let elements = expanded(alloc, &names.rows, pieces)?;
+    let text = laid_out(alloc, names.text, &elements)?;
     edits.push(Edit {
         start: field.value.span.start,
         end: value_end(names.text, field),
@@ -58,82 +84,73 @@ fn push_expansion<'a, 's>(
     Ok(())
 }
 
-// Appends an edit for each field whose value contains a defined name.
+// Appends an edit for each field whose value contains a name that has an index.
 fn push_expansions<'a, 's>(
     edits: &mut Vec<Edit>,
     alloc: Global,
     names: &Names<'a, 's>,
+    indices: &Indices,
     fields: &'a [Pair<'s>],
 ) -> Result<(), AllocError>
-    requires below { IsBelow (length names.now.values.items) (index_in names.now.indices) }
-    requires acyclic { IsAcyclic (index_in names.now.indices) (values_of names.now.values.items) }
-    requires values { AllByRecursion (AllByRecursion (IsPieceCut names.now.text.now)) (values_of names.now.values.items) }
-    requires fields { AllByRecursion (IsFieldCut names.now.text.now) (map field_of fields.now) }
+    requires ordered { AreOrdered (rows_of names.now.rows.items) }
+    requires below { IsBelow (length names.now.rows.items) (index_in_any_case indices.now) }
+    requires cut { AllByRecursion (IsExpansionCut names.now.text.now (rows_of names.now.rows.items) (index_in_any_case indices.now)) (map field_of fields.now) }
     ensures { OnOk result (map edit_of edits.new.items ≡ map edit_of edits.old.items ++
-        field_edits (expansion_by names.now.text.now (index_in names.now.indices) (values_of names.now.values.items)) names.now.text.now (map field_of fields.now)) }
+        field_edits (expansion_by names.now.text.now (rows_of names.now.rows.items) (index_in_any_case indices.now)) names.now.text.now (map field_of fields.now)) }
 {
     'fields: for field in fields {
-        push_expansion(edits, alloc, names, field)?;
+        push_expansion(edits, alloc, names, indices, field)?;
     }
     Ok(())
 }
 
-// Returns the edits that expand the values of `entries`.
+// Returns the edits that expand the values of `entries`, which are in the order of the file.
 fn expansions<'a, 's>(
     alloc: Global,
     names: &Names<'a, 's>,
     entries: &'a [Spanned<RawEntry<'s>>],
 ) -> Result<Vec<Edit>, AllocError>
-    requires below { IsBelow (length names.now.values.items) (index_in names.now.indices) }
-    requires acyclic { IsAcyclic (index_in names.now.indices) (values_of names.now.values.items) }
-    requires values { AllByRecursion (AllByRecursion (IsPieceCut names.now.text.now)) (values_of names.now.values.items) }
-    requires entries { AreAllFieldsCut names.now.text.now (map entry_reading_of entries.now) }
+    requires rows { AreRows (map field_of names.now.definitions.now) (length names.now.definitions.now) (rows_of names.now.rows.items) }
+    requires definitions { (end : ℕ) × AreBetween 0 end (map field_of names.now.definitions.now) }
+    requires entries { AreFrom 0 (map entry_reading_of entries.now) }
+    requires cut { AreExpansionsCut names.now.text.now (map field_of names.now.definitions.now) (rows_of names.now.rows.items) (map entry_reading_of entries.now) }
     ensures { IfOk result (λ edits. map edit_of edits.items ≡
-        entry_edits (expansion_by names.now.text.now (index_in names.now.indices) (values_of names.now.values.items)) names.now.text.now (map entry_reading_of entries.now)) }
+        each_edits (entry_expansion names.now.text.now (map field_of names.now.definitions.now) (rows_of names.now.rows.items)) names.now.text.now (map entry_reading_of entries.now)) }
 {
     let mut edits = Vec::new(alloc);
+    let mut indices = BTreeMap::new(alloc);
+    let mut next = 0;
     'entries: for entry in entries {
-        push_expansions(&mut edits, alloc, names, &entry.v.fields)?;
+        next = add_before(
+            alloc,
+            &mut indices,
+            names.definitions,
+            next,
+            entry.span.start,
+        )?;
+        push_expansions(&mut edits, alloc, names, &indices, &entry.v.fields)?;
     }
     Ok(edits)
 }
 
-// Returns the names of a file, or an error if a definition refers to itself.
-fn names_of<'a, 's>(
-    alloc: Global,
-    text: &'a str,
-    definitions: &'a [Pair<'s>],
-) -> Result<Names<'a, 's>, ExpandError>
-    ensures text { IfOk result (λ names. names.text.now ≡ text.now) }
-    ensures index { IfOk result (λ names. index_in names.indices ≡ definition_index (map field_of definitions.now)) }
-    ensures values { IfOk result (λ names. values_of names.values.items ≡ map elements (map field_of definitions.now)) }
-    ensures acyclic { OnOk result (IsAcyclic (definition_index (map field_of definitions.now)) (map elements (map field_of definitions.now))) }
-    ensures no_cycle { OnOk result (HasNoCycle (definition_graph (map field_of definitions.now))) }
-    ensures refused { IfErr result (IsExpandError (map field_of definitions.now)) }
-{
-    let indices = definition_indices(alloc, definitions)?;
-    let values = definition_values(alloc, definitions)?;
-    let refs = graph(alloc, &indices, &values)?;
-    topological_order(alloc, &refs)?;
-    Ok(Names {
-        text,
-        indices,
-        values,
-    })
-}
-
 /// Returns the text of `document` with its abbreviations expanded. Each value of an entry's field that contains a defined name
-/// is replaced by its pieces, with ` # ` between them. A defined name is replaced by the pieces of its last definition as they
-/// are written in the file, and names in that definition are expanded too. Names are compared byte for byte. Undefined names,
-/// other values, white space after a value and the definitions are unchanged. Returns `Cycle` if a definition refers to itself,
-/// even if no entry uses it, and `OutOfMemory` if memory runs out.
+/// is replaced by its pieces, with ` # ` between them. A defined name is replaced by the pieces of its last definition before the use,
+/// as they are written in the file, and names in that definition are expanded too, each by its last definition before that one. Names are
+/// compared in any ASCII case. Names without a definition before their use, other values, white space after a value and the definitions
+/// are unchanged. Returns `EarlyUse` if a definition uses a name before the name's first definition, even if no entry uses it, and
+/// `OutOfMemory` if memory runs out.
 pub fn expand(alloc: Global, document: &RawDocument<'_>) -> Result<String, ExpandError>
     ensures expanded { IfOk result (λ new. IsExpanded document.now (string_bytes new)) }
-    ensures no_cycle { OnOk result (HasNoCycle (definition_graph document.now.says.abbreviations)) }
+    ensures no_early_use { OnOk result (HasNoEarlyUse document.now.says.abbreviations) }
     ensures refused { IfErr result (ExpandIsRefused document.now) }
 {
     let raw = document.raw();
-    let names = names_of(alloc, document.text(), &raw.abbreviations)?;
+    let all = definition_indices(alloc, &raw.abbreviations)?;
+    let names = Names {
+        text: document.text(),
+        definitions: &raw.abbreviations,
+        rows: rows(alloc, &all, &raw.abbreviations)?,
+    };
     let edits = expansions(alloc, &names, &raw.entries)?;
     Ok(edited_all(alloc, document.text(), &edits)?)
 }

@@ -1,11 +1,15 @@
-//! Expansions of values, by a walk with a stack: each piece that stays is visited once, in order.
+//! Expansions of values.
 
-ghost use Rattle.std.specs.Prelude.{◌≡◌, ◌+◌, ◌<◌, ◌++◌, ◌∷◌, IfOk, OnOk, length, map};
-ghost use Rattle.bib_syntax.specs.Views.{piece_of};
-ghost use Rattle.edit_strings.specs.Tables.{IsAcyclic, IsBelow, expanded_pieces, index_in, lent_pieces, lists_left, pieces_of_steps, steps, steps_left, values_of};
+ghost use Rattle.std.specs.Prelude.{◌≡◌, IfErr, IfOk, OnOk, length, map};
+ghost use Rattle.std.specs.List.{AllByRecursion};
+ghost use Rattle.bib_syntax.specs.Views.{field_of, piece_of};
+ghost use Rattle.edit_strings.specs.Expanded.{HasNoEarlyUse, IsExpandError};
+ghost use Rattle.edit_strings.specs.Tables as spec;
+ghost use Rattle.edit_strings.specs.Tables.{AreIndices, AreOrdered, AreRows, IsIndexBelow, index_in_any_case, indexed_back, lent_pieces, rows_of, with_index};
 
-use crate::definitions::defined_index;
-use bib_syntax::raw::{Field, RawChunk};
+use crate::definitions::{Indices, add_definition, defined_index, has_early_use};
+use crate::errors::ExpandError;
+use bib_syntax::raw::{Pair, RawChunk};
 use bib_text::spanned::Spanned;
 use std::alloc::{AllocError, Global};
 use std::collections::BTreeMap;
@@ -13,71 +17,72 @@ use std::collections::BTreeMap;
 // Pieces that are borrowed from the file.
 pub(crate) type Elements<'a, 's> = Vec<&'a Spanned<RawChunk<'s>>>;
 
-// Lists of pieces that are still to be expanded; the last is the next.
-type Left<'a, 's> = Vec<&'a [Spanned<RawChunk<'s>>]>;
-
-// Expands `first`: appends it to `found`, or the pieces of its definition to `left` if it is a defined name. The pieces `rest`, which
-// follow it, come before them in `left`.
-fn expand_piece<'a, 's>(
-    found: &mut Elements<'a, 's>,
-    left: &mut Left<'a, 's>,
-    indices: &BTreeMap<&'s str, usize>,
-    values: &[&'a Field<'s>],
-    first: &'a Spanned<RawChunk<'s>>,
-    rest: &'a [Spanned<RawChunk<'s>>],
-) -> Result<(), AllocError>
-    requires below { IsBelow (length values.now) (index_in indices.now) }
-    requires acyclic { IsAcyclic (index_in indices.now) (values_of values.now) }
-    ensures pieces { OnOk result (lent_pieces found.new.items ++ pieces_of_steps (steps_left (index_in indices.now) (values_of values.now) (lists_left left.new.items)) ≡
-        lent_pieces found.old.items ++ pieces_of_steps (steps (index_in indices.now) (values_of values.now) (piece_of first.now ∷ map piece_of rest.now) ++ steps_left (index_in indices.now) (values_of values.now) (lists_left left.old.items))) }
-    ensures smaller { OnOk result (length (steps_left (index_in indices.now) (values_of values.now) (lists_left left.new.items)) + length left.new.items <
-        length (steps (index_in indices.now) (values_of values.now) (piece_of first.now ∷ map piece_of rest.now) ++ steps_left (index_in indices.now) (values_of values.now) (lists_left left.old.items)) + (length left.old.items + 1)) }
-{
-    left.push(rest)?;
-    match defined_index(indices, first) {
-        Some(index) => left.push(values[index].as_slice())?,
-        None => found.push(first)?,
-    }
-    Ok(())
+// A piece of a value, and the index of its definition if it is a defined name.
+#[derive(Clone, Copy)]
+pub(crate) struct Indexed<'a, 's> {
+    pub(crate) piece: &'a Spanned<RawChunk<'s>>,
+    pub(crate) definition: Option<usize>,
 }
 
-// Expands the first of `pieces`, if there is one.
-fn expand_first<'a, 's>(
-    found: &mut Elements<'a, 's>,
-    left: &mut Left<'a, 's>,
-    indices: &BTreeMap<&'s str, usize>,
-    values: &[&'a Field<'s>],
-    pieces: &'a [Spanned<RawChunk<'s>>],
-) -> Result<(), AllocError>
-    requires below { IsBelow (length values.now) (index_in indices.now) }
-    requires acyclic { IsAcyclic (index_in indices.now) (values_of values.now) }
-    ensures pieces { OnOk result (lent_pieces found.new.items ++ pieces_of_steps (steps_left (index_in indices.now) (values_of values.now) (lists_left left.new.items)) ≡
-        lent_pieces found.old.items ++ pieces_of_steps (steps (index_in indices.now) (values_of values.now) (map piece_of pieces.now) ++ steps_left (index_in indices.now) (values_of values.now) (lists_left left.old.items))) }
-    ensures smaller { OnOk result (length (steps_left (index_in indices.now) (values_of values.now) (lists_left left.new.items)) + length left.new.items <
-        length (steps (index_in indices.now) (values_of values.now) (map piece_of pieces.now) ++ steps_left (index_in indices.now) (values_of values.now) (lists_left left.old.items)) + (length left.old.items + 1)) }
-{
-    match pieces {
-        [first, rest @ ..] => expand_piece(found, left, indices, values, first, rest),
-        [] => Ok(()),
-    }
-}
-
-// Returns the expansion of `pieces`.
-pub(crate) fn expanded_pieces<'a, 's>(
+// Returns `pieces` with the indices of their definitions, from the last piece to the first.
+pub(crate) fn with_indices<'a, 's>(
     alloc: Global,
-    indices: &BTreeMap<&'s str, usize>,
-    values: &[&'a Field<'s>],
+    indices: &Indices,
     pieces: &'a [Spanned<RawChunk<'s>>],
+) -> Result<Vec<Indexed<'a, 's>>, AllocError>
+    ensures { IfOk result (λ found. indexed_back found.items ≡ map (with_index (index_in_any_case indices.now)) (map piece_of pieces.now)) }
+{
+    let mut found = Vec::with_capacity(alloc, pieces.len())?;
+    'pieces: for piece in pieces {
+        let definition = defined_index(alloc, indices, piece)?;
+        found.push(Indexed { piece, definition })?;
+    }
+    found.reverse();
+    Ok(found)
+}
+
+// Returns the pieces of each definition with the indices of their definitions, which are before it. In `all`, each name has the index
+// of its last definition.
+pub(crate) fn rows<'a, 's>(
+    alloc: Global,
+    all: &Indices,
+    definitions: &'a [Pair<'s>],
+) -> Result<Vec<Vec<Indexed<'a, 's>>>, ExpandError>
+    requires all { AreIndices all.now (map field_of definitions.now) (length definitions.now) }
+    ensures rows { IfOk result (λ rows. AreRows (map field_of definitions.now) (length definitions.now) (rows_of rows.items)) }
+    ensures none { OnOk result (HasNoEarlyUse (map field_of definitions.now)) }
+    ensures refused { IfErr result (IsExpandError (map field_of definitions.now)) }
+{
+    let mut indices = BTreeMap::new(alloc);
+    let mut rows = Vec::with_capacity(alloc, definitions.len())?;
+    'definitions: for (index, definition) in definitions.iter().enumerate() {
+        if has_early_use(alloc, &indices, all, &definition.value.v)? {
+            return Err(ExpandError::EarlyUse(index));
+        }
+        rows.push(with_indices(alloc, &indices, &definition.value.v)?)?;
+        add_definition(alloc, &mut indices, definition, index)?;
+    }
+    Ok(rows)
+}
+
+// Returns the expansion of `pieces`, given the pieces of each definition. All of these lists go from the last piece to the first, and
+// `pieces` is the stack of the pieces that are still to expand.
+pub(crate) fn expanded<'a, 's>(
+    alloc: Global,
+    rows: &[Vec<Indexed<'a, 's>>],
+    pieces: Vec<Indexed<'a, 's>>,
 ) -> Result<Elements<'a, 's>, AllocError>
-    requires below { IsBelow (length values.now) (index_in indices.now) }
-    requires acyclic { IsAcyclic (index_in indices.now) (values_of values.now) }
-    ensures { IfOk result (λ found. lent_pieces found.items ≡ expanded_pieces (index_in indices.now) (values_of values.now) (map piece_of pieces.now)) }
+    requires ordered { AreOrdered (rows_of rows.now) }
+    requires below { AllByRecursion (IsIndexBelow (length rows.now)) (indexed_back pieces.items) }
+    ensures { IfOk result (λ found. lent_pieces found.items ≡ spec.expanded (rows_of rows.now) (indexed_back pieces.entry.items)) }
 {
     let mut found = Vec::new(alloc);
-    let mut left = Vec::new(alloc);
-    left.push(pieces)?;
-    'walk: while let Some(next) = left.pop() {
-        expand_first(&mut found, &mut left, indices, values, next)?;
+    let mut stack = pieces;
+    'stack: while let Some(next) = stack.pop() {
+        match next.definition {
+            Some(index) => stack.extend_from_slice(&rows[index])?,
+            None => found.push(next.piece)?,
+        }
     }
     Ok(found)
 }

@@ -59,4 +59,4 @@ returns c =
     (ap (λ es. edited_all es d.text) edits
     ∙ ap (λ l. edited (record { start = start; end = start; bytes = l }) (edited_all (entry_edits exchange d.text d.says.entries) d.text)) lines
     ∙ ap (λ es. edited (record { start = start; end = start; bytes = definition_lines d.says (line_end_of d.text) names texts }) (edited_all es d.text))
-    (edits_are_changes exchange d.text d.says.entries)) c.edited_all.ensures
+    (edits_are_changes (λ e. exchange) d.text d.says.entries)) c.edited_all.ensures

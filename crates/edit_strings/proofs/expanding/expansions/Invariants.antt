@@ -1,16 +1,20 @@
 use Rattle.std.proofs.Common.{◌≡◌, ◌++◌, drop, map}
-use Rattle.bib_syntax.specs.Views.{entry_reading_of}
-use Rattle.edit_strings.specs.Tables.{entry_edits, AreAllFieldsCut, expansion_by, index_in, values_of}
+use Rattle.bib_syntax.specs.Views.{entry_reading_of, field_of}
+use Rattle.edit_strings.specs.Tables.{AreExpansionsCut, AreIndices, each_edits, entry_expansion, rows_of}
 use Rattle.edit_entries.specs.EditList.{edit_of}
+use Rattle.edit_strings.proofs.OrderFacts.{IsAhead}
 use Rattle.edit_strings.proofs.expanding.expansions.Given as goal
 
--- the edits so far and those of the entries still to visit are those of all entries
+-- the edits so far and those of the entries still to visit are those of all entries, and the map has the definitions before the next
 abbrev pub invariant-entries : goal.invariant-entries
 invariant-entries l = record {
   added : map edit_of l.edits.items
-      ++ entry_edits (expansion_by l.names.text.now (index_in l.names.indices) (values_of l.names.values.items))
+      ++ each_edits (entry_expansion l.names.text.now (map field_of l.names.definitions.now) (rows_of l.names.rows.items))
       l.names.text.now (map entry_reading_of (drop l.entry-index l.entries))
-      ≡ entry_edits (expansion_by l.names.text.now (index_in l.names.indices) (values_of l.names.values.items))
+      ≡ each_edits (entry_expansion l.names.text.now (map field_of l.names.definitions.now) (rows_of l.names.rows.items))
       l.names.text.now (map entry_reading_of l.entries);
-  cut : AreAllFieldsCut l.names.text.now (map entry_reading_of (drop l.entry-index l.entries));
+  cut : AreExpansionsCut l.names.text.now (map field_of l.names.definitions.now) (rows_of l.names.rows.items)
+      (map entry_reading_of (drop l.entry-index l.entries));
+  ahead : IsAhead (map field_of l.names.definitions.now) l.next (map entry_reading_of (drop l.entry-index l.entries));
+  indices : AreIndices l.indices (map field_of l.names.definitions.now) l.next;
 }

@@ -1,5 +1,5 @@
 use Rattle.bib_syntax.specs.Views.{field_of}
-use Rattle.edit_strings.specs.Tables.{value_edits, IsFieldCut, expansion_by, index_in, values_of}
+use Rattle.edit_strings.specs.Tables.{IsExpansionCut, expansion_by, index_in_any_case, rows_of, value_edits}
 use Rattle.edit_strings.proofs.ListFacts.{all_step, flat_step}
 use Rattle.edit_strings.proofs.expanding.push_expansions.Goals as goal
 
@@ -7,7 +7,8 @@ pub fields-preserved : goal.fields-preserved
 fields-preserved c =
     let names = c.args.names.now in
     let text = names.text.now in
-    let exchange = expansion_by text (index_in names.indices) (values_of names.values.items) in
+    let index = index_in_any_case c.args.indices.now in
+    let exchange = expansion_by text (rows_of names.rows.items) index in
     record {
       added =
           flat_step field_of c.args.fields.now c.fields.field-index c.field-item.result c.fields-test.true
@@ -15,5 +16,5 @@ fields-preserved c =
           c.fields.invariant.added;
       cut =
           (all_step field_of c.args.fields.now c.fields.field-index c.field-item.result c.fields-test.true
-          c.field-item.is (IsFieldCut text) c.fields.invariant.cut).1;
+          c.field-item.is (IsExpansionCut text (rows_of names.rows.items) index) c.fields.invariant.cut).1;
     }
