@@ -42,8 +42,7 @@ edits_front text at (edit ∷ edits) within order =
     let rest = edits_front text edit.end edits order.3.0 order.4 in
     let size : edit.start ≤ length others = omega (arith, rest.1, ordered) in
     let own : take edit.start (edited edit others) ≡ take edit.start text =
-    front edit.start edit.end edit.bytes others size ∙ less_same others text edit.start edit.end ordered rest.0 in
-    (
+    front edit.start edit.end edit.bytes others size ∙ less_same others text edit.start edit.end ordered rest.0 in (
       less_same (edited edit others) text at edit.start start_less own,
       omega (
         arith,

@@ -72,7 +72,7 @@ module _ (index : Index) (rows : List (List Piece)) (order : List ℕ)
           elim (eqb_tells x q) [
             | inl t ↦ omega (arith, e, ap {B = ℕ} (λ b. cond b 1 0) t.0)
             | inr t ↦
-                let other : eqb q x ≡ false = elim (eqb_tells q x) [ | inl s ↦ absurd (t.1 (sym s.1)) | inr s ↦ s.0 ] in
+                let other : eqb q x ≡ false = elim (eqb_tells q x) [ inl s ↦ absurd (t.1 (sym s.1)) | inr s ↦ s.0 ] in
                 omega (arith, e, any_count q xs (sym (ap (λ b. b || list_any (eqb q) xs) other) ∙ held))
           ]
 
@@ -140,7 +140,8 @@ module _ (index : Index) (rows : List (List Piece)) (order : List ℕ)
       (omega (
         arith,
         sorted.once i,
-        as_one _ _ (lt-ltb i (length (map (definition_references index) rows)) (omega (arith, length-map rows (definition_references index)))),
+        as_one _ _
+            (lt-ltb i (length (map (definition_references index) rows)) (omega (arith, length-map rows (definition_references index)))),
       ))
 
   pub definition_steps : (i : ℕ) → i < length rows
@@ -243,7 +244,8 @@ module _ (definitions : List FieldReading) (acyclic : IsAcyclic (definition_inde
           let sum = length-append inner (steps names rows_of ps) in
           subst (WritesOut definitions (p ∷ ps))
           (sym (is ∙ flat_map-append piece_list inner (steps names rows_of ps)))
-          (writes.defined found (smaller (get_or rows_of i []) (omega (arith, size, few, sum))) (smaller ps (omega (arith, size, few, sum))))
+          (writes.defined found (smaller (get_or rows_of i []) (omega (arith, size, few, sum)))
+          (smaller ps (omega (arith, size, few, sum))))
 
   -- the expansion of pieces is as the definition says
   pub writes_out : (ps : List Piece) → WritesOut definitions ps (expanded_pieces names rows_of ps)

@@ -215,7 +215,13 @@ fn with_collection(
         (definition_lines (file_of raw.now) (line_end_of text.now) (string_texts collection.now.names.items) (lent_texts texts.now))
         (text_changed (exchanges (spec.collection (lent_texts fields.now) (lent_texts texts.now) (string_texts collection.now.names.items))) (record { text = text.now; says = file_of raw.now }))) }
 {
-    let lines = definitions(alloc, line_end(text), &collection.known, &collection.names, texts)?;
+    let lines = definitions(
+        alloc,
+        line_end(text),
+        &collection.known,
+        &collection.names,
+        texts,
+    )?;
     let start = first_start(&raw.entries);
     let first = Edit {
         start,

@@ -21,7 +21,8 @@ expansions-requires-clause-below c =
 pub expansions-requires-clause-acyclic : goal.expansions-requires-clause-acyclic
 expansions-requires-clause-acyclic c =
     subst (λ ix. IsAcyclic ix (values_of c.in_ok-names.names.values.items)) (sym c.in_ok-names.ensures.index)
-    (subst (IsAcyclic (definition_index (map field_of c.deref.result.now))) (sym c.in_ok-names.ensures.values) c.in_ok-names.ensures.acyclic)
+    (subst (IsAcyclic (definition_index (map field_of c.deref.result.now))) (sym c.in_ok-names.ensures.values)
+    c.in_ok-names.ensures.acyclic)
 
 pub expansions-requires-clause-values : goal.expansions-requires-clause-values
 expansions-requires-clause-values c =
