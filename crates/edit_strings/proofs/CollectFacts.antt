@@ -329,7 +329,9 @@ module _ (d : Document) (read : IsDocument d) (utf8 : IsUtf8 d.text) (exchange :
             ∙ sym (map-append (moved_field (λ n. 0)) f.before.abbreviations (readings ++ f.following.abbreviations))
             ∙ ap (map (moved_field (λ n. 0)))
             (ap (λ fs. fs ++ (readings ++ f.following.abbreviations))
-            (sym (ap (filter (is_before at)) own ∙ split_before at f.before.abbreviations f.following.abbreviations f.are_before f.are_from))
+            (sym
+            (ap (filter (is_before at)) own
+            ∙ split_before at f.before.abbreviations f.following.abbreviations f.are_before f.are_from))
             ∙ ap (λ fs. filter (is_before at) d.says.abbreviations ++ (readings ++ fs))
             (sym
             (ap (filter (λ g. not (is_before at g))) own
@@ -453,7 +455,9 @@ all_edits_known d edits first fields texts names bytes text index start es same 
     are
     ∙ ap (λ e. e ∷ entry_edits (collection_by fields index names) text es)
     (first_is ∙ ap (λ n. let e : Edit = record { start = n; end = n; bytes = bytes } in e) at)
-    ∙ ap (λ more. (let e : Edit = record { start = first_start d.says.entries; end = first_start d.says.entries; bytes = bytes } in e) ∷ more)
+    ∙ ap
+    (λ more.
+    (let e : Edit = record { start = first_start d.says.entries; end = first_start d.says.entries; bytes = bytes } in e) ∷ more)
     (edits_known d (entry_edits (collection_by fields index names) text es) fields texts names index text es same listed is refl)
 
 -- the bytes of a result, by an equation

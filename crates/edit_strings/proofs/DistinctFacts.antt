@@ -36,7 +36,8 @@ bytes_swap x y = by_case (bytes_eq x y) (bytes_eq y x) refl refl
     by_case false false is is' = is ∙ sym is'
 
 -- the distinct texts after one more text
-pub distinct_push : (texts : List (List ℕ)) (x : List ℕ) → distinct (texts ++ x ∷ []) ≡ distinct texts ++ unless_listed (is_listed texts x) x
+pub distinct_push : (texts : List (List ℕ)) (x : List ℕ)
+    → distinct (texts ++ x ∷ []) ≡ distinct texts ++ unless_listed (is_listed texts x) x
 distinct_push [] x = refl
 distinct_push (text ∷ texts) x =
     ap (λ l. text ∷ l)

@@ -39,7 +39,8 @@ pub learned_more : (says : FileReading) (text : List ℕ) (fs : List FieldReadin
     → learned (option_map (λ g. g.name.text) (find (is_reusable says text) fs)) own f text
     ≡ option_map (λ g. g.name.text) (find (is_reusable says text) (fs ++ f ∷ []))
 learned_more says text fs f own is =
-    by_case (find (is_reusable says text) fs) own is ∙ sym (ap (option_map (λ g. g.name.text)) (find-append (is_reusable says text) fs (f ∷ [])))
+    by_case (find (is_reusable says text) fs) own is
+    ∙ sym (ap (option_map (λ g. g.name.text)) (find-append (is_reusable says text) fs (f ∷ [])))
   where
     by_case : (found : Option FieldReading) (own : Option (List ℕ)) → own ≡ reusable_text says f
         → learned (option_map (λ g. g.name.text) found) own f text

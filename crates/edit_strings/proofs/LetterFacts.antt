@@ -117,7 +117,10 @@ word_char false true c [] is =
 word_char false true c (word ∷ words) is =
     let one : encode_utf8 (to_ascii_lowercase c) ++ [] ≡ first_letters 1 (c ∷ word) =
     sym
-    (ap (λ b. encode_utf8_all (map to_ascii_lowercase (take 1 (cond b (c ∷ filter is_ascii_alphabetic word) (filter is_ascii_alphabetic word)))))
+    (ap
+    (λ b.
+    encode_utf8_all
+    (map to_ascii_lowercase (take 1 (cond b (c ∷ filter is_ascii_alphabetic word) (filter is_ascii_alphabetic word)))))
     is) in
     ap (λ l. l ++ flat_map (first_letters 1) words) (sym (append-nil (encode_utf8 (to_ascii_lowercase c))) ∙ one)
 word_char false false c [] is =
@@ -126,7 +129,10 @@ word_char false false c [] is =
 word_char false false c (word ∷ words) is =
     let same : first_letters 1 word ≡ first_letters 1 (c ∷ word) =
     sym
-    (ap (λ b. encode_utf8_all (map to_ascii_lowercase (take 1 (cond b (c ∷ filter is_ascii_alphabetic word) (filter is_ascii_alphabetic word)))))
+    (ap
+    (λ b.
+    encode_utf8_all
+    (map to_ascii_lowercase (take 1 (cond b (c ∷ filter is_ascii_alphabetic word) (filter is_ascii_alphabetic word)))))
     is) in
     ap (λ l. l ++ flat_map (first_letters 1) words) same
 
@@ -143,7 +149,8 @@ letters_words met (c ∷ cs) =
     by_case : (b : Bool) → is_whitespace c ≡ b → letters_in false cs ≡ words_after false (slice_split is_whitespace cs)
         → letters_in (met || is_ascii_alphabetic c) cs
         ≡ words_after (met || is_ascii_alphabetic c) (slice_split is_whitespace cs)
-        → cond (not met && is_ascii_alphabetic c) (encode_utf8 (to_ascii_lowercase c)) [] ++ letters_in (not b && (met || is_ascii_alphabetic c)) cs
+        → cond (not met && is_ascii_alphabetic c) (encode_utf8 (to_ascii_lowercase c)) []
+        ++ letters_in (not b && (met || is_ascii_alphabetic c)) cs
         ≡ words_after met (cond b ([] ∷ slice_split is_whitespace cs) (onto_first c (slice_split is_whitespace cs)))
     by_case true white others same =
         let none : letter_at met c ≡ [] =

@@ -11,7 +11,7 @@ use Rattle.std.proofs.lemmas.Slice.Eq.{bytes_eq-Decides}
 use Rattle.bib_syntax.specs.Grammar.{is_word}
 use Rattle.bib_syntax.specs.Reading.{FieldReading, FileReading}
 use Rattle.edit_strings.specs.Collected.{AreNames, IsFirstNewName, definition_names, element_names, is_month, is_new_name, is_one_in_any_case, is_reusable, known_name, letters_or_s, name_letters, names_of_file, number_after, numbered_name, used_names}
-use Rattle.edit_strings.specs.Collecting.{AreBelowUsed, AreUsedBelow, GetsName, IsFirstFree, is_taken, is_used}
+use Rattle.edit_strings.specs.Collecting.{AreBelowUsed, AreUsedBelow, GetsName, IsLeastFree, is_taken, is_used}
 use Rattle.edit_strings.specs.Expanded.{elements}
 use Rattle.edit_strings.specs.declared.taken.Taken.{Taken}
 use Rattle.edit_strings.proofs.NameFacts.{plain_can}
@@ -42,7 +42,7 @@ still_below old new name others base number used n some below = still_used old n
 pub closed_more : (old new : Taken) (before after : BTreeMap (String Global) ℕ) (name base : List ℕ) (number : ℕ)
     → ((other : List ℕ) → is_taken new other ≡ (is_word name other || is_taken old other))
     → ((other : List ℕ) → get_by_text after other ≡ cond (bytes_eq base other) (Some number) (get_by_text before other))
-    → AreBelowUsed old before → IsFirstFree old base number name → AreBelowUsed new after
+    → AreBelowUsed old before → IsLeastFree old base number name → AreBelowUsed new after
 closed_more old new before after name base number others set closed free other n is =
     by_case (bytes_eq base other) refl (sym (set other) ∙ is)
   where
@@ -113,7 +113,8 @@ name_in test [] f name other is named word = absurd (cc)
 name_in test (g ∷ gs) f name other is named word =
     by_case (test g) (λ found. name_in test gs f name other found named word) is
   where
-    by_case : (b : Bool) → (find test gs ≡ Some f → is_one_in_any_case (definition_names gs) other ≡ true) → cond b (Some g) (find test gs) ≡ Some f → is_one_in_any_case (definition_names (g ∷ gs)) other ≡ true
+    by_case : (b : Bool) → (find test gs ≡ Some f → is_one_in_any_case (definition_names gs) other ≡ true)
+        → cond b (Some g) (find test gs) ≡ Some f → is_one_in_any_case (definition_names (g ∷ gs)) other ≡ true
     by_case true later found =
         let same : g ≡ f = cc in
         ap (λ n. is_word n other || is_one_in_any_case (element_names (elements g) ++ definition_names gs) other)
@@ -145,7 +146,7 @@ new_is : (says : FileReading) (names : List (List ℕ)) (taken : Taken) → AreT
 new_is says names taken are name = ap (λ b. not (is_month name || b)) (sym (are name))
 
 first_new : (says : FileReading) (names : List (List ℕ)) (taken : Taken) (text name : List ℕ) (number : ℕ) → AreTaken says names taken
-    → IsFirstFree taken (letters_or_s (name_letters text)) number name → IsFirstNewName says names text name
+    → IsLeastFree taken (letters_or_s (name_letters text)) number name → IsFirstNewName says names text name
 first_new says names taken text name number are free = record {
   can = (plain_can name free.plain).0;
   no_digit = (plain_can name free.plain).1;

@@ -43,7 +43,8 @@ lines_push says line_end (n ∷ ns) [] name text same = absurd (omega arith)
 lines_push says line_end (n ∷ ns) (t ∷ ts) name text same =
     let first : List ℕ = cond (is_some (known_name says t)) [] (string_line line_end n t) in
     ap (λ l. first ++ l) (lines_push says line_end ns ts name text (omega arith))
-    ∙ sym (append_assoc first (definition_lines says line_end ns ts) (cond (is_some (known_name says text)) [] (string_line line_end name text)))
+    ∙ sym (append_assoc first (definition_lines says line_end ns ts)
+    (cond (is_some (known_name says text)) [] (string_line line_end name text)))
 
 -- ---- names among names
 

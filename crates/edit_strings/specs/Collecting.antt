@@ -93,7 +93,7 @@ abbrev pub AreUsedBelow : Taken → List ℕ → ℕ → Type 0
 AreUsedBelow taken base number = (n : ℕ) → 1 ≤ n → n < number → is_used taken (base ++ number_after n) ≡ true
 
 -- a plain name has the first number that makes it new
-pub record IsFirstFree (taken : Taken) (base : List ℕ) (number : ℕ) (name : List ℕ) : Type 0 where
+pub record IsLeastFree (taken : Taken) (base : List ℕ) (number : ℕ) (name : List ℕ) : Type 0 where
   pub plain : is_plain_name name ≡ true
   pub some : 1 ≤ number
   pub is : name ≡ base ++ number_after number
@@ -108,7 +108,7 @@ AreBelowUsed taken numbers =
 -- a text gets its first new name, which is taken then
 pub record TakesName (old new : Taken) (numbers : BTreeMap (String Global) ℕ) (text name : List ℕ) : Type 0 where
   pub number : ℕ
-  pub free : IsFirstFree old (letters_or_s (name_letters text)) number name
+  pub free : IsLeastFree old (letters_or_s (name_letters text)) number name
   pub others : (other : List ℕ) → is_taken new other ≡ (is_word name other || is_taken old other)
   pub closed : AreBelowUsed new numbers
 

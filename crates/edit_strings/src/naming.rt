@@ -11,7 +11,7 @@ ghost use Rattle.std.specs.String.{string_bytes};
 ghost use Rattle.bib_syntax.specs.Reading.{FileReading};
 ghost use Rattle.edit_strings.specs.Collected as spec;
 ghost use Rattle.edit_strings.specs.Collected.{AreNames, is_one_in_any_case, known_name, letters_or_s, name_letters, names_of_file, number_after};
-ghost use Rattle.edit_strings.specs.Collecting.{AreBelowUsed, AreUsedBelow, GetsName, IsFirstFree, TakesName, has_lowercase, is_plain_name, is_taken, known_in, lent_texts, letter_at, met_after, string_texts};
+ghost use Rattle.edit_strings.specs.Collecting.{AreBelowUsed, AreUsedBelow, GetsName, IsLeastFree, TakesName, has_lowercase, is_plain_name, is_taken, known_in, lent_texts, letter_at, met_after, string_texts};
 
 use crate::taken::Taken;
 use bib_tables::months::Month;
@@ -121,7 +121,7 @@ fn fresh(alloc: Global, taken: &Taken, base: &str, from: u64) -> Result<(u64, St
     requires plain { is_plain_name base.now ≡ true }
     requires some { 1 ≤ from }
     requires used { AreUsedBelow taken.now base.now from }
-    ensures { IfOk result (λ made. IsFirstFree taken.now base.now made.0 (string_bytes made.1)) }
+    ensures { IfOk result (λ made. IsLeastFree taken.now base.now made.0 (string_bytes made.1)) }
 {
     let end = taken.count() as u64 + 3;
     'numbers: for number in from..end {

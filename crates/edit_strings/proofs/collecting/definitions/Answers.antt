@@ -23,10 +23,14 @@ names-preserved c = λ says known.
     size_so_far string_bytes c.args.names.now i name c.names-test.true c.index-names-index.is
     ∙ sym (size_so_far (λ t. t.now) c.args.texts.now i x within is) in
     c.in_ok-push_definition.ensures
-    ∙ ap (λ l. l ++ cond (is_some (known_in c.args.known.now x.now)) [] (string_line line_end c.as_str.result.now x.now)) (c.names.invariant says known)
-    ∙ ap (λ o. definition_lines says line_end names texts ++ cond (is_some o) [] (string_line line_end c.as_str.result.now x.now)) (known x.now)
-    ∙ ap (λ n. definition_lines says line_end names texts ++ cond (is_some (known_name says x.now)) [] (string_line line_end n x.now)) c.as_str.ensures.value
+    ∙ ap (λ l. l ++ cond (is_some (known_in c.args.known.now x.now)) [] (string_line line_end c.as_str.result.now x.now))
+    (c.names.invariant says known)
+    ∙ ap (λ o. definition_lines says line_end names texts ++ cond (is_some o) [] (string_line line_end c.as_str.result.now x.now))
+    (known x.now)
+    ∙ ap (λ n. definition_lines says line_end names texts ++ cond (is_some (known_name says x.now)) [] (string_line line_end n x.now))
+    c.as_str.ensures.value
     ∙ sym (lines_push says line_end names texts (string_bytes name) x.now size)
     ∙ ap (λ ns. definition_lines says line_end ns (texts ++ x.now ∷ []))
     (sym (one_more string_bytes c.args.names.now i name c.names-test.true c.index-names-index.is))
-    ∙ ap (definition_lines says line_end (string_texts (take (i + 1) c.args.names.now))) (sym (one_more (λ t. t.now) c.args.texts.now i x within is))
+    ∙ ap (definition_lines says line_end (string_texts (take (i + 1) c.args.names.now)))
+    (sym (one_more (λ t. t.now) c.args.texts.now i x within is))

@@ -57,6 +57,11 @@ returns c =
     ∙ ap (λ l. definition_lines d.says l names texts) c.line_end.ensures in
     made_known string_bytes c.edited_all.result _ _
     (ap (λ es. edited_all es d.text) edits
-    ∙ ap (λ l. edited (record { start = start; end = start; bytes = l }) (edited_all (entry_edits exchange d.text d.says.entries) d.text)) lines
-    ∙ ap (λ es. edited (record { start = start; end = start; bytes = definition_lines d.says (line_end_of d.text) names texts }) (edited_all es d.text))
+    ∙ ap
+    (λ l. edited (record { start = start; end = start; bytes = l }) (edited_all (entry_edits exchange d.text d.says.entries) d.text))
+    lines
+    ∙ ap
+    (λ es.
+    edited (record { start = start; end = start; bytes = definition_lines d.says (line_end_of d.text) names texts })
+    (edited_all es d.text))
     (edits_are_changes (λ e. exchange) d.text d.says.entries)) c.edited_all.ensures

@@ -25,4 +25,6 @@ definitions-preserved c = λ name.
     (c.name_count-count.ensures ∙ ap (name_count_in c.definitions.counts) (c.as_str.ensures.value ∙ key)
     ∙ c.definitions.invariant f.name.text) (c.definitions.invariant name)
     ∙ ap (count_by (has_name name))
-    (sym (one_more field_of c.args.definitions.now c.definitions.definition-index c.definition-item.result c.definitions-test.true c.definition-item.is))
+    (sym
+    (one_more field_of c.args.definitions.now c.definitions.definition-index c.definition-item.result c.definitions-test.true
+    c.definition-item.is))

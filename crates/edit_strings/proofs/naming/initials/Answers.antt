@@ -14,7 +14,8 @@ chars-preserved c = record {
   letters = c.in_ok-push_initial.ensures ∙ ap (λ l. l ++ letter_at c.chars.is_met c.in-Some.c) c.chars.invariant.letters
       ∙ ap (λ m. letters_in false c.chars.yielded ++ letter_at m c.in-Some.c) c.chars.invariant.met
       ∙ sym (letters_push false c.chars.yielded c.in-Some.c);
-  met = c.is_met_after-is_met.ensures ∙ ap (λ m. met_after m c.in-Some.c) c.chars.invariant.met ∙ sym (met_push false c.chars.yielded c.in-Some.c);
+  met = c.is_met_after-is_met.ensures ∙ ap (λ m. met_after m c.in-Some.c) c.chars.invariant.met
+      ∙ sym (met_push false c.chars.yielded c.in-Some.c);
 }
 
 pub returns : goal.returns

@@ -48,5 +48,6 @@ texts-preserved c =
 
 pub returns : goal.returns
 returns c = λ says known known'.
-    subst (λ l. AreNames says (lent_texts l) (string_texts c.texts.names.items)) (take_all c.texts.text-index c.args.texts.now c.texts-test.false)
+    subst (λ l. AreNames says (lent_texts l) (string_texts c.texts.names.items))
+    (take_all c.texts.text-index c.args.texts.now c.texts-test.false)
     (c.texts.invariant.named says known known').named

@@ -3,7 +3,7 @@ use Rattle.std.specs.Prelude.{string_bytes}
 use Rattle.std.specs.BTreeMap.{get_by_text}
 use Rattle.std.proofs.lemmas.Map.Text.{btree_map_updates_text}
 use Rattle.bib_syntax.specs.Grammar.{is_word}
-use Rattle.edit_strings.specs.Collecting.{AreUsedBelow, IsFirstFree, is_plain_name, is_taken}
+use Rattle.edit_strings.specs.Collecting.{AreUsedBelow, IsLeastFree, is_plain_name, is_taken}
 use Rattle.edit_strings.proofs.LetterFacts.{base_plain}
 use Rattle.edit_strings.proofs.NamesFacts.{closed_more, from_known}
 use Rattle.edit_strings.proofs.naming.new_name.Goals as goal
@@ -30,14 +30,14 @@ fresh-requires-clause-used c =
 pub returns : goal.returns
 returns c =
     let base : List ℕ = string_bytes c.in_ok-base.base in
-    let free = subst (λ b. IsFirstFree c.args.taken.now b c.in_ok-number.number (string_bytes c.in_ok-number.name))
+    let free = subst (λ b. IsLeastFree c.args.taken.now b c.in_ok-number.number (string_bytes c.in_ok-number.name))
     c.as_str-2.ensures.value c.in_ok-number.ensures in
     let name : List ℕ = string_bytes c.in_ok-number.name in
     let others : (other : List ℕ) → is_taken c.take.new.self other ≡ (is_word name other || is_taken c.args.taken.now other) =
     λ other. c.in_ok-take.ensures other ∙ ap (λ n. is_word n other || is_taken c.args.taken.now other) c.as_str-3.ensures.value in
     record {
       number = c.in_ok-number.number;
-      free = subst (λ b. IsFirstFree c.args.taken.now b c.in_ok-number.number name) c.in_ok-base.ensures free;
+      free = subst (λ b. IsLeastFree c.args.taken.now b c.in_ok-number.number name) c.in_ok-base.ensures free;
       others = others;
       closed =
           closed_more c.args.taken.now c.take.new.self c.args.numbers.now c.insert.new.self name base c.in_ok-number.number others
