@@ -12,7 +12,7 @@ use Rattle.bib_syntax.specs.Reading.{Piece, FieldReading}
 use Rattle.bib_syntax.specs.Views.{field_of, piece_of}
 use Rattle.bib_syntax.specs.declared.raw.Pair.{Pair}
 use Rattle.edit_entries.proofs.AllFacts.{all_weaker}
-use Rattle.edit_strings.specs.Expanded.{Index, WritesOut, elements, elements_at, index_before, is_defined_but_not, is_defined_later, is_early, piece_index}
+use Rattle.edit_strings.specs.Expanded.{Index, WritesOut, elements, elements_at, index_before, is_early, is_early_use, name_at, piece_index}
 use Rattle.edit_strings.specs.Expanded.{WritesOut as writes}
 use Rattle.edit_strings.specs.Tables.{AreIndices, AreOrdered, AreRows, IndexedPiece, IsBelow, IsIndexBelow, all_visits, index_in_any_case, indexed_back, indexed_of, row_at, rows_of, staying, visits, with_index}
 use Rattle.edit_strings.specs.Tables.IndexedPiece.{indexed}
@@ -67,20 +67,31 @@ elements_of_pair xs i x within is =
     get_or-map elements (map field_of xs) i (field_of x) [] (omega (arith, length-map xs field_of))
     ∙ ap elements (get_or-map field_of xs i x (field_of x) within) ∙ ap (λ (y : Pair). elements (field_of y)) (sym is)
 
--- whether a definition uses a name before its definition, by the maps of the code
+-- the name of the definition at an index
+name_of_pair : (xs : List Pair) (i : ℕ) (x : Pair) → i < length xs → x ≡ get_or xs i x → name_at (map field_of xs) i ≡ x.key.v.now
+name_of_pair xs i x within is =
+    get_or-map (λ f. f.name.text) (map field_of xs) i (field_of x) [] (omega (arith, length-map xs field_of))
+    ∙ ap (λ (f : FieldReading). f.name.text) (get_or-map field_of xs i x (field_of x) within)
+    ∙ ap (λ (y : Pair). y.key.v.now) (sym is)
+
+-- whether a definition uses its own name, or a name before its definition, by the maps of the code
 pub early_is : (xs : List Pair) (i : ℕ) (x : Pair) → i < length xs → x ≡ get_or xs i x → (all earlier : BTreeMap (String Global) ℕ)
     → AreIndices all (map field_of xs) (length xs) → AreIndices earlier (map field_of xs) i
-    → list_any (is_defined_but_not (index_in_any_case all) (index_in_any_case earlier)) (map piece_of x.value.v.items)
+    → list_any (is_early_use x.key.v.now (index_in_any_case all) (index_in_any_case earlier)) (map piece_of x.value.v.items)
     ≡ is_early (map field_of xs) i
 early_is xs i x within is all earlier whole before =
     let defined : List FieldReading = map field_of xs in
+    let pieces : List Piece = map piece_of x.value.v.items in
+    let own : List ℕ = x.key.v.now in
     let last : index_in_any_case all ≡ index_before defined (length xs) = λ k name. whole name k in
     let first : index_in_any_case earlier ≡ index_before defined i = λ k name. before name k in
-    ap (λ ix. list_any (is_defined_but_not ix (index_in_any_case earlier)) (map piece_of x.value.v.items)) last
-    ∙ ap (λ n. list_any (is_defined_but_not (index_before defined n) (index_in_any_case earlier)) (map piece_of x.value.v.items))
-    (sym (length-map xs field_of))
-    ∙ ap (λ ix. list_any (is_defined_but_not (index_before defined (length defined)) ix) (map piece_of x.value.v.items)) first
-    ∙ ap (list_any (is_defined_later defined i)) (sym (elements_of_pair xs i x within is))
+    ap (λ ix. list_any (is_early_use own ix (index_in_any_case earlier)) pieces) last
+    ∙ ap (λ n. list_any (is_early_use own (index_before defined n) (index_in_any_case earlier)) pieces) (sym (length-map xs field_of))
+    ∙ ap (λ ix. list_any (is_early_use own (index_before defined (length defined)) ix) pieces) first
+    ∙ ap (λ name. list_any (is_early_use name (index_before defined (length defined)) (index_before defined i)) pieces)
+    (sym (name_of_pair xs i x within is))
+    ∙ ap (list_any (is_early_use (name_at defined i) (index_before defined (length defined)) (index_before defined i)))
+    (sym (elements_of_pair xs i x within is))
 
 -- one more row
 pub row_push : (definitions : List FieldReading) (n : ℕ) (rows : List (List IndexedPiece)) (row : List IndexedPiece)

@@ -1,8 +1,9 @@
 -- Meaning: words of public contracts.
 -- Expanded abbreviations: a name is replaced by the pieces of its last definition before the use. BibTeX, btparse (Biber) and bibtool
 -- read a file from its start to its end, so that a later definition of the name doesn't change an earlier use.
-use Rattle.std.specs.Prelude.{◌≡◌, ◌&&◌, ℕ, ◌<◌, Bool, true, false, List, [], ◌∷◌, ◌++◌, count_by, if◌then◌else◌, is_some, length, map, nat_lt, not, slice_index_or, take, Option, Some, None, codes}
+use Rattle.std.specs.Prelude.{◌≡◌, ◌&&◌, ◌||◌, ℕ, ◌<◌, Bool, true, false, List, [], ◌∷◌, ◌++◌, count_by, if◌then◌else◌, is_some, length, map, nat_lt, not, slice_index_or, take, Option, Some, None, codes}
 use Rattle.std.specs.List.{AllByRecursion, list_any}
+use Rattle.bib_syntax.specs.Grammar.{is_word}
 use Rattle.bib_syntax.specs.Reading.{Piece, EntryReading, FieldReading, FileReading}
 use Rattle.bib_syntax.specs.Reading.Piece.{literal, abbreviation}
 use Rattle.edit_entries.specs.Documents.{Document, has_name, last_position}
@@ -85,31 +86,40 @@ pub record IsExpanded (d : Document) (text : List ℕ) : Type 0 where
   pub each : AreWrittenOut d.says written
   pub changed : IsChanged (λ e. exchanges (document_expansion d written e) e) d text
 
--- whether a piece is a name that has an index in one way, but none in another way
-abbrev pub is_defined_but_not : Index → Index → Piece → Bool
-is_defined_but_not index other piece = is_some (piece_index index piece) && not (is_some (piece_index other piece))
+-- whether a piece is this name, in any ASCII case
+abbrev pub is_use_of : List ℕ → Piece → Bool
+is_use_of name (literal p) = false
+is_use_of name (abbreviation p) = is_word name p.text
 
--- whether a piece is a name that a definition of the file defines, but none of the first `count`
-abbrev pub is_defined_later : List FieldReading → ℕ → Piece → Bool
-is_defined_later definitions count piece =
-    is_defined_but_not (index_before definitions (length definitions)) (index_before definitions count) piece
+-- whether a piece is this name, or a name that has an index in the first way, but none in the second
+abbrev pub is_early_use : List ℕ → Index → Index → Piece → Bool
+is_early_use own all earlier piece =
+    is_use_of own piece || (is_some (piece_index all piece) && not (is_some (piece_index earlier piece)))
 
--- whether the definition at an index uses a name before the name's first definition
+-- the name of the definition at an index
+abbrev pub name_at : List FieldReading → ℕ → List ℕ
+name_at definitions index = slice_index_or (map (λ f. f.name.text) definitions) index []
+
+-- whether the definition at an index uses its own name, or a name that the file defines, but not before this definition. BibTeX takes
+-- such a name as undefined there. If it stayed in the expansion, a definition between this one and the use would replace it.
 abbrev pub is_early : List FieldReading → ℕ → Bool
-is_early definitions index = list_any (is_defined_later definitions index) (elements_at definitions index)
+is_early definitions index =
+    list_any
+    (is_early_use (name_at definitions index) (index_before definitions (length definitions)) (index_before definitions index))
+    (elements_at definitions index)
 
--- no definition uses a name before the name's first definition
+-- no definition uses its own name, or a name before the name's first definition
 abbrev pub HasNoEarlyUse : List FieldReading → Type 0
 HasNoEarlyUse definitions = (index : ℕ) → index < length definitions → is_early definitions index ≡ false
 
--- the definition at an index is the first that uses a name before the name's first definition
+-- the definition at an index is the first that uses its own name, or a name before the name's first definition
 pub record IsFirstEarlyUse (definitions : List FieldReading) (index : ℕ) : Type 0 where
   pub within : index < length definitions
   pub early : is_early definitions index ≡ true
   pub first : (earlier : ℕ) → earlier < index → is_early definitions earlier ≡ false
 
--- why an expansion fails: the definition at this index is the first that uses a name before the name's first definition, or memory
--- ran out
+-- why an expansion fails: the definition at this index is the first that uses its own name, or a name before the name's first
+-- definition, or memory ran out
 abbrev pub IsExpandError : List FieldReading → ExpandError → Type 0
 IsExpandError definitions (EarlyUse index) = IsFirstEarlyUse definitions index
 IsExpandError definitions OutOfMemory = Unit {0}

@@ -5,10 +5,10 @@ ghost use Rattle.std.specs.List.{list_any};
 ghost use Rattle.bib_syntax.specs.Views.{field_of, piece_of};
 ghost use Rattle.edit_entries.specs.Documents.{has_name};
 ghost use Rattle.edit_strings.specs.Expanded as spec;
-ghost use Rattle.edit_strings.specs.Expanded.{is_defined_later, piece_index};
+ghost use Rattle.edit_strings.specs.Expanded.{piece_index};
 ghost use Rattle.edit_strings.specs.Tables.{AreIndices, index_in_any_case};
 
-use bib_syntax::raw::{Pair, RawChunk};
+use bib_syntax::raw::{Pair, RawChunk, is_word};
 use bib_text::spanned::Spanned;
 use std::alloc::{AllocError, Global};
 use std::collections::BTreeMap;
@@ -77,32 +77,46 @@ pub(crate) fn has_defined(
     Ok(false)
 }
 
-// Returns whether `piece` is a name that has an index in `all`, but none in `earlier`.
+// Returns whether `piece` is the name `name`, in any ASCII case.
+fn is_use_of(name: &str, piece: &Spanned<RawChunk<'_>>) -> bool
+    ensures { result ≡ spec.is_use_of name.now (piece_of piece.now) }
+{
+    match piece.v {
+        RawChunk::Abbreviation(used) => is_word(name, used),
+        RawChunk::Normal(_) => false,
+    }
+}
+
+// Returns whether `piece` is the name `own`, or a name that has an index in `all`, but none in `earlier`.
 fn is_early_use(
     alloc: Global,
-    earlier: &Indices,
+    own: &str,
     all: &Indices,
+    earlier: &Indices,
     piece: &Spanned<RawChunk<'_>>,
 ) -> Result<bool, AllocError>
-    ensures { IfOk result (λ is. is ≡ spec.is_defined_but_not (index_in_any_case all.now) (index_in_any_case earlier.now) (piece_of piece.now)) }
+    ensures { IfOk result (λ is. is ≡
+        spec.is_early_use own.now (index_in_any_case all.now) (index_in_any_case earlier.now) (piece_of piece.now)) }
 {
     let last = defined_index(alloc, all, piece)?;
     let before = defined_index(alloc, earlier, piece)?;
-    Ok(last.is_some() && before.is_none())
+    let is_own = is_use_of(own, piece);
+    Ok(is_own || last.is_some() && before.is_none())
 }
 
-// Returns whether a name among `pieces` has an index in `all`, but none in `earlier`.
+// Returns whether `definition` uses its own name, or a name that has an index in `all`, but none in `earlier`.
 pub(crate) fn has_early_use(
     alloc: Global,
-    earlier: &Indices,
     all: &Indices,
-    pieces: &[Spanned<RawChunk<'_>>],
+    earlier: &Indices,
+    definition: &Pair<'_>,
 ) -> Result<bool, AllocError>
     ensures { IfOk result (λ has. has ≡
-        list_any (spec.is_defined_but_not (index_in_any_case all.now) (index_in_any_case earlier.now)) (map piece_of pieces.now)) }
+        list_any (spec.is_early_use (field_of definition.now).name.text (index_in_any_case all.now) (index_in_any_case earlier.now))
+        (spec.elements (field_of definition.now))) }
 {
-    'pieces: for piece in pieces {
-        if is_early_use(alloc, earlier, all, piece)? {
+    'pieces: for piece in &definition.value.v {
+        if is_early_use(alloc, definition.key.v, all, earlier, piece)? {
             return Ok(true);
         }
     }

@@ -9,7 +9,7 @@ use thiserror::Error;
 /// The error that stopped the expansion of abbreviations.
 #[derive(Debug, Clone, Copy, PartialEq, Eq, Error)]
 pub enum ExpandError {
-    /// A definition uses a name before the name's first definition. Holds the index of the first such definition of the file.
+    /// A definition uses its own name, or a name before the name's first definition. Holds the index of the first such definition.
     #[error("a definition uses a name before its definition")]
     EarlyUse(usize),
     /// Memory ran out.

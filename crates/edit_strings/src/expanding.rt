@@ -134,11 +134,13 @@ fn expansions<'a, 's>(
 }
 
 /// Returns the text of `document` with its abbreviations expanded. Each value of an entry's field that contains a defined name
-/// is replaced by its pieces, with ` # ` between them. A defined name is replaced by the pieces of its last definition before the use,
-/// as they are written in the file, and names in that definition are expanded too, each by its last definition before that one. Names are
-/// compared in any ASCII case. Names without a definition before their use, other values, white space after a value and the definitions
-/// are unchanged. Returns `EarlyUse` if a definition uses a name before the name's first definition, even if no entry uses it, and
-/// `OutOfMemory` if memory runs out.
+/// is replaced by its pieces, with ` # ` between them. A defined name is replaced by the pieces of its last definition before the
+/// use, as they are written in the file. Names in that definition are expanded too, each by its last definition before that one.
+/// Names are compared in any ASCII case. A name without a definition before its use is unchanged, and so are other values, white
+/// space after a value and the definitions.
+///
+/// Returns `EarlyUse` if a definition uses its own name, or a name before the name's first definition, even if no entry uses the
+/// definition. Returns `OutOfMemory` if memory runs out.
 pub fn expand(alloc: Global, document: &RawDocument<'_>) -> Result<String, ExpandError>
     ensures expanded { IfOk result (λ new. IsExpanded document.now (string_bytes new)) }
     ensures no_early_use { OnOk result (HasNoEarlyUse document.now.says.abbreviations) }

@@ -56,7 +56,7 @@ pub(crate) fn rows<'a, 's>(
     let mut indices = BTreeMap::new(alloc);
     let mut rows = Vec::with_capacity(alloc, definitions.len())?;
     'definitions: for (index, definition) in definitions.iter().enumerate() {
-        if has_early_use(alloc, &indices, all, &definition.value.v)? {
+        if has_early_use(alloc, all, &indices, definition)? {
             return Err(ExpandError::EarlyUse(index));
         }
         rows.push(with_indices(alloc, &indices, &definition.value.v)?)?;

@@ -1,9 +1,8 @@
 use Rattle.std.proofs.Common.{◌≡◌, ◌+◌, ◌∷◌, [], get_or, cond, map, arith, sym, ap, ◌∙◌, subst, Some}
-use Rattle.std.specs.List.{list_any}
 use Rattle.std.proofs.lemmas.List.{length-map, map-append}
 use Rattle.bib_syntax.specs.Views.{field_of, piece_of}
 use Rattle.edit_entries.specs.Documents.{has_name}
-use Rattle.edit_strings.specs.Expanded.{elements, index_before, is_defined_but_not}
+use Rattle.edit_strings.specs.Expanded.{elements, index_before}
 use Rattle.edit_strings.specs.Tables.{AreRows, index_in_any_case, indexed_back, row_at, rows_of, with_index}
 use Rattle.edit_strings.proofs.IndexFacts.{before_step}
 use Rattle.edit_strings.proofs.WrittenFacts.{early_is, elements_of_pair, none_more, row_push}
@@ -14,15 +13,12 @@ returns-then-branch-clause-refused c =
     let xs = c.args.definitions.now in
     let i = c.definitions.index in
     let definition = c.index-definitions-index.result in
-    let all = index_in_any_case c.args.all.now in
-    let earlier = index_in_any_case c.definitions.indices in
     record {
       within = omega (arith, length-map xs field_of, c.definitions-test.true);
       early =
           sym
           (early_is xs i definition c.definitions-test.true c.index-definitions-index.is c.args.all.now c.definitions.indices
           c.requires.all c.definitions.invariant.indices)
-          ∙ ap (λ l. list_any (is_defined_but_not all earlier) (map piece_of l)) (sym c.deref.ensures.value)
           ∙ sym c.in_ok-has_early_use.ensures ∙ c.if-branch.true;
       first = c.definitions.invariant.none;
     }
@@ -32,7 +28,6 @@ definitions-preserved c =
     let xs = c.args.definitions.now in
     let i = c.definitions.index in
     let definition = c.index-definitions-index.result in
-    let all = index_in_any_case c.args.all.now in
     let earlier = index_in_any_case c.definitions.indices in
     let before : earlier ≡ index_before (map field_of xs) i = λ k name. c.definitions.invariant.indices name k in
     record {
@@ -44,7 +39,7 @@ definitions-preserved c =
           let row = c.in_ok-with_indices.field-0 in
           let is : indexed_back row.items ≡ row_at (map field_of xs) i =
           c.in_ok-with_indices.ensures
-          ∙ ap (λ l. map (with_index earlier) (map piece_of l)) c.deref-in-definitions.ensures.value
+          ∙ ap (λ l. map (with_index earlier) (map piece_of l)) c.deref.ensures.value
           ∙ ap (map (with_index earlier)) (sym (elements_of_pair xs i definition c.definitions-test.true c.index-definitions-index.is))
           ∙ ap (λ ix. map (with_index ix) (get_or (map elements (map field_of xs)) i [])) before in
           subst (AreRows (map field_of xs) (i + 1))
@@ -55,6 +50,5 @@ definitions-preserved c =
           (sym
           (early_is xs i definition c.definitions-test.true c.index-definitions-index.is c.args.all.now c.definitions.indices
           c.requires.all c.definitions.invariant.indices)
-          ∙ ap (λ l. list_any (is_defined_but_not all earlier) (map piece_of l)) (sym c.deref.ensures.value)
           ∙ sym c.in_ok-has_early_use.ensures ∙ c.if-branch.false);
     }
