@@ -27,7 +27,7 @@ use Rattle.edit_strings.proofs.CollectFacts.{definitions_parted}
 use Rattle.edit_strings.proofs.CutFacts.{found_has}
 use Rattle.edit_strings.proofs.NamesFacts.{find_passes, known_definition, known_in_file, length-names}
 use Rattle.edit_strings.proofs.TextFacts.{not_true}
-use Rattle.edit_strings.specs.Collected.{AreMadeAbbreviations, AreNames, collection, definition_names, element_names, first_start, has_digit_first, is_before, is_month, is_named_by, is_new_name, is_one_in_any_case, is_reusable, is_reusable_name, known_name, line_reading, line_readings, name_value, named_text, names_of_file, reusable_text, single_text, text_index, text_value, used_names}
+use Rattle.edit_strings.specs.Collected.{AreMadeAbbreviations, AreNames, collection, definition_names, element_names, first_entry_start, has_digit_first, is_before, is_month, is_named_by, is_new_name, is_one_in_any_case, is_reusable, is_reusable_name, known_name, line_reading, line_readings, name_value, named_text, names_of_file, reusable_text, single_text, text_index, text_value, used_names}
 use Rattle.edit_strings.specs.Expanded.{elements}
 
 -- ---- the definition of a name among appended definitions
@@ -236,14 +236,14 @@ module _ (says : FileReading) where
           → IsReusable f text
       by_text None is' none = absurd (cc)
       by_text (Some own) is' same =
-          by_test (is_before (first_start says.entries) f && is_reusable_name says f.name.text) refl
+          by_test (is_before (first_entry_start says.entries) f && is_reusable_name says f.name.text) refl
           (is' ∙ ap Some ((bytes_eq-Decides own text).0 same))
         where
-          by_test : (b : Bool) → (is_before (first_start says.entries) f && is_reusable_name says f.name.text) ≡ b
+          by_test : (b : Bool) → (is_before (first_entry_start says.entries) f && is_reusable_name says f.name.text) ≡ b
               → cond b (single_text (elements f)) None ≡ Some text → IsReusable f text
           by_test false test value = absurd (cc)
           by_test true test value =
-              let named = second_true (is_before (first_start says.entries) f) _ test in
+              let named = second_true (is_before (first_entry_start says.entries) f) _ test in
               let counted =
               second_true (not (is_month f.name.text) && not (has_digit_first f.name.text))
               (count_by (has_name f.name.text) says.abbreviations == 1) named in
@@ -630,7 +630,7 @@ module _ (says : FileReading) where
 pub files_collected : (d : Document) → IsDocument d → (fields : List (List ℕ)) (least : ℕ) (text : List ℕ)
     (made : AreMadeAbbreviations d fields least text) → AreAlikeFiles d.says made.read.tells
 files_collected d read fields least text made =
-    let at : ℕ = first_start d.says.entries in
+    let at : ℕ = first_entry_start d.says.entries in
     let one : List FieldReading = filter (is_before at) d.says.abbreviations in
     let other : List FieldReading = filter (λ f. not (is_before at f)) d.says.abbreviations in
     files_exchanged (collection fields made.texts made.names) d.says made.read.tells

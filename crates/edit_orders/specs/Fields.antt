@@ -8,7 +8,7 @@ use Rattle.bib_chunks.specs.Values.{Value, alone}
 use Rattle.bib_chunks.specs.declared.chunk.Chunk.TheVariants.{Normal}
 use Rattle.bib_syntax.specs.Reading.{EntryReading, FieldReading, Piece}
 use Rattle.bib_syntax.specs.Reading.Piece.{literal, abbreviation}
-use Rattle.edit_orders.specs.Values.{text_as_value, value_of}
+use Rattle.edit_orders.specs.Values.{text_as_value, sort_value_of}
 use Rattle.edit_orders.specs.declared.order.Property.{Property}
 use Rattle.edit_orders.specs.declared.order.Property.TheVariants as property
 use Rattle.edit_orders.specs.declared.values.SortValue.{SortValue}
@@ -66,7 +66,7 @@ pub data AreContentsOf (definitions : Definitions) (pieces : List Piece) : Value
 abbrev pub IsFieldValue : Definitions → Property → Option FieldReading → Option SortValue → Type 0
 IsFieldValue definitions property None value = value ≡ None
 IsFieldValue definitions property (Some f) value =
-    (chunks : Value) × AreContentsOf definitions f.value.pieces chunks × (value ≡ value_of property chunks)
+    (chunks : Value) × AreContentsOf definitions f.value.pieces chunks × (value ≡ sort_value_of property chunks)
 
 -- the sort value of a property of an entry
 abbrev pub IsValueOf : Definitions → EntryReading → Property → Option SortValue → Type 0

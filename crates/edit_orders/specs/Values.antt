@@ -44,12 +44,12 @@ abbrev pub title_value : Value → Option SortValue
 title_value chunks = some_texts (sort_text (text chunks) ∷ [])
 
 -- the sort value of a property that is in a field with these contents; the key and the type aren't in a field
-abbrev pub value_of : Property → Value → Option SortValue
-value_of property.Year chunks = year_value chunks
-value_of property.Author chunks = people_value chunks
-value_of property.Title chunks = title_value chunks
-value_of property.Key chunks = None
-value_of property.Type chunks = None
+abbrev pub sort_value_of : Property → Value → Option SortValue
+sort_value_of property.Year chunks = year_value chunks
+sort_value_of property.Author chunks = people_value chunks
+sort_value_of property.Title chunks = title_value chunks
+sort_value_of property.Key chunks = None
+sort_value_of property.Type chunks = None
 
 -- the order of two sort values: numbers by size, and lists of texts by the first text in which they differ; texts by their bytes
 abbrev pub value_cmp : SortValue → SortValue → Ordering

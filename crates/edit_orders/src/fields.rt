@@ -6,7 +6,7 @@ ghost use Rattle.bib_syntax.specs.Views.{entry_reading_of, field_of, piece_of};
 ghost use Rattle.edit_orders.specs.Fields as spec;
 
 use crate::order::{Property, SortBy};
-use crate::values::{SortValue, one_text, value_of};
+use crate::values::{SortValue, one_text, sort_value_of};
 use bib_abbreviations::reader::FieldReader;
 use bib_chunks::chunk::Chunks;
 use bib_chunks::chunk::making::push_normal;
@@ -130,7 +130,7 @@ fn field_value<'s>(
         return Ok(None);
     };
     let chunks = contents(alloc, field, reader)?;
-    value_of(alloc, property, chunks.as_slice())
+    sort_value_of(alloc, property, chunks.as_slice())
 }
 
 // Returns the sort value of an entry by a property.

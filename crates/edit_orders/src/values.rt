@@ -69,12 +69,12 @@ fn title_value(alloc: Global, chunks: ChunksRef<'_>) -> Result<Option<SortValue>
 }
 
 // Returns the sort value of a property that is in a field with these contents.
-pub(crate) fn value_of(
+pub(crate) fn sort_value_of(
     alloc: Global,
     property: Property,
     chunks: ChunksRef<'_>,
 ) -> Result<Option<SortValue>, AllocError>
-    ensures { IfOk result (λ value. value ≡ spec.value_of property chunks.now) }
+    ensures { IfOk result (λ value. value ≡ spec.sort_value_of property chunks.now) }
 {
     match property {
         Property::Year => year_value(alloc, chunks),

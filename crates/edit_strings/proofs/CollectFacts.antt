@@ -31,7 +31,7 @@ use Rattle.edit_entries.proofs.PlacelessFacts.{file_placeless}
 use Rattle.edit_entries.proofs.TrimmedFacts.{IsFieldPlaced, edits_earlier}
 use Rattle.edit_entries.proofs.SplitFacts.{FileBefore, ahead_file_before, block_of, joined_file, split_file}
 use Rattle.edit_format.specs.Formatted.{line_end_of}
-use Rattle.edit_strings.specs.Collected.{AreCollectedTexts, AreMadeAbbreviations, AreNames, AreThoseThat, RepeatsInBraces, collection, definition_lines, distinct, first_start, has_digit_first, is_before, is_month, is_reusable, known_name, line_readings, name_value, named_text, named_texts, single_text, text_index, text_value, with_definitions, with_lines}
+use Rattle.edit_strings.specs.Collected.{AreCollectedTexts, AreMadeAbbreviations, AreNames, AreThoseThat, RepeatsInBraces, collection, definition_lines, distinct, first_entry_start, has_digit_first, is_before, is_month, is_reusable, known_name, line_readings, name_value, named_text, named_texts, single_text, text_index, text_value, with_definitions, with_lines}
 use Rattle.edit_strings.specs.Collecting.{collection_by}
 use Rattle.edit_strings.specs.Exchanged.{Exchange, exchanges}
 use Rattle.edit_strings.specs.Expanded.{Index, elements}
@@ -58,7 +58,7 @@ pub record IsReadAsName (name : List ℕ) : Type 0 where
 reusable_no_digit : (says : FileReading) (text : List ℕ) (f : FieldReading) → is_reusable says text f ≡ true
     → has_digit_first f.name.text ≡ false
 reusable_no_digit says text f is =
-    by_case (is_before (first_start says.entries) f) (is_month f.name.text) (has_digit_first f.name.text)
+    by_case (is_before (first_entry_start says.entries) f) (is_month f.name.text) (has_digit_first f.name.text)
     (count_by (has_name f.name.text) says.abbreviations == 1) (single_text (elements f)) is
   where
     by_case : (before month digit once : Bool) (own : Option (List ℕ))
@@ -231,13 +231,13 @@ module _ (d : Document) (read : IsDocument d) (utf8 : IsUtf8 d.text) (exchange :
 
   -- they come after an insertion before the first entry
   pub lines_in_order : (lines : List ℕ) → AreEditsInOrder d.text 0
-      ((record { start = first_start d.says.entries; end = first_start d.says.entries; bytes = lines })
+      ((record { start = first_entry_start d.says.entries; end = first_entry_start d.says.entries; bytes = lines })
       ∷ entry_edits exchange d.text d.says.entries)
   lines_in_order lines = by_case d.says.entries refl
     where
       by_case : (es : List EntryReading) → d.says.entries ≡ es
           → AreEditsInOrder d.text 0
-          ((record { start = first_start es; end = first_start es; bytes = lines }) ∷ entry_edits exchange d.text es)
+          ((record { start = first_entry_start es; end = first_entry_start es; bytes = lines }) ∷ entry_edits exchange d.text es)
       by_case [] is = (omega arith, omega arith, cut_file d.text refl read, cut_file d.text refl read, tt)
       by_case (e ∷ es) is =
           let cut = (subst (AreEntriesCut d.text 0) is (document_cut d.text d.says read)).0.end_cut in (
@@ -360,12 +360,12 @@ module _ (d : Document) (read : IsDocument d) (utf8 : IsUtf8 d.text) (exchange :
       }
 
   pub with_lines_read : (texts ≡ [] → names ≡ []) → (length d.says.entries ≡ 0 → texts ≡ [])
-      → IsReadPlaceless (with_definitions (first_start d.says.entries) readings changed_says) (with_lines d lines now)
+      → IsReadPlaceless (with_definitions (first_entry_start d.says.entries) readings changed_says) (with_lines d lines now)
   with_lines_read no_names no_texts = by_case d.says.entries refl
     where
       by_case : (es : List EntryReading) → d.says.entries ≡ es
-          → IsReadPlaceless (with_definitions (first_start es) readings changed_says)
-          (edited (record { start = first_start es; end = first_start es; bytes = lines }) now)
+          → IsReadPlaceless (with_definitions (first_entry_start es) readings changed_says)
+          (edited (record { start = first_entry_start es; end = first_entry_start es; bytes = lines }) now)
       by_case [] is = none_read [] is refl (no_texts (ap length is)) (no_names (no_texts (ap length is)))
       by_case (e ∷ es) is = some_read e es is
 
@@ -403,7 +403,7 @@ module _ (d : Document) (read : IsDocument d) (utf8 : IsUtf8 d.text) (fields tex
 
   pub collected_read : (least : ℕ) → AreCollectedTexts fields least d.says.entries texts
       → IsReadPlaceless
-      (with_definitions (first_start d.says.entries) (line_readings d.says names texts)
+      (with_definitions (first_entry_start d.says.entries) (line_readings d.says names texts)
       (file_changed (exchanges (collection fields texts names)) d.says))
       (with_lines d (definition_lines d.says (line_end_of d.text) names texts) (text_changed (exchanges (collection fields texts names)) d))
   collected_read least chosen =
@@ -437,7 +437,7 @@ collected_answer bytes (Ok made) d fields texts names least read utf8 named chos
   read =
       subst
       (IsReadPlaceless
-      (with_definitions (first_start d.says.entries) (line_readings d.says names texts)
+      (with_definitions (first_entry_start d.says.entries) (line_readings d.says names texts)
       (file_changed (exchanges (collection fields texts names)) d.says))) (sym text)
       (collected_read d read utf8 fields texts names named (max least 2) chosen);
 }
@@ -445,19 +445,19 @@ collected_answer bytes (Ok made) d fields texts names least read utf8 named chos
 -- the edits of the code: the lines before the first entry, and those of `collection`
 pub all_edits_known : (d : Document) (edits : List Edit) (first : Edit) (fields texts names : List (List ℕ)) (bytes text : List ℕ)
     (index : Index) (start : ℕ) (es : List EntryReading) → text ≡ d.text → es ≡ d.says.entries → index ≡ text_index texts
-    → first ≡ (let e : Edit = record { start = start; end = start; bytes = bytes } in e) → start ≡ first_start es
+    → first ≡ (let e : Edit = record { start = start; end = start; bytes = bytes } in e) → start ≡ first_entry_start es
     → edits ≡ first ∷ entry_edits (collection_by fields index names) text es
     → edits
-    ≡ (let e : Edit = record { start = first_start d.says.entries; end = first_start d.says.entries; bytes = bytes } in e)
+    ≡ (let e : Edit = record { start = first_entry_start d.says.entries; end = first_entry_start d.says.entries; bytes = bytes } in e)
     ∷ entry_edits (collection fields texts names) d.text d.says.entries
 all_edits_known d edits first fields texts names bytes text index start es same listed is first_is start_is are =
-    let at : start ≡ first_start d.says.entries = start_is ∙ ap first_start listed in
+    let at : start ≡ first_entry_start d.says.entries = start_is ∙ ap first_entry_start listed in
     are
     ∙ ap (λ e. e ∷ entry_edits (collection_by fields index names) text es)
     (first_is ∙ ap (λ n. let e : Edit = record { start = n; end = n; bytes = bytes } in e) at)
     ∙ ap
     (λ more.
-    (let e : Edit = record { start = first_start d.says.entries; end = first_start d.says.entries; bytes = bytes } in e) ∷ more)
+    (let e : Edit = record { start = first_entry_start d.says.entries; end = first_entry_start d.says.entries; bytes = bytes } in e) ∷ more)
     (edits_known d (entry_edits (collection_by fields index names) text es) fields texts names index text es same listed is refl)
 
 -- the bytes of a result, by an equation
@@ -468,14 +468,14 @@ made_known bytes (Ok made) one other same is = is ∙ same
 
 -- the definitions of a file are those before the first entry, followed by the others
 pub definitions_parted : (d : Document) → IsDocument d
-    → filter (is_before (first_start d.says.entries)) d.says.abbreviations
-    ++ filter (λ f. not (is_before (first_start d.says.entries) f)) d.says.abbreviations
+    → filter (is_before (first_entry_start d.says.entries)) d.says.abbreviations
+    ++ filter (λ f. not (is_before (first_entry_start d.says.entries) f)) d.says.abbreviations
     ≡ d.says.abbreviations
 definitions_parted d read = by_case d.says.entries refl
   where
     by_case : (es : List EntryReading) → d.says.entries ≡ es
-        → filter (is_before (first_start es)) d.says.abbreviations
-        ++ filter (λ f. not (is_before (first_start es) f)) d.says.abbreviations
+        → filter (is_before (first_entry_start es)) d.says.abbreviations
+        ++ filter (λ f. not (is_before (first_entry_start es) f)) d.says.abbreviations
         ≡ d.says.abbreviations
     by_case [] is =
         let kept = all_kept d.says.abbreviations in

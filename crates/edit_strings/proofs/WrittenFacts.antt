@@ -14,7 +14,7 @@ use Rattle.bib_syntax.specs.declared.raw.Pair.{Pair}
 use Rattle.edit_entries.proofs.AllFacts.{all_weaker}
 use Rattle.edit_strings.specs.Expanded.{Index, WritesOut, elements, elements_at, index_before, is_early, is_early_use, name_at, piece_index}
 use Rattle.edit_strings.specs.Expanded.{WritesOut as writes}
-use Rattle.edit_strings.specs.Tables.{AreIndices, AreOrdered, AreRows, IndexedPiece, IsBelow, IsIndexBelow, all_visits, index_in_any_case, indexed_back, indexed_of, row_at, rows_of, staying, visits, with_index}
+use Rattle.edit_strings.specs.Tables.{AreIndices, AreOrdered, AreRows, IndexedPiece, IsBelow, IsIndexBelow, all_visits, lowercase_index_in, indexed_back, indexed_of, row_at, rows_of, staying, visits, with_index}
 use Rattle.edit_strings.specs.Tables.IndexedPiece.{indexed}
 use Rattle.edit_strings.specs.declared.written.Indexed.{Indexed}
 use Rattle.edit_strings.proofs.ElementFacts.{IsSome}
@@ -77,16 +77,16 @@ name_of_pair xs i x within is =
 -- whether a definition uses its own name, or a name before its definition, by the maps of the code
 pub early_is : (xs : List Pair) (i : ℕ) (x : Pair) → i < length xs → x ≡ get_or xs i x → (all earlier : BTreeMap (String Global) ℕ)
     → AreIndices all (map field_of xs) (length xs) → AreIndices earlier (map field_of xs) i
-    → list_any (is_early_use x.key.v.now (index_in_any_case all) (index_in_any_case earlier)) (map piece_of x.value.v.items)
+    → list_any (is_early_use x.key.v.now (lowercase_index_in all) (lowercase_index_in earlier)) (map piece_of x.value.v.items)
     ≡ is_early (map field_of xs) i
 early_is xs i x within is all earlier whole before =
     let defined : List FieldReading = map field_of xs in
     let pieces : List Piece = map piece_of x.value.v.items in
     let own : List ℕ = x.key.v.now in
-    let last : index_in_any_case all ≡ index_before defined (length xs) = λ k name. whole name k in
-    let first : index_in_any_case earlier ≡ index_before defined i = λ k name. before name k in
-    ap (λ ix. list_any (is_early_use own ix (index_in_any_case earlier)) pieces) last
-    ∙ ap (λ n. list_any (is_early_use own (index_before defined n) (index_in_any_case earlier)) pieces) (sym (length-map xs field_of))
+    let last : lowercase_index_in all ≡ index_before defined (length xs) = λ k name. whole name k in
+    let first : lowercase_index_in earlier ≡ index_before defined i = λ k name. before name k in
+    ap (λ ix. list_any (is_early_use own ix (lowercase_index_in earlier)) pieces) last
+    ∙ ap (λ n. list_any (is_early_use own (index_before defined n) (lowercase_index_in earlier)) pieces) (sym (length-map xs field_of))
     ∙ ap (λ ix. list_any (is_early_use own (index_before defined (length defined)) ix) pieces) first
     ∙ ap (λ name. list_any (is_early_use name (index_before defined (length defined)) (index_before defined i)) pieces)
     (sym (name_of_pair xs i x within is))

@@ -116,9 +116,9 @@ is_one_in_any_case names name = list_any (λ other. is_word other name) names
 -- ---- definitions that can be reused
 
 -- the byte offset of the first entry; 0 if there is none
-abbrev pub first_start : List EntryReading → ℕ
-first_start [] = 0
-first_start (e ∷ es) = e.start
+abbrev pub first_entry_start : List EntryReading → ℕ
+first_entry_start [] = 0
+first_entry_start (e ∷ es) = e.start
 
 -- whether a definition is before a byte offset
 abbrev pub is_before : ℕ → FieldReading → Bool
@@ -134,7 +134,7 @@ is_reusable_name says name =
 -- can be reused. BibTeX reads a file from top to bottom, so a definition after an entry doesn't count in this entry.
 abbrev pub reusable_text : FileReading → FieldReading → Option (List ℕ)
 reusable_text says f =
-    cond (is_before (first_start says.entries) f && is_reusable_name says f.name.text) (single_text (elements f)) None
+    cond (is_before (first_entry_start says.entries) f && is_reusable_name says f.name.text) (single_text (elements f)) None
 
 -- whether a definition can be reused for a text
 abbrev pub is_reusable : FileReading → List ℕ → FieldReading → Bool
@@ -241,7 +241,7 @@ line_readings says (name ∷ names) (text ∷ texts) =
 
 -- the text of a document with these lines before the first entry
 abbrev pub with_lines : Document → List ℕ → List ℕ → List ℕ
-with_lines d lines text = edited (record { start = first_start d.says.entries; end = first_start d.says.entries; bytes = lines }) text
+with_lines d lines text = edited (record { start = first_entry_start d.says.entries; end = first_entry_start d.says.entries; bytes = lines }) text
 
 -- the reading of a file with more definitions: between those before a byte offset and the others
 abbrev pub with_definitions : ℕ → List FieldReading → FileReading → FileReading
@@ -261,5 +261,5 @@ pub record AreMadeAbbreviations (d : Document) (fields : List (List ℕ)) (least
       ≡ with_lines d (definition_lines d.says (line_end_of d.text) names texts) (text_changed (exchanges (collection fields texts names)) d)
   pub read :
       IsReadPlaceless
-      (with_definitions (first_start d.says.entries) (line_readings d.says names texts)
+      (with_definitions (first_entry_start d.says.entries) (line_readings d.says names texts)
       (file_changed (exchanges (collection fields texts names)) d.says)) text

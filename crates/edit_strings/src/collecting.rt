@@ -16,7 +16,7 @@ ghost use Rattle.edit_strings.specs.Tables.{entry_edits, field_edits, value_edit
 ghost use Rattle.edit_entries.specs.EditList.{edit_of};
 
 use crate::collected::collected_texts;
-use crate::known::{first_start, known_names};
+use crate::known::{first_entry_start, known_names};
 use crate::naming::names;
 use crate::taken::Taken;
 use crate::texts::{counts, named_text, named_texts};
@@ -222,7 +222,7 @@ fn with_collection(
         &collection.names,
         texts,
     )?;
-    let start = first_start(&raw.entries);
+    let start = first_entry_start(&raw.entries);
     let first = Edit {
         start,
         end: start,

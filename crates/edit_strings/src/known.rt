@@ -16,8 +16,8 @@ use std::alloc::{AllocError, Global};
 use std::collections::BTreeMap;
 
 // Returns the byte offset of the first entry, or 0 if there is none.
-pub(crate) fn first_start(entries: &[Spanned<RawEntry<'_>>]) -> usize
-    ensures { result ≡ spec.first_start (map entry_reading_of entries.now) }
+pub(crate) fn first_entry_start(entries: &[Spanned<RawEntry<'_>>]) -> usize
+    ensures { result ≡ spec.first_entry_start (map entry_reading_of entries.now) }
 {
     match entries {
         [first, ..] => first.span.start,
@@ -91,7 +91,7 @@ fn reusable_text<'s>(
     definition: &Pair<'s>,
 ) -> Result<Option<&'s str>, AllocError>
     ensures { IfOk result (λ text. (says : FileReading) → AreNameCounts counts.now says.abbreviations →
-        start ≡ spec.first_start says.entries →
+        start ≡ spec.first_entry_start says.entries →
         option_map (λ t. t.now) text ≡ spec.reusable_text says (field_of definition.now)) }
 {
     if definition.key.span.start >= start {
@@ -129,7 +129,7 @@ pub(crate) fn known_names<'s>(
     ensures { IfOk result (λ known. (text : List ℕ) → known_in known text ≡ known_name (file_of raw.now) text) }
 {
     let counts = name_counts(alloc, &raw.abbreviations)?;
-    let start = first_start(&raw.entries);
+    let start = first_entry_start(&raw.entries);
     let mut known = BTreeMap::new(alloc);
     'definitions: for definition in &raw.abbreviations {
         let text = reusable_text(alloc, &counts, start, definition)?;

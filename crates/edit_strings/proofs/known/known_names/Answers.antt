@@ -5,7 +5,7 @@ use Rattle.std.proofs.lemmas.List.{take_all}
 use Rattle.bib_syntax.specs.Reading.{FieldReading, FileReading}
 use Rattle.bib_syntax.specs.Views.{entry_reading_of, field_of, file_of}
 use Rattle.bib_syntax.specs.declared.raw.Pair.{Pair}
-use Rattle.edit_strings.specs.Collected.{first_start, is_reusable}
+use Rattle.edit_strings.specs.Collected.{first_entry_start, is_reusable}
 use Rattle.edit_strings.specs.Collecting.{AreNameCounts, learned}
 use Rattle.edit_strings.proofs.KnownFacts.{learned_more}
 use Rattle.edit_strings.proofs.TextFacts.{one_more}
@@ -26,7 +26,7 @@ definitions-preserved c = λ text.
     ∙ ap (λ l. map field_of (take i l) ++ f ∷ []) listed in
     let counted : AreNameCounts c.in_ok-counts.counts says.abbreviations =
     subst (λ l. AreNameCounts c.in_ok-counts.counts (map field_of l)) c.deref.ensures.value c.in_ok-counts.ensures in
-    let start = c.first_start-start.ensures ∙ ap (λ l. first_start (map entry_reading_of l)) c.deref-2.ensures.value in
+    let start = c.first_entry_start-start.ensures ∙ ap (λ l. first_entry_start (map entry_reading_of l)) c.deref-2.ensures.value in
     c.in_ok-learn.ensures text
     ∙ ap (λ o. learned o (option_map (λ t. t.now) c.in_ok-text.text) f text) (c.definitions.invariant text)
     ∙ learned_more says text so_far f (option_map (λ t. t.now) c.in_ok-text.text) (c.in_ok-text.ensures says counted start)
