@@ -7,7 +7,7 @@ _bibkit() {
     local fields='author editor title subtitle booktitle journaltitle journal series edition volume number pages publisher location address
         institution school organization date year month doi isbn issn url urldate note keywords abstract crossref'
     if [ "$COMP_CWORD" = 1 ]; then
-        mapfile -t COMPREPLY < <(compgen -W 'lint keys get select grep cited stats fmt convert resolve set unset rename rekey edit remove add strings help --help --version' -- "$current")
+        mapfile -t COMPREPLY < <(compgen -W 'lint keys get select grep cited stats fmt convert resolve set unset rename rekey edit remove add strings recode help --help --version' -- "$current")
         return
     fi
     case $previous in
@@ -30,7 +30,13 @@ _bibkit() {
             return
             ;;
         --from)
-            mapfile -t COMPREPLY < <(compgen -W 'bib csl' -- "$current")
+            local from='bib csl'
+            [ "$command" = recode ] && from='utf-8 utf-16 utf-16le utf-16be windows-1252 latin1'
+            mapfile -t COMPREPLY < <(compgen -W "$from" -- "$current")
+            return
+            ;;
+        --line-ends)
+            mapfile -t COMPREPLY < <(compgen -W 'lf crlf' -- "$current")
             return
             ;;
         --indent)
@@ -77,7 +83,8 @@ _bibkit() {
         [ "$command" = strings ] && options='--expand --collect --fields --at-least --file --write --diff --help'
         [ "$command" = fmt ] && options='--indent --align --no-align --trailing-comma --no-trailing-comma --blank-lines --delimiters --order
             --width --sort --check --write --diff --help'
-        [ "$command" = convert ] && options='--to --from --help'
+        [ "$command" = convert ] && options='--to --from --where --help'
+        [ "$command" = recode ] && options='--from --line-ends --bom --file --write --help'
         [ "$command" = resolve ] && options='--write --diff --help'
         [ "$command" = lint ] && options='--only --ignore --explain --format --cited --unused --color --help'
         mapfile -t COMPREPLY < <(compgen -W "$options" -- "$current")

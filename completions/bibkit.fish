@@ -1,5 +1,5 @@
 # Completions of bibkit for fish: put this file into ~/.config/fish/completions.
-set -l commands lint keys get select grep cited stats fmt convert resolve set unset rename rekey edit remove add strings help
+set -l commands lint keys get select grep cited stats fmt convert resolve set unset rename rekey edit remove add strings recode help
 set -l edits set unset rename rekey edit remove add strings
 set -l codes unread-bytes syntax unread-field unknown-abbreviation circular-abbreviation duplicate-key circular-reference \
     unread-date missing-field superfluous-field malformed-field unknown-field unknown-reference likely-duplicate missing-entry \
@@ -26,6 +26,7 @@ complete -c bibkit -n "not __fish_seen_subcommand_from $commands" -a edit -d 'Ed
 complete -c bibkit -n "not __fish_seen_subcommand_from $commands" -a remove -d 'Remove entries'
 complete -c bibkit -n "not __fish_seen_subcommand_from $commands" -a add -d 'Add the entries of standard input'
 complete -c bibkit -n "not __fish_seen_subcommand_from $commands" -a strings -d 'Expand abbreviations, or collect repeated texts'
+complete -c bibkit -n "not __fish_seen_subcommand_from $commands" -a recode -d 'Print a file as UTF-8'
 complete -c bibkit -n "not __fish_seen_subcommand_from $commands" -a help -d 'Print help'
 complete -c bibkit -n "not __fish_seen_subcommand_from $commands" -s V -l version -d 'Print the version'
 complete -c bibkit -s h -l help -d 'Print help'
@@ -53,7 +54,7 @@ complete -c bibkit -n '__fish_seen_subcommand_from resolve' -l write -d 'Write t
 complete -c bibkit -n '__fish_seen_subcommand_from resolve' -l diff -d 'Print a diff'
 complete -c bibkit -n '__fish_seen_subcommand_from convert' -x -l to -a 'csl json ris biblatex bibtex' -d 'The format'
 complete -c bibkit -n '__fish_seen_subcommand_from convert' -x -l from -a 'bib csl' -d 'The format of the input'
-complete -c bibkit -n '__fish_seen_subcommand_from select edit' -x -l where -d 'Only entries that meet this condition'
+complete -c bibkit -n '__fish_seen_subcommand_from convert select edit' -x -l where -d 'Only entries that meet this condition'
 complete -c bibkit -n '__fish_seen_subcommand_from select' -l complete -d 'Print also what they use'
 complete -c bibkit -n '__fish_seen_subcommand_from select' -l keys -d 'Print only their keys'
 complete -c bibkit -n '__fish_seen_subcommand_from edit' -x -l rename -d 'Rename a field: OLD=NEW'
@@ -66,6 +67,11 @@ complete -c bibkit -n '__fish_seen_subcommand_from strings' -l expand -d 'Replac
 complete -c bibkit -n '__fish_seen_subcommand_from strings' -l collect -d 'Collect repeated texts'
 complete -c bibkit -n '__fish_seen_subcommand_from strings' -x -l fields -a "$fields" -d 'Collect the texts of these fields'
 complete -c bibkit -n '__fish_seen_subcommand_from strings' -x -l at-least -d 'Minimum number of occurrences'
+complete -c bibkit -n '__fish_seen_subcommand_from recode' -x -l from -a 'utf-8 utf-16 utf-16le utf-16be windows-1252 latin1' -d 'The encoding of the file'
+complete -c bibkit -n '__fish_seen_subcommand_from recode' -x -l line-ends -a 'lf crlf' -d 'Write line ends of this kind'
+complete -c bibkit -n '__fish_seen_subcommand_from recode' -l bom -d 'Write a byte order mark'
+complete -c bibkit -n '__fish_seen_subcommand_from recode' -r -s f -l file -d 'The file to recode'
+complete -c bibkit -n '__fish_seen_subcommand_from recode' -l write -d 'Write the new text to the file'
 complete -c bibkit -n "__fish_seen_subcommand_from $edits" -r -s f -l file -d 'The file to edit'
 complete -c bibkit -n "__fish_seen_subcommand_from $edits" -l write -d 'Write the new text to the file'
 complete -c bibkit -n "__fish_seen_subcommand_from $edits" -l diff -d 'Print a diff'

@@ -423,13 +423,13 @@ Status: 0 done, 1 an edit is refused or the file has errors, 2 wrong usage, or a
 
 // The text at the end of the help of `strings`.
 const STRINGS_HELP: &str = "\
---expand keeps all definitions. --collect writes its definitions at the start of the file. By default it collects the texts of journal,
-journaltitle, publisher, series, institution, school, organization, address and location.
+--expand keeps all definitions. --collect reuses definitions before the first entry, and writes its own there. By default it collects the
+texts of journal, journaltitle, publisher, series, institution, school, organization, address and location.
 
 Example:
   bibkit strings --collect --fields journaltitle,publisher --file refs.bib --write
 
-Status: 0 done, 1 an abbreviation refers to itself or the file has errors, 2 wrong usage, or a file or the output failed, 3 out of memory";
+Status: 0 done, 1 a definition uses a name before its definition or the file has errors, 2 wrong usage, or a file or the output failed, 3 out of memory";
 
 // The text at the end of the help of `recode`.
 const RECODE_HELP: &str = "\
