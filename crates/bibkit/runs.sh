@@ -442,11 +442,11 @@ run 'abbreviations of standard input are written out' 0 "$expanded" strings --ex
 run 'no abbreviation is written out' 0 "$(cat two.bib)"$'\n' strings --expand -f two.bib
 run 'abbreviations of an empty input' 0 '' strings --expand
 printf '@string{s = "a", s = {b}}\n@misc{k, t = s, u = S}\n' >again.bib
-run 'the last of two definitions' 0 $'@string{s = "a", s = {b}}\n@misc{k, t = {b}, u = S}\n' strings --expand -f again.bib
+run 'the last of two definitions' 0 $'@string{s = "a", s = {b}}\n@misc{k, t = {b}, u = {b}}\n' strings --expand -f again.bib
 printf '@string{z = one}\n@string{one = two}\n@string{two = {y} # one}\n@misc{k, t = z}\n' >cycle.bib
-refuses 'an abbreviation that uses itself' 1 $'cycle.bib:2:9: error: abbreviation `one` refers to itself [circular-abbreviation]\n' strings --expand -f cycle.bib
+refuses 'an abbreviation that uses a later one' 1 $'cycle.bib:1:9: error: abbreviation `z` uses a name before its definition\n' strings --expand -f cycle.bib
 printf '\xef\xbb\xbf@string{\r\n  \xc3\xa9 = {x}, own = own}\r\n@misc{k, t = own}\r\n' >own.bib
-refuses 'the place of an abbreviation that uses itself' 1 $'own.bib:2:12: error: abbreviation `own` refers to itself [circular-abbreviation]\n' strings --expand -f own.bib
+refuses 'the place of an abbreviation that uses itself' 1 $'own.bib:2:12: error: abbreviation `own` uses a name before its definition\n' strings --expand -f own.bib
 refuses 'abbreviations of a file with an error' 1 $'broken.bib:3:1: error: expected comma [syntax]\n' strings --expand -f broken.bib
 refuses 'abbreviations of a file that is not there' 2 $'bibkit: no.bib: there is no such file\n' strings --expand -f no.bib
 

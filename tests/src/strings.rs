@@ -14,7 +14,7 @@ pub struct Strings;
 fn expanded(alloc: Global, document: &RawDocument<'_>) -> Result<String, AllocError> {
     match expand(alloc, document) {
         Ok(new) => Ok(new),
-        Err(ExpandError::Cycle(index)) => format!(in alloc; "refused: cycle at {index}"),
+        Err(ExpandError::EarlyUse(index)) => format!(in alloc; "refused: early use at {index}"),
         Err(ExpandError::OutOfMemory) => String::from_str(alloc, "refused: out of memory"),
     }
 }

@@ -169,7 +169,7 @@ fn refused_line(
     }
 }
 
-// Returns the message for a definition that refers to itself, with its position.
+// Returns the message for a definition with an early use, with its position.
 fn definition_line(
     alloc: Global,
     name: &str,
@@ -177,15 +177,15 @@ fn definition_line(
     definition: &Pair<'_>,
 ) -> Result<String, AllocError> {
     let said = format!(in alloc;
-        "abbreviation `{}` refers to itself [circular-abbreviation]",
+        "abbreviation `{}` uses a name before its definition",
         definition.key.v
     )?;
     error_line(alloc, name, text, definition.key.span.start, &said)
 }
 
-// Returns the message for the definition with the index `definition`, which refers to itself. The message has no position if `text`
-// has no definition with this index.
-fn cycle_line(
+// Returns the message for the definition with the index `definition`, which uses its own name, or a name before the name's first
+// definition. The message has no position if `text` has no definition with this index.
+fn early_use_line(
     alloc: Global,
     name: &str,
     text: &[u8],
@@ -198,7 +198,7 @@ fn cycle_line(
             }
         }
     }
-    format!(in alloc; "bibkit: {name}: an abbreviation refers to itself\n")
+    format!(in alloc; "bibkit: {name}: an abbreviation uses a name before its definition\n")
 }
 
 // Returns the message for an entry that inherits from itself, with the position of its key. The message has no position if `text` has no
@@ -248,7 +248,7 @@ fn refusal_message(
         Refusal::File(error) => syntax_line(alloc, name, after_mark(bytes), error),
         Refusal::Added(error) => syntax_line(alloc, "-", added_text(edits).as_bytes(), error),
         Refusal::Edit { index, why } => refused_line(alloc, name, bytes, edits.get(*index), *why),
-        Refusal::Cycle { definition, .. } => cycle_line(
+        Refusal::EarlyUse { definition, .. } => early_use_line(
             alloc,
             name,
             after_mark(bytes),

@@ -160,9 +160,9 @@ first_refused done rest edit {new = new} (refusal.Added e) first refused =
 first_refused done rest edit {text} {new} (refusal.Edit at why) first refused =
     subst (λ i. AreRefused (done ++ edit ∷ rest) text (refusal.Edit i why)) (sym refused.0)
     (AreRefused.refused edit done rest new refused.1.document refl first.made refused.1.read refused.1.refused)
-first_refused done rest edit {text} {new} (refusal.Cycle at definition) first refused =
-    subst (λ i. AreRefused (done ++ edit ∷ rest) text (refusal.Cycle i definition)) (sym refused.0)
-    (AreRefused.cycle edit done rest new refused.1.document refl first.made refused.1.read refused.1.meets)
+first_refused done rest edit {text} {new} (refusal.EarlyUse at definition) first refused =
+    subst (λ i. AreRefused (done ++ edit ∷ rest) text (refusal.EarlyUse i definition)) (sym refused.0)
+    (AreRefused.early_use edit done rest new refused.1.document refl first.made refused.1.read refused.1.meets)
 first_refused done rest edit {text} {new} (refusal.ReferenceCycle at entry) first refused =
     subst (λ i. AreRefused (done ++ edit ∷ rest) text (refusal.ReferenceCycle i entry)) (sym refused.0)
     (AreRefused.reference_cycle edit done rest new refused.1.document refl first.made refused.1.read refused.1.meets)
@@ -291,7 +291,7 @@ pub step_refused : (edit : Edit) (text : List ℕ) (index : ℕ) (d : Document) 
     → StepIsRefused edit d s → IsTextRefused edit text index (refusal_at s index)
 step_refused edit text index d (step.Added e) read refused = added_refused edit text index e e.kind refl refused
 step_refused edit text index d (step.Refused why) read refused = edit_refused edit text index d why read refused
-step_refused edit text index d (step.Cycle definition) read refused = (refl, record { document = d; read = read; meets = refused })
+step_refused edit text index d (step.EarlyUse definition) read refused = (refl, record { document = d; read = read; meets = refused })
 step_refused edit text index d (step.ReferenceCycle entry) read refused = (refl, record { document = d; read = read; meets = refused })
 
 -- the result of adding the document of a text is the result of adding the text

@@ -139,10 +139,11 @@ IsEditRefused (Remove key) d why = EntryIsRefused d key.now why
 IsEditRefused (Add text) d why = TextIsRefused d text.now why
 IsEditRefused _ d why = ⊥
 
--- the edit expands the abbreviations of the document, and the definition at this index refers to itself
-abbrev pub MeetsCycle : Edit → Document → ℕ → Type 0
-MeetsCycle Expand d definition = ExpandIsRefused d (expand_error.Cycle definition)
-MeetsCycle _ d definition = ⊥
+-- the edit expands the abbreviations of the document, and the definition at this index uses its own name, or a name before the name's
+-- first definition
+abbrev pub MeetsEarlyUse : Edit → Document → ℕ → Type 0
+MeetsEarlyUse Expand d definition = ExpandIsRefused d (expand_error.EarlyUse definition)
+MeetsEarlyUse _ d definition = ⊥
 
 -- the edit resolves the references of the document, and the entry at this index inherits from itself
 abbrev pub MeetsReferenceCycle : Edit → Document → ℕ → Type 0
@@ -155,7 +156,7 @@ AddsText (Add text) added = added ≡ text.now
 AddsText _ added = ⊥
 
 -- Edits of a text may be refused for this reason. Either the text has an error that makes parsing fail, or out of memory. Or the first
--- edits are made, and the next one adds a text with such an error, is refused, expands a definition that refers to itself, or resolves an
+-- edits are made, and the next one adds a text with such an error, is refused, expands a document with an early use, or resolves an
 -- entry that inherits from itself. The index in a refusal is the number of edits before the refused one.
 pub data AreRefused (edits : List Edit) (text : List ℕ) : Refusal → Type 0 where
   file : {e : ParseError} → IsReported text e → AreRefused edits text (refusal.File e)
@@ -165,9 +166,9 @@ pub data AreRefused (edits : List Edit) (text : List ℕ) : Refusal → Type 0 w
   refused : {why : EditError} (edit : Edit) (done rest : List Edit) (between : List ℕ) (d : Document)
       → edits ≡ done ++ edit ∷ rest → AreMade done text between → IsDocumentOf between d
       → IsEditRefused edit d why → AreRefused edits text (refusal.Edit (length done) why)
-  cycle : {definition : ℕ} (edit : Edit) (done rest : List Edit) (between : List ℕ) (d : Document)
+  early_use : {definition : ℕ} (edit : Edit) (done rest : List Edit) (between : List ℕ) (d : Document)
       → edits ≡ done ++ edit ∷ rest → AreMade done text between → IsDocumentOf between d
-      → MeetsCycle edit d definition → AreRefused edits text (refusal.Cycle (length done) definition)
+      → MeetsEarlyUse edit d definition → AreRefused edits text (refusal.EarlyUse (length done) definition)
   reference_cycle : {entry : ℕ} (edit : Edit) (done rest : List Edit) (between : List ℕ) (d : Document)
       → edits ≡ done ++ edit ∷ rest → AreMade done text between → IsDocumentOf between d
       → MeetsReferenceCycle edit d entry → AreRefused edits text (refusal.ReferenceCycle (length done) entry)

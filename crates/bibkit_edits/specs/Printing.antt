@@ -65,7 +65,7 @@ refusal_status (refusal.NotUtf8 at) = 2
 refusal_status (refusal.File e) = 1
 refusal_status (refusal.Added e) = 1
 refusal_status (refusal.Edit index why) = 1
-refusal_status (refusal.Cycle index definition) = 1
+refusal_status (refusal.EarlyUse index definition) = 1
 refusal_status (refusal.ReferenceCycle index entry) = 1
 refusal_status refusal.OutOfMemory = 3
 

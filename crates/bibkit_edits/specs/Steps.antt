@@ -15,7 +15,7 @@ use Rattle.edit_strings.specs.declared.errors.ExpandError.{ExpandError}
 use Rattle.edit_strings.specs.declared.errors.ExpandError.TheVariants as expand_error
 use Rattle.edit_resolve.specs.declared.errors.ResolveError.{ResolveError}
 use Rattle.edit_resolve.specs.declared.errors.ResolveError.TheVariants as resolve_error
-use Rattle.bibkit_edits.specs.Edited.{AddsText, AreMade, IsEditRefused, IsDocumentOf, MeetsCycle, MeetsReferenceCycle}
+use Rattle.bibkit_edits.specs.Edited.{AddsText, AreMade, IsEditRefused, IsDocumentOf, MeetsEarlyUse, MeetsReferenceCycle}
 use Rattle.bibkit_edits.specs.declared.edit.Edit.{Edit}
 use Rattle.bibkit_edits.specs.declared.edit.Refusal.{Refusal}
 use Rattle.bibkit_edits.specs.declared.edit.Refusal.TheVariants as refusal
@@ -32,7 +32,7 @@ pub record AddsUnread (edit : Edit) (e : ParseError) : Type 0 where
 abbrev pub StepIsRefused : Edit → Document → Step → Type 0
 StepIsRefused edit d (step.Added e) = AddsUnread edit e
 StepIsRefused edit d (step.Refused why) = IsEditRefused edit d why ⊎ (why ≡ error.OutOfMemory)
-StepIsRefused edit d (step.Cycle definition) = MeetsCycle edit d definition
+StepIsRefused edit d (step.EarlyUse definition) = MeetsEarlyUse edit d definition
 StepIsRefused edit d (step.ReferenceCycle entry) = MeetsReferenceCycle edit d entry
 
 -- the refusal for an error of this kind: `OutOfMemory` for that kind, otherwise the second argument
@@ -50,7 +50,7 @@ file_refusal e = unless_no_memory e.kind (refusal.File e)
 
 -- the reason for refusing an edit, from an error of expanding abbreviations
 abbrev pub expansion_step : ExpandError → Step
-expansion_step (expand_error.Cycle definition) = step.Cycle definition
+expansion_step (expand_error.EarlyUse definition) = step.EarlyUse definition
 expansion_step expand_error.OutOfMemory = step.Refused error.OutOfMemory
 
 -- the reason for refusing an edit, from an error of resolving references
@@ -67,7 +67,7 @@ edit_refusal other index = refusal.Edit index other
 abbrev pub refusal_at : Step → ℕ → Refusal
 refusal_at (step.Added e) index = added_refusal e
 refusal_at (step.Refused why) index = edit_refusal why index
-refusal_at (step.Cycle definition) index = refusal.Cycle index definition
+refusal_at (step.EarlyUse definition) index = refusal.EarlyUse index definition
 refusal_at (step.ReferenceCycle entry) index = refusal.ReferenceCycle index entry
 
 -- an edit of the document of `text` may be refused with the error `why`
@@ -76,11 +76,11 @@ pub record IsRefusedAt (edit : Edit) (text : List ℕ) (why : EditError) : Type 
   pub read : IsDocumentOf text document
   pub refused : IsEditRefused edit document why
 
--- an edit of the document of `text` expands the definition at this index, which refers to itself
-pub record MeetsCycleAt (edit : Edit) (text : List ℕ) (definition : ℕ) : Type 0 where
+-- an edit expands the document of `text`, whose definition at this index uses its own name, or a name before the name's first definition
+pub record MeetsEarlyUseAt (edit : Edit) (text : List ℕ) (definition : ℕ) : Type 0 where
   pub document : Document
   pub read : IsDocumentOf text document
-  pub meets : MeetsCycle edit document definition
+  pub meets : MeetsEarlyUse edit document definition
 
 -- an edit of the document of `text` resolves the entry at this index, which inherits from itself
 pub record MeetsReferenceCycleAt (edit : Edit) (text : List ℕ) (entry : ℕ) : Type 0 where
@@ -100,7 +100,7 @@ IsTextRefused edit text index (refusal.NotUtf8 at) = ⊥
 IsTextRefused edit text index (refusal.File e) = IsReported text e
 IsTextRefused edit text index (refusal.Added e) = AddsError edit e
 IsTextRefused edit text index (refusal.Edit at why) = (at ≡ index) × IsRefusedAt edit text why
-IsTextRefused edit text index (refusal.Cycle at definition) = (at ≡ index) × MeetsCycleAt edit text definition
+IsTextRefused edit text index (refusal.EarlyUse at definition) = (at ≡ index) × MeetsEarlyUseAt edit text definition
 IsTextRefused edit text index (refusal.ReferenceCycle at entry) = (at ≡ index) × MeetsReferenceCycleAt edit text entry
 IsTextRefused edit text index refusal.OutOfMemory = ⊤
 

@@ -106,11 +106,12 @@ pub enum Refusal {
         /// The error of the edit.
         why: EditError,
     },
-    /// The edit [`Edit::Expand`] is refused: the definition of an abbreviation refers to itself, directly or through others.
-    Cycle {
+    /// The edit [`Edit::Expand`] is refused: the definition of an abbreviation uses its own name, or a name before the name's first
+    /// definition.
+    EarlyUse {
         /// The index of the edit, from 0.
         index: usize,
-        /// The index of the definition among those of the text, from 0.
+        /// The index of the first such definition among those of the text, from 0.
         definition: usize,
     },
     /// The edit [`Edit::Resolve`] is refused: an entry inherits from itself, directly or through others.

@@ -41,8 +41,8 @@ enum Step {
     Added(ParseError),
     // The edit is refused.
     Refused(EditError),
-    // The definition of an abbreviation at this index refers to itself.
-    Cycle(usize),
+    // The definition of an abbreviation at this index uses its own name, or a name before the name's first definition.
+    EarlyUse(usize),
     // The entry at this index inherits from itself.
     ReferenceCycle(usize),
 }
@@ -68,7 +68,7 @@ impl From<ExpandError> for Step {
 
     fn from(error: ExpandError) -> Self {
         match error.unless_out_of_memory() {
-            Ok(definition) => Step::Cycle(definition),
+            Ok(definition) => Step::EarlyUse(definition),
             Err(no_memory) => Step::from(EditError::from(no_memory)),
         }
     }
@@ -98,8 +98,8 @@ fn sort_document(
     Ok(sort_entries(alloc, document, &places)?)
 }
 
-// Returns the text of a document with its abbreviations replaced by their texts. Fails if a definition refers to itself, or if out of
-// memory.
+// Returns the text of a document with its abbreviations replaced by their texts. Fails if a definition uses its own name or a name
+// before the name's first definition, or if out of memory.
 fn expand_document(alloc: Global, document: &RawDocument<'_>) -> Result<String, ExpandError>
     ensures made { IfOk result (λ new. IsEdited (IsWrittenOut document.now) (string_bytes new)) }
     ensures refused { IfErr result (ExpandIsRefused document.now) }
@@ -252,7 +252,7 @@ fn refusal(step: Step, index: usize) -> Refusal
     match step {
         Step::Added(error) => added_refusal(error),
         Step::Refused(why) => edit_refusal(why, index),
-        Step::Cycle(definition) => Refusal::Cycle { index, definition },
+        Step::EarlyUse(definition) => Refusal::EarlyUse { index, definition },
         Step::ReferenceCycle(entry) => Refusal::ReferenceCycle { index, entry },
     }
 }

@@ -26,14 +26,14 @@ abbrev bare_entry : EntryReading → EntryReading
 bare_entry e = moved_entry (λ at. 0) e
 
 -- the pieces of each field of an entry mean the same after their replacement
-abbrev pub EachMeansTheSame : Definitions → Definitions → Exchange → List EntryReading → Type 0
+abbrev pub EachMeansTheSame : Definitions → Definitions → (EntryReading → Exchange) → List EntryReading → Type 0
 EachMeansTheSame one other exchange entries =
     AllByRecursion
     (λ e.
-    AllByRecursion (λ f. MeanTheSame one other f.value.pieces (exchanged_pieces (exchange f) f.value.pieces)) e.fields)
+    AllByRecursion (λ f. MeanTheSame one other f.value.pieces (exchanged_pieces (exchange e f) f.value.pieces)) e.fields)
     entries
 
-module _ (one : Definitions) {middle other : Definitions} (both : DefineAlike middle other) (exchange : Exchange) where
+module _ (one : Definitions) {middle other : Definitions} (both : DefineAlike middle other) where
   -- a field and the field that its replacement reads as
   field_step : (f h g : FieldReading) → MeanTheSame one middle f.value.pieces h.value.pieces → f.name.text ≡ h.name.text
       → bare_field h ≡ bare_field g → AreAlikeFields one other f g
@@ -56,39 +56,40 @@ module _ (one : Definitions) {middle other : Definitions} (both : DefineAlike mi
       let h : FieldReading = record f { value = record f.value { pieces = new.pieces } } in
       (g, gs, refl, field_step f h g means refl (cons_head _ _ is), cons_tail is)
 
-  fields_alike : (fs gs : List FieldReading)
+  fields_alike : (exchange : Exchange) (fs gs : List FieldReading)
       → AllByRecursion (λ f. MeanTheSame one middle f.value.pieces (exchanged_pieces (exchange f) f.value.pieces)) fs
       → map bare_field (fields_changed fs (map (λ f. exchange_change (exchange f)) fs)) ≡ map bare_field gs
       → AllZip (AreAlikeFields one other) fs gs
-  fields_alike [] [] all is = tt
-  fields_alike [] (g ∷ gs) all is = cc
-  fields_alike (f ∷ fs) gs all is =
+  fields_alike exchange [] [] all is = tt
+  fields_alike exchange [] (g ∷ gs) all is = cc
+  fields_alike exchange (f ∷ fs) gs all is =
       let first = first_alike f (exchange f) (fields_changed fs (map (λ f. exchange_change (exchange f)) fs)) gs all.0 is in
-      subst (λ l. AllZip (AreAlikeFields one other) (f ∷ fs) l) (sym first.2) (first.3, fields_alike fs first.1 all.1 first.4)
+      subst (λ l. AllZip (AreAlikeFields one other) (f ∷ fs) l) (sym first.2) (first.3, fields_alike exchange fs first.1 all.1 first.4)
 
-  entry_alike : (e g : EntryReading)
+  entry_alike : (exchange : Exchange) (e g : EntryReading)
       → AllByRecursion (λ f. MeanTheSame one middle f.value.pieces (exchanged_pieces (exchange f) f.value.pieces)) e.fields
       → bare_entry (entry_changed e (exchanges exchange e)) ≡ bare_entry g → AreAlikeEntries one other e g
-  entry_alike e g all is = record {
+  entry_alike exchange e g all is = record {
     key = ap (λ (x : EntryReading). x.key.text) is;
     kind = ap (λ (x : EntryReading). entry_type_of x.kind.text) is;
     ordered = e.fields;
     reordered = record { found = λ name. refl; readable = λ definitions read. read };
-    fields = fields_alike e.fields g.fields all (ap (λ (x : EntryReading). x.fields) is);
+    fields = fields_alike exchange e.fields g.fields all (ap (λ (x : EntryReading). x.fields) is);
   }
 
-  entries_alike : (es gs : List EntryReading) → EachMeansTheSame one middle exchange es
-      → map bare_entry (map (λ e. entry_changed e (exchanges exchange e)) es) ≡ map bare_entry gs
+  entries_alike : (exchange : EntryReading → Exchange) (es gs : List EntryReading) → EachMeansTheSame one middle exchange es
+      → map bare_entry (map (λ e. entry_changed e (exchanges (exchange e) e)) es) ≡ map bare_entry gs
       → AllZip (AreAlikeEntries one other) es gs
-  entries_alike [] [] all is = tt
-  entries_alike [] (g ∷ gs) all is = cc
-  entries_alike (e ∷ es) [] all is = cc
-  entries_alike (e ∷ es) (g ∷ gs) all is = (entry_alike e g all.0 (cons_head _ _ is), entries_alike es gs all.1 (cons_tail is))
+  entries_alike exchange [] [] all is = tt
+  entries_alike exchange [] (g ∷ gs) all is = cc
+  entries_alike exchange (e ∷ es) [] all is = cc
+  entries_alike exchange (e ∷ es) (g ∷ gs) all is =
+      (entry_alike (exchange e) e g all.0 (cons_head _ _ is), entries_alike exchange es gs all.1 (cons_tail is))
 
 -- a file is alike to what a text reads as, if this is the file with replaced values and these definitions, except for spans
-pub files_exchanged : (exchange : Exchange) (says tells : FileReading) (definitions : List FieldReading)
+pub files_exchanged : (exchange : EntryReading → Exchange) (says tells : FileReading) (definitions : List FieldReading)
     → EachMeansTheSame (definition_in says.abbreviations) (definition_in definitions) exchange says.entries
-    → placeless tells ≡ placeless (record (file_changed (exchanges exchange) says) { abbreviations = definitions })
+    → placeless tells ≡ placeless (record (file_changed (λ e. exchanges (exchange e) e) says) { abbreviations = definitions })
     → AreAlikeFiles says tells
 files_exchanged exchange says tells definitions all is = record {
   entries =

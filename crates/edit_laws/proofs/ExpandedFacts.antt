@@ -1,93 +1,61 @@
 -- Expanded abbreviations: the expansion of pieces has their value, and can be parsed if they can.
-use Rattle.std.proofs.Common.{◌≡◌, ◌⊎◌, ℕ, List, [], ◌∷◌, ◌++◌, Bool, true, false, cond, reverse, refl, sym, ap, ◌∙◌, subst, inl, inr, Some, None, Option, option_map}
-use Rattle.std.specs.Prelude.{bytes_eq, find, if◌then◌else◌}
+use Rattle.std.proofs.Common.{◌≡◌, ◌⊎◌, ℕ, List, [], ◌∷◌, ◌++◌, Bool, true, false, refl, sym, ap, ◌∙◌, subst, inl, inr, Some, None, Option, option_map}
+use Rattle.std.specs.Prelude.{if◌then◌else◌}
 use Rattle.std.specs.List.{AllByRecursion}
-use Rattle.std.specs.Option.{option_or}
 use Rattle.std.specs.Str.{chars}
-use Rattle.std.proofs.lemmas.List.{reverse-append}
-use Rattle.std.proofs.lemmas.List.Folds.{find-append}
-use Rattle.std.proofs.lemmas.Slice.Eq.{bytes_eq-Decides}
 use Rattle.bib_abbreviations.proofs.ExpansionFacts.{evaluates_append}
 use Rattle.bib_abbreviations.specs.Abbreviations.{Definitions, Evaluates, HoldsName, HoldsText, IsReadable, Reaches}
 use Rattle.bib_abbreviations.specs.Abbreviations.{Evaluates as evaluates, Reaches as reaches}
 use Rattle.bib_chunks.specs.Styled.{Atom}
 use Rattle.bib_contents.specs.Contents.{IsContent}
 use Rattle.bib_file_entries.specs.Loaded.{definition_in}
-use Rattle.bib_syntax.specs.Reading.{EntryReading, FieldReading, Part, Piece}
+use Rattle.bib_syntax.specs.Reading.{EntryReading, FieldReading, FileReading, Part, Piece}
 use Rattle.bib_text.proofs.ListFacts.{some_same}
 use Rattle.bib_syntax.specs.Reading.Piece.{abbreviation, literal}
-use Rattle.edit_entries.specs.Documents.{Document, last_position, or_first}
+use Rattle.edit_entries.proofs.AllFacts.{all_both, all_weaker}
+use Rattle.edit_entries.specs.Documents.{Document}
 use Rattle.edit_laws.proofs.AlikeFacts.{MeanTheSame}
-use Rattle.edit_laws.proofs.ExchangedFacts.{EachMeansTheSame, exchanged_pieces, files_exchanged}
+use Rattle.edit_laws.proofs.ExchangedFacts.{exchanged_pieces, files_exchanged}
 use Rattle.edit_laws.proofs.ReadAlikeFacts.{AreAlikeFiles}
-use Rattle.edit_strings.specs.Expanded.{IsExpanded, WritesOut, definition_index, document_expansion, elements, elements_at, expansion, has_defined, is_of_name, laid_out}
+use Rattle.edit_laws.specs.DefinedAlike.{AreDefinedAlike, HasSameDefinition}
+use Rattle.edit_strings.specs.Expanded.{IsExpanded, WritesOut, count_before, document_expansion, elements, elements_at, expansion, has_defined, index_before, laid_out}
 use Rattle.edit_strings.specs.Expanded.{WritesOut as writes_out}
 
--- ---- the definition at the index of a name
-
-found_step : (x : FieldReading) (xs : List FieldReading) (o : Option FieldReading) (l : Option ℕ) (b : Bool)
-    → option_map elements o ≡ option_map (elements_at xs) l
-    → option_map elements (option_or o (cond b (Some x) None)) ≡ option_map (elements_at (x ∷ xs)) (or_first b l)
-found_step x xs None None true is = refl
-found_step x xs None None false is = refl
-found_step x xs None (Some i) b is = cc
-found_step x xs (Some f) None b is = cc
-found_step x xs (Some f) (Some i) b is = is
-
--- the last definition that passes a test is at the last index at which it is passed
-found_last : (test : FieldReading → Bool) (xs : List FieldReading)
-    → option_map elements (find test (reverse xs)) ≡ option_map (elements_at xs) (last_position test xs)
-found_last test [] = refl
-found_last test (x ∷ xs) =
-    ap (λ l. option_map elements (find test l)) (reverse-append (x ∷ []) xs)
-    ∙ ap (option_map elements) (find-append test (reverse xs) (x ∷ []))
-    ∙ found_step x xs (find test (reverse xs)) (last_position test xs) (test x) (found_last test xs)
-
-same_test : (name : List ℕ) (f : FieldReading) → bytes_eq name f.name.text ≡ is_of_name name f
-same_test name f = by_case (bytes_eq name f.name.text) (bytes_eq f.name.text name) refl refl
-  where
-    by_case : (b c : Bool) → bytes_eq name f.name.text ≡ b → bytes_eq f.name.text name ≡ c → b ≡ c
-    by_case true true one other = refl
-    by_case false false one other = refl
-    by_case true false one other =
-        sym ((bytes_eq-Decides f.name.text name).1 (sym ((bytes_eq-Decides name f.name.text).0 one))) ∙ other
-    by_case false true one other =
-        sym one ∙ (bytes_eq-Decides name f.name.text).1 (sym ((bytes_eq-Decides f.name.text name).0 other))
-
-find_same : (p q : FieldReading → Bool) → ((f : FieldReading) → p f ≡ q f) → (xs : List FieldReading) → find p xs ≡ find q xs
-find_same p q same [] = refl
-find_same p q same (x ∷ xs) =
-    ap (λ b. cond b (Some x) (find p xs)) (same x) ∙ ap (λ o. cond (q x) (Some x) o) (find_same p q same xs)
-
 module _ (abbreviations : List FieldReading) where
-  -- the definition of a name is at its index
-  definition_at : (name : List ℕ) (i : ℕ) → definition_index abbreviations name ≡ Some i
-      → definition_in abbreviations name ≡ Some (elements_at abbreviations i)
-  definition_at name i is =
-      ap (option_map elements)
-      (find_same (λ f. bytes_eq name f.name.text) (is_of_name name) (same_test name) (reverse abbreviations))
-      ∙ found_last (is_of_name name) abbreviations
-      ∙ ap (option_map (elements_at abbreviations)) is
-
   abbrev pub defined : Definitions
   defined = definition_in abbreviations
+
+  -- the second list is the first with some names replaced by the expansions of their definitions, which are those of the library
+  data Replaces : List Piece → List Piece → Type 0 where
+    none : Replaces [] []
+    itself : {piece : Piece} {rest more : List Piece} → Replaces rest more → Replaces (piece ∷ rest) (piece ∷ more)
+    replaced : {p : Part} {definition rest first more : List Piece} → defined p.text ≡ Some definition → Replaces definition first
+        → Replaces rest more → Replaces (abbreviation p ∷ rest) (first ++ more)
+
+  replaces : {count : ℕ} {ps qs : List Piece}
+      → ((index : ℕ) → AllByRecursion (HasSameDefinition abbreviations index) (elements_at abbreviations index))
+      → AllByRecursion (HasSameDefinition abbreviations count) ps → WritesOut abbreviations count ps qs → Replaces ps qs
+  replaces each same writes_out.none = Replaces.none
+  replaces each same (writes_out.itself none rest) = Replaces.itself (replaces each same.1 rest)
+  replaces each same (writes_out.defined {piece = literal p} is first rest) = cc
+  replaces each same (writes_out.defined {piece = abbreviation p} {index = i} is first rest) =
+      Replaces.replaced (sym same.0 ∙ ap (option_map (elements_at abbreviations)) is) (replaces each (each i) first)
+      (replaces each same.1 rest)
 
   -- ---- the value
 
   -- the expansion of pieces has their value
-  writes_value : {is_verbatim : Bool} {ps qs : List Piece} {atoms : List Atom} → WritesOut abbreviations ps qs
+  writes_value : {is_verbatim : Bool} {ps qs : List Piece} {atoms : List Atom} → Replaces ps qs
       → Evaluates defined is_verbatim ps atoms → Evaluates defined is_verbatim qs atoms
-  writes_value writes_out.none says = says
-  writes_value (writes_out.itself none rest) (evaluates.text x more) = evaluates.text x (writes_value rest more)
-  writes_value (writes_out.itself none rest) (evaluates.defined d x more) = evaluates.defined d x (writes_value rest more)
-  writes_value (writes_out.itself none rest) (evaluates.month_name d m more) = evaluates.month_name d m (writes_value rest more)
-  writes_value (writes_out.defined is first rest) (evaluates.text x more) = cc
-  writes_value {is_verbatim} (writes_out.defined {index = i} is first rest)
-      (evaluates.defined {p = p} {definition = definition} {first = a} {more = b} d x more) =
-      let same : definition ≡ elements_at abbreviations i = some_same (sym d ∙ definition_at p.text i is) in
+  writes_value Replaces.none says = says
+  writes_value (Replaces.itself rest) (evaluates.text x more) = evaluates.text x (writes_value rest more)
+  writes_value (Replaces.itself rest) (evaluates.defined d x more) = evaluates.defined d x (writes_value rest more)
+  writes_value (Replaces.itself rest) (evaluates.month_name d m more) = evaluates.month_name d m (writes_value rest more)
+  writes_value {is_verbatim} (Replaces.replaced {definition = own} is first rest)
+      (evaluates.defined {definition = definition} {first = a} {more = b} d x more) =
+      let same : definition ≡ own = some_same (sym d ∙ is) in
       evaluates_append b (writes_value first (subst (λ ps. Evaluates defined is_verbatim ps a) same x)) (writes_value rest more)
-  writes_value (writes_out.defined {index = i} is first rest) (evaluates.month_name {p = p} d m more) =
-      let both = sym d ∙ definition_at p.text i is in cc
+  writes_value (Replaces.replaced is first rest) (evaluates.month_name d m more) = let both = sym d ∙ is in cc
 
   -- ---- the names and texts in an expansion
 
@@ -124,20 +92,19 @@ module _ (abbreviations : List FieldReading) where
       by_part (inr there) = inr there
 
   -- pieces reach each name in their expansion
-  reaches_written : {ps qs : List Piece} (name : List ℕ) → WritesOut abbreviations ps qs → HoldsName qs name → Reaches defined ps name
-  reaches_written name writes_out.none held = reaches.held held
-  reaches_written name (writes_out.itself {piece = literal p} none rest) held = reaches_more (reaches_written name rest held)
-  reaches_written name (writes_out.itself {piece = abbreviation p} none rest) (inl is) = reaches.held (inl is)
-  reaches_written name (writes_out.itself {piece = abbreviation p} none rest) (inr held) = reaches_more (reaches_written name rest held)
-  reaches_written name (writes_out.defined {piece = literal p} is first rest) held = cc
-  reaches_written name (writes_out.defined {piece = abbreviation p} {index = i} {first = qs} {more = rs} is first rest) held =
+  reaches_written : {ps qs : List Piece} (name : List ℕ) → Replaces ps qs → HoldsName qs name → Reaches defined ps name
+  reaches_written name Replaces.none held = reaches.held held
+  reaches_written name (Replaces.itself {piece = literal p} rest) held = reaches_more (reaches_written name rest held)
+  reaches_written name (Replaces.itself {piece = abbreviation p} rest) (inl is) = reaches.held (inl is)
+  reaches_written name (Replaces.itself {piece = abbreviation p} rest) (inr held) = reaches_more (reaches_written name rest held)
+  reaches_written name (Replaces.replaced {first = qs} {more = rs} is first rest) held =
       elim (held_append qs rs name held) [
-        | inl there ↦ reaches_inside (reaches.held (inl refl)) (definition_at p.text i is) (reaches_written name first there)
+        | inl there ↦ reaches_inside (reaches.held (inl refl)) is (reaches_written name first there)
         | inr there ↦ reaches_more (reaches_written name rest there)
       ]
 
   -- pieces reach each name that their expansion reaches
-  reaches_through : {ps qs : List Piece} {name : List ℕ} → WritesOut abbreviations ps qs → Reaches defined qs name → Reaches defined ps name
+  reaches_through : {ps qs : List Piece} {name : List ℕ} → Replaces ps qs → Reaches defined qs name → Reaches defined ps name
   reaches_through written (reaches.held {name = name} held) = reaches_written name written held
   reaches_through written (reaches.through before d held) = reaches.through (reaches_through written before) d held
 
@@ -152,26 +119,25 @@ module _ (abbreviations : List FieldReading) where
   comes_more {piece = abbreviation p} (ComesFrom.own held) = ComesFrom.own held
   comes_more (ComesFrom.inside there d held) = ComesFrom.inside (reaches_more there) d held
 
-  comes_inside : (p : Part) (i : ℕ) {rest : List Piece} {text : List ℕ} → definition_index abbreviations p.text ≡ Some i
-      → ComesFrom (elements_at abbreviations i) text → ComesFrom (abbreviation p ∷ rest) text
-  comes_inside p i is (ComesFrom.own there) = ComesFrom.inside (reaches.held (inl refl)) (definition_at p.text i is) there
-  comes_inside p i is (ComesFrom.inside reached d there) =
-      ComesFrom.inside (reaches_inside (reaches.held (inl refl)) (definition_at p.text i is) reached) d there
+  comes_inside : (p : Part) {definition rest : List Piece} {text : List ℕ} → defined p.text ≡ Some definition
+      → ComesFrom definition text → ComesFrom (abbreviation p ∷ rest) text
+  comes_inside p is (ComesFrom.own there) = ComesFrom.inside (reaches.held (inl refl)) is there
+  comes_inside p is (ComesFrom.inside reached d there) =
+      ComesFrom.inside (reaches_inside (reaches.held (inl refl)) is reached) d there
 
-  comes_written : {ps qs : List Piece} (text : List ℕ) → WritesOut abbreviations ps qs → HoldsText qs text → ComesFrom ps text
-  comes_written text writes_out.none held = ComesFrom.own held
-  comes_written text (writes_out.itself {piece = literal p} none rest) (inl is) = ComesFrom.own (inl is)
-  comes_written text (writes_out.itself {piece = literal p} none rest) (inr held) = comes_more (comes_written text rest held)
-  comes_written text (writes_out.itself {piece = abbreviation p} none rest) held = comes_more (comes_written text rest held)
-  comes_written text (writes_out.defined {piece = literal p} is first rest) held = cc
-  comes_written text (writes_out.defined {piece = abbreviation p} {index = i} {first = qs} {more = rs} is first rest) held =
+  comes_written : {ps qs : List Piece} (text : List ℕ) → Replaces ps qs → HoldsText qs text → ComesFrom ps text
+  comes_written text Replaces.none held = ComesFrom.own held
+  comes_written text (Replaces.itself {piece = literal p} rest) (inl is) = ComesFrom.own (inl is)
+  comes_written text (Replaces.itself {piece = literal p} rest) (inr held) = comes_more (comes_written text rest held)
+  comes_written text (Replaces.itself {piece = abbreviation p} rest) held = comes_more (comes_written text rest held)
+  comes_written text (Replaces.replaced {p = p} {first = qs} {more = rs} is first rest) held =
       elim (text_append qs rs text held) [
-        | inl there ↦ comes_inside p i is (comes_written text first there)
+        | inl there ↦ comes_inside p is (comes_written text first there)
         | inr there ↦ comes_more (comes_written text rest there)
       ]
 
   -- the expansion of pieces that can be parsed can be parsed
-  writes_readable : {is_verbatim : Bool} {ps qs : List Piece} → WritesOut abbreviations ps qs
+  writes_readable : {is_verbatim : Bool} {ps qs : List Piece} → Replaces ps qs
       → IsReadable defined is_verbatim ps → IsReadable defined is_verbatim qs
   writes_readable {is_verbatim} {ps} {qs} written read = record {
     known = λ name there. read.known name (reaches_through written there);
@@ -186,7 +152,7 @@ module _ (abbreviations : List FieldReading) where
           read.inner_texts name definition there d text held
 
   -- pieces and their expansion mean the same
-  pub expansion_means : {ps qs : List Piece} → WritesOut abbreviations ps qs → MeanTheSame defined defined ps qs
+  expansion_means : {ps qs : List Piece} → Replaces ps qs → MeanTheSame defined defined ps qs
   expansion_means written = record {
     value = λ is_verbatim atoms says. writes_value written says;
     readable = λ is_verbatim read. writes_readable written read;
@@ -196,36 +162,50 @@ module _ (abbreviations : List FieldReading) where
   mean_itself : (ps : List Piece) → MeanTheSame defined defined ps ps
   mean_itself ps = record { value = λ is_verbatim atoms says. says; readable = λ is_verbatim read. read }
 
-  module _ (text : List ℕ) (written : FieldReading → List Piece) where
-    field_means : (f : FieldReading) → WritesOut abbreviations (elements f) (written f)
-        → MeanTheSame defined defined (elements f)
-        (exchanged_pieces (expansion text (definition_index abbreviations) written f) (elements f))
-    field_means f writes = by_case (has_defined (definition_index abbreviations) (elements f))
-      where
-        by_case : (b : Bool)
-            → MeanTheSame defined defined (elements f)
-            (exchanged_pieces (if b then Some (record { bytes = laid_out text (written f); pieces = written f }) else None) (elements f))
-        by_case true = expansion_means writes
-        by_case false = mean_itself (elements f)
-
-    fields_mean : (fs : List FieldReading) → AllByRecursion (λ f. WritesOut abbreviations (elements f) (written f)) fs
-        → AllByRecursion
-        (λ f.
-        MeanTheSame defined defined f.value.pieces
-        (exchanged_pieces (expansion text (definition_index abbreviations) written f) f.value.pieces))
-        fs
-    fields_mean [] all = _
-    fields_mean (f ∷ fs) all = (field_means f all.0, fields_mean fs all.1)
-
-    -- each field of some entries means the same after it is expanded
-    pub entries_mean : (es : List EntryReading)
-        → AllByRecursion (λ e. AllByRecursion (λ f. WritesOut abbreviations (elements f) (written f)) e.fields) es
-        → EachMeansTheSame defined defined (expansion text (definition_index abbreviations) written) es
-    entries_mean [] all = _
-    entries_mean (e ∷ es) all = (fields_mean e.fields all.0, entries_mean es all.1)
+-- a field and its expansion mean the same
+field_means : (says : FileReading) (text : List ℕ) (written : EntryReading → FieldReading → List Piece) (e : EntryReading)
+    (f : FieldReading) → AreDefinedAlike says
+    → AllByRecursion (HasSameDefinition says.abbreviations (count_before says.abbreviations e)) (elements f)
+    → WritesOut says.abbreviations (count_before says.abbreviations e) (elements f) (written e f)
+    → MeanTheSame (defined says.abbreviations) (defined says.abbreviations) (elements f)
+    (exchanged_pieces
+    (expansion text (index_before says.abbreviations (count_before says.abbreviations e)) (written e) f) (elements f))
+field_means says text written e f alike same writes =
+    by_case (has_defined (index_before says.abbreviations (count_before says.abbreviations e)) (elements f))
+  where
+    by_case : (b : Bool)
+        → MeanTheSame (defined says.abbreviations) (defined says.abbreviations) (elements f)
+        (exchanged_pieces (if b then Some (record { bytes = laid_out text (written e f); pieces = written e f }) else None) (elements f))
+    by_case true = expansion_means says.abbreviations (replaces says.abbreviations alike.definitions same writes)
+    by_case false = mean_itself says.abbreviations (elements f)
 
 -- a file is alike to what its text with expanded abbreviations reads as
-pub files_expanded : (d : Document) (text : List ℕ) (expanded : IsExpanded d text) → AreAlikeFiles d.says expanded.changed.read.tells
-files_expanded d text expanded =
+pub files_expanded : (d : Document) (text : List ℕ) (expanded : IsExpanded d text) → AreDefinedAlike d.says
+    → AreAlikeFiles d.says expanded.changed.read.tells
+files_expanded d text expanded alike =
     files_exchanged (document_expansion d expanded.written) d.says expanded.changed.read.tells d.says.abbreviations
-    (entries_mean d.says.abbreviations d.text expanded.written d.says.entries expanded.each) expanded.changed.read.alike
+    (all_weaker
+    (λ e.
+    AllByRecursion (Same e) e.fields
+    × AllByRecursion (Written e) e.fields)
+    (λ e.
+    AllByRecursion (Means e) e.fields)
+    (λ e both.
+    all_weaker (λ f. Same e f × Written e f) (Means e)
+    (λ f here. field_means d.says d.text expanded.written e f alike here.0 here.1) e.fields
+    (all_both (Same e) (Written e) e.fields both.0 both.1))
+    d.says.entries
+    (all_both (λ e. AllByRecursion (Same e) e.fields) (λ e. AllByRecursion (Written e) e.fields) d.says.entries alike.entries
+    expanded.each))
+    expanded.changed.read.alike
+  where
+    abbrev Same : EntryReading → FieldReading → Type 0
+    Same e f = AllByRecursion (HasSameDefinition d.says.abbreviations (count_before d.says.abbreviations e)) (elements f)
+
+    abbrev Written : EntryReading → FieldReading → Type 0
+    Written e f = WritesOut d.says.abbreviations (count_before d.says.abbreviations e) (elements f) (expanded.written e f)
+
+    abbrev Means : EntryReading → FieldReading → Type 0
+    Means e f =
+        MeanTheSame (definition_in d.says.abbreviations) (definition_in d.says.abbreviations) f.value.pieces
+        (exchanged_pieces (document_expansion d expanded.written e f) f.value.pieces)

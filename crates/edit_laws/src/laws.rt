@@ -10,6 +10,7 @@ ghost use Rattle.bib_syntax.specs.Reading.{FileReading};
 ghost use Rattle.bib_syntax.specs.declared.raw.ParseError.{ParseError};
 ghost use Rattle.biblatex.specs.Headline.{IsAcceptedText, IsBibliographyOf, IsErrorOf};
 ghost use Rattle.edit_laws.specs.Alike.{AreAlike};
+ghost use Rattle.edit_laws.specs.DefinedAlike.{AreDefinedAlike};
 ghost use Rattle.edit_strings.specs.Collected.{AreMadeAbbreviations};
 ghost use Rattle.edit_strings.specs.Expanded.{IsExpanded};
 
@@ -24,11 +25,12 @@ pub fn formatted_is_alike()
 {}
 
 /// If a text is accepted, its text with expanded abbreviations is too, and gives the same bibliography, except for spans and the borders
-/// of chunks.
+/// of chunks. Each name of the text has the same definition by the rule of the expansion, the last one before the use in any ASCII case,
+/// and by the rule of the library, the last one in the file with exactly this name.
 pub fn expanded_is_alike()
-    ensures accepted { (d : Document) (text : List ℕ) (e : ParseError) → IsDocument d → IsExpanded d text → IsAcceptedText d.text
+    ensures accepted { (d : Document) (text : List ℕ) (e : ParseError) → IsDocument d → IsExpanded d text → AreDefinedAlike d.says → IsAcceptedText d.text
         → IsErrorOf text e → ⊥ }
-    ensures alike { (d : Document) (text : List ℕ) (one other : Bibliography) → IsDocument d → IsExpanded d text
+    ensures alike { (d : Document) (text : List ℕ) (one other : Bibliography) → IsDocument d → IsExpanded d text → AreDefinedAlike d.says
         → IsBibliographyOf d.text one → IsBibliographyOf text other → AreAlike one other }
 {}
 
