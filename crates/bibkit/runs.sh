@@ -95,7 +95,7 @@ run 'the version' 0 $'bibkit 0.1.0\n' --version
 run 'the version, in short' 0 $'bibkit 0.1.0\n' -V
 for word in help --help -h; do
     run_start "$word" 0 $'Check, search and edit bibliography files\n\nUsage: bibkit <COMMAND>\n' "$word"
-    for command in lint keys get select grep cited stats fmt convert resolve set unset rename rekey edit remove add strings; do
+    for command in lint keys get select grep cited stats fmt convert resolve set unset rename rekey edit remove add strings recode; do
         holds "$word names $command" grep -qE "^  $command +[A-Z]" results
     done
 done
@@ -108,7 +108,7 @@ run_start 'help of get' 0 $'Print the entries with these keys, unchanged\n\nUsag
 run_start 'help of grep' 0 $'Print the entries with a text in a field, unchanged\n\nUsage: bibkit grep <FIELD> <TEXT> [FILE]...\n' grep --help
 run_start 'help of cited' 0 $'Print the entries that a document cites, unchanged\n\nUsage: bibkit cited <DOCUMENT> [FILE]...\n' cited --help
 run_start 'help of stats' 0 $'Count entries by type and year, fields by name, and findings by code\n\nUsage: bibkit stats [FILE]...\n' stats --help
-for command in lint keys get select grep cited stats fmt convert resolve set unset rename rekey edit remove add strings; do
+for command in lint keys get select grep cited stats fmt convert resolve set unset rename rekey edit remove add strings recode; do
     "$program" $command --help >output
     holds "help of $command has an example" prints "  bibkit $command"
 done
@@ -335,7 +335,10 @@ run 'entries by their keys, in any case' 0 "$text" fmt --sort key mixed.bib
 run 'entries that are in order stay' 0 "$text" fmt --sort key once.bib
 run 'a file that is in order' 0 '' fmt --check --sort key once.bib
 run_messages 'a file that is not in order' 1 $'bibkit: once.bib: not in this style\n' fmt --check --sort type once.bib
-run 'an order that is none' 2 '' fmt --sort title mixed.bib
+mixed "$entry_b" "$entry_c" "$entry_d" "$entry_a"
+run 'entries by their titles, and then by their years, the last ones first' 0 "$text" fmt --sort title,-year mixed.bib
+run 'entries by a part of an order' 0 "$text" fmt --sort=-year mixed.bib
+for order in editor author,,year keep,key ''; do run "an order that is none, $order" 2 '' fmt --sort "$order" mixed.bib; done
 printf '@misc{d,}\n@misc{c,}\n@string{s={x}}\n%% on b\n@misc{b,}\n@misc{a,}\n' >barred.bib
 run 'no entry moves over a definition' 0 $'@misc{c,\n}\n@misc{d,\n}\n@string{s={x}}\n% on b\n@misc{a,\n}\n@misc{b,\n}\n' fmt --sort key barred.bib
 printf '@misc{d,}\n@string{s={x}}\n\n%% on b\n@misc{b,}\n@misc{a,}\n' >section.bib
@@ -381,6 +384,18 @@ run 'an entry is added' 0 "$(cat two.bib)"$'\n\n@misc{c, title={C}}\n' add -f tw
 cp two.bib input
 run 'standard input is edited' 0 $'@misc{b, title={x y}, author={Knuth, D.}, year={1984}}\n' remove a
 run 'standard input is edited, by its name' 0 $'@misc{b, title={x y}, author={Knuth, D.}, year={1984}}\n' remove a -f -
+
+# values without braces: numbers, abbreviations and months
+printf '@string{acm = {ACM}}\n@misc{a, title={A}}\n@string{late = {L}}\n' >bare.bib
+run 'a month, an abbreviation, a number and other values' 0 $'@string{acm = {ACM}}\n@misc{a, day=7, year={1999}, note={acm}, publisher=acm, month=jan, title={A}}\n@string{late = {L}}\n' \
+    set a month=jan publisher:=acm note=acm year=1999 day:=7 -f bare.bib
+run 'a month that is a text' 0 $'@string{acm = {ACM}}\n@misc{a, month={January}, title={A}}\n@string{late = {L}}\n' set a month=January -f bare.bib
+run 'an abbreviation for selected entries' 0 $'@string{acm = {ACM}}\n@misc{a, month=feb, publisher=acm, title={A}}\n@string{late = {L}}\n' \
+    edit --set publisher:=acm --add month:=feb -f bare.bib
+for value in late none 'acm # acm' 1a ''; do
+    run_messages "a value without braces that is none, $value" 1 $'bibkit: bare.bib: `a`: `publisher`: the value is neither a number nor an abbreviation that is defined before the entry\n' \
+        set a publisher:="$value" -f bare.bib
+done
 
 # edits that are refused print nothing on standard output
 refuses() {
@@ -866,8 +881,8 @@ order|"author"|expected a list of field names for `fmt.order`
 order|["author", 1]|expected a list of field names for `fmt.order`
 width|-1|expected a number (0 for none) for `fmt.width`
 width|"80"|expected a number (0 for none) for `fmt.width`
-sort|"title"|expected "keep", "key", "year", "author" or "type" for `fmt.sort`
-sort|["key"]|expected "keep", "key", "year", "author" or "type" for `fmt.sort`
+sort|"editor"|expected "keep", or up to four of key, year, author, title and type, such as "author,-year" for `fmt.sort`
+sort|["key"]|expected "keep", or up to four of key, year, author, title and type, such as "author,-year" for `fmt.sort`
 diff|true|unknown setting `fmt.diff`
 aligned|true|unknown setting `fmt.aligned`
 ROWS
@@ -1249,6 +1264,30 @@ run 'a check of keys that writes' 2 '' rekey --check --write -f rekey.bib
 run 'a map of keys and a diff' 2 '' rekey --map --diff -f rekey.bib
 refuses 'new keys of a file with an error' 1 $'broken.bib:3:1: error: expected comma [syntax]\n' rekey -f broken.bib
 
+# recode: what the files say is what `iconv` makes of them
+printf '@misc{k, title = {na\357ve \223x\224}}\r\n' >western.bib
+printf '\377\376' >wide.bib
+printf '@misc{k, title = {\303\251}}\n' | iconv -f utf-8 -t utf-16le >>wide.bib
+printf '\377\376@' >half.bib
+printf '\357\273\277@misc{k, title = {\303\251}}\n' >marked.bib
+run 'a file in Windows-1252' 0 "$(iconv -f windows-1252 -t utf-8 western.bib)"$'\n' recode --from windows-1252 --file western.bib
+run 'a file in Windows-1252 with other line ends' 0 $'@misc{k, title = {na\303\257ve \342\200\234x\342\200\235}}\n' \
+    recode --from windows-1252 --line-ends lf -f western.bib
+run 'a file with the byte order mark of UTF-16' 0 $'@misc{k, title = {\303\251}}\n' recode -f wide.bib
+run 'a file without its byte order mark' 0 $'@misc{k, title = {\303\251}}\n' recode -f marked.bib
+run 'a file with a byte order mark' 0 "$(cat marked.bib)"$'\n' recode --bom -f marked.bib
+run 'a file with returns' 0 $'@misc{k, title = {\303\251}}\r\n' recode --line-ends crlf -f marked.bib
+cp marked.bib input
+run 'standard input without its byte order mark' 0 $'@misc{k, title = {\303\251}}\n' recode
+cp western.bib recoded.bib
+run 'a file is written as UTF-8' 0 '' recode --from windows-1252 --write -f recoded.bib
+holds 'the file is in UTF-8' cmp -s recoded.bib <(iconv -f windows-1252 -t utf-8 western.bib)
+refuses 'a file whose encoding is not known' 2 $'bibkit: western.bib: not UTF-8; `--from` names its encoding, such as windows-1252\n' recode -f western.bib
+refuses 'a file in another encoding' 1 $'bibkit: western.bib: not UTF-8 from byte 20 on\n' recode --from utf-8 -f western.bib
+refuses 'a file with half a character' 1 $'bibkit: half.bib: not UTF-16: only one byte at byte 2\n' recode -f half.bib
+run 'an encoding that is none' 2 '' recode --from koi8 -f western.bib
+run 'line ends that are none' 2 '' recode --line-ends cr -f marked.bib
+
 # completions, in the shells that are there: each row is a line, and what its last word can be
 completed() {
     if printf %s "$3" | cmp -s - output; then
@@ -1311,7 +1350,11 @@ in_bash 'bibkit fmt --d' $'--delimiters\n--diff\n'
 in_bash 'bibkit fmt --so' $'--sort\n'
 in_bash 'bibkit fmt --or' $'--order\n'
 in_bash 'bibkit fmt --wi' $'--width\n'
-in_bash 'bibkit fmt --sort ' $'keep\nkey\nyear\nauthor\ntype\n'
+in_bash 'bibkit fmt --sort ' $'keep\nkey\nyear\nauthor\ntitle\ntype\n'
+in_bash 'bibkit rec' $'recode\n'
+in_bash 'bibkit recode --from win' $'windows-1252\n'
+in_bash 'bibkit convert --from b' $'bib\n'
+in_bash 'bibkit convert --wh' $'--where\n'
 in_bash 'bibkit fmt --delimiters ' $'keep\nbraces\nquotes\n'
 in_bash 'bibkit fmt --order author,ti' $'author,title\n'
 if command -v fish >/dev/null; then
