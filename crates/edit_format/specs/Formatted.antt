@@ -1,11 +1,10 @@
 -- Meaning: words of public contracts.
 -- A text in one style: its entries have a new layout. The text between them is unchanged, except for white space if the style asks
 -- for blank lines.
-use Rattle.std.specs.Prelude.{◌≡◌, ◌==◌, ◌&&◌, ◌||◌, ℕ, zero, suc, ◌+◌, ◌-◌, max, Bool, false, if◌then◌else◌, List, [], ◌∷◌, ◌++◌, codes, cond, drop, fold, length, map, nat_lt, replicate, Option, None, Some}
+use Rattle.std.specs.Prelude.{◌≡◌, ◌&&◌, ◌||◌, ℕ, zero, suc, ◌+◌, ◌-◌, max, Bool, false, if◌then◌else◌, List, [], ◌∷◌, ◌++◌, codes, cond, drop, fold, length, map, nat_lt, replicate, Option, None, Some}
 use Rattle.std.specs.Char.{is_ascii_whitespace}
-use Rattle.std.specs.List.{before_first, ends_with, flat_map, list_all, list_any, position_or_len}
+use Rattle.std.specs.List.{flat_map, list_all}
 use Rattle.std.specs.Str.{chars, str_to_ascii_lowercase}
-use lib.Dec.{eqb}
 use Rattle.bib_text.specs.Characters as char
 use Rattle.bib_text.specs.Places.{between, place}
 use Rattle.bib_syntax.specs.Grammar.{IsRawReading}
