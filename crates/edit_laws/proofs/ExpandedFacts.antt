@@ -1,5 +1,5 @@
 -- Expanded abbreviations: the expansion of pieces has their value, and can be parsed if they can.
-use Rattle.std.proofs.Common.{◌≡◌, ◌⊎◌, ℕ, List, [], ◌∷◌, ◌++◌, Bool, true, false, refl, sym, ap, ◌∙◌, subst, inl, inr, Some, None, Option, option_map}
+use Rattle.std.proofs.Common.{◌≡◌, ◌⊎◌, ℕ, List, [], ◌∷◌, ◌++◌, Bool, true, false, refl, sym, ap, ◌∙◌, subst, inl, inr, Some, None, option_map}
 use Rattle.std.specs.Prelude.{if◌then◌else◌}
 use Rattle.std.specs.List.{AllByRecursion}
 use Rattle.std.specs.Str.{chars}
@@ -18,7 +18,7 @@ use Rattle.edit_laws.proofs.AlikeFacts.{MeanTheSame}
 use Rattle.edit_laws.proofs.ExchangedFacts.{exchanged_pieces, files_exchanged}
 use Rattle.edit_laws.proofs.ReadAlikeFacts.{AreAlikeFiles}
 use Rattle.edit_laws.specs.DefinedAlike.{AreDefinedAlike, HasSameDefinition}
-use Rattle.edit_strings.specs.Expanded.{IsExpanded, WritesOut, count_before, document_expansion, elements, elements_at, expansion, has_defined, index_before, laid_out}
+use Rattle.edit_strings.specs.Expanded.{AreWrittenOut, IsExpanded, WritesOut, count_before, document_expansion, elements, elements_at, expansion, has_defined, index_before, laid_out}
 use Rattle.edit_strings.specs.Expanded.{WritesOut as writes_out}
 
 module _ (abbreviations : List FieldReading) where
@@ -36,7 +36,7 @@ module _ (abbreviations : List FieldReading) where
       → ((index : ℕ) → AllByRecursion (HasSameDefinition abbreviations index) (elements_at abbreviations index))
       → AllByRecursion (HasSameDefinition abbreviations count) ps → WritesOut abbreviations count ps qs → Replaces ps qs
   replaces each same writes_out.none = Replaces.none
-  replaces each same (writes_out.itself none rest) = Replaces.itself (replaces each same.1 rest)
+  replaces each same (writes_out.itself absent rest) = Replaces.itself (replaces each same.1 rest)
   replaces each same (writes_out.defined {piece = literal p} is first rest) = cc
   replaces each same (writes_out.defined {piece = abbreviation p} {index = i} is first rest) =
       Replaces.replaced (sym same.0 ∙ ap (option_map (elements_at abbreviations)) is) (replaces each (each i) first)
@@ -179,33 +179,34 @@ field_means says text written e f alike same writes =
     by_case true = expansion_means says.abbreviations (replaces says.abbreviations alike.definitions same writes)
     by_case false = mean_itself says.abbreviations (elements f)
 
+module _ (d : Document) (written : EntryReading → FieldReading → List Piece) where
+  -- the names in a field have the same definition by both rules
+  abbrev Same : EntryReading → FieldReading → Type 0
+  Same e f = AllByRecursion (HasSameDefinition d.says.abbreviations (count_before d.says.abbreviations e)) (elements f)
+
+  -- a field has its expansion
+  abbrev Written : EntryReading → FieldReading → Type 0
+  Written e f = WritesOut d.says.abbreviations (count_before d.says.abbreviations e) (elements f) (written e f)
+
+  -- a field means the same after it is expanded
+  abbrev Means : EntryReading → FieldReading → Type 0
+  Means e f =
+      MeanTheSame (definition_in d.says.abbreviations) (definition_in d.says.abbreviations) f.value.pieces
+      (exchanged_pieces (document_expansion d written e f) f.value.pieces)
+
+  entries_mean : AreDefinedAlike d.says → AreWrittenOut d.says written
+      → AllByRecursion (λ e. AllByRecursion (Means e) e.fields) d.says.entries
+  entries_mean alike each =
+      all_weaker (λ e. AllByRecursion (Same e) e.fields × AllByRecursion (Written e) e.fields) (λ e. AllByRecursion (Means e) e.fields)
+      (λ e both.
+      all_weaker (λ f. Same e f × Written e f) (Means e) (λ f here. field_means d.says d.text written e f alike here.0 here.1) e.fields
+      (all_both (Same e) (Written e) e.fields both.0 both.1))
+      d.says.entries
+      (all_both (λ e. AllByRecursion (Same e) e.fields) (λ e. AllByRecursion (Written e) e.fields) d.says.entries alike.entries each)
+
 -- a file is alike to what its text with expanded abbreviations reads as
 pub files_expanded : (d : Document) (text : List ℕ) (expanded : IsExpanded d text) → AreDefinedAlike d.says
     → AreAlikeFiles d.says expanded.changed.read.tells
 files_expanded d text expanded alike =
     files_exchanged (document_expansion d expanded.written) d.says expanded.changed.read.tells d.says.abbreviations
-    (all_weaker
-    (λ e.
-    AllByRecursion (Same e) e.fields
-    × AllByRecursion (Written e) e.fields)
-    (λ e.
-    AllByRecursion (Means e) e.fields)
-    (λ e both.
-    all_weaker (λ f. Same e f × Written e f) (Means e)
-    (λ f here. field_means d.says d.text expanded.written e f alike here.0 here.1) e.fields
-    (all_both (Same e) (Written e) e.fields both.0 both.1))
-    d.says.entries
-    (all_both (λ e. AllByRecursion (Same e) e.fields) (λ e. AllByRecursion (Written e) e.fields) d.says.entries alike.entries
-    expanded.each))
-    expanded.changed.read.alike
-  where
-    abbrev Same : EntryReading → FieldReading → Type 0
-    Same e f = AllByRecursion (HasSameDefinition d.says.abbreviations (count_before d.says.abbreviations e)) (elements f)
-
-    abbrev Written : EntryReading → FieldReading → Type 0
-    Written e f = WritesOut d.says.abbreviations (count_before d.says.abbreviations e) (elements f) (expanded.written e f)
-
-    abbrev Means : EntryReading → FieldReading → Type 0
-    Means e f =
-        MeanTheSame (definition_in d.says.abbreviations) (definition_in d.says.abbreviations) f.value.pieces
-        (exchanged_pieces (document_expansion d expanded.written e f) f.value.pieces)
+    (entries_mean d expanded.written alike expanded.each) expanded.changed.read.alike
