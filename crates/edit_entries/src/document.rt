@@ -84,7 +84,7 @@ impl<'s> RawDocument<'s> {
     /// Returns the text with the value of a field of the first entry with `key`: each field with `name`, in any ASCII case, gets `value`. A
     /// text is written in braces, a number or the name of an abbreviation as it is. BibTeX reads the first of several fields with one
     /// name, Biber and this library the last. A field that has only this value is kept. If the entry has no such field, a new one comes
-    /// before the others, with the white space that is before the first one.
+    /// before the others, laid out like them.
     ///
     /// # Errors
     ///
