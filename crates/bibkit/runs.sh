@@ -287,7 +287,7 @@ run 'texts in braces' 0 $'@misc{k,\n  year = 1999,\n  title = {T} # {U},\n  auth
 run 'texts in quotes, but for one with a quote in it' 0 $'@misc{k,\n  year = 1999,\n  title = "T" # "U",\n  author = {say "x"},\n  month = jan,\n}\n' fmt --delimiters quotes options.bib
 run 'texts between the delimiters that they have' 0 "$as_listed" fmt --delimiters keep options.bib
 printf '@misc{k, a = "{", b = "c"}\n' >unclosed.bib
-run 'a text with a brace that is not closed stays in quotes' 0 $'@misc{k,\n  a = "{",\n  b = {c},\n}\n' fmt --delimiters braces unclosed.bib
+run 'an entry with a brace that is not closed stays' 0 "$(cat unclosed.bib)"$'\n' fmt --delimiters braces unclosed.bib
 run 'delimiters that are none' 2 '' fmt --delimiters brackets options.bib
 run 'fields in an order' 0 $'@misc{k,\n  author = {say "x"},\n  title = "T" # {U},\n  year = 1999,\n  month = jan,\n}\n' fmt --order author,title options.bib
 run 'fields in an order, by two options in any case' 0 $'@misc{k,\n  title = "T" # {U},\n  author = {say "x"},\n  year = 1999,\n  month = jan,\n}\n' fmt --order Title --order AUTHOR options.bib
@@ -335,7 +335,7 @@ run 'entries by their keys, in any case' 0 "$text" fmt --sort key mixed.bib
 run 'entries that are in order stay' 0 "$text" fmt --sort key once.bib
 run 'a file that is in order' 0 '' fmt --check --sort key once.bib
 run_messages 'a file that is not in order' 1 $'bibkit: once.bib: not in this style\n' fmt --check --sort type once.bib
-mixed "$entry_b" "$entry_c" "$entry_d" "$entry_a"
+mixed "$entry_b" "$entry_c" "$entry_a" "$entry_d"
 run 'entries by their titles, and then by their years, the last ones first' 0 "$text" fmt --sort title,-year mixed.bib
 run 'entries by a part of an order' 0 "$text" fmt --sort=-year mixed.bib
 for order in editor author,,year keep,key ''; do run "an order that is none, $order" 2 '' fmt --sort "$order" mixed.bib; done

@@ -3,13 +3,14 @@
 use crate::edits::after_mark;
 use crate::stops::{Stop, error_line, syntax_line};
 use bib_queries::names::entry_names;
-use bib_syntax::raw::{Pair, RawBibliography, RawChunk, RawEntry};
+use bib_syntax::raw::{Pair, ParseError, RawBibliography, RawChunk, RawEntry};
 use bib_text::spanned::Spanned;
 use bibkit_edits::edit::{Edit, Refusal};
 use bibkit_edits::printing::Unprinted;
 use edit_entries::document::RawDocument;
 use edit_entries::errors::EditError;
 use edit_entries::field_edits::FieldEdit;
+use edit_entries::line_ends::with_line_ends_of;
 use std::alloc::{AllocError, Global};
 use std::collections::{BTreeMap, BTreeSet};
 use std::str::from_utf8;
@@ -232,6 +233,18 @@ fn added_text<'a>(edits: &[Edit<'a>]) -> &'a str {
     }
 }
 
+// Returns the message for an error of the text that the first edit adds to a file of these bytes.
+fn added_error_line(
+    alloc: Global,
+    bytes: &[u8],
+    edits: &[Edit<'_>],
+    error: &ParseError,
+) -> Result<String, AllocError> {
+    let file = from_utf8(after_mark(bytes)).unwrap_or("");
+    let text = with_line_ends_of(alloc, file, added_text(edits))?;
+    syntax_line(alloc, "-", text.as_bytes(), error)
+}
+
 // Returns the message for a refusal.
 fn refusal_message(
     alloc: Global,
@@ -246,7 +259,7 @@ fn refusal_message(
             error_line(alloc, name, bytes, *at, said)
         }
         Refusal::File(error) => syntax_line(alloc, name, after_mark(bytes), error),
-        Refusal::Added(error) => syntax_line(alloc, "-", added_text(edits).as_bytes(), error),
+        Refusal::Added(error) => added_error_line(alloc, bytes, edits, error),
         Refusal::Edit { index, why } => refused_line(alloc, name, bytes, edits.get(*index), *why),
         Refusal::EarlyUse { definition, .. } => early_use_line(
             alloc,

@@ -9,6 +9,7 @@ use Rattle.bib_syntax.specs.declared.raw.ParseErrorKind.{ParseErrorKind}
 use Rattle.bib_syntax.specs.declared.raw.ParseErrorKind.TheVariants as kind
 use Rattle.bib_syntax.proofs.FileFailureFacts.{file_unread}
 use Rattle.edit_entries.specs.Documents.{Document, EntriesAdded, IsEdited}
+use Rattle.edit_entries.specs.LineEnds.{with_line_ends_of}
 use Rattle.edit_entries.specs.declared.errors.EditError.{EditError}
 use Rattle.edit_entries.specs.declared.errors.EditError.TheVariants as error
 use Rattle.edit_convert.specs.Conversions.{IsConverted}
@@ -180,7 +181,8 @@ refused_at edits i d {text} {new} why below first same refused =
     (subst (λ t. IsTextRefused (get_or edits i d) t i why) same refused)))
 
 -- if parsing the text to be added fails with an error that isn't out of memory, then that text has this error
-adds_error : {edit : Edit} {e : ParseError} → (e.kind ≡ kind.OutOfMemory → ⊥) → AddsUnread edit e → AddsError edit e
+adds_error : {edit : Edit} {text : List ℕ} {e : ParseError} → (e.kind ≡ kind.OutOfMemory → ⊥) → AddsUnread edit text e
+    → AddsError edit text e
 adds_error {e = e} other adds = record {
   more = adds.more;
   adds = adds.adds;
@@ -189,7 +191,7 @@ adds_error {e = e} other adds = record {
 
 -- if parsing the text to be added fails with an error of the kind `k`, the edit is refused with the refusal for that kind
 added_refused : (edit : Edit) (text : List ℕ) (index : ℕ) (e : ParseError) (k : ParseErrorKind) → e.kind ≡ k
-    → AddsUnread edit e → IsTextRefused edit text index (unless_no_memory k (refusal.Added e))
+    → AddsUnread edit text e → IsTextRefused edit text index (unless_no_memory k (refusal.Added e))
 added_refused edit text index e kind.OutOfMemory is adds = tt
 added_refused edit text index e kind.UnexpectedEof is adds =
     adds_error (λ out. let clash : kind.UnexpectedEof ≡ kind.OutOfMemory = sym is ∙ out in cc) adds
@@ -289,13 +291,14 @@ edit_refused edit text index d error.NoFieldLeft read refused = (
 -- if an edit of a document fails with a step, the edit of its text is refused with the refusal of that step
 pub step_refused : (edit : Edit) (text : List ℕ) (index : ℕ) (d : Document) (s : Step) → IsDocumentOf text d
     → StepIsRefused edit d s → IsTextRefused edit text index (refusal_at s index)
-step_refused edit text index d (step.Added e) read refused = added_refused edit text index e e.kind refl refused
+step_refused edit text index d (step.Added e) read refused =
+    added_refused edit text index e e.kind refl (subst (λ t. AddsUnread edit t e) read.same refused)
 step_refused edit text index d (step.Refused why) read refused = edit_refused edit text index d why read refused
 step_refused edit text index d (step.EarlyUse definition) read refused = (refl, record { document = d; read = read; meets = refused })
 step_refused edit text index d (step.ReferenceCycle entry) read refused = (refl, record { document = d; read = read; meets = refused })
 
--- the result of adding the document of a text is the result of adding the text
-pub adds_made : {d : Document} {text new : List ℕ} (more : Document) → IsDocumentOf text more
+-- the result of adding the document of a text with the line ends of the file is the result of adding the text
+pub adds_made : {d : Document} {text new : List ℕ} (more : Document) → IsDocumentOf (with_line_ends_of d.text text) more
     → IsEdited (EntriesAdded d more) new → IsEdited (TextAdded d text) new
 adds_made more read made = record {
   document = made.document;

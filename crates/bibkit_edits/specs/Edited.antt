@@ -17,6 +17,7 @@ use Rattle.edit_entries.specs.Changes.{IsChanged}
 use Rattle.edit_entries.specs.FieldEdits.{FieldEditIsRefused, selected_edited}
 use Rattle.edit_entries.specs.declared.field_edits.FieldEdit.{FieldEdit}
 use Rattle.edit_entries.specs.References.{KeyRenamed, KeysAreRefused, KeysRenamed, RenameIsRefused, given_keys}
+use Rattle.edit_entries.specs.LineEnds.{with_line_ends_of}
 use Rattle.edit_entries.specs.Setting.{FieldSet, SetIsRefused, value_of}
 use Rattle.edit_entries.specs.Unset.{FieldUnset}
 use Rattle.edit_entries.specs.declared.errors.EditError.{EditError}
@@ -43,10 +44,10 @@ pub record IsDocumentOf (text : List ℕ) (d : Document) : Type 0 where
   pub same : d.text ≡ text
   pub read : IsDocument d
 
--- `after` is the document `d` with a line feed and the document of `text` after it
+-- `after` is the document `d` with a line end and the document of `text`, with the line ends of `d`, after it
 pub record TextAdded (d : Document) (text : List ℕ) (after : Document) : Type 0 where
   pub more : Document
-  pub read : IsDocumentOf text more
+  pub read : IsDocumentOf (with_line_ends_of d.text text) more
   pub added : EntriesAdded d more after
 
 -- `after` is the document `d` laid out in a style: its text is in that style, and its content is that of `d`, except positions,
@@ -122,10 +123,10 @@ pub data AreMade : List Edit → List ℕ → List ℕ → Type 0 where
   next : {edit : Edit} {rest : List Edit} {text new : List ℕ} (between : List ℕ) → IsMade edit text between
       → AreMade rest between new → AreMade (edit ∷ rest) text new
 
--- adding the document of `text` to the document `d` may be refused with the error `why`
+-- adding the document of `text`, with the line ends of `d`, to the document `d` may be refused with the error `why`
 pub record TextIsRefused (d : Document) (text : List ℕ) (why : EditError) : Type 0 where
   pub more : Document
-  pub read : IsDocumentOf text more
+  pub read : IsDocumentOf (with_line_ends_of d.text text) more
   pub refused : EntriesAreRefused d more why
 
 -- an edit of a document may be refused with this error; the edits that aren't listed can't be refused so
@@ -150,10 +151,10 @@ abbrev pub MeetsReferenceCycle : Edit → Document → ℕ → Type 0
 MeetsReferenceCycle Resolve d entry = ResolveIsRefused d (resolve_error.Cycle entry)
 MeetsReferenceCycle _ d entry = ⊥
 
--- the edit adds this text
-abbrev pub AddsText : Edit → List ℕ → Type 0
-AddsText (Add text) added = added ≡ text.now
-AddsText _ added = ⊥
+-- the edit of a text adds this text, with the line ends of the first one
+abbrev pub AddsText : Edit → List ℕ → List ℕ → Type 0
+AddsText (Add text) file added = added ≡ with_line_ends_of file text.now
+AddsText _ file added = ⊥
 
 -- Edits of a text may be refused for this reason. Either the text has an error that makes parsing fail, or out of memory. Or the first
 -- edits are made, and the next one adds a text with such an error, is refused, expands a document with an early use, or resolves an
@@ -161,7 +162,7 @@ AddsText _ added = ⊥
 pub data AreRefused (edits : List Edit) (text : List ℕ) : Refusal → Type 0 where
   file : {e : ParseError} → IsReported text e → AreRefused edits text (refusal.File e)
   added : {e : ParseError} (edit : Edit) (done rest : List Edit) (between more : List ℕ) → edits ≡ done ++ edit ∷ rest
-      → AreMade done text between → AddsText edit more → IsReported more e
+      → AreMade done text between → AddsText edit between more → IsReported more e
       → AreRefused edits text (refusal.Added e)
   refused : {why : EditError} (edit : Edit) (done rest : List Edit) (between : List ℕ) (d : Document)
       → edits ≡ done ++ edit ∷ rest → AreMade done text between → IsDocumentOf between d

@@ -22,15 +22,15 @@ use Rattle.bibkit_edits.specs.declared.edit.Refusal.TheVariants as refusal
 use Rattle.bibkit_edits.specs.declared.editing.Step.{Step}
 use Rattle.bibkit_edits.specs.declared.editing.Step.TheVariants as step
 
--- the edit adds a text, and parsing that text fails with `e`: an error of the text, or out of memory
-pub record AddsUnread (edit : Edit) (e : ParseError) : Type 0 where
+-- the edit of a text adds a text, and parsing that text fails with `e`: an error of the text, or out of memory
+pub record AddsUnread (edit : Edit) (text : List ℕ) (e : ParseError) : Type 0 where
   pub more : List ℕ
-  pub adds : AddsText edit more
+  pub adds : AddsText edit text more
   pub why : (e ≡ out_of_memory) ⊎ IsReported more e
 
 -- an edit of a document may fail with this reason
 abbrev pub StepIsRefused : Edit → Document → Step → Type 0
-StepIsRefused edit d (step.Added e) = AddsUnread edit e
+StepIsRefused edit d (step.Added e) = AddsUnread edit d.text e
 StepIsRefused edit d (step.Refused why) = IsEditRefused edit d why ⊎ (why ≡ error.OutOfMemory)
 StepIsRefused edit d (step.EarlyUse definition) = MeetsEarlyUse edit d definition
 StepIsRefused edit d (step.ReferenceCycle entry) = MeetsReferenceCycle edit d entry
@@ -88,17 +88,17 @@ pub record MeetsReferenceCycleAt (edit : Edit) (text : List ℕ) (entry : ℕ) :
   pub read : IsDocumentOf text document
   pub meets : MeetsReferenceCycle edit document entry
 
--- the edit adds a text with the error `e`, which makes parsing fail
-pub record AddsError (edit : Edit) (e : ParseError) : Type 0 where
+-- the edit of a text adds a text with the error `e`, which makes parsing fail
+pub record AddsError (edit : Edit) (text : List ℕ) (e : ParseError) : Type 0 where
   pub more : List ℕ
-  pub adds : AddsText edit more
+  pub adds : AddsText edit text more
   pub reported : IsReported more e
 
 -- the edit of a text, with this index, may fail with this refusal
 abbrev pub IsTextRefused : Edit → List ℕ → ℕ → Refusal → Type 0
 IsTextRefused edit text index (refusal.NotUtf8 at) = ⊥
 IsTextRefused edit text index (refusal.File e) = IsReported text e
-IsTextRefused edit text index (refusal.Added e) = AddsError edit e
+IsTextRefused edit text index (refusal.Added e) = AddsError edit text e
 IsTextRefused edit text index (refusal.Edit at why) = (at ≡ index) × IsRefusedAt edit text why
 IsTextRefused edit text index (refusal.EarlyUse at definition) = (at ≡ index) × MeetsEarlyUseAt edit text definition
 IsTextRefused edit text index (refusal.ReferenceCycle at entry) = (at ≡ index) × MeetsReferenceCycleAt edit text entry

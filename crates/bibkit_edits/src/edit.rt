@@ -54,7 +54,7 @@ pub enum Edit<'a> {
         /// The key of the entry.
         key: &'a str,
     },
-    /// Appends a line end and another text with its entries.
+    /// Appends a line end and another text with its entries, with the line ends of the file.
     Add {
         /// The text to append.
         text: &'a str,
@@ -97,7 +97,7 @@ pub enum Refusal {
     },
     /// The text of the file has an error that makes parsing fail.
     File(ParseError),
-    /// The text to be added has an error that makes parsing fail.
+    /// The text to be added, with the line ends of the file, has an error that makes parsing fail.
     Added(ParseError),
     /// An edit is refused.
     Edit {

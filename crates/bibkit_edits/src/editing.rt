@@ -6,6 +6,7 @@ ghost use Rattle.bib_queries.specs.Needed.{is_listed};
 ghost use Rattle.bib_queries.specs.Sets.{is_in_set};
 ghost use Rattle.edit_entries.specs.Documents.{IsEdited};
 ghost use Rattle.edit_entries.specs.FieldEdits.{FieldEditIsRefused};
+ghost use Rattle.edit_entries.specs.LineEnds as line_ends;
 ghost use Rattle.edit_entries.specs.declared.errors.EditError.TheVariants.{OutOfMemory};
 ghost use Rattle.bibkit_edits.specs.Edited.{AreFieldsEdited, AreMade, AreRefused, AreTextsCollected, EditOutcome, IsDocumentConverted, IsFileMade, IsFileRefused, IsInOrder, IsInStyle, IsMade, IsResolvedDocument, IsWrittenOut};
 ghost use Rattle.edit_strings.specs.Expanded.{ExpandIsRefused};
@@ -21,6 +22,7 @@ use edit_convert::converting::convert;
 use edit_entries::document::RawDocument;
 use edit_entries::errors::EditError;
 use edit_entries::field_edits::FieldEdit;
+use edit_entries::line_ends::with_line_ends_of;
 use edit_format::formatting::format;
 use edit_format::style::Style;
 use edit_orders::order::Order;
@@ -178,6 +180,14 @@ fn format_document(
     Ok(format(alloc, document, style)?)
 }
 
+// Returns a text with the line ends of a document. Fails only if out of memory.
+fn text_to_add(alloc: Global, document: &RawDocument<'_>, text: &str) -> Result<String, EditError>
+    ensures same { IfOk result (λ new. string_bytes new ≡ line_ends.with_line_ends_of document.now.text text.now) }
+    ensures refused { IfErr result (λ why. why ≡ OutOfMemory) }
+{
+    Ok(with_line_ends_of(alloc, document.text(), text)?)
+}
+
 // Applies an edit to a document, and returns the new text.
 fn edit_document(alloc: Global, document: &RawDocument<'_>, edit: &Edit<'_>) -> Result<String, Step>
     ensures made { IfOk result (λ new. IsEdited (EditOutcome edit.now document.now) (string_bytes new)) }
@@ -191,7 +201,8 @@ fn edit_document(alloc: Global, document: &RawDocument<'_>, edit: &Edit<'_>) -> 
         Edit::Fields { keys, edit } => Ok(edit_fields(alloc, document, keys, &edit)?),
         Edit::Remove { key } => Ok(document.remove_entry(alloc, key)?),
         Edit::Add { text } => {
-            let more = RawDocument::parse(alloc, text)?;
+            let text = text_to_add(alloc, document, text)?;
+            let more = RawDocument::parse(alloc, text.as_str())?;
             Ok(document.add_entries(alloc, &more)?)
         }
         Edit::Sort { order } => Ok(sort_document(alloc, document, order)?),

@@ -399,8 +399,8 @@ module _ (says : FileReading) where
         by_case false is = (
           text_at 0 text,
           found_new name
-          ∙ ap (λ o. option_or (option_or o (definition_in added name)) (definition_in one name)) (no_other name is)
-          ∙ ap (λ o. option_or o (definition_in one name)) (means.fresh is),
+              ∙ ap (λ o. option_or (option_or o (definition_in added name)) (definition_in one name)) (no_other name is)
+              ∙ ap (λ o. option_or o (definition_in one name)) (means.fresh is),
           refl,
         )
 

@@ -30,7 +30,7 @@ use Rattle.edit_entries.proofs.PartFacts.{AreEntriesIn, edits_in_order, file_in}
 use Rattle.edit_entries.proofs.PlacelessFacts.{file_placeless}
 use Rattle.edit_entries.proofs.TrimmedFacts.{IsFieldPlaced, edits_earlier}
 use Rattle.edit_entries.proofs.SplitFacts.{FileBefore, ahead_file_before, block_of, joined_file, split_file}
-use Rattle.edit_format.specs.Formatted.{line_end_of}
+use Rattle.edit_entries.specs.LineEnds.{line_end_of}
 use Rattle.edit_strings.specs.Collected.{AreCollectedTexts, AreMadeAbbreviations, AreNames, AreThoseThat, RepeatsInBraces, collection, definition_lines, distinct, first_entry_start, has_digit_first, is_before, is_month, is_reusable, known_name, line_readings, name_value, named_text, named_texts, single_text, text_index, text_value, with_definitions, with_lines}
 use Rattle.edit_strings.specs.Collecting.{collection_by}
 use Rattle.edit_strings.specs.Exchanged.{Exchange, exchanges}
@@ -278,7 +278,8 @@ module _ (d : Document) (read : IsDocument d) (utf8 : IsUtf8 d.text) (exchange :
       let inside : at + 1 ≤ length d.text = omega (arith, char_left f.sign, f.sign.next) in
       let order : AreEditsInOrder d.text (at + 1) (edits_of_entries (exchanges exchange) d.text d.says.entries) =
       subst (λ xs. AreEditsInOrder d.text (at + 1) (edits_of_entries (exchanges exchange) d.text xs)) (sym is)
-      (subst (AreEditsInOrder d.text (at + 1)) (edits_are_changes (λ e. exchange) d.text (e ∷ es)) (exchange_from d read utf8 exchange e es is)) in
+      (subst (AreEditsInOrder d.text (at + 1)) (edits_are_changes (λ e. exchange) d.text (e ∷ es))
+      (exchange_from d read utf8 exchange e es is)) in
       let start = edits_front d.text (at + 1) (edits_of_entries (exchanges exchange) d.text d.says.entries) inside order in
       let within : at ≤ length now = omega (arith, start.1) in
       let same : take at d.text ≡ take at now = less_same d.text now at (at + 1) (omega arith) (sym start.0) in

@@ -47,7 +47,8 @@ piece_below size index (literal p) below = tt
 piece_below size index (abbreviation p) below = below p.text
 
 -- the indices of a map as a function
-pub indices_are : (definitions : List FieldReading) (count : ℕ) (indices : BTreeMap (String Global) ℕ) → AreIndices indices definitions count
+pub indices_are : (definitions : List FieldReading) (count : ℕ) (indices : BTreeMap (String Global) ℕ)
+    → AreIndices indices definitions count
     → lowercase_index_in indices ≡ index_before definitions count
 indices_are definitions count indices known = λ k name. known name k
 

@@ -38,7 +38,8 @@ between_later : (at mid end : ℕ) (fs : List FieldReading) → mid ≤ end → 
 between_later at mid end [] le between = omega arith
 between_later at mid end (f ∷ fs) le between = (between.0, between_later f.name.start mid end fs le between.1)
 
-between_append : (at mid end : ℕ) (xs ys : List FieldReading) → BeginBetween at mid xs → BeginBetween mid end ys → BeginBetween at end (xs ++ ys)
+between_append : (at mid end : ℕ) (xs ys : List FieldReading) → BeginBetween at mid xs → BeginBetween mid end ys
+    → BeginBetween at end (xs ++ ys)
 between_append at mid end [] ys first second = between_earlier at mid end ys first second
 between_append at mid end (x ∷ xs) ys first second = (first.0, between_append x.name.start mid end xs ys first.1 second)
 

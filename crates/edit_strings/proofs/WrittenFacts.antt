@@ -174,12 +174,14 @@ top_gone rows ordered stack rest now x row i stack_is is row_is now_is below =
     sym (get_or-map (λ r. indexed_back r.items) rows i row [] within ∙ ap (λ (r : Vec Indexed). indexed_back r.items) (sym row_is)) in
     let own = subst (AllByRecursion (IsIndexBelow i)) (sym here) (ordered i (omega arith)) in (
       ap (λ l. all_visits (rows_of rows) (indexed_back l)) stack_is
-          ∙ visits_go (rows_of rows) ordered rest row.items x (piece_of x.piece.now) i (ap (indexed (piece_of x.piece.now)) is) (omega arith)
+          ∙ visits_go (rows_of rows) ordered rest row.items x (piece_of x.piece.now) i (ap (indexed (piece_of x.piece.now)) is)
+          (omega arith)
           here
           ∙ ap (λ l. None ∷ all_visits (rows_of rows) (indexed_back l)) (sym now_is),
       subst (AllByRecursion (IsIndexBelow (length rows))) (sym (ap indexed_back now_is ∙ back_append rest row.items))
           (all_append (IsIndexBelow (length rows)) (indexed_back row.items) (indexed_back rest)
-          (all_weaker (IsIndexBelow i) (IsIndexBelow (length rows)) (below_weaker i (length rows) (omega arith)) (indexed_back row.items) own)
+          (all_weaker (IsIndexBelow i) (IsIndexBelow (length rows)) (below_weaker i (length rows) (omega arith))
+          (indexed_back row.items) own)
           parts.1),
     )
 
@@ -200,7 +202,8 @@ module _ (definitions : List FieldReading) (rows : List (List IndexedPiece)) (kn
       by_case : (o : Option ℕ) → piece_index (index_before definitions count) p ≡ o → IfSome o (λ i. i < count)
           → WritesOut definitions count ps (down (suc n) count ps)
           → WritesOut definitions count (p ∷ ps)
-          (staying (visits rows (suc n) (indexed p o) ++ flat_map (visits rows (suc n)) (map (with_index (index_before definitions count)) ps)))
+          (staying
+          (visits rows (suc n) (indexed p o) ++ flat_map (visits rows (suc n)) (map (with_index (index_before definitions count)) ps)))
       by_case None is below others = writes.itself is others
       by_case (Some i) is below others =
           let row = known.each i (omega arith) in

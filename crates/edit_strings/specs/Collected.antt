@@ -14,7 +14,7 @@ use Rattle.bib_syntax.specs.Reading.Piece.{literal, abbreviation}
 use Rattle.edit_entries.specs.Changes.{file_changed, text_changed, IsReadPlaceless, NewValue}
 use Rattle.edit_entries.specs.Documents.{CanBeName, CanStandInBraces, Document, has_name, last_position, text_at}
 use Rattle.edit_entries.specs.Edits.{edited}
-use Rattle.edit_format.specs.Formatted.{line_end_of}
+use Rattle.edit_entries.specs.LineEnds.{line_end_of}
 use Rattle.edit_strings.specs.Exchanged.{Exchange, exchanges}
 use Rattle.edit_strings.specs.Expanded.{Index, elements}
 
@@ -241,7 +241,8 @@ line_readings says (name ∷ names) (text ∷ texts) =
 
 -- the text of a document with these lines before the first entry
 abbrev pub with_lines : Document → List ℕ → List ℕ → List ℕ
-with_lines d lines text = edited (record { start = first_entry_start d.says.entries; end = first_entry_start d.says.entries; bytes = lines }) text
+with_lines d lines text =
+    edited (record { start = first_entry_start d.says.entries; end = first_entry_start d.says.entries; bytes = lines }) text
 
 -- the reading of a file with more definitions: between those before a byte offset and the others
 abbrev pub with_definitions : ℕ → List FieldReading → FileReading → FileReading

@@ -6,7 +6,7 @@ ghost use Rattle.std.specs.String.{string_bytes};
 ghost use Rattle.bib_syntax.specs.Grammar.{IsRawReading};
 ghost use Rattle.bib_syntax.specs.Reading.{FileReading};
 ghost use Rattle.bib_syntax.specs.Views.{entry_reading_of, field_of, file_of};
-ghost use Rattle.edit_format.specs.Formatted.{line_end_of};
+ghost use Rattle.edit_entries.specs.LineEnds.{line_end_of};
 ghost use Rattle.edit_strings.specs.Collected as spec;
 ghost use Rattle.edit_strings.specs.Collected.{AreNames, AreMadeAbbreviations, definition_lines, known_name, string_line, text_index, with_lines};
 ghost use Rattle.edit_strings.specs.Collecting.{collection_by, known_in, lent_texts, string_texts};
@@ -24,6 +24,7 @@ use bib_syntax::raw::{Pair, RawBibliography, RawEntry};
 use bib_text::spanned::Spanned;
 use edit_entries::document::RawDocument;
 use edit_entries::editing::{Edit, edited_all};
+use edit_entries::line_ends::line_end;
 use edit_entries::values::value_end;
 use std::alloc::{AllocError, Global};
 use std::collections::BTreeMap;
@@ -115,16 +116,6 @@ fn edits(
         push_edits(&mut edits, alloc, text, fields, collection, &entry.v.fields)?;
     }
     Ok(edits)
-}
-
-// Returns the line end of `text`: `\r\n` if its first line ends so, otherwise `\n`.
-fn line_end(text: &str) -> &'static str
-    ensures { result.now ≡ line_end_of text.now }
-{
-    match text.split_once('\n') {
-        Some((line, _)) => if line.ends_with("\r") { "\r\n" } else { "\n" },
-        None => "\n",
-    }
 }
 
 // Appends the `@string` line that defines `name` as `text`.

@@ -7,7 +7,7 @@ use Rattle.bib_syntax.specs.Grammar.{IsRawReading}
 use Rattle.bib_syntax.specs.Views.{entry_reading_of, file_of}
 use Rattle.edit_entries.specs.Changes.{text_changed}
 use Rattle.edit_entries.specs.Documents.{Document}
-use Rattle.edit_format.specs.Formatted.{line_end_of}
+use Rattle.edit_entries.specs.LineEnds.{line_end_of}
 use Rattle.edit_strings.specs.Collected.{AreCollectedTexts, AreNames, AreThoseThat, RepeatsInBraces, collection, definition_lines, distinct, named_texts, with_lines}
 use Rattle.edit_strings.specs.Collecting.{lent_texts, string_texts}
 use Rattle.edit_strings.specs.Exchanged.{exchanges}

@@ -5,7 +5,7 @@ use Rattle.bib_syntax.specs.Views.{entry_reading_of, file_of}
 use Rattle.edit_entries.specs.Documents.{Document}
 use Rattle.edit_entries.specs.Edits.{edited, edited_all}
 use Rattle.edit_entries.specs.EditList.{AreEditsInOrder, edit_of}
-use Rattle.edit_format.specs.Formatted.{line_end_of}
+use Rattle.edit_entries.specs.LineEnds.{line_end_of}
 use Rattle.edit_strings.specs.Collected.{collection, definition_lines, first_entry_start}
 use Rattle.edit_strings.specs.Collecting.{lent_texts, string_texts}
 use Rattle.edit_strings.specs.Exchanged.{Exchange}
@@ -34,7 +34,8 @@ edited_all-requires c =
     let edits = all_edits_known d (map edit_of c.deref-4.result.now) _ fields texts names (string_bytes c.in_ok-lines.lines) d.text
     (index_in c.args.collection.now.indices) c.first_entry_start-start.result (map entry_reading_of c.deref-3.result.now) refl
     (ap (map entry_reading_of) c.deref-3.ensures.value) c.requires.index refl
-    (c.first_entry_start-start.ensures ∙ ap (λ l. first_entry_start (map entry_reading_of l)) (c.deref-2.ensures.value ∙ sym c.deref-3.ensures.value))
+    (c.first_entry_start-start.ensures
+    ∙ ap (λ l. first_entry_start (map entry_reading_of l)) (c.deref-2.ensures.value ∙ sym c.deref-3.ensures.value))
     (ap (map edit_of) c.deref-4.ensures.value ∙ c.in_ok-made.ensures) in
     subst (AreEditsInOrder d.text 0) (sym edits)
     (lines_in_order d c.requires.read c.utf8.text (collection fields texts names) (string_bytes c.in_ok-lines.lines))
@@ -50,7 +51,8 @@ returns c =
     let edits = all_edits_known d (map edit_of c.deref-4.result.now) _ fields texts names (string_bytes c.in_ok-lines.lines) d.text
     (index_in c.args.collection.now.indices) c.first_entry_start-start.result (map entry_reading_of c.deref-3.result.now) refl
     (ap (map entry_reading_of) c.deref-3.ensures.value) c.requires.index refl
-    (c.first_entry_start-start.ensures ∙ ap (λ l. first_entry_start (map entry_reading_of l)) (c.deref-2.ensures.value ∙ sym c.deref-3.ensures.value))
+    (c.first_entry_start-start.ensures
+    ∙ ap (λ l. first_entry_start (map entry_reading_of l)) (c.deref-2.ensures.value ∙ sym c.deref-3.ensures.value))
     (ap (map edit_of) c.deref-4.ensures.value ∙ c.in_ok-made.ensures) in
     let lines = c.in_ok-lines.ensures d.says c.requires.known
     ∙ ap (λ ns. definition_lines d.says c.line_end.result.now (string_texts ns) texts) c.deref.ensures.value
