@@ -1,4 +1,4 @@
-//! A law: a file that is laid out in a style is the same bibliography as before.
+//! Laws: a file that is laid out, or whose abbreviations are expanded or collected, is the same bibliography as before.
 //!
 //! The file grammar gives the same reading for a formatted text as for the old text, except for spans, the case of entry types
 //! and field names, and the order of fields (`edit_format`). A bibliography depends only on this reading, and on neither spans
