@@ -44,8 +44,8 @@ def set_field(text: Text, key: str, name: str, value: str, *, bare: bool = False
     entry, or that of a month, such as `jan`.
 
     If several fields of the entry have this name, each gets the value. If the entry lacks the field, it is added before the
-    other fields, with the white space before the first of them. `value` is TeX source, and its braces must balance. BibTeX
-    also counts a brace after a backslash. This edit and the others change no other byte.
+    other fields, laid out like them. `value` is TeX source, and its braces must balance. BibTeX also counts a brace after a
+    backslash. This edit and the others change no other byte.
 
     Raises an `EditError` if no entry has the key, if `name` isn't a field name, or if `value` can't be written in braces,
     or without braces if `bare`.
