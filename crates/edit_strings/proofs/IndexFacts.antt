@@ -13,7 +13,7 @@ use Rattle.bib_syntax.specs.declared.raw.Pair.{Pair}
 use Rattle.edit_entries.specs.Documents.{has_name, last_position, or_first}
 use Rattle.edit_entries.proofs.PositionFacts.{last_step}
 use Rattle.edit_strings.specs.Expanded.{Index, index_before, piece_index}
-use Rattle.edit_strings.specs.Tables.{AreBetween, AreIndices, IsBelow, index_in_any_case}
+use Rattle.edit_strings.specs.Tables.{AreInOrderBetween, AreIndices, IsBelow, index_by_lowercase}
 
 -- ---- indices
 
@@ -47,15 +47,15 @@ piece_below size index (literal p) below = tt
 piece_below size index (abbreviation p) below = below p.text
 
 -- the indices of a map as a function
-pub indices_are : (definitions : List FieldReading) (count : ℕ) (indices : BTreeMap (String Global) ℕ) → AreIndices indices definitions count
-    → index_in_any_case indices ≡ index_before definitions count
+pub indices_are : (definitions : List FieldReading) (count : ℕ) (indices : BTreeMap (String Global) ℕ)
+    → AreIndices indices definitions count → index_by_lowercase indices ≡ index_before definitions count
 indices_are definitions count indices known = λ k name. known name k
 
 -- the indices of a map are less than each number from the count of the definitions on
 pub indices_below : (definitions : List FieldReading) (count size : ℕ) (indices : BTreeMap (String Global) ℕ) → count ≤ size
-    → AreIndices indices definitions count → IsBelow size (index_in_any_case indices)
+    → AreIndices indices definitions count → IsBelow size (index_by_lowercase indices)
 indices_below definitions count size indices le known name =
-    some_below count size (index_in_any_case indices name) le
+    some_below count size (index_by_lowercase indices name) le
     (subst (λ o. IfSome o (λ i. i < count)) (sym (known name)) (before_below definitions count name))
 
 -- the index of a name after one more definition
@@ -71,7 +71,7 @@ before_step xs i x name within is =
 count_first : {A : Type 0} (p : A → Bool) (x : A) (xs : List A) → count_by p (x ∷ xs) ≡ cond (p x) 1 0 + count_by p xs
 count_first p x xs = sum_by-append (λ y. cond (p y) 1 0) (x ∷ []) xs ∙ ap (λ n. n + count_by p xs) (omega arith)
 
-none_before : (start at end : ℕ) (fs : List FieldReading) → AreBetween at end fs → start ≤ at
+none_before : (start at end : ℕ) (fs : List FieldReading) → AreInOrderBetween at end fs → start ≤ at
     → count_by (λ f. nat_lt f.name.start start) fs ≡ 0
 none_before start at end [] between le = refl
 none_before start at end (f ∷ fs) between le =
@@ -84,7 +84,7 @@ abbrev pub start_of : List FieldReading → ℕ → ℕ
 start_of fs i = get_or (map (λ f. f.name.start) fs) i 0
 
 -- the definitions that begin before a byte offset are counted by the index of the first that doesn't
-pub count_is : (start at end : ℕ) (fs : List FieldReading) (n : ℕ) → AreBetween at end fs → n ≤ length fs
+pub count_is : (start at end : ℕ) (fs : List FieldReading) (n : ℕ) → AreInOrderBetween at end fs → n ≤ length fs
     → ((i : ℕ) → i < n → start_of fs i < start) → (n < length fs → start_of fs n < start → ⊥)
     → count_by (λ f. nat_lt f.name.start start) fs ≡ n
 count_is start at end [] zero between within passed stops = refl

@@ -17,7 +17,7 @@ use Rattle.edit_entries.proofs.CutFacts.{document_cut}
 use Rattle.edit_entries.specs.Cuts.{AreEntriesCut}
 use Rattle.edit_entries.specs.Documents.{Document, IsDocument}
 use Rattle.edit_strings.specs.Expanded.{count_before}
-use Rattle.edit_strings.specs.Tables.{AreBetween, AreFrom, BeginBefore, IsNextAfter, start_at}
+use Rattle.edit_strings.specs.Tables.{AreInOrderBetween, AreFrom, BeginBefore, IsNextAfter, start_at}
 use Rattle.edit_strings.proofs.IndexFacts.{count_is}
 
 -- ---- definitions
@@ -30,19 +30,20 @@ pair_start xs i x within is =
     ∙ ap (λ (f : FieldReading). f.name.start) (get_or-map field_of xs i x (field_of x) within)
     ∙ ap (λ (y : Pair). y.key.span.start) (sym is)
 
-between_earlier : (at mid end : ℕ) (fs : List FieldReading) → at ≤ mid → AreBetween mid end fs → AreBetween at end fs
+between_earlier : (at mid end : ℕ) (fs : List FieldReading) → at ≤ mid → AreInOrderBetween mid end fs → AreInOrderBetween at end fs
 between_earlier at mid end [] le between = omega arith
 between_earlier at mid end (f ∷ fs) le between = (omega (arith, between.0), between.1)
 
-between_later : (at mid end : ℕ) (fs : List FieldReading) → mid ≤ end → AreBetween at mid fs → AreBetween at end fs
+between_later : (at mid end : ℕ) (fs : List FieldReading) → mid ≤ end → AreInOrderBetween at mid fs → AreInOrderBetween at end fs
 between_later at mid end [] le between = omega arith
 between_later at mid end (f ∷ fs) le between = (between.0, between_later f.name.start mid end fs le between.1)
 
-between_append : (at mid end : ℕ) (xs ys : List FieldReading) → AreBetween at mid xs → AreBetween mid end ys → AreBetween at end (xs ++ ys)
+between_append : (at mid end : ℕ) (xs ys : List FieldReading) → AreInOrderBetween at mid xs
+    → AreInOrderBetween mid end ys → AreInOrderBetween at end (xs ++ ys)
 between_append at mid end [] ys first second = between_earlier at mid end ys first second
 between_append at mid end (x ∷ xs) ys first second = (first.0, between_append x.name.start mid end xs ys first.1 second)
 
-fields_between : {u v : Place} {fs : List FieldReading} → Fields longest u fs v → AreBetween u.at v.at fs
+fields_between : {u v : Place} {fs : List FieldReading} → Fields longest u fs v → AreInOrderBetween u.at v.at fs
 fields_between (fields.none white) = (ahead_fields (fields.none white)).at
 fields_between (fields.last field gap) =
     let start = ap (λ p. p.start) field.name.reading in
@@ -53,7 +54,7 @@ fields_between {v = v} {fs = f ∷ fs} (fields.more {y = y} field gap comma gap'
     (omega (arith, start), between_earlier f.name.start y.at v.at fs (omega (arith, start, past.at)) (fields_between rest))
 
 body_between : (at : ℕ) {start u v : Place} {kind : Part} {k : BlockKind} {says : FileReading} → at ≤ u.at → at ≤ v.at
-    → Body longest start kind k u says v → AreBetween at v.at says.abbreviations
+    → Body longest start kind k u says v → AreInOrderBetween at v.at says.abbreviations
 body_between at before past (body.comment brace chars closes) = past
 body_between at before past (body.preamble quoted white closes is_brace) = past
 body_between at {v = v} {says = says} before past (body.strings {u = u} {v = w} fs closes) =
@@ -62,7 +63,7 @@ body_between at {v = v} {says = says} before past (body.strings {u = u} {v = w} 
 body_between at before past (body.entry key_end key white comma gap list closes) = past
 
 -- the definitions of a file are in order
-pub file_between : {u : Place} {says : FileReading} → File longest u says → (end : ℕ) × AreBetween u.at end says.abbreviations
+pub file_between : {u : Place} {says : FileReading} → File longest u says → (end : ℕ) × AreInOrderBetween u.at end says.abbreviations
 file_between {u} (file.end end) = (u.at, omega arith)
 file_between {u} {says} (file.skipped {v = v} char passes x) =
     let rest = file_between x in
@@ -111,7 +112,7 @@ pub record IsAhead (definitions : List FieldReading) (next : ℕ) (es : List Ent
   pub within : next ≤ length definitions
 
 -- the definitions before the next entry
-pub ahead_step : (definitions : List FieldReading) (end : ℕ) → AreBetween 0 end definitions → (from next : ℕ) (e : EntryReading)
+pub ahead_step : (definitions : List FieldReading) (end : ℕ) → AreInOrderBetween 0 end definitions → (from next : ℕ) (e : EntryReading)
     (es : List EntryReading) → IsAhead definitions from (e ∷ es) → next ≤ length definitions
     → BeginBefore definitions e.start from next → IsNextAfter definitions e.start next
     → (count_before definitions e ≡ next) × IsAhead definitions next es

@@ -14,7 +14,7 @@ use Rattle.bib_syntax.specs.declared.raw.Pair.{Pair}
 use Rattle.edit_entries.proofs.AllFacts.{all_weaker}
 use Rattle.edit_strings.specs.Expanded.{Index, WritesOut, elements, elements_at, index_before, is_early, is_early_use, name_at, piece_index}
 use Rattle.edit_strings.specs.Expanded.{WritesOut as writes}
-use Rattle.edit_strings.specs.Tables.{AreIndices, AreOrdered, AreRows, IndexedPiece, IsBelow, IsIndexBelow, all_visits, index_in_any_case, indexed_back, indexed_of, row_at, rows_of, staying, visits, with_index}
+use Rattle.edit_strings.specs.Tables.{AreIndices, AreOrdered, AreRows, IndexedPiece, IsBelow, IsIndexBelow, all_visits, index_by_lowercase, indexed_back, indexed_of, row_at, rows_of, staying, visits, with_index}
 use Rattle.edit_strings.specs.Tables.IndexedPiece.{indexed}
 use Rattle.edit_strings.specs.declared.written.Indexed.{Indexed}
 use Rattle.edit_strings.proofs.ElementFacts.{IsSome}
@@ -77,16 +77,16 @@ name_of_pair xs i x within is =
 -- whether a definition uses its own name, or a name before its definition, by the maps of the code
 pub early_is : (xs : List Pair) (i : ℕ) (x : Pair) → i < length xs → x ≡ get_or xs i x → (all earlier : BTreeMap (String Global) ℕ)
     → AreIndices all (map field_of xs) (length xs) → AreIndices earlier (map field_of xs) i
-    → list_any (is_early_use x.key.v.now (index_in_any_case all) (index_in_any_case earlier)) (map piece_of x.value.v.items)
+    → list_any (is_early_use x.key.v.now (index_by_lowercase all) (index_by_lowercase earlier)) (map piece_of x.value.v.items)
     ≡ is_early (map field_of xs) i
 early_is xs i x within is all earlier whole before =
     let defined : List FieldReading = map field_of xs in
     let pieces : List Piece = map piece_of x.value.v.items in
     let own : List ℕ = x.key.v.now in
-    let last : index_in_any_case all ≡ index_before defined (length xs) = λ k name. whole name k in
-    let first : index_in_any_case earlier ≡ index_before defined i = λ k name. before name k in
-    ap (λ ix. list_any (is_early_use own ix (index_in_any_case earlier)) pieces) last
-    ∙ ap (λ n. list_any (is_early_use own (index_before defined n) (index_in_any_case earlier)) pieces) (sym (length-map xs field_of))
+    let last : index_by_lowercase all ≡ index_before defined (length xs) = λ k name. whole name k in
+    let first : index_by_lowercase earlier ≡ index_before defined i = λ k name. before name k in
+    ap (λ ix. list_any (is_early_use own ix (index_by_lowercase earlier)) pieces) last
+    ∙ ap (λ n. list_any (is_early_use own (index_before defined n) (index_by_lowercase earlier)) pieces) (sym (length-map xs field_of))
     ∙ ap (λ ix. list_any (is_early_use own (index_before defined (length defined)) ix) pieces) first
     ∙ ap (λ name. list_any (is_early_use name (index_before defined (length defined)) (index_before defined i)) pieces)
     (sym (name_of_pair xs i x within is))
@@ -174,12 +174,14 @@ top_gone rows ordered stack rest now x row i stack_is is row_is now_is below =
     sym (get_or-map (λ r. indexed_back r.items) rows i row [] within ∙ ap (λ (r : Vec Indexed). indexed_back r.items) (sym row_is)) in
     let own = subst (AllByRecursion (IsIndexBelow i)) (sym here) (ordered i (omega arith)) in (
       ap (λ l. all_visits (rows_of rows) (indexed_back l)) stack_is
-          ∙ visits_go (rows_of rows) ordered rest row.items x (piece_of x.piece.now) i (ap (indexed (piece_of x.piece.now)) is) (omega arith)
+          ∙ visits_go (rows_of rows) ordered rest row.items x (piece_of x.piece.now) i (ap (indexed (piece_of x.piece.now)) is)
+          (omega arith)
           here
           ∙ ap (λ l. None ∷ all_visits (rows_of rows) (indexed_back l)) (sym now_is),
       subst (AllByRecursion (IsIndexBelow (length rows))) (sym (ap indexed_back now_is ∙ back_append rest row.items))
           (all_append (IsIndexBelow (length rows)) (indexed_back row.items) (indexed_back rest)
-          (all_weaker (IsIndexBelow i) (IsIndexBelow (length rows)) (below_weaker i (length rows) (omega arith)) (indexed_back row.items) own)
+          (all_weaker (IsIndexBelow i) (IsIndexBelow (length rows)) (below_weaker i (length rows) (omega arith)) (indexed_back row.items)
+          own)
           parts.1),
     )
 
@@ -200,7 +202,8 @@ module _ (definitions : List FieldReading) (rows : List (List IndexedPiece)) (kn
       by_case : (o : Option ℕ) → piece_index (index_before definitions count) p ≡ o → IfSome o (λ i. i < count)
           → WritesOut definitions count ps (down (suc n) count ps)
           → WritesOut definitions count (p ∷ ps)
-          (staying (visits rows (suc n) (indexed p o) ++ flat_map (visits rows (suc n)) (map (with_index (index_before definitions count)) ps)))
+          (staying
+          (visits rows (suc n) (indexed p o) ++ flat_map (visits rows (suc n)) (map (with_index (index_before definitions count)) ps)))
       by_case None is below others = writes.itself is others
       by_case (Some i) is below others =
           let row = known.each i (omega arith) in

@@ -51,12 +51,12 @@ abbrev pub index_in : BTreeMap (Bor (List ℕ)) ℕ → Index
 index_in indices name = get_by (λ k. slice_cmp nat_cmp name k.now) indices
 
 -- the index that a map, whose names are in lowercase, has for each name in any ASCII case
-abbrev pub index_in_any_case : BTreeMap (String Global) ℕ → Index
-index_in_any_case indices name = get_by_text indices (str_to_ascii_lowercase name)
+abbrev pub index_by_lowercase : BTreeMap (String Global) ℕ → Index
+index_by_lowercase indices name = get_by_text indices (str_to_ascii_lowercase name)
 
 -- a map has the index of the last definition of each name among the first `count` definitions
 abbrev pub AreIndices : BTreeMap (String Global) ℕ → List FieldReading → ℕ → Type 0
-AreIndices indices definitions count = (name : List ℕ) → index_in_any_case indices name ≡ index_before definitions count name
+AreIndices indices definitions count = (name : List ℕ) → index_by_lowercase indices name ≡ index_before definitions count name
 
 -- each index is less than a number
 abbrev pub IsBelow : ℕ → Index → Type 0
@@ -151,9 +151,9 @@ AreExpansionsCut text definitions rows entries =
 -- ---- the order of definitions and entries
 
 -- the definitions begin one after the other, between two byte offsets
-abbrev pub AreBetween : ℕ → ℕ → List FieldReading → Type 0
-AreBetween at end [] = at ≤ end
-AreBetween at end (f ∷ fs) = (at ≤ f.name.start) × AreBetween f.name.start end fs
+abbrev pub AreInOrderBetween : ℕ → ℕ → List FieldReading → Type 0
+AreInOrderBetween at end [] = at ≤ end
+AreInOrderBetween at end (f ∷ fs) = (at ≤ f.name.start) × AreInOrderBetween f.name.start end fs
 
 -- the entries begin one after the other, from a byte offset on
 abbrev pub AreFrom : ℕ → List EntryReading → Type 0

@@ -6,7 +6,7 @@ ghost use Rattle.bib_syntax.specs.Views.{field_of, piece_of};
 ghost use Rattle.edit_entries.specs.Documents.{has_name};
 ghost use Rattle.edit_strings.specs.Expanded as spec;
 ghost use Rattle.edit_strings.specs.Expanded.{piece_index};
-ghost use Rattle.edit_strings.specs.Tables.{AreIndices, index_in_any_case};
+ghost use Rattle.edit_strings.specs.Tables.{AreIndices, index_by_lowercase};
 
 use bib_syntax::raw::{Pair, RawChunk, is_word};
 use bib_text::spanned::Spanned;
@@ -23,8 +23,8 @@ pub(crate) fn add_definition(
     definition: &Pair<'_>,
     index: usize,
 ) -> Result<(), AllocError>
-    ensures { OnOk result ((name : List ℕ) → index_in_any_case indices.new name ≡
-        (if has_name name (field_of definition.now) then Some index else index_in_any_case indices.old name)) }
+    ensures { OnOk result ((name : List ℕ) → index_by_lowercase indices.new name ≡
+        (if has_name name (field_of definition.now) then Some index else index_by_lowercase indices.old name)) }
 {
     indices.insert(definition.key.v.to_ascii_lowercase(alloc)?, index)?;
     Ok(())
@@ -50,7 +50,7 @@ pub(crate) fn defined_index(
     indices: &Indices,
     piece: &Spanned<RawChunk<'_>>,
 ) -> Result<Option<usize>, AllocError>
-    ensures { IfOk result (λ index. index ≡ piece_index (index_in_any_case indices.now) (piece_of piece.now)) }
+    ensures { IfOk result (λ index. index ≡ piece_index (index_by_lowercase indices.now) (piece_of piece.now)) }
 {
     match piece.v {
         RawChunk::Abbreviation(name) => {
@@ -67,7 +67,7 @@ pub(crate) fn has_defined(
     indices: &Indices,
     pieces: &[Spanned<RawChunk<'_>>],
 ) -> Result<bool, AllocError>
-    ensures { IfOk result (λ has. has ≡ spec.has_defined (index_in_any_case indices.now) (map piece_of pieces.now)) }
+    ensures { IfOk result (λ has. has ≡ spec.has_defined (index_by_lowercase indices.now) (map piece_of pieces.now)) }
 {
     'pieces: for piece in pieces {
         if defined_index(alloc, indices, piece)?.is_some() {
@@ -96,7 +96,7 @@ fn is_early_use(
     piece: &Spanned<RawChunk<'_>>,
 ) -> Result<bool, AllocError>
     ensures { IfOk result (λ is. is ≡
-        spec.is_early_use own.now (index_in_any_case all.now) (index_in_any_case earlier.now) (piece_of piece.now)) }
+        spec.is_early_use own.now (index_by_lowercase all.now) (index_by_lowercase earlier.now) (piece_of piece.now)) }
 {
     let last = defined_index(alloc, all, piece)?;
     let before = defined_index(alloc, earlier, piece)?;
@@ -112,7 +112,7 @@ pub(crate) fn has_early_use(
     definition: &Pair<'_>,
 ) -> Result<bool, AllocError>
     ensures { IfOk result (λ has. has ≡
-        list_any (spec.is_early_use (field_of definition.now).name.text (index_in_any_case all.now) (index_in_any_case earlier.now))
+        list_any (spec.is_early_use (field_of definition.now).name.text (index_by_lowercase all.now) (index_by_lowercase earlier.now))
         (spec.elements (field_of definition.now))) }
 {
     'pieces: for piece in &definition.value.v {

@@ -4,7 +4,7 @@ ghost use Rattle.std.specs.Prelude.{◌≡◌, ◌++◌, ◌≤◌, ◌<◌, ℕ
 ghost use Rattle.std.specs.List.{AllByRecursion};
 ghost use Rattle.std.specs.String.{string_bytes};
 ghost use Rattle.bib_syntax.specs.Views.{entry_reading_of, field_of};
-ghost use Rattle.edit_strings.specs.Tables.{each_edits, field_edits, value_edits, AreBetween, AreExpansionsCut, AreFrom, AreIndices, AreOrdered, AreRows, BeginBefore, IsBelow, IsExpansionCut, IsNextAfter, entry_expansion, expansion_by, index_in_any_case, rows_of};
+ghost use Rattle.edit_strings.specs.Tables.{each_edits, field_edits, value_edits, AreInOrderBetween, AreExpansionsCut, AreFrom, AreIndices, AreOrdered, AreRows, BeginBefore, IsBelow, IsExpansionCut, IsNextAfter, entry_expansion, expansion_by, index_by_lowercase, rows_of};
 ghost use Rattle.edit_strings.specs.Expanded.{ExpandIsRefused, HasNoEarlyUse, IsExpanded};
 ghost use Rattle.edit_entries.specs.EditList.{edit_of};
 
@@ -65,10 +65,10 @@ fn push_expansion<'a, 's>(
     field: &'a Pair<'s>,
 ) -> Result<(), AllocError>
     requires ordered { AreOrdered (rows_of names.now.rows.items) }
-    requires below { IsBelow (length names.now.rows.items) (index_in_any_case indices.now) }
-    requires cut { IsExpansionCut names.now.text.now (rows_of names.now.rows.items) (index_in_any_case indices.now) (field_of field.now) }
+    requires below { IsBelow (length names.now.rows.items) (index_by_lowercase indices.now) }
+    requires cut { IsExpansionCut names.now.text.now (rows_of names.now.rows.items) (index_by_lowercase indices.now) (field_of field.now) }
     ensures { OnOk result (map edit_of edits.new.items ≡ map edit_of edits.old.items ++
-        value_edits names.now.text.now (field_of field.now) (expansion_by names.now.text.now (rows_of names.now.rows.items) (index_in_any_case indices.now) (field_of field.now))) }
+        value_edits names.now.text.now (field_of field.now) (expansion_by names.now.text.now (rows_of names.now.rows.items) (index_by_lowercase indices.now) (field_of field.now))) }
 {
     if !has_defined(alloc, indices, &field.value.v)? {
         return Ok(());
@@ -93,10 +93,10 @@ fn push_expansions<'a, 's>(
     fields: &'a [Pair<'s>],
 ) -> Result<(), AllocError>
     requires ordered { AreOrdered (rows_of names.now.rows.items) }
-    requires below { IsBelow (length names.now.rows.items) (index_in_any_case indices.now) }
-    requires cut { AllByRecursion (IsExpansionCut names.now.text.now (rows_of names.now.rows.items) (index_in_any_case indices.now)) (map field_of fields.now) }
+    requires below { IsBelow (length names.now.rows.items) (index_by_lowercase indices.now) }
+    requires cut { AllByRecursion (IsExpansionCut names.now.text.now (rows_of names.now.rows.items) (index_by_lowercase indices.now)) (map field_of fields.now) }
     ensures { OnOk result (map edit_of edits.new.items ≡ map edit_of edits.old.items ++
-        field_edits (expansion_by names.now.text.now (rows_of names.now.rows.items) (index_in_any_case indices.now)) names.now.text.now (map field_of fields.now)) }
+        field_edits (expansion_by names.now.text.now (rows_of names.now.rows.items) (index_by_lowercase indices.now)) names.now.text.now (map field_of fields.now)) }
 {
     'fields: for field in fields {
         push_expansion(edits, alloc, names, indices, field)?;
@@ -111,7 +111,7 @@ fn expansions<'a, 's>(
     entries: &'a [Spanned<RawEntry<'s>>],
 ) -> Result<Vec<Edit>, AllocError>
     requires rows { AreRows (map field_of names.now.definitions.now) (length names.now.definitions.now) (rows_of names.now.rows.items) }
-    requires definitions { (end : ℕ) × AreBetween 0 end (map field_of names.now.definitions.now) }
+    requires definitions { (end : ℕ) × AreInOrderBetween 0 end (map field_of names.now.definitions.now) }
     requires entries { AreFrom 0 (map entry_reading_of entries.now) }
     requires cut { AreExpansionsCut names.now.text.now (map field_of names.now.definitions.now) (rows_of names.now.rows.items) (map entry_reading_of entries.now) }
     ensures { IfOk result (λ edits. map edit_of edits.items ≡

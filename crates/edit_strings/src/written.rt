@@ -5,7 +5,7 @@ ghost use Rattle.std.specs.List.{AllByRecursion};
 ghost use Rattle.bib_syntax.specs.Views.{field_of, piece_of};
 ghost use Rattle.edit_strings.specs.Expanded.{HasNoEarlyUse, IsExpandError};
 ghost use Rattle.edit_strings.specs.Tables as spec;
-ghost use Rattle.edit_strings.specs.Tables.{AreIndices, AreOrdered, AreRows, IsIndexBelow, index_in_any_case, indexed_back, lent_pieces, rows_of, with_index};
+ghost use Rattle.edit_strings.specs.Tables.{AreIndices, AreOrdered, AreRows, IsIndexBelow, index_by_lowercase, indexed_back, lent_pieces, rows_of, with_index};
 
 use crate::definitions::{Indices, add_definition, defined_index, has_early_use};
 use crate::errors::ExpandError;
@@ -30,7 +30,7 @@ pub(crate) fn with_indices<'a, 's>(
     indices: &Indices,
     pieces: &'a [Spanned<RawChunk<'s>>],
 ) -> Result<Vec<Indexed<'a, 's>>, AllocError>
-    ensures { IfOk result (λ found. indexed_back found.items ≡ map (with_index (index_in_any_case indices.now)) (map piece_of pieces.now)) }
+    ensures { IfOk result (λ found. indexed_back found.items ≡ map (with_index (index_by_lowercase indices.now)) (map piece_of pieces.now)) }
 {
     let mut found = Vec::with_capacity(alloc, pieces.len())?;
     'pieces: for piece in pieces {

@@ -5,7 +5,7 @@ use Rattle.bib_syntax.specs.Views.{entry_reading_of, field_of}
 use Rattle.edit_entries.specs.Documents.{Document}
 use Rattle.edit_entries.specs.Edits.{edited_all}
 use Rattle.edit_entries.specs.EditList.{AreEditsInOrder, edit_of}
-use Rattle.edit_strings.specs.Tables.{AreBetween, AreExpansionsCut, AreFrom, rows_of}
+use Rattle.edit_strings.specs.Tables.{AreInOrderBetween, AreExpansionsCut, AreFrom, rows_of}
 use Rattle.edit_strings.proofs.ExpandFacts.{expanded, expansions_cut, in_order, known_edits, known_rows}
 use Rattle.edit_strings.proofs.OrderFacts.{document_from, file_between}
 use Rattle.edit_strings.proofs.expanding.expand.Goals as goal
@@ -15,7 +15,7 @@ expansions-requires-clause-definitions c =
     let defined : map field_of c.deref-2.result.now ≡ c.args.document.now.says.abbreviations =
     ap (map field_of) c.deref-2.ensures.value ∙ ap (λ f. f.abbreviations) c.raw-raw.ensures.says in
     let between = file_between c.raw-raw.ensures.read in
-    (between.0, subst (AreBetween 0 between.0) (sym defined) between.1)
+    (between.0, subst (AreInOrderBetween 0 between.0) (sym defined) between.1)
 
 pub expansions-requires-clause-entries : goal.expansions-requires-clause-entries
 expansions-requires-clause-entries c =

@@ -5,7 +5,7 @@ use Rattle.bib_syntax.specs.Reading.{EntryReading, FieldReading}
 use Rattle.bib_syntax.specs.Views.{entry_reading_of, field_of}
 use Rattle.edit_entries.specs.EditList.{edit_of}
 use Rattle.edit_strings.specs.Expanded.{count_before, index_before}
-use Rattle.edit_strings.specs.Tables.{AreRows, IsExpansionCut, entry_expansion, expansion_by, field_edits, index_in_any_case, indexed_back, rows_of}
+use Rattle.edit_strings.specs.Tables.{AreRows, IsExpansionCut, entry_expansion, expansion_by, field_edits, index_by_lowercase, indexed_back, rows_of}
 use Rattle.edit_strings.proofs.ListFacts.{all_step, flat_step, left}
 use Rattle.edit_strings.proofs.OrderFacts.{IsAhead, ahead_step}
 use Rattle.edit_strings.proofs.IndexFacts.{indices_are, indices_below}
@@ -40,13 +40,13 @@ push_expansions-requires-clause-cut c =
     ahead_step defined c.requires.definitions.0 c.requires.definitions.1 c.entries.next c.in_ok-next.next (entry_reading_of x) rest
     (subst (IsAhead defined c.entries.next) (left entry_reading_of es i x c.entries-test.true c.entry-item.is) c.entries.invariant.ahead)
     (omega (arith, c.in_ok-next.ensures.within, length-map xs field_of)) c.in_ok-next.ensures.before c.in_ok-next.ensures.next in
-    let index : index_in_any_case c.add_before.new.indices ≡ index_before defined (count_before defined (entry_reading_of x)) =
+    let index : index_by_lowercase c.add_before.new.indices ≡ index_before defined (count_before defined (entry_reading_of x)) =
     indices_are defined c.in_ok-next.next c.add_before.new.indices c.in_ok-next.ensures.indices ∙ ap (index_before defined) (sym step.0) in
     let here =
     (all_step entry_reading_of es i x c.entries-test.true c.entry-item.is
     (λ e. AllByRecursion (IsExpansionCut names.text.now rows (index_before defined (count_before defined e))) e.fields)
     c.entries.invariant.cut).0 in
-    subst (λ fs. AllByRecursion (IsExpansionCut names.text.now rows (index_in_any_case c.add_before.new.indices)) (map field_of fs))
+    subst (λ fs. AllByRecursion (IsExpansionCut names.text.now rows (index_by_lowercase c.add_before.new.indices)) (map field_of fs))
     (sym c.deref.ensures.value)
     (subst (λ ix. AllByRecursion (IsExpansionCut names.text.now rows ix) (map field_of x.v.fields.items)) (sym index) here)
 
@@ -65,14 +65,14 @@ entries-preserved c =
     ahead_step defined c.requires.definitions.0 c.requires.definitions.1 c.entries.next c.in_ok-next.next (entry_reading_of x) rest
     (subst (IsAhead defined c.entries.next) (left entry_reading_of es i x c.entries-test.true c.entry-item.is) c.entries.invariant.ahead)
     (omega (arith, c.in_ok-next.ensures.within, length-map xs field_of)) c.in_ok-next.ensures.before c.in_ok-next.ensures.next in
-    let index : index_in_any_case c.add_before.new.indices ≡ index_before defined (count_before defined (entry_reading_of x)) =
+    let index : index_by_lowercase c.add_before.new.indices ≡ index_before defined (count_before defined (entry_reading_of x)) =
     indices_are defined c.in_ok-next.next c.add_before.new.indices c.in_ok-next.ensures.indices ∙ ap (index_before defined) (sym step.0) in
     let added =
     c.in_ok-push_expansions.ensures
     ∙ ap
     (λ fs.
     map edit_of c.entries.edits.items
-    ++ field_edits (expansion_by text rows (index_in_any_case c.add_before.new.indices)) text (map field_of fs))
+    ++ field_edits (expansion_by text rows (index_by_lowercase c.add_before.new.indices)) text (map field_of fs))
     c.deref.ensures.value
     ∙ ap (λ ix. map edit_of c.entries.edits.items ++ field_edits (expansion_by text rows ix) text (map field_of x.v.fields.items)) index in
     record {

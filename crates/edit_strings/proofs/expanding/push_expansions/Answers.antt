@@ -1,5 +1,5 @@
 use Rattle.bib_syntax.specs.Views.{field_of}
-use Rattle.edit_strings.specs.Tables.{IsExpansionCut, expansion_by, index_in_any_case, rows_of, value_edits}
+use Rattle.edit_strings.specs.Tables.{IsExpansionCut, expansion_by, index_by_lowercase, rows_of, value_edits}
 use Rattle.edit_strings.proofs.ListFacts.{all_step, flat_step}
 use Rattle.edit_strings.proofs.expanding.push_expansions.Goals as goal
 
@@ -7,7 +7,7 @@ pub fields-preserved : goal.fields-preserved
 fields-preserved c =
     let names = c.args.names.now in
     let text = names.text.now in
-    let index = index_in_any_case c.args.indices.now in
+    let index = index_by_lowercase c.args.indices.now in
     let exchange = expansion_by text (rows_of names.rows.items) index in
     record {
       added =

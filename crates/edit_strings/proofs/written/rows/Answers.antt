@@ -3,7 +3,7 @@ use Rattle.std.proofs.lemmas.List.{length-map, map-append}
 use Rattle.bib_syntax.specs.Views.{field_of, piece_of}
 use Rattle.edit_entries.specs.Documents.{has_name}
 use Rattle.edit_strings.specs.Expanded.{elements, index_before}
-use Rattle.edit_strings.specs.Tables.{AreRows, index_in_any_case, indexed_back, row_at, rows_of, with_index}
+use Rattle.edit_strings.specs.Tables.{AreRows, index_by_lowercase, indexed_back, row_at, rows_of, with_index}
 use Rattle.edit_strings.proofs.IndexFacts.{before_step}
 use Rattle.edit_strings.proofs.WrittenFacts.{early_is, elements_of_pair, none_more, row_push}
 use Rattle.edit_strings.proofs.written.rows.Goals as goal
@@ -28,7 +28,7 @@ definitions-preserved c =
     let xs = c.args.definitions.now in
     let i = c.definitions.index in
     let definition = c.index-definitions-index.result in
-    let earlier = index_in_any_case c.definitions.indices in
+    let earlier = index_by_lowercase c.definitions.indices in
     let before : earlier ≡ index_before (map field_of xs) i = λ k name. c.definitions.invariant.indices name k in
     record {
       indices = λ name.
