@@ -458,6 +458,8 @@ run 'no abbreviation is written out' 0 "$(cat two.bib)"$'\n' strings --expand -f
 run 'abbreviations of an empty input' 0 '' strings --expand
 printf '@string{s = "a", s = {b}}\n@misc{k, t = s, u = S}\n' >again.bib
 run 'the last of two definitions' 0 $'@string{s = "a", s = {b}}\n@misc{k, t = {b}, u = {b}}\n' strings --expand -f again.bib
+printf '@string{j = {One}}\n@misc{a, t = j}\n@string{j = {Two}}\n@misc{b, t = J}\n' >between.bib
+run 'a definition between two entries' 0 $'@string{j = {One}}\n@misc{a, t = {One}}\n@string{j = {Two}}\n@misc{b, t = {Two}}\n' strings --expand -f between.bib
 printf '@string{z = one}\n@string{one = two}\n@string{two = {y} # one}\n@misc{k, t = z}\n' >cycle.bib
 refuses 'an abbreviation that uses a later one' 1 $'cycle.bib:1:9: error: abbreviation `z` uses a name before its definition\n' strings --expand -f cycle.bib
 printf '\xef\xbb\xbf@string{\r\n  \xc3\xa9 = {x}, own = own}\r\n@misc{k, t = own}\r\n' >own.bib
