@@ -1,6 +1,6 @@
 -- The text between the name and the value of a new field is an equals sign with white space around it.
 use Rattle.std.proofs.Common.{◌≡◌, ℕ, ◌<◌, Bool, true, false, cond, List, [], ◌∷◌, ◌++◌, codes, refl, sym, subst, arith}
-use Rattle.std.specs.Prelude.{◌&&◌, ◌==◌, ◌||◌, max, ◌-◌, length}
+use Rattle.std.specs.Prelude.{◌&&◌, ◌==◌, ◌||◌, max, ◌-◌, length, nat_lt}
 use Rattle.std.specs.Char.{is_whitespace}
 use Rattle.std.specs.List.{list_all}
 use Rattle.std.proofs.lemmas.Bool.Decides.{nat_tests}
@@ -38,6 +38,9 @@ new_sign_is text name first fields =
     column : ℕ
     column = sign_column text first
 
+    padded : Bool
+    padded = nat_lt 1 (length (before_equals text first)) || are_aligned text column fields
+
     aligned : (b : Bool) → AreWhite (before_equals text first) → AreWhite (cond b (name_padding column name) (before_equals text first))
     aligned true white = spaces_white (max 1 (column - length name))
     aligned false white = white
@@ -45,15 +48,15 @@ new_sign_is text name first fields =
     by_case : (b : Bool) → (list_all is_blank_byte (before_equals text first) && list_all is_blank_byte (after_equals text first)) ≡ b
         → IsSign
         (cond b
-        (cond (are_aligned text column fields) (name_padding column name) (before_equals text first) ++ 61 ∷ after_equals text first)
+        (cond padded (name_padding column name) (before_equals text first) ++ 61 ∷ after_equals text first)
         (codes " = "))
     by_case false is = usual_sign
     by_case true is =
         let parts = both (list_all is_blank_byte (before_equals text first)) (list_all is_blank_byte (after_equals text first)) is in
         record {
-          before = cond (are_aligned text column fields) (name_padding column name) (before_equals text first);
+          before = cond padded (name_padding column name) (before_equals text first);
           after = after_equals text first;
           is = refl;
-          white = aligned (are_aligned text column fields) (blanks_white (before_equals text first) parts.0);
+          white = aligned padded (blanks_white (before_equals text first) parts.0);
           white' = blanks_white (after_equals text first) parts.1;
         }
