@@ -85,12 +85,6 @@ def same_key(case):
     return any(it.key.lower() == key.lower() and it.key != key for it in case.source.values())
 
 
-def defines_twice(case):
-    """Whether the file defines an abbreviation twice, in any case."""
-    names = [it.lower() for it in re.findall(r"@\s*string\s*[{(]\s*([^\s=]+)\s*=", case.text, re.I)]
-    return len(set(names)) < len(names)
-
-
 def letters(text):
     """The letters of a print without commands and braces, in lower case."""
     return re.sub(r"\\em\b|\\newblock|[{}\\\s.~]", "", text).lower()
@@ -149,14 +143,12 @@ REASONS = [
            lambda it: same_key(it) and "an entry has the name already" in it.difference.after),
     Reason(RULE, "a definition of an abbreviation that the file has with another text is refused", "add-string", "bibkit", "refused",
            lambda it: "an abbreviation is defined already" in it.difference.after),
-    Reason(FAULT, "each abbreviation gets the last of its definitions", "expand", ".*", "field changed|print", defines_twice),
     Reason(FAULT, "rename leaves a reference by an abbreviation", "rename", ".*", ".*", refers_by_abbreviation),
     Reason(RULE, "unset is refused if the entry would have no field left", "(walk-)?unset.*", "bibkit", "refused",
            lambda it: is_emptied(it) and "no field left" in it.difference.after),
     Reason(FAULT, "BibTeX doesn't end a text in quotes at a quote in braces, as this library and bibtool do", f"{LAYOUTS}|{EDITS}", "bibtex|bibtool",
            ".*", hides_quote),
     Reason(FAULT, "an abbreviation isn't shorter than its text", "collect", "bytes", "long name"),
-    Reason(FAULT, "LF in a file whose lines end with CR LF", "add.*|collect", "bytes", "line ends"),
     Reason(RULE, "a comment after the field goes with it", "unset.*|resolve", "bytes", "comment lost"),
 ]
 
