@@ -461,9 +461,9 @@ run 'the last of two definitions' 0 $'@string{s = "a", s = {b}}\n@misc{k, t = {b
 printf '@string{j = {One}}\n@misc{a, t = j}\n@string{j = {Two}}\n@misc{b, t = J}\n' >between.bib
 run 'a definition between two entries' 0 $'@string{j = {One}}\n@misc{a, t = {One}}\n@string{j = {Two}}\n@misc{b, t = {Two}}\n' strings --expand -f between.bib
 printf '@string{z = one}\n@string{one = two}\n@string{two = {y} # one}\n@misc{k, t = z}\n' >cycle.bib
-refuses 'an abbreviation that uses a later one' 1 $'cycle.bib:1:9: error: abbreviation `z` uses a name before its definition\n' strings --expand -f cycle.bib
+refuses 'an abbreviation that uses a later one' 1 $'cycle.bib:1:9: error: the definition of `z` uses its own name, or one that is defined later\n' strings --expand -f cycle.bib
 printf '\xef\xbb\xbf@string{\r\n  \xc3\xa9 = {x}, own = own}\r\n@misc{k, t = own}\r\n' >own.bib
-refuses 'the place of an abbreviation that uses itself' 1 $'own.bib:2:12: error: abbreviation `own` uses a name before its definition\n' strings --expand -f own.bib
+refuses 'the place of an abbreviation that uses itself' 1 $'own.bib:2:12: error: the definition of `own` uses its own name, or one that is defined later\n' strings --expand -f own.bib
 refuses 'abbreviations of a file with an error' 1 $'broken.bib:3:1: error: expected comma [syntax]\n' strings --expand -f broken.bib
 refuses 'abbreviations of a file that is not there' 2 $'bibkit: no.bib: there is no such file\n' strings --expand -f no.bib
 
@@ -1286,7 +1286,9 @@ run 'a file is written as UTF-8' 0 '' recode --from windows-1252 --write -f reco
 holds 'the file is in UTF-8' cmp -s recoded.bib <(iconv -f windows-1252 -t utf-8 western.bib)
 refuses 'a file whose encoding is not known' 2 $'bibkit: western.bib: not UTF-8; `--from` names its encoding, such as windows-1252\n' recode -f western.bib
 refuses 'a file in another encoding' 1 $'bibkit: western.bib: not UTF-8 from byte 20 on\n' recode --from utf-8 -f western.bib
-refuses 'a file with half a character' 1 $'bibkit: half.bib: not UTF-16: only one byte at byte 2\n' recode -f half.bib
+refuses 'a file with half a character' 1 $'bibkit: half.bib: not UTF-16: an odd number of bytes; the last is byte 2\n' recode -f half.bib
+run 'a byte order mark against an encoding' 0 $'@misc{k, title = {\303\251}}\n' recode --from latin1 -f marked.bib
+run 'a byte order mark of UTF-16 against an encoding' 0 $'@misc{k, title = {\303\251}}\n' recode --from utf-16be -f wide.bib
 run 'an encoding that is none' 2 '' recode --from koi8 -f western.bib
 run 'line ends that are none' 2 '' recode --line-ends cr -f marked.bib
 

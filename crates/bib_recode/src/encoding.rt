@@ -71,8 +71,8 @@ impl Encoding {
     }
 }
 
-// Returns the encoding whose byte order mark is at the start of a file.
-fn marked_as(bytes: &[u8]) -> Option<Encoding>
+/// Returns the encoding whose byte order mark is at the start of a file, or `None` if it has none.
+pub fn marked_as(bytes: &[u8]) -> Option<Encoding>
     ensures { result ≡ marked_as bytes.now }
 {
     if bytes.starts_with(b"\xEF\xBB\xBF") {

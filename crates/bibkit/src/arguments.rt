@@ -369,10 +369,7 @@ fn sort_order<'a>(matches: &ArgMatches<'a>) -> Result<Option<Option<Order>>, Ord
 }
 
 // Returns the settings of `fmt`, except the order of fields. `sort` is the order of entries.
-fn style_settings<'a>(
-    matches: &ArgMatches<'a>,
-    sort: Option<Option<Order>>,
-) -> StyleSettings<'a> {
+fn style_settings<'a>(matches: &ArgMatches<'a>, sort: Option<Option<Order>>) -> StyleSettings<'a> {
     StyleSettings {
         indent: number(matches, "indent"),
         aligned: flag_choice(matches, "align", "no-align"),

@@ -197,7 +197,15 @@ fn convert_file<K: Sink>(
     match bytes_of(rt, name) {
         Ok(bytes) => {
             let decoded = decode(rt.alloc(), &bytes)?;
-            convert_text(rt, converting, selections, progress, name, &decoded.text, output)
+            convert_text(
+                rt,
+                converting,
+                selections,
+                progress,
+                name,
+                &decoded.text,
+                output,
+            )
         }
         Err(stop) => {
             let stop = stop.unless_out_of_memory()?;
@@ -236,7 +244,12 @@ fn convert_files(
     'names: for name in names {
         progress = convert_file(rt, converting, &selections, progress, name, &mut output)?;
     }
-    print_end(rt.alloc(), converting.target, progress.is_empty, &mut output)?;
+    print_end(
+        rt.alloc(),
+        converting.target,
+        progress.is_empty,
+        &mut output,
+    )?;
     if progress.is_empty && !selections.is_empty() {
         return Ok(progress.status.max(1));
     }

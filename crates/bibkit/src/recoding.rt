@@ -3,7 +3,7 @@
 use crate::edits::{Editing, Mode, write_new};
 use crate::stops::{Stop, bytes_of, output_stop};
 use bib_recode::decoding::{DecodeError, decode};
-use bib_recode::encoding::{Encoding, detect};
+use bib_recode::encoding::{Encoding, detect, marked_as};
 use bib_recode::line_ends::{LineEnds, with_line_ends};
 use biblatex::{Output, Sink};
 use std::alloc::{AllocError, Global};
@@ -12,7 +12,7 @@ use std::io;
 /// The encoding of a file, and how its text is written.
 #[derive(Clone, Copy)]
 pub struct Recoding {
-    /// The encoding, or `None` if the bytes must tell it.
+    /// The encoding of a file without a byte order mark, or `None` if the bytes must tell it.
     pub from: Option<Encoding>,
     /// The line ends of the new text, or `None` to keep them.
     pub line_ends: Option<LineEnds>,
@@ -20,14 +20,15 @@ pub struct Recoding {
     pub has_mark: bool,
 }
 
-// Returns the encoding of a file. Fails with a message and status 2 if it isn't given, and the bytes don't tell it.
+// Returns the encoding of a file: that of its byte order mark, or else the given one. Fails with a message and status 2 if neither is
+// there, and the bytes aren't valid UTF-8.
 fn encoding_of(
     alloc: Global,
     name: &str,
     recoding: &Recoding,
     bytes: &[u8],
 ) -> Result<Encoding, Stop> {
-    match recoding.from.or(detect(bytes)) {
+    match marked_as(bytes).or(recoding.from).or(detect(bytes)) {
         Some(encoding) => Ok(encoding),
         None => {
             let said = format!(in alloc;
@@ -45,10 +46,12 @@ fn decode_line(alloc: Global, name: &str, error: DecodeError) -> Result<String, 
             format!(in alloc; "bibkit: {name}: not UTF-8 from byte {at} on\n")
         }
         DecodeError::UnpairedSurrogate { at } => {
-            format!(in alloc; "bibkit: {name}: not UTF-16: a surrogate without a partner at byte {at}\n")
+            format!(in alloc; "bibkit: {name}: not UTF-16: an unpaired surrogate at byte {at}\n")
         }
         DecodeError::OddByte { at } => {
-            format!(in alloc; "bibkit: {name}: not UTF-16: only one byte at byte {at}\n")
+            format!(in alloc;
+                "bibkit: {name}: not UTF-16: an odd number of bytes; the last is byte {at}\n"
+            )
         }
         DecodeError::OutOfMemory => format!(in alloc; "bibkit: out of memory\n"),
     }

@@ -178,7 +178,7 @@ fn definition_line(
     definition: &Pair<'_>,
 ) -> Result<String, AllocError> {
     let said = format!(in alloc;
-        "abbreviation `{}` uses a name before its definition",
+        "the definition of `{}` uses its own name, or one that is defined later",
         definition.key.v
     )?;
     error_line(alloc, name, text, definition.key.span.start, &said)
@@ -199,7 +199,9 @@ fn early_use_line(
             }
         }
     }
-    format!(in alloc; "bibkit: {name}: an abbreviation uses a name before its definition\n")
+    format!(in alloc;
+        "bibkit: {name}: a definition uses its own name, or one that is defined later\n"
+    )
 }
 
 // Returns the message for an entry that inherits from itself, with the position of its key. The message has no position if `text` has no

@@ -162,7 +162,10 @@ fn value_text<'e>(value: &FieldValue<'e>) -> &'e str {
 // Returns the two texts of an edit of a field.
 fn texts_of<'e>(edit: &FieldEdit<'e>) -> (&'e str, &'e str) {
     match edit {
-        FieldEdit::Set { name, value } | FieldEdit::Add { name, value } => (*name, value_text(value)),
+        FieldEdit::Set { name, value } | FieldEdit::Add { name, value } => (
+            *name,
+            value_text(value),
+        ),
         FieldEdit::Rename { old, new } => (*old, *new),
     }
 }

@@ -15,8 +15,8 @@ use bibkit_settings::configuration::{ConfigurationError, Project, Reader, projec
 use bibkit_settings::settings::Settings;
 use bibkit_settings::style_settings::StyleSettings;
 use biblatex::Output;
-use edit_orders::order::OrderError;
 use clap::error::ErrorKind;
+use edit_orders::order::OrderError;
 use std::alloc::{AllocError, Global};
 use std::io::IsTerminal;
 use std::{env, io};
@@ -166,7 +166,7 @@ fn refuse_order(rt: &HostRuntime, error: OrderError<'_>) -> u8 {
     match error {
         OrderError::UnknownProperty(word) => {
             let _ = eprintln!(rt;
-                "bibkit: --sort `{word}`: expected `key`, `year`, `author`, `title` or `type`, or one of them with `-` before it"
+                "bibkit: --sort `{word}`: expected `keep`, or `key`, `year`, `author`, `title` or `type`, with or without `-` before it"
             );
         }
         OrderError::TooManyProperties => {

@@ -370,17 +370,17 @@ const RECODE: [Argument; 5] = [
     Argument {
         name: "from",
         takes: Takes::Encoding,
-        help: "The encoding of the file [default: that of its byte order mark, or else UTF-8]",
+        help: "The encoding of a file without a byte order mark [default: utf-8]",
     },
     Argument {
         name: "line-ends",
         takes: Takes::LineEnds,
-        help: "Write line ends of this kind",
+        help: "Write line ends of this kind [default: those of the file]",
     },
     Argument {
         name: "bom",
         takes: Takes::Nothing,
-        help: "Write a byte order mark",
+        help: "Write a byte order mark; without it there is none",
     },
     FILE,
     WRITE,
@@ -388,8 +388,11 @@ const RECODE: [Argument; 5] = [
 
 // The text at the end of the help of `set`.
 const SET_HELP: &str = "\
-Example:
+FIELD:=VALUE writes a number or an abbreviation without braces, and month=jan the abbreviation of a month.
+
+Examples:
   bibkit set knuth1984 year=1984 'title=The {TeX}book' --file refs.bib --write
+  bibkit set knuth1984 month=jan publisher:=aw --file refs.bib
 
 Status: 0 done, 1 an edit is refused or the file has errors, 2 wrong usage, or a file or the output failed, 3 out of memory";
 
@@ -429,16 +432,16 @@ texts of journal, journaltitle, publisher, series, institution, school, organiza
 Example:
   bibkit strings --collect --fields journaltitle,publisher --file refs.bib --write
 
-Status: 0 done, 1 a definition uses a name before its definition or the file has errors, 2 wrong usage, or a file or the output failed, 3 out of memory";
+Status: 0 done, 1 a definition uses its own name or one that is defined later, or the file has errors, 2 wrong usage, or a file or the output failed, 3 out of memory";
 
 // The text at the end of the help of `recode`.
 const RECODE_HELP: &str = "\
-A file that isn't UTF-8 and has no byte order mark needs --from. A byte order mark is removed unless --bom is given.
+A file that isn't UTF-8 and has no byte order mark requires --from. utf-16 is little-endian.
 
 Example:
   bibkit recode --from windows-1252 --line-ends lf --file refs.bib --write
 
-Status: 0 done, 1 the file isn't in this encoding, 2 wrong usage, or a file or the output failed, 3 out of memory";
+Status: 0 done, 1 the file isn't in this encoding, 2 no encoding or wrong usage, or a file or the output failed, 3 out of memory";
 
 // The text at the end of the help of `select`.
 const SELECT_HELP: &str = "\
@@ -454,7 +457,8 @@ Status: 0 done, 1 no entry meets the conditions, 2 wrong usage, or a file or the
 
 // The text at the end of the help of `edit`.
 const EDIT_HELP: &str = "\
-Without --where, edits all entries. Fields are first renamed, then set, then added. `bibkit help select` has the conditions.
+Without --where, edits all entries. Fields are first renamed, then set, then added. FIELD:=VALUE writes a number or an abbreviation without
+braces, and month=jan the abbreviation of a month. `bibkit help select` has the conditions.
 
 Example:
   bibkit edit --where 'type = article' --rename journal=journaltitle --add langid=english --file refs.bib --write
@@ -474,7 +478,7 @@ Status: 0 done, 1 keys would change (--check), an edit is refused or the file ha
 // The text at the end of the help of `fmt`.
 const FMT_HELP: &str = "\
 Writes each entry with its type and field names in lower case, one field per line, and values unchanged. Keeps all other text, and entries
-that contain a comment. A table [fmt] in a file bibkit.toml in the folder of the first file, or in one above it, has the style
+that contain a comment or a text whose braces don't balance. A table [fmt] in a file bibkit.toml in the folder of the first file, or in one above it, has the style
 of a project: indent, align, trailing-comma, blank-lines, delimiters, order, width and sort.
 
 Example:
@@ -485,7 +489,7 @@ Status: 0 done, 1 a file isn't in this style (--check) or has errors, 2 wrong us
 // The text at the end of the help of `convert`.
 const CONVERT_HELP: &str = "\
 csl, json and ris print the entries of all files, or those that meet --where, with inherited fields: by the rules of BibLaTeX for csl and
-ris, and by those of `bib` for json, which has byte offsets of the file. biblatex and bibtex change dates and the names of types and fields,
+ris, and by those of `bib` for json, which has byte offsets of the file. --where requires one of these three. biblatex and bibtex change dates and the names of types and fields,
 and keep all other text. A file with errors is not printed, and its first error is reported. --from csl converts each item of CSL-JSON to an
 entry, and reports each variable that is lost or changed.
 
@@ -494,7 +498,7 @@ Examples:
   bibkit convert --to bibtex refs.bib >old.bib
   bibkit convert --from csl --to biblatex refs.json >refs.bib
 
-Status: 0 done, 1 a file has errors, 2 wrong usage, or a file or the output failed, 3 out of memory";
+Status: 0 done, 1 a file has errors or no entry meets --where, 2 wrong usage, or a file or the output failed, 3 out of memory";
 
 // The values of `--indent`.
 static INDENTS: [&str; 9] = ["0", "1", "2", "3", "4", "5", "6", "7", "8"];
@@ -555,7 +559,7 @@ const FMT: [Argument; 13] = [
     Argument {
         name: "sort",
         takes: Takes::Order,
-        help: "Sort the entries by key, year, author, title or type, or by several of them, such as author,-year; keep is no order",
+        help: "Sort the entries by key, year, author, title or type, or by several of them, such as author,-year; keep doesn't sort [default: keep]",
     },
     Argument {
         name: "check",

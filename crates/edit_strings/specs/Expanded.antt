@@ -1,6 +1,6 @@
 -- Meaning: words of public contracts.
--- Expanded abbreviations: a name is replaced by the pieces of its last definition before the use. BibTeX, btparse (Biber) and bibtool
--- read a file from its start to its end, so that a later definition of the name doesn't change an earlier use.
+-- Expanded abbreviations: a name is replaced by the pieces of its last definition before the use. BibTeX and btparse (Biber) read a file
+-- from its start to its end, so that a later definition of the name doesn't change an earlier use.
 use Rattle.std.specs.Prelude.{◌≡◌, ◌&&◌, ◌||◌, ℕ, ◌<◌, Bool, true, false, List, [], ◌∷◌, ◌++◌, count_by, if◌then◌else◌, is_some, length, map, nat_lt, not, slice_index_or, take, Option, Some, None, codes}
 use Rattle.std.specs.List.{AllByRecursion, list_any}
 use Rattle.bib_syntax.specs.Grammar.{is_word}
@@ -100,8 +100,8 @@ is_early_use own all earlier piece =
 abbrev pub name_at : List FieldReading → ℕ → List ℕ
 name_at definitions index = slice_index_or (map (λ f. f.name.text) definitions) index []
 
--- whether the definition at an index uses its own name, or a name that the file defines, but not before this definition. BibTeX takes
--- such a name as undefined there. If it stayed in the expansion, a definition between this one and the use would replace it.
+-- whether the definition at an index uses its own name, or a name that the file defines, but not before this definition. BibTeX drops
+-- such a name. If it stayed in the expansion, a definition of the name between this definition and the use would count.
 abbrev pub is_early : List FieldReading → ℕ → Bool
 is_early definitions index =
     list_any

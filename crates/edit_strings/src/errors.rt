@@ -9,8 +9,8 @@ use thiserror::Error;
 /// The error that stopped the expansion of abbreviations.
 #[derive(Debug, Clone, Copy, PartialEq, Eq, Error)]
 pub enum ExpandError {
-    /// A definition uses its own name, or a name before the name's first definition. Holds the index of the first such definition.
-    #[error("a definition uses a name before its definition")]
+    /// A definition uses its own name, or one that is only defined later. Holds the index of the first such definition.
+    #[error("a definition uses its own name, or one that is defined later")]
     EarlyUse(usize),
     /// Memory ran out.
     #[error("out of memory")]
@@ -18,7 +18,7 @@ pub enum ExpandError {
 }
 
 impl ExpandError {
-    /// Returns the index of the definition that uses a name before its definition, or an `AllocError` for `OutOfMemory`.
+    /// Returns the index of the definition that uses its own name, or one that is defined later, or an `AllocError` for `OutOfMemory`.
     pub fn unless_out_of_memory(self) -> Result<usize, AllocError>
         ensures early_use { IfOk result (λ index. self ≡ EarlyUse index) }
         ensures no_memory { OnErr result (self ≡ OutOfMemory) }

@@ -2,8 +2,10 @@
 //!
 //! A name is expanded by its last definition before the use, so the pieces of a definition only refer to earlier definitions. Their
 //! indices are looked up once. A value is expanded by a stack of the pieces that are still to expand. The entries are visited in the
-//! order of the file, with a map from each name to the index of its last definition so far. To collect texts, a map counts repeated texts,
-//! and each candidate name is checked against the set of taken names. The new `@string` lines are written before the old text.
+//! order of the file, with a map from each name to the index of its last definition so far.
+//!
+//! To collect texts, a map counts repeated texts, and each candidate name is checked against the set of taken names. The new `@string`
+//! lines are written before the first entry.
 //!
 //! Each replaced value is one edit of the text. All edits are applied in one pass, and the new text isn't parsed again. The
 //! proof that the new text parses to the expected entries takes the edits from the last to the first (`ExchangedFacts`), with
