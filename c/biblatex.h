@@ -31,7 +31,7 @@ enum biblatex_status {
     BIBLATEX_NOT_IN_BRACES = 9, /* the value, or a changed reference, can't be written in braces */
     BIBLATEX_DEFINITION_IS_THERE = 10,  /* an added abbreviation is defined already with another text */
     BIBLATEX_NO_FIELD_LEFT = 11, /* all fields of the entry would be removed, and bibtool doesn't read such an entry */
-    BIBLATEX_NOT_BARE = 12      /* the value is neither a number nor an abbreviation that is defined before the entry */
+    BIBLATEX_NOT_BARE = 12 /* the value is neither a number, a month nor an abbreviation that is defined before the entry */
 };
 
 /* The formats that biblatex_recover writes. */
@@ -85,7 +85,8 @@ uint32_t biblatex_set(const uint8_t *text, size_t length, const uint8_t *key, si
     *name, size_t name_length, const uint8_t *value, size_t value_length, uint8_t *out, size_t capacity,
     size_t *size);
 
-/* The same with a value without braces: a number, or an abbreviation that is defined before the entry, or that of a month. */
+/* Does the same as biblatex_set with a value without braces: a number, the abbreviation of a month, or an abbreviation that is
+   defined before the entry. */
 uint32_t biblatex_set_bare(const uint8_t *text, size_t length, const uint8_t *key, size_t key_length, const uint8_t
     *name, size_t name_length, const uint8_t *value, size_t value_length, uint8_t *out, size_t capacity,
     size_t *size);
