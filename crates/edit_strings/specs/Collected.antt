@@ -11,6 +11,7 @@ use Rattle.bib_text.specs.Places.{place}
 use Rattle.bib_syntax.specs.Grammar.{NoDigit, is_word}
 use Rattle.bib_syntax.specs.Reading.{Piece, FieldReading, EntryReading, FileReading}
 use Rattle.bib_syntax.specs.Reading.Piece.{literal, abbreviation}
+use Rattle.edit_entries.specs.Balance.{IsBalanced}
 use Rattle.edit_entries.specs.Changes.{file_changed, text_changed, IsReadPlaceless, NewValue}
 use Rattle.edit_entries.specs.Documents.{CanBeName, CanStandInBraces, Document, has_name, last_position, text_at}
 use Rattle.edit_entries.specs.Edits.{edited}
@@ -52,10 +53,12 @@ named_texts names entries = flat_map (λ e. field_texts names e.fields) entries
 abbrev pub times_of : List ℕ → List (List ℕ) → ℕ
 times_of text texts = count_by (λ t. bytes_eq t text) texts
 
--- a text occurs at least `least` times in a list of texts, and can be written between braces
+-- a text occurs at least `least` times in a list of texts, and can be written between braces, also for BibTeX, which counts a brace after
+-- a backslash
 pub record RepeatsInBraces (least : ℕ) (texts : List (List ℕ)) (text : List ℕ) : Type 0 where
   pub often : least ≤ times_of text texts
   pub can : CanStandInBraces text
+  pub balanced : IsBalanced text
 
 -- these texts, each once, in the order of their first occurrences
 abbrev pub distinct : List (List ℕ) → List (List ℕ)

@@ -6,10 +6,11 @@ ghost use Rattle.edit_strings.specs.Collecting.{count_in, lent_texts};
 
 use crate::braces::can_stand_in_braces;
 use crate::texts::count_of;
+use edit_entries::balance::is_balanced;
 use std::alloc::{AllocError, Global};
 use std::collections::{BTreeMap, BTreeSet};
 
-// Returns whether `text` was counted at least `least` times and can be written between braces.
+// Returns whether `text` was counted at least `least` times and can be written between braces, also for BibTeX.
 fn is_collected(
     alloc: Global,
     counts: &BTreeMap<&str, usize>,
@@ -20,6 +21,9 @@ fn is_collected(
         MatchBool is (RepeatsInBraces least texts text.now) (RepeatsInBraces least texts text.now → ⊥)) }
 {
     if count_of(counts, text) < least {
+        return Ok(false);
+    }
+    if !is_balanced(text) {
         return Ok(false);
     }
     can_stand_in_braces(alloc, text)
