@@ -85,6 +85,13 @@ def same_key(case):
     return any(it.key.lower() == key.lower() and it.key != key for it in case.source.values())
 
 
+def is_about_no_definition(case):
+    """Whether a message is about a name that the file doesn't define, in any case."""
+    named = re.search(r'string name \\*"([^"\\]+)', case.difference.after)
+    names = [it.lower() for it in re.findall(r"@\s*string\s*[{(]\s*([^\s=]+)\s*=", case.text, re.I)]
+    return named is not None and named[1].lower() not in names
+
+
 def letters(text):
     """The letters of a print without commands and braces, in lower case."""
     return re.sub(r"\\em\b|\\newblock|[{}\\\s.~]", "", text).lower()
@@ -132,6 +139,7 @@ REASONS = [
     Reason(PEER, "Biber inherits the field by BibLaTeX's name, if the parent has it by both names", "resolve", "biber", "field changed", has_both_names),
     Reason(RULE, "resolve takes references away, so BibTeX has nothing to say of them", "resolve", "bibtex", "message gone",
            lambda it: "which also refers" in it.difference.before),
+    Reason(RULE, "an entry inherits an abbreviation that the file doesn't define", "resolve", "bibtex", "message new", is_about_no_definition),
     Reason(RULE, "BibTeX prints another case or italics for another type", "there-and-back", "bibtex", "print", has_only_other_case),
     Reason(RULE, "BibTeX reads by its new name what it passed over", "to-bibtex|there-and-back", "bibtex", "print", is_longer),
     Reason(FAULT, "a child has the endyear of its parent beside a date of its own", "to-bibtex", "bibtex", "field changed",
