@@ -105,9 +105,10 @@ uint32_t biblatex_rename(const uint8_t *text, size_t length, const uint8_t *old_
 uint32_t biblatex_remove(const uint8_t *text, size_t length, const uint8_t *key, size_t key_length, uint8_t
     *out, size_t capacity, size_t *size);
 
-/* Writes the text, and `added` after it on a new line. Returns BIBLATEX_KEY_IS_THERE if an entry of `added` has the key of another
-   entry, or a name in its field `ids`, in any ASCII case, BIBLATEX_NOT_A_KEY if BibTeX, Biber or bibtool wouldn't read the key of an
-   added entry, and BIBLATEX_DEFINITION_IS_THERE if `added` defines an abbreviation of the text with another value. */
+/* Writes the text, and `added` after it on a new line, with its own line ends. Returns BIBLATEX_KEY_IS_THERE if an entry of `added`
+   has the key of another entry, or a name in its field `ids`, in any ASCII case, BIBLATEX_NOT_A_KEY if BibTeX, Biber or bibtool
+   wouldn't read the key of an added entry, and BIBLATEX_DEFINITION_IS_THERE if `added` defines an abbreviation of the text with
+   another value. */
 uint32_t biblatex_add(const uint8_t *text, size_t length, const uint8_t *added, size_t added_length, uint8_t *out, size_t capacity,
     size_t *size);
 

@@ -30,7 +30,7 @@ use Rattle.edit_orders.specs.Orders.{order_parts}
 use Rattle.edit_orders.specs.Places.{ArePlacesIn}
 use Rattle.edit_orders.specs.declared.order.Order.{Order}
 use Rattle.bibkit_edits.specs.Edited.AreMade.{none, next}
-use Rattle.bibkit_edits.specs.Steps.{AddsError, AddsUnread, AreFirstMade, IsTextRefused, StepIsRefused, edit_refusal, refusal_at, unless_no_memory}
+use Rattle.bibkit_edits.specs.Steps.{AddsError, AddsUnread, AreFirstMade, IsRefusedAt, IsTextRefused, StepIsRefused, edit_refusal, refusal_at, unless_no_memory}
 use Rattle.bibkit_edits.specs.declared.edit.Edit.{Edit}
 use Rattle.bibkit_edits.specs.declared.edit.Refusal.{Refusal}
 use Rattle.bibkit_edits.specs.declared.edit.Refusal.TheVariants as refusal
@@ -160,7 +160,7 @@ first_refused done rest edit {new = new} (refusal.Added e) first refused =
     AreRefused.added edit done rest new refused.more refl first.made refused.adds refused.reported
 first_refused done rest edit {text} {new} (refusal.Edit at why) first refused =
     subst (λ i. AreRefused (done ++ edit ∷ rest) text (refusal.Edit i why)) (sym refused.0)
-    (AreRefused.refused edit done rest new refused.1.document refl first.made refused.1.read refused.1.refused)
+    (AreRefused.refused edit done rest new refused.1.document refl first.made refused.1.read refused.1.refused refused.1.other)
 first_refused done rest edit {text} {new} (refusal.EarlyUse at definition) first refused =
     subst (λ i. AreRefused (done ++ edit ∷ rest) text (refusal.EarlyUse i definition)) (sym refused.0)
     (AreRefused.early_use edit done rest new refused.1.document refl first.made refused.1.read refused.1.meets)
@@ -218,75 +218,33 @@ why_refused : (edit : Edit) (d : Document) {why : EditError} → (why ≡ error.
 why_refused edit d other (inl refused) = refused
 why_refused edit d other (inr out) = absurd (other out)
 
+-- if an edit of a document is refused with an error that isn't out of memory, the edit of its text is refused with it
+named_refused : (edit : Edit) (text : List ℕ) (d : Document) {why : EditError} → (why ≡ error.OutOfMemory → ⊥) → IsDocumentOf text d
+    → IsEditRefused edit d why ⊎ (why ≡ error.OutOfMemory) → IsRefusedAt edit text why
+named_refused edit text d other read refused =
+    record { document = d; read = read; refused = why_refused edit d other refused; other = other }
+
 -- if an edit of a document is refused, the edit of its text is refused with the same error
 edit_refused : (edit : Edit) (text : List ℕ) (index : ℕ) (d : Document) (why : EditError) → IsDocumentOf text d
     → IsEditRefused edit d why ⊎ (why ≡ error.OutOfMemory)
     → IsTextRefused edit text index (edit_refusal why index)
 edit_refused edit text index d error.OutOfMemory read refused = tt
-edit_refused edit text index d error.UnknownKey read refused = (
-  refl,
-  record {
-    document = d;
-    read = read;
-    refused = why_refused edit d (λ out. let clash : error.UnknownKey ≡ error.OutOfMemory = out in cc) refused;
-  },
-)
-edit_refused edit text index d error.KeyIsThere read refused = (
-  refl,
-  record {
-    document = d;
-    read = read;
-    refused = why_refused edit d (λ out. let clash : error.KeyIsThere ≡ error.OutOfMemory = out in cc) refused;
-  },
-)
-edit_refused edit text index d error.NotAKey read refused = (
-  refl,
-  record {
-    document = d;
-    read = read;
-    refused = why_refused edit d (λ out. let clash : error.NotAKey ≡ error.OutOfMemory = out in cc) refused;
-  },
-)
-edit_refused edit text index d error.NotAName read refused = (
-  refl,
-  record {
-    document = d;
-    read = read;
-    refused = why_refused edit d (λ out. let clash : error.NotAName ≡ error.OutOfMemory = out in cc) refused;
-  },
-)
-edit_refused edit text index d error.NotInBraces read refused = (
-  refl,
-  record {
-    document = d;
-    read = read;
-    refused = why_refused edit d (λ out. let clash : error.NotInBraces ≡ error.OutOfMemory = out in cc) refused;
-  },
-)
-edit_refused edit text index d error.NotBare read refused = (
-  refl,
-  record {
-    document = d;
-    read = read;
-    refused = why_refused edit d (λ out. let clash : error.NotBare ≡ error.OutOfMemory = out in cc) refused;
-  },
-)
-edit_refused edit text index d error.DefinitionIsThere read refused = (
-  refl,
-  record {
-    document = d;
-    read = read;
-    refused = why_refused edit d (λ out. let clash : error.DefinitionIsThere ≡ error.OutOfMemory = out in cc) refused;
-  },
-)
-edit_refused edit text index d error.NoFieldLeft read refused = (
-  refl,
-  record {
-    document = d;
-    read = read;
-    refused = why_refused edit d (λ out. let clash : error.NoFieldLeft ≡ error.OutOfMemory = out in cc) refused;
-  },
-)
+edit_refused edit text index d error.UnknownKey read refused =
+    (refl, named_refused edit text d (λ out. let clash : error.UnknownKey ≡ error.OutOfMemory = out in cc) read refused)
+edit_refused edit text index d error.KeyIsThere read refused =
+    (refl, named_refused edit text d (λ out. let clash : error.KeyIsThere ≡ error.OutOfMemory = out in cc) read refused)
+edit_refused edit text index d error.NotAKey read refused =
+    (refl, named_refused edit text d (λ out. let clash : error.NotAKey ≡ error.OutOfMemory = out in cc) read refused)
+edit_refused edit text index d error.NotAName read refused =
+    (refl, named_refused edit text d (λ out. let clash : error.NotAName ≡ error.OutOfMemory = out in cc) read refused)
+edit_refused edit text index d error.NotInBraces read refused =
+    (refl, named_refused edit text d (λ out. let clash : error.NotInBraces ≡ error.OutOfMemory = out in cc) read refused)
+edit_refused edit text index d error.NotBare read refused =
+    (refl, named_refused edit text d (λ out. let clash : error.NotBare ≡ error.OutOfMemory = out in cc) read refused)
+edit_refused edit text index d error.DefinitionIsThere read refused =
+    (refl, named_refused edit text d (λ out. let clash : error.DefinitionIsThere ≡ error.OutOfMemory = out in cc) read refused)
+edit_refused edit text index d error.NoFieldLeft read refused =
+    (refl, named_refused edit text d (λ out. let clash : error.NoFieldLeft ≡ error.OutOfMemory = out in cc) read refused)
 
 -- if an edit of a document fails with a step, the edit of its text is refused with the refusal of that step
 pub step_refused : (edit : Edit) (text : List ℕ) (index : ℕ) (d : Document) (s : Step) → IsDocumentOf text d

@@ -1,6 +1,6 @@
 -- Meaning: words of public contracts.
 -- The outcomes of edits of a bibliography file, and the reasons for refusing them.
-use Rattle.std.specs.Prelude.{◌≡◌, ℕ, length, map, if◌then◌else◌, List, [], ◌∷◌, ◌++◌, nat_eq}
+use Rattle.std.specs.Prelude.{◌≡◌, ◌≢◌, ℕ, length, map, if◌then◌else◌, List, [], ◌∷◌, ◌++◌, nat_eq}
 use Rattle.std.specs.Borrow.{Bor}
 use Rattle.std.specs.BTreeSet.{BTreeSet}
 use Rattle.std.specs.List.{starts_with}
@@ -21,6 +21,7 @@ use Rattle.edit_entries.specs.LineEnds.{with_line_ends_of}
 use Rattle.edit_entries.specs.Setting.{FieldSet, SetIsRefused, value_of}
 use Rattle.edit_entries.specs.Unset.{FieldUnset}
 use Rattle.edit_entries.specs.declared.errors.EditError.{EditError}
+use Rattle.edit_entries.specs.declared.errors.EditError.TheVariants as edit_error
 use Rattle.bib_tables.specs.declared.dialects.Dialect.{Dialect}
 use Rattle.bib_tables.specs.declared.dialects.Dialect.TheVariants.{Biblatex, Bibtex}
 use Rattle.edit_format.specs.Formatted.{content, says_in_order, text_in_style}
@@ -166,7 +167,7 @@ pub data AreRefused (edits : List Edit) (text : List ℕ) : Refusal → Type 0 w
       → AreRefused edits text (refusal.Added e)
   refused : {why : EditError} (edit : Edit) (done rest : List Edit) (between : List ℕ) (d : Document)
       → edits ≡ done ++ edit ∷ rest → AreMade done text between → IsDocumentOf between d
-      → IsEditRefused edit d why → AreRefused edits text (refusal.Edit (length done) why)
+      → IsEditRefused edit d why → why ≢ edit_error.OutOfMemory → AreRefused edits text (refusal.Edit (length done) why)
   early_use : {definition : ℕ} (edit : Edit) (done rest : List Edit) (between : List ℕ) (d : Document)
       → edits ≡ done ++ edit ∷ rest → AreMade done text between → IsDocumentOf between d
       → MeetsEarlyUse edit d definition → AreRefused edits text (refusal.EarlyUse (length done) definition)

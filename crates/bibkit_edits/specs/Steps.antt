@@ -1,6 +1,6 @@
 -- Machinery: words of private contracts.
 -- The reasons for refusing one edit.
-use Rattle.std.specs.Prelude.{◌≡◌, ◌⊎◌, ⊤, ℕ, List, Option, Some, None}
+use Rattle.std.specs.Prelude.{◌≡◌, ◌≢◌, ◌⊎◌, ⊤, ℕ, List, Option, Some, None}
 use Rattle.std.specs.String.{string_bytes}
 use Rattle.std.specs.declared.string.String.{String}
 use Rattle.bib_syntax.specs.Errors.{out_of_memory}
@@ -70,11 +70,12 @@ refusal_at (step.Refused why) index = edit_refusal why index
 refusal_at (step.EarlyUse definition) index = refusal.EarlyUse index definition
 refusal_at (step.ReferenceCycle entry) index = refusal.ReferenceCycle index entry
 
--- an edit of the document of `text` may be refused with the error `why`
+-- an edit of the document of `text` may be refused with the error `why`, which isn't out of memory
 pub record IsRefusedAt (edit : Edit) (text : List ℕ) (why : EditError) : Type 0 where
   pub document : Document
   pub read : IsDocumentOf text document
   pub refused : IsEditRefused edit document why
+  pub other : why ≢ error.OutOfMemory
 
 -- an edit expands the document of `text`, whose definition at this index uses its own name, or a name before the name's first definition
 pub record MeetsEarlyUseAt (edit : Edit) (text : List ℕ) (definition : ℕ) : Type 0 where

@@ -132,7 +132,7 @@ abbrev pub value_with : Bool → List ℕ → SetValue
 value_with false text = SetValue.plain_text text
 value_with true text = SetValue.bare_text text
 
--- the second document is the first with a line feed and the document of the text `added` after it
+-- the second document is the first with a line end, that of its first line, and the document of the text `added` after it
 abbrev pub WithEntriesOf : List ℕ → Document → Document → Type 0
 WithEntriesOf added document new = (more : Document) × (more.text ≡ added) × IsDocument more × EntriesAdded document more new
 

@@ -192,7 +192,7 @@ pub extern "C" fn biblatex_remove(
     end(remove_in(alloc, text, key), out, size).number()
 }
 
-// Returns the text, a line feed, and the text `added`.
+// Returns the text, a line end, and the text `added`.
 fn add_to(alloc: Global, text: &[u8], added: &[u8]) -> Result<String, Status>
     ensures made { IfOk result (λ edited. IsEditedText (WithEntriesOf added.now) text.now (string_bytes edited)) }
     ensures fails { IfErr result (AddFails text.now added.now) }
@@ -202,9 +202,10 @@ fn add_to(alloc: Global, text: &[u8], added: &[u8]) -> Result<String, Status>
     Ok(document.add_entries(alloc, &more)?)
 }
 
-/// Writes the text, a line feed, and the text `added`. Returns `KeyIsThere` if an entry of `added` has a name of another entry, in any
-/// ASCII case. Returns `NotAKey` if BibTeX, Biber or bibtool wouldn't read the key of an entry of `added`. Returns `DefinitionIsThere` if
-/// `added` defines an abbreviation that the text defines with another value, in any ASCII case of the name.
+/// Writes the text, a line end like that of its first line, and the text `added` with its own line ends. Returns `KeyIsThere` if an entry
+/// of `added` has a name of another entry, in any ASCII case. Returns `NotAKey` if BibTeX, Biber or bibtool wouldn't read the key of an
+/// entry of `added`. Returns `DefinitionIsThere` if `added` defines an abbreviation that the text defines with another value, in any
+/// ASCII case of the name.
 #[unsafe(no_mangle)]
 pub extern "C" fn biblatex_add(
     alloc: Global,
