@@ -1,6 +1,6 @@
 //! Calls that edit or format the text of a file.
 
-ghost use Rattle.std.specs.Prelude.{◌≡◌, [], ◌∷◌, IfOk, IfErr};
+ghost use Rattle.std.specs.Prelude.{◌≡◌, [], ◌∷◌, IfOk, IfErr, true, false};
 ghost use Rattle.std.specs.String.{string_bytes};
 ghost use Rattle.edit_entries.specs.Documents.{EntryIsRefused, EntryRemoved, UnsetIsRefused};
 ghost use Rattle.edit_entries.specs.Setting.{FieldSet, SetIsRefused, value_of};

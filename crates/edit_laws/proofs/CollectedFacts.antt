@@ -556,7 +556,7 @@ module _ (says : FileReading) where
         fields_mean (f ∷ fs) all = (named_means f (named_text fields f) refl all.0, fields_mean fs all.1)
 
         pub entries_mean : (es : List EntryReading) → AllByRecursion (λ e. AllByRecursion (λ f. AllInFile (elements f)) e.fields) es
-            → EachMeansTheSame old new (collection fields texts names) es
+            → EachMeansTheSame old new (λ e. collection fields texts names) es
         entries_mean [] all = _
         entries_mean (e ∷ es) all = (fields_mean e.fields all.0, entries_mean es all.1)
 
@@ -633,7 +633,7 @@ files_collected d read fields least text made =
     let at : ℕ = first_entry_start d.says.entries in
     let one : List FieldReading = filter (is_before at) d.says.abbreviations in
     let other : List FieldReading = filter (λ f. not (is_before at f)) d.says.abbreviations in
-    files_exchanged (collection fields made.texts made.names) d.says made.read.tells
+    files_exchanged (λ e. collection fields made.texts made.names) d.says made.read.tells
     (one ++ (line_readings d.says made.names made.texts ++ other))
     (entries_mean d.says made.texts made.names made.named one other (definitions_parted d read) (definitions_closed d.says) fields
     d.says.entries
