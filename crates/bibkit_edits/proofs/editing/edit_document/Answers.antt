@@ -11,5 +11,8 @@ returns-in_ok-add_entries-in-Add-clause-made c =
     let P : Edit → Type 0 = λ e. IsEdited (EditOutcome e c.args.document.now) (string_bytes c.in_ok-add_entries-in-Add.field-0) in
     subst P (sym c.in-Add.is)
     (adds_made c.in_ok-more-in-Add.more
-    (record { same = c.in_ok-more-in-Add.ensures.same ∙ (c.as_str.ensures.value ∙ c.in_ok-text-in-Add.ensures.same); read = c.in_ok-more-in-Add.ensures.read })
+    (record {
+      same = c.in_ok-more-in-Add.ensures.same ∙ (c.as_str.ensures.value ∙ c.in_ok-text-in-Add.ensures.same);
+      read = c.in_ok-more-in-Add.ensures.read;
+    })
     c.in_ok-add_entries-in-Add.ensures.added)
