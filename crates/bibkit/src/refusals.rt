@@ -99,18 +99,16 @@ fn other_definition<'s>(
     Ok(None)
 }
 
-// Returns the key or name of the added text to which the error `why` applies, or `None` if there is none.
-fn name_of_error<'s>(
+// Returns the message for the error `why` of adding a text to a file, with the key or name to which it applies, if there is one.
+fn named_line(
     alloc: Global,
-    file: &RawBibliography<'_>,
-    added: &'s RawDocument<'s>,
+    name: &str,
+    key: Option<&str>,
     why: EditError,
-) -> Result<Option<&'s str>, AllocError> {
-    match why {
-        EditError::NotAKey => Ok(added.first_unsafe_key()),
-        EditError::KeyIsThere => taken_name(alloc, file, added.raw()),
-        EditError::DefinitionIsThere => other_definition(alloc, file, added.raw()),
-        _ => Ok(None),
+) -> Result<String, AllocError> {
+    match key {
+        Some(key) => format!(in alloc; "bibkit: {name}: `{key}`: {why}\n"),
+        None => format!(in alloc; "bibkit: {name}: {why}\n"),
     }
 }
 
@@ -122,15 +120,24 @@ fn added_line(
     text: &str,
     why: EditError,
 ) -> Result<String, AllocError> {
-    if let (Ok(file), Ok(added)) = (
-        RawBibliography::parse(alloc, src),
-        RawDocument::parse(alloc, text),
-    ) {
-        if let Some(key) = name_of_error(alloc, &file, &added, why)? {
-            return format!(in alloc; "bibkit: {name}: `{key}`: {why}\n");
+    let Ok(added) = RawDocument::parse(alloc, text) else {
+        return named_line(alloc, name, None, why);
+    };
+    let Ok(file) = RawBibliography::parse(alloc, src) else {
+        return named_line(alloc, name, None, why);
+    };
+    match why {
+        EditError::NotAKey => named_line(alloc, name, added.first_unsafe_key(), why),
+        EditError::KeyIsThere => {
+            let taken = taken_name(alloc, &file, added.raw())?;
+            named_line(alloc, name, taken, why)
         }
+        EditError::DefinitionIsThere => {
+            let other = other_definition(alloc, &file, added.raw())?;
+            named_line(alloc, name, other, why)
+        }
+        _ => named_line(alloc, name, None, why),
     }
-    format!(in alloc; "bibkit: {name}: {why}\n")
 }
 
 // Returns the message for the error `why` of an edit of a file's bytes.
