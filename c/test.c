@@ -166,12 +166,12 @@ static void check_buffers(void)
     check(biblatex_keys(bytes("\xff"), 1, out, 8, &size) == BIBLATEX_NOT_UTF8 && size == 77 && out[0] == 'x', "bytes that aren't UTF-8");
     check(biblatex_keys(bytes("@a{b"), 4, out, 8, &size) == BIBLATEX_REFUSED && size == 77 && out[0] == 'x', "a text with an error");
     check(biblatex_biblatex(bytes("@a{b,}@a{b,}"), 12, out, 8, &size) == BIBLATEX_REFUSED && size == 77, "two entries of one key");
-    uint8_t words[64];
+    uint8_t words[128];
     static const char *const said[] = {"done", "the buffer is too short", "not UTF-8", "refused", "out of memory", "no entry has the key",
         "an entry has the name already, as its key or in its field `ids`", "the text can't be a new key", "the text can't be the name of a field",
         "the value can't be written in braces", "an abbreviation is defined already with another text",
-        "the entry would have no field left", "no status"};
-    for (uint32_t status = 0; status < 13; status++) {
+        "the entry would have no field left", "the value is neither a number nor an abbreviation that is defined before the entry", "no status"};
+    for (uint32_t status = 0; status < 14; status++) {
         check(biblatex_message(status, words, sizeof words, &size) == BIBLATEX_DONE && size == strlen(said[status])
                   && memcmp(words, said[status], size) == 0, "the words of each status");
     }
