@@ -49,13 +49,28 @@ fn with_fields(alloc: Global, call: &str, document: &RawDocument<'_>) -> Option<
         "rename-in" => FieldEdit::Rename { old: name, new: value },
         _ => return None,
     };
+    Some(key_set(alloc, keys).and_then(|set| document.edit_fields(alloc, &set, &edit)))
+}
+
+// The set of the keys between commas.
+fn key_set<'k>(alloc: Global, keys: &'k str) -> Result<BTreeSet<&'k str>, EditError> {
     let mut set = BTreeSet::new(alloc);
     for key in keys.split(',') {
-        if set.insert(key).is_err() {
-            return Some(Err(EditError::OutOfMemory));
-        }
+        set.insert(key)?;
     }
-    Some(document.edit_fields(alloc, &set, &edit))
+    Ok(set)
+}
+
+// The text without a field of the entries with some keys.
+fn without_fields(alloc: Global, words: &str, document: &RawDocument<'_>) -> Option<Result<String, EditError>> {
+    let (keys, name) = words.split_once(' ')?;
+    Some(key_set(alloc, keys).and_then(|set| document.unset_fields(alloc, &set, name)))
+}
+
+// The text without the entries with some keys.
+fn without_entries(alloc: Global, keys: &str, document: &RawDocument<'_>) -> Result<String, EditError> {
+    let set = key_set(alloc, keys)?;
+    Ok(document.remove_entries(alloc, &set)?)
 }
 
 // The text that comes of an edit, if the call is one.
@@ -73,6 +88,12 @@ fn edited(alloc: Global, call: &str, document: &RawDocument<'_>) -> Option<Resul
     if let Some(words) = call.strip_prefix("unset ") {
         let (key, name) = words.split_once(' ')?;
         return Some(document.unset_field(alloc, key, name));
+    }
+    if let Some(words) = call.strip_prefix("unset-in ") {
+        return without_fields(alloc, words, document);
+    }
+    if let Some(keys) = call.strip_prefix("remove-in ") {
+        return Some(without_entries(alloc, keys, document));
     }
     if let Some(words) = call.strip_prefix("rename ") {
         let (old, new) = words.split_once(' ')?;
@@ -119,6 +140,10 @@ impl Calls for Documents {
         let Ok(document) = RawDocument::parse(alloc, text) else {
             return Ok(Some(String::from_str(alloc, "no bibliography")?));
         };
+        if call == "quotes" {
+            let said = if document.has_unbalanced_quotes() { "unbalanced" } else { "balanced" };
+            return Ok(Some(String::from_str(alloc, said)?));
+        }
         let (is_read_again, call) = match call.strip_prefix("again ") {
             Some(call) => (true, call),
             None => (false, call),

@@ -1,5 +1,8 @@
 -- The outcomes and the refusals of edits of a text.
-use Rattle.std.proofs.Common.{◌≡◌, ◌<◌, ◌+◌, ◌⊎◌, ℕ, List, [], ◌∷◌, ◌++◌, length, take, drop, get_or, refl, sym, ap, subst, ◌∙◌, inl, inr, append_assoc, ◌≤◌, arith}
+use Rattle.std.proofs.Common.{◌≡◌, ◌<◌, ◌+◌, ◌⊎◌, ℕ, List, [], ◌∷◌, ◌++◌, length, take, drop, get_or, refl, sym, ap, subst, ◌∙◌, inl, inr, append_assoc, ◌≤◌, arith, Bool, Result, Ok, Err}
+use Rattle.std.specs.Prelude.{IfErr, IfOk, OnOk, ◌&&◌, ◌||◌}
+use Rattle.std.specs.List.{list_any}
+use Rattle.bib_syntax.specs.Reading.{EntryReading}
 use Rattle.std.specs.Borrow.{Bor}
 use Rattle.std.specs.BTreeSet.{BTreeSet}
 use Rattle.std.proofs.lemmas.List.{length-take-le, take_more, take-append-drop}
@@ -8,7 +11,7 @@ use Rattle.bib_syntax.specs.declared.raw.ParseError.{ParseError}
 use Rattle.bib_syntax.specs.declared.raw.ParseErrorKind.{ParseErrorKind}
 use Rattle.bib_syntax.specs.declared.raw.ParseErrorKind.TheVariants as kind
 use Rattle.bib_syntax.proofs.FileFailureFacts.{file_unread}
-use Rattle.edit_entries.specs.Documents.{Document, EntriesAdded, IsEdited}
+use Rattle.edit_entries.specs.Documents.{Document, EntriesAdded, IsEdited, have_only}
 use Rattle.edit_entries.specs.LineEnds.{with_line_ends_of}
 use Rattle.edit_entries.specs.declared.errors.EditError.{EditError}
 use Rattle.edit_entries.specs.declared.errors.EditError.TheVariants as error
@@ -17,7 +20,9 @@ use Rattle.bib_tables.specs.declared.dialects.Dialect.{Dialect}
 use Rattle.edit_format.specs.Formatted.{IsReadAlike, says_in_order, text_in_style}
 use Rattle.edit_format.specs.declared.style.Style.{Style}
 use Rattle.edit_entries.specs.Changes.{IsChanged}
-use Rattle.edit_entries.specs.FieldEdits.{selected_edited}
+use Rattle.edit_entries.specs.FieldEdits.{HasFitValue, edit_name, first_start, selected_edited}
+use Rattle.edit_entries.specs.Selected.{EntriesRemoved, FieldsUnset, UnsettingIsRefused, would_be_empty}
+use Rattle.edit_entries.specs.Setting.{CanBeNewName}
 use Rattle.edit_entries.specs.declared.field_edits.FieldEdit.{FieldEdit}
 use Rattle.bib_queries.specs.Needed.{is_listed}
 use Rattle.bib_queries.specs.Sets.{is_in_set}
@@ -25,7 +30,7 @@ use Rattle.edit_resolve.specs.Resolved.{IsResolved}
 use Rattle.edit_sort.specs.Sorted.{IsReadSorted, IsSortedText}
 use Rattle.edit_strings.specs.Collected.{AreMadeAbbreviations}
 use Rattle.edit_strings.specs.Expanded.{IsExpanded}
-use Rattle.bibkit_edits.specs.Edited.{AreFieldsEdited, AreMade, AreRefused, AreTextsCollected, IsDocumentConverted, IsEditRefused, IsInOrder, IsInStyle, IsMade, IsDocumentOf, IsResolvedDocument, IsWrittenOut, TextAdded}
+use Rattle.bibkit_edits.specs.Edited.{AreEntriesRemoved, AreFieldsEdited, AreFieldsUnset, AreMade, AreRefused, AreTextsCollected, IsDocumentConverted, IsEditRefused, IsInOrder, IsInStyle, IsMade, IsDocumentOf, IsResolvedDocument, IsWrittenOut, TextAdded}
 use Rattle.edit_orders.specs.Orders.{order_parts}
 use Rattle.edit_orders.specs.Places.{ArePlacesIn}
 use Rattle.edit_orders.specs.declared.order.Order.{Order}
@@ -102,14 +107,73 @@ resolution_made d new made = record {
 
 -- a text with an edit of a field of some entries is an outcome of `Fields`
 pub fields_made : (keys : List (List ℕ)) (edit : FieldEdit) (set : BTreeSet (Bor (List ℕ))) (d : Document) (new : List ℕ)
-    → ((key : List ℕ) → is_in_set set key ≡ is_listed keys key) → IsChanged (selected_edited d.text set edit) d new
-    → IsEdited (AreFieldsEdited keys edit d) new
-fields_made keys edit set d new has made = record {
+    → ((key : List ℕ) → is_in_set set key ≡ is_listed keys key) → CanBeNewName (edit_name edit)
+    → HasFitValue d.says.abbreviations (first_start (is_in_set set) (length d.text) d.says.entries) edit
+    → IsChanged (selected_edited d.text set edit) d new → IsEdited (AreFieldsEdited keys edit d) new
+fields_made keys edit set d new has name value made = record {
   document = record { text = new; says = made.read.tells };
-  outcome = record { set = set; has = has; changed = made };
+  outcome = record { set = set; has = has; name = name; value = value; changed = made };
   is = refl;
   read = made.read.read;
 }
+
+-- what a call that edits a field of some entries returns
+pub all_fields_made : {S E : Type 0} (bytes : S → List ℕ) (r : Result S E) (keys : List (List ℕ)) (edit : FieldEdit)
+    (set : BTreeSet (Bor (List ℕ))) (d : Document)
+    → ((key : List ℕ) → is_in_set set key ≡ is_listed keys key) → OnOk r (CanBeNewName (edit_name edit))
+    → OnOk r (HasFitValue d.says.abbreviations (first_start (is_in_set set) (length d.text) d.says.entries) edit)
+    → IfOk r (λ new. IsChanged (selected_edited d.text set edit) d (bytes new))
+    → IfOk r (λ new. IsEdited (AreFieldsEdited keys edit d) (bytes new))
+all_fields_made bytes (Ok new) keys edit set d has name value made = fields_made keys edit set d (bytes new) has name value made
+all_fields_made bytes (Err e) keys edit set d has name value made = _
+
+-- a text without a field of some entries is an outcome of `UnsetAll`
+pub unset_made : (keys : List (List ℕ)) (name : List ℕ) (set : BTreeSet (Bor (List ℕ))) (d : Document) (new : List ℕ)
+    → ((key : List ℕ) → is_in_set set key ≡ is_listed keys key) → IsEdited (FieldsUnset d (is_in_set set) name) new
+    → IsEdited (AreFieldsUnset keys name d) new
+unset_made keys name set d new has made = record {
+  document = made.document;
+  outcome = record { set = set; has = has; unset = made.outcome };
+  is = made.is;
+  read = made.read;
+}
+
+-- a text without some entries is an outcome of `RemoveAll`
+pub removal_made : (keys : List (List ℕ)) (set : BTreeSet (Bor (List ℕ))) (d : Document) (new : List ℕ)
+    → ((key : List ℕ) → is_in_set set key ≡ is_listed keys key) → IsEdited (EntriesRemoved d (is_in_set set)) new
+    → IsEdited (AreEntriesRemoved keys d) new
+removal_made keys set d new has made = record {
+  document = made.document;
+  outcome = record { set = set; has = has; removed = made.outcome };
+  is = made.is;
+  read = made.read;
+}
+
+-- the same entries would be empty by two tests that select the same keys
+empty_same : (one other : List ℕ → Bool) (name : List ℕ) (es : List EntryReading) → ((key : List ℕ) → one key ≡ other key)
+    → list_any (would_be_empty one name) es ≡ list_any (would_be_empty other name) es
+empty_same one other name [] same = refl
+empty_same one other name (e ∷ es) same =
+    ap (λ b. (b && have_only name e.fields) || list_any (would_be_empty one name) es) (same e.key.text)
+    ∙ ap (λ b. would_be_empty other name e || b) (empty_same one other name es same)
+
+unset_error : (one other : List ℕ → Bool) (name : List ℕ) (d : Document) (e : EditError) → ((key : List ℕ) → one key ≡ other key)
+    → UnsettingIsRefused d one name e → UnsettingIsRefused d other name e
+unset_error one other name d error.UnknownKey same why = why
+unset_error one other name d error.KeyIsThere same why = why
+unset_error one other name d error.NotAKey same why = why
+unset_error one other name d error.NotAName same why = why
+unset_error one other name d error.NotInBraces same why = why
+unset_error one other name d error.NotBare same why = why
+unset_error one other name d error.DefinitionIsThere same why = why
+unset_error one other name d error.NoFieldLeft same why = sym (empty_same one other name d.says.entries same) ∙ why
+unset_error one other name d error.OutOfMemory same why = tt
+
+-- unsetting is refused for the same reason by two tests that select the same keys
+pub unset_refused : {S : Type 0} (r : Result S EditError) (d : Document) (one other : List ℕ → Bool) (name : List ℕ)
+    → ((key : List ℕ) → one key ≡ other key) → IfErr r (UnsettingIsRefused d one name) → IfErr r (UnsettingIsRefused d other name)
+unset_refused (Ok new) d one other name same why = _
+unset_refused (Err e) d one other name same why = unset_error one other name d e same why
 
 -- if edits of `text` make `new`, and one more edit of `new` makes `newer`, then all these edits of `text` make `newer`
 pub made_more : {edits : List Edit} {edit : Edit} {text new newer : List ℕ} → AreMade edits text new
@@ -167,6 +231,9 @@ first_refused done rest edit {text} {new} (refusal.EarlyUse at definition) first
 first_refused done rest edit {text} {new} (refusal.ReferenceCycle at entry) first refused =
     subst (λ i. AreRefused (done ++ edit ∷ rest) text (refusal.ReferenceCycle i entry)) (sym refused.0)
     (AreRefused.reference_cycle edit done rest new refused.1.document refl first.made refused.1.read refused.1.meets)
+first_refused done rest edit {text} {new} (refusal.UnbalancedQuotes at) first refused =
+    subst (λ i. AreRefused (done ++ edit ∷ rest) text (refusal.UnbalancedQuotes i)) (sym refused.0)
+    (AreRefused.unbalanced_quotes edit done rest new refused.1.document refl first.made refused.1.read refused.1.unsafe)
 first_refused done rest edit refusal.OutOfMemory first refused = AreRefused.no_memory
 
 -- if the edits before the index `i` are made and the edit at `i` is refused, then all of them are refused for that reason
@@ -254,6 +321,7 @@ step_refused edit text index d (step.Added e) read refused =
 step_refused edit text index d (step.Refused why) read refused = edit_refused edit text index d why read refused
 step_refused edit text index d (step.EarlyUse definition) read refused = (refl, record { document = d; read = read; meets = refused })
 step_refused edit text index d (step.ReferenceCycle entry) read refused = (refl, record { document = d; read = read; meets = refused })
+step_refused edit text index d step.UnbalancedQuotes read refused = (refl, record { document = d; read = read; unsafe = refused })
 
 -- the result of adding the document of a text with the line ends of the file is the result of adding the text
 pub adds_made : {d : Document} {text new : List ℕ} (more : Document) → IsDocumentOf (with_line_ends_of d.text text) more

@@ -1,6 +1,6 @@
 -- Meaning: words of public contracts.
 -- The outcomes of edits of a bibliography file, and the reasons for refusing them.
-use Rattle.std.specs.Prelude.{◌≡◌, ◌≢◌, ℕ, length, map, if◌then◌else◌, List, [], ◌∷◌, ◌++◌, nat_eq}
+use Rattle.std.specs.Prelude.{◌≡◌, ◌≢◌, ℕ, Bool, true, false, not, length, map, if◌then◌else◌, List, [], ◌∷◌, ◌++◌, nat_eq}
 use Rattle.std.specs.Borrow.{Bor}
 use Rattle.std.specs.BTreeSet.{BTreeSet}
 use Rattle.std.specs.List.{starts_with}
@@ -14,11 +14,13 @@ use Rattle.bib_source.specs.Encoding.{IsFirstInvalid, byte_order_mark, without_b
 use Rattle.edit_convert.specs.Conversions.{IsConverted}
 use Rattle.edit_entries.specs.Documents.{Document, EntriesAdded, EntriesAreRefused, EntryIsRefused, EntryRemoved, IsDocument, IsEdited, UnsetIsRefused}
 use Rattle.edit_entries.specs.Changes.{IsChanged}
-use Rattle.edit_entries.specs.FieldEdits.{FieldEditIsRefused, selected_edited}
+use Rattle.edit_entries.specs.FieldEdits.{FieldEditIsRefused, HasFitValue, edit_name, first_start, selected_edited}
 use Rattle.edit_entries.specs.declared.field_edits.FieldEdit.{FieldEdit}
 use Rattle.edit_entries.specs.References.{KeyRenamed, KeysAreRefused, KeysRenamed, RenameIsRefused, given_keys}
 use Rattle.edit_entries.specs.LineEnds.{with_line_ends_of}
-use Rattle.edit_entries.specs.Setting.{FieldSet, SetIsRefused, value_of}
+use Rattle.edit_entries.specs.Quotes.{has_unbalanced_quotes}
+use Rattle.edit_entries.specs.Selected.{EntriesRemoved, FieldsUnset, UnsettingIsRefused}
+use Rattle.edit_entries.specs.Setting.{CanBeNewName, FieldSet, SetIsRefused, value_of}
 use Rattle.edit_entries.specs.Unset.{FieldUnset}
 use Rattle.edit_entries.specs.declared.errors.EditError.{EditError}
 use Rattle.edit_entries.specs.declared.errors.EditError.TheVariants as edit_error
@@ -36,7 +38,7 @@ use Rattle.edit_strings.specs.Collected.{AreMadeAbbreviations}
 use Rattle.edit_strings.specs.Expanded.{ExpandIsRefused, IsExpanded}
 use Rattle.edit_strings.specs.declared.errors.ExpandError.TheVariants as expand_error
 use Rattle.bibkit_edits.specs.declared.edit.Edit.{Edit}
-use Rattle.bibkit_edits.specs.declared.edit.Edit.TheVariants.{Set, Unset, Rename, RenameAll, Fields, Remove, Add, Sort, Expand, Collect, ToBiblatex, ToBibtex, Resolve, Format}
+use Rattle.bibkit_edits.specs.declared.edit.Edit.TheVariants.{Set, Unset, Rename, RenameAll, Fields, UnsetAll, Remove, RemoveAll, Add, Sort, Expand, Collect, ToBiblatex, ToBibtex, Resolve, Format}
 use Rattle.bibkit_edits.specs.declared.edit.Refusal.{Refusal}
 use Rattle.bibkit_edits.specs.declared.edit.Refusal.TheVariants as refusal
 
@@ -89,11 +91,26 @@ IsDocumentConverted dialect d after = IsConverted dialect d after.text
 abbrev pub IsResolvedDocument : Document → Document → Type 0
 IsResolvedDocument d after = IsResolved d after.text
 
--- `after` is the document `d` with an edit of a field of each entry with one of these keys
+-- `after` is the document `d` with an edit of a field of each entry with one of these keys. The name that fields get can be that of a new
+-- field, and the value of the edit can be written in each of these entries.
 pub record AreFieldsEdited (keys : List (List ℕ)) (edit : FieldEdit) (d after : Document) : Type 0 where
   pub set : BTreeSet (Bor (List ℕ))
   pub has : (key : List ℕ) → is_in_set set key ≡ is_listed keys key
+  pub name : CanBeNewName (edit_name edit)
+  pub value : HasFitValue d.says.abbreviations (first_start (is_in_set set) (length d.text) d.says.entries) edit
   pub changed : IsChanged (selected_edited d.text set edit) d after.text
+
+-- `after` is the document `d` without a field of each entry with one of these keys
+pub record AreFieldsUnset (keys : List (List ℕ)) (name : List ℕ) (d after : Document) : Type 0 where
+  pub set : BTreeSet (Bor (List ℕ))
+  pub has : (key : List ℕ) → is_in_set set key ≡ is_listed keys key
+  pub unset : FieldsUnset d (is_in_set set) name after
+
+-- `after` is the document `d` without the entries with these keys
+pub record AreEntriesRemoved (keys : List (List ℕ)) (d after : Document) : Type 0 where
+  pub set : BTreeSet (Bor (List ℕ))
+  pub has : (key : List ℕ) → is_in_set set key ≡ is_listed keys key
+  pub removed : EntriesRemoved d (is_in_set set) after
 
 -- the second document is the outcome of an edit of the first
 abbrev pub EditOutcome : Edit → Document → Document → Type 0
@@ -102,7 +119,9 @@ EditOutcome (Unset key name) d = FieldUnset d key.now name.now
 EditOutcome (Rename old new) d = KeyRenamed d old.now new.now
 EditOutcome (RenameAll keys) d = KeysRenamed d (given_keys keys.now)
 EditOutcome (Fields keys edit) d = AreFieldsEdited (map (λ k. k.now) keys.now) edit d
+EditOutcome (UnsetAll keys name) d = AreFieldsUnset (map (λ k. k.now) keys.now) name.now d
 EditOutcome (Remove key) d = EntryRemoved d key.now
+EditOutcome (RemoveAll keys) d = AreEntriesRemoved (map (λ k. k.now) keys.now) d
 EditOutcome (Add text) d = TextAdded d text.now
 EditOutcome (Sort order) d = IsInOrder order d
 EditOutcome Expand d = IsWrittenOut d
@@ -112,10 +131,17 @@ EditOutcome ToBibtex d = IsDocumentConverted Bibtex d
 EditOutcome Resolve d = IsResolvedDocument d
 EditOutcome (Format style) d = IsInStyle style d
 
+-- whether an edit of a document can't break a text in quotes: no such text has unbalanced braces, or the edit is a format, which copies an
+-- entry with such a text
+abbrev pub is_safe : Edit → Document → Bool
+is_safe (Format style) d = true
+is_safe _ d = not (has_unbalanced_quotes d)
+
 -- `new` is the text after an edit of the document of `text`
 pub record IsMade (edit : Edit) (text new : List ℕ) : Type 0 where
   pub document : Document
   pub read : IsDocumentOf text document
+  pub safe : is_safe edit document ≡ true
   pub edited : IsEdited (EditOutcome edit document) new
 
 -- the second text is the first one after these edits, each made of the text after the previous edit
@@ -137,6 +163,7 @@ IsEditRefused (Unset key name) d why = UnsetIsRefused d key.now name.now why
 IsEditRefused (Rename old new) d why = RenameIsRefused d old.now new.now why
 IsEditRefused (RenameAll keys) d why = KeysAreRefused d (given_keys keys.now) why
 IsEditRefused (Fields keys edit) d why = FieldEditIsRefused d (is_listed (map (λ k. k.now) keys.now)) edit why
+IsEditRefused (UnsetAll keys name) d why = UnsettingIsRefused d (is_listed (map (λ k. k.now) keys.now)) name.now why
 IsEditRefused (Remove key) d why = EntryIsRefused d key.now why
 IsEditRefused (Add text) d why = TextIsRefused d text.now why
 IsEditRefused _ d why = ⊥
@@ -158,8 +185,8 @@ AddsText (Add text) file added = added ≡ with_line_ends_of file text.now
 AddsText _ file added = ⊥
 
 -- Edits of a text may be refused for this reason. Either the text has an error that makes parsing fail, or out of memory. Or the first
--- edits are made, and the next one adds a text with such an error, is refused, expands a document with an early use, or resolves an
--- entry that inherits from itself. The index in a refusal is the number of edits before the refused one.
+-- edits are made, and the next one adds a text with such an error, is refused, expands a document with an early use, resolves an entry
+-- that inherits from itself, or can break a text in quotes. The index in a refusal is the number of edits before the refused one.
 pub data AreRefused (edits : List Edit) (text : List ℕ) : Refusal → Type 0 where
   file : {e : ParseError} → IsReported text e → AreRefused edits text (refusal.File e)
   added : {e : ParseError} (edit : Edit) (done rest : List Edit) (between more : List ℕ) → edits ≡ done ++ edit ∷ rest
@@ -174,6 +201,9 @@ pub data AreRefused (edits : List Edit) (text : List ℕ) : Refusal → Type 0 w
   reference_cycle : {entry : ℕ} (edit : Edit) (done rest : List Edit) (between : List ℕ) (d : Document)
       → edits ≡ done ++ edit ∷ rest → AreMade done text between → IsDocumentOf between d
       → MeetsReferenceCycle edit d entry → AreRefused edits text (refusal.ReferenceCycle (length done) entry)
+  unbalanced_quotes : (edit : Edit) (done rest : List Edit) (between : List ℕ) (d : Document)
+      → edits ≡ done ++ edit ∷ rest → AreMade done text between → IsDocumentOf between d
+      → is_safe edit d ≡ false → AreRefused edits text (refusal.UnbalancedQuotes (length done))
   no_memory : AreRefused edits text refusal.OutOfMemory
 
 -- the byte order mark at the start of bytes, or no bytes without one

@@ -1,6 +1,6 @@
 -- Machinery: words of private contracts.
 -- The reasons for refusing one edit.
-use Rattle.std.specs.Prelude.{◌≡◌, ◌≢◌, ◌⊎◌, ⊤, ℕ, List, Option, Some, None}
+use Rattle.std.specs.Prelude.{◌≡◌, ◌≢◌, ◌⊎◌, ⊤, ℕ, false, List, Option, Some, None}
 use Rattle.std.specs.String.{string_bytes}
 use Rattle.std.specs.declared.string.String.{String}
 use Rattle.bib_syntax.specs.Errors.{out_of_memory}
@@ -15,7 +15,7 @@ use Rattle.edit_strings.specs.declared.errors.ExpandError.{ExpandError}
 use Rattle.edit_strings.specs.declared.errors.ExpandError.TheVariants as expand_error
 use Rattle.edit_resolve.specs.declared.errors.ResolveError.{ResolveError}
 use Rattle.edit_resolve.specs.declared.errors.ResolveError.TheVariants as resolve_error
-use Rattle.bibkit_edits.specs.Edited.{AddsText, AreMade, IsEditRefused, IsDocumentOf, MeetsEarlyUse, MeetsReferenceCycle}
+use Rattle.bibkit_edits.specs.Edited.{AddsText, AreMade, IsEditRefused, IsDocumentOf, MeetsEarlyUse, MeetsReferenceCycle, is_safe}
 use Rattle.bibkit_edits.specs.declared.edit.Edit.{Edit}
 use Rattle.bibkit_edits.specs.declared.edit.Refusal.{Refusal}
 use Rattle.bibkit_edits.specs.declared.edit.Refusal.TheVariants as refusal
@@ -34,6 +34,7 @@ StepIsRefused edit d (step.Added e) = AddsUnread edit d.text e
 StepIsRefused edit d (step.Refused why) = IsEditRefused edit d why ⊎ (why ≡ error.OutOfMemory)
 StepIsRefused edit d (step.EarlyUse definition) = MeetsEarlyUse edit d definition
 StepIsRefused edit d (step.ReferenceCycle entry) = MeetsReferenceCycle edit d entry
+StepIsRefused edit d step.UnbalancedQuotes = is_safe edit d ≡ false
 
 -- the refusal for an error of this kind: `OutOfMemory` for that kind, otherwise the second argument
 abbrev pub unless_no_memory : ParseErrorKind → Refusal → Refusal
@@ -69,6 +70,7 @@ refusal_at (step.Added e) index = added_refusal e
 refusal_at (step.Refused why) index = edit_refusal why index
 refusal_at (step.EarlyUse definition) index = refusal.EarlyUse index definition
 refusal_at (step.ReferenceCycle entry) index = refusal.ReferenceCycle index entry
+refusal_at step.UnbalancedQuotes index = refusal.UnbalancedQuotes index
 
 -- an edit of the document of `text` may be refused with the error `why`, which isn't out of memory
 pub record IsRefusedAt (edit : Edit) (text : List ℕ) (why : EditError) : Type 0 where
@@ -89,6 +91,12 @@ pub record MeetsReferenceCycleAt (edit : Edit) (text : List ℕ) (entry : ℕ) :
   pub read : IsDocumentOf text document
   pub meets : MeetsReferenceCycle edit document entry
 
+-- an edit of the document of `text` can break a text in quotes
+pub record IsUnsafe (edit : Edit) (text : List ℕ) : Type 0 where
+  pub document : Document
+  pub read : IsDocumentOf text document
+  pub unsafe : is_safe edit document ≡ false
+
 -- the edit of a text adds a text with the error `e`, which makes parsing fail
 pub record AddsError (edit : Edit) (text : List ℕ) (e : ParseError) : Type 0 where
   pub more : List ℕ
@@ -103,6 +111,7 @@ IsTextRefused edit text index (refusal.Added e) = AddsError edit text e
 IsTextRefused edit text index (refusal.Edit at why) = (at ≡ index) × IsRefusedAt edit text why
 IsTextRefused edit text index (refusal.EarlyUse at definition) = (at ≡ index) × MeetsEarlyUseAt edit text definition
 IsTextRefused edit text index (refusal.ReferenceCycle at entry) = (at ≡ index) × MeetsReferenceCycleAt edit text entry
+IsTextRefused edit text index (refusal.UnbalancedQuotes at) = (at ≡ index) × IsUnsafe edit text
 IsTextRefused edit text index refusal.OutOfMemory = ⊤
 
 -- the text for the next edit: the text after the last edit, or the first text before any edit

@@ -49,10 +49,22 @@ pub enum Edit<'a> {
         /// The edit of each of these entries.
         edit: FieldEdit<'a>,
     },
+    /// Removes a field from several entries at once.
+    UnsetAll {
+        /// The keys of the entries.
+        keys: &'a [&'a str],
+        /// The name of the field.
+        name: &'a str,
+    },
     /// Removes an entry.
     Remove {
         /// The key of the entry.
         key: &'a str,
+    },
+    /// Removes several entries at once.
+    RemoveAll {
+        /// The keys of the entries.
+        keys: &'a [&'a str],
     },
     /// Appends a line end and another text with its entries, with the line ends of the file.
     Add {
@@ -120,6 +132,12 @@ pub enum Refusal {
         index: usize,
         /// The index of the first such entry among those of the text, from 0.
         entry: usize,
+    },
+    /// Any edit but [`Edit::Format`] is refused: the text has a text in quotes whose braces aren't balanced, as `"The {"}Big{"} one"`.
+    /// BibTeX, Biber and bibtool read such a text and what follows it in another way.
+    UnbalancedQuotes {
+        /// The index of the edit, from 0.
+        index: usize,
     },
     /// Out of memory.
     OutOfMemory,

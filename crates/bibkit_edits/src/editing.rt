@@ -1,14 +1,15 @@
 //! Applies edits to the text of a file, in turn.
 
-ghost use Rattle.std.specs.Prelude.{◌≡◌, ◌≢◌, ℕ, List, IfErr, IfOk, OnErr, map};
+ghost use Rattle.std.specs.Prelude.{◌≡◌, ◌≢◌, ℕ, List, IfErr, IfOk, OnErr, OnOk, map, true};
 ghost use Rattle.std.specs.String.{string_bytes};
 ghost use Rattle.bib_queries.specs.Needed.{is_listed};
 ghost use Rattle.bib_queries.specs.Sets.{is_in_set};
 ghost use Rattle.edit_entries.specs.Documents.{IsEdited};
 ghost use Rattle.edit_entries.specs.FieldEdits.{FieldEditIsRefused};
 ghost use Rattle.edit_entries.specs.LineEnds as line_ends;
+ghost use Rattle.edit_entries.specs.Selected.{UnsettingIsRefused};
 ghost use Rattle.edit_entries.specs.declared.errors.EditError.TheVariants.{OutOfMemory};
-ghost use Rattle.bibkit_edits.specs.Edited.{AreFieldsEdited, AreMade, AreRefused, AreTextsCollected, EditOutcome, IsDocumentConverted, IsFileMade, IsFileRefused, IsInOrder, IsInStyle, IsMade, IsResolvedDocument, IsWrittenOut};
+ghost use Rattle.bibkit_edits.specs.Edited.{AreEntriesRemoved, AreFieldsEdited, AreFieldsUnset, AreMade, AreRefused, AreTextsCollected, EditOutcome, IsDocumentConverted, IsFileMade, IsFileRefused, IsInOrder, IsInStyle, IsMade, IsResolvedDocument, IsWrittenOut, is_safe};
 ghost use Rattle.edit_strings.specs.Expanded.{ExpandIsRefused};
 ghost use Rattle.bibkit_edits.specs.declared.editing.Step.TheVariants.{Added, Refused};
 ghost use Rattle.bibkit_edits.specs.Steps.{IsTextRefused, StepIsRefused, added_refusal, edit_refusal, expansion_step, file_refusal, latest, refusal_at, resolution_step};
@@ -47,6 +48,8 @@ enum Step {
     EarlyUse(usize),
     // The entry at this index inherits from itself.
     ReferenceCycle(usize),
+    // The braces of a text in quotes aren't balanced.
+    UnbalancedQuotes,
 }
 
 impl From<ParseError> for Step {
@@ -160,6 +163,33 @@ fn edit_fields(
     document.edit_fields(alloc, &set, edit)
 }
 
+// Returns the text of a document without a field of each entry with one of these keys.
+fn unset_fields(
+    alloc: Global,
+    document: &RawDocument<'_>,
+    keys: &[&str],
+    name: &str,
+) -> Result<String, EditError>
+    ensures made { IfOk result (λ new. IsEdited (AreFieldsUnset (map (λ k. k.now) keys.now) name.now document.now) (string_bytes new)) }
+    ensures refused { IfErr result (UnsettingIsRefused document.now (is_listed (map (λ k. k.now) keys.now)) name.now) }
+{
+    let set = key_set(alloc, keys)?;
+    document.unset_fields(alloc, &set, name)
+}
+
+// Returns the text of a document without the entries with these keys. Fails only if out of memory.
+fn remove_entries(
+    alloc: Global,
+    document: &RawDocument<'_>,
+    keys: &[&str],
+) -> Result<String, EditError>
+    ensures made { IfOk result (λ new. IsEdited (AreEntriesRemoved (map (λ k. k.now) keys.now) document.now) (string_bytes new)) }
+    ensures refused { IfErr result (λ why. why ≡ OutOfMemory) }
+{
+    let set = key_set(alloc, keys)?;
+    Ok(document.remove_entries(alloc, &set)?)
+}
+
 // Returns the text of a document with the references `crossref` and `xdata` replaced by the inherited fields.
 fn resolve_document(alloc: Global, document: &RawDocument<'_>) -> Result<String, ResolveError>
     ensures made { IfOk result (λ new. IsEdited (IsResolvedDocument document.now) (string_bytes new)) }
@@ -199,7 +229,9 @@ fn edit_document(alloc: Global, document: &RawDocument<'_>, edit: &Edit<'_>) -> 
         Edit::Rename { old, new } => Ok(document.rename_key(alloc, old, new)?),
         Edit::RenameAll { keys } => Ok(document.rename_keys(alloc, keys)?),
         Edit::Fields { keys, edit } => Ok(edit_fields(alloc, document, keys, &edit)?),
+        Edit::UnsetAll { keys, name } => Ok(unset_fields(alloc, document, keys, name)?),
         Edit::Remove { key } => Ok(document.remove_entry(alloc, key)?),
+        Edit::RemoveAll { keys } => Ok(remove_entries(alloc, document, keys)?),
         Edit::Add { text } => {
             let text = text_to_add(alloc, document, text)?;
             let more = RawDocument::parse(alloc, text.as_str())?;
@@ -213,6 +245,29 @@ fn edit_document(alloc: Global, document: &RawDocument<'_>, edit: &Edit<'_>) -> 
         Edit::Resolve => Ok(resolve_document(alloc, document)?),
         Edit::Format { style } => Ok(format_document(alloc, document, &style)?),
     }
+}
+
+// Returns whether an edit can't break a text in quotes of a document: no such text has unbalanced braces, or the edit copies the entry.
+fn is_safe(document: &RawDocument<'_>, edit: &Edit<'_>) -> bool
+    ensures { result ≡ is_safe edit.now document.now }
+{
+    match edit {
+        Edit::Format { .. } => true,
+        _ => !document.has_unbalanced_quotes(),
+    }
+}
+
+// Applies an edit to a document, and returns the new text, unless the edit can break a text in quotes.
+fn edit_safely(alloc: Global, document: &RawDocument<'_>, edit: &Edit<'_>) -> Result<String, Step>
+    ensures made { IfOk result (λ new. IsEdited (EditOutcome edit.now document.now) (string_bytes new)) }
+    ensures safe { OnOk result (is_safe edit.now document.now ≡ true) }
+    ensures refused { IfErr result (StepIsRefused edit.now document.now) }
+{
+    let safe = is_safe(document, edit);
+    if !safe {
+        return Err(Step::UnbalancedQuotes);
+    }
+    edit_document(alloc, document, edit)
 }
 
 // Returns the refusal for an error of parsing the text to be added.
@@ -265,6 +320,7 @@ fn refusal(step: Step, index: usize) -> Refusal
         Step::Refused(why) => edit_refusal(why, index),
         Step::EarlyUse(definition) => Refusal::EarlyUse { index, definition },
         Step::ReferenceCycle(entry) => Refusal::ReferenceCycle { index, entry },
+        Step::UnbalancedQuotes => Refusal::UnbalancedQuotes { index },
     }
 }
 
@@ -274,7 +330,7 @@ fn edit_once(alloc: Global, text: &str, edit: &Edit<'_>, index: usize) -> Result
     ensures refused { IfErr result (IsTextRefused edit.now text.now index) }
 {
     match RawDocument::parse(alloc, text) {
-        Ok(document) => match edit_document(alloc, &document, edit) {
+        Ok(document) => match edit_safely(alloc, &document, edit) {
             Ok(new) => Ok(new),
             Err(step) => Err(refusal(step, index)),
         },

@@ -79,7 +79,7 @@ field_within {u} {v} {f} field =
 
 -- ---- what an edit after it leaves where it is
 
-unmoved_part : (move : ℕ → ℕ) (p : Part) → move p.start ≡ p.start → move p.end ≡ p.end → moved_part move p ≡ p
+pub unmoved_part : (move : ℕ → ℕ) (p : Part) → move p.start ≡ p.start → move p.end ≡ p.end → moved_part move p ≡ p
 unmoved_part move p start end =
     let build : ℕ → ℕ → Part = λ (m n : ℕ). record { text = p.text; start = m; end = n } in
     ap (λ m. build m (move p.end)) start ∙ ap (build p.start) end
@@ -173,17 +173,23 @@ agrees_before at before d after less a = record {
       );
 }
 
+-- a character that both texts have
+pub same_character : {u v : Place} {c : ℕ} (x y : List ℕ) (at : ℕ) → take at y ≡ take at x → u.text ≡ x → v.at ≤ at
+    → CharAt u c v → CharAt (place y u.at) c (place y v.at)
+same_character {u} {v} {c} x y at same text within char =
+    let next : v.at ≡ u.at + len_utf8 c = char.next in
+    let here : drop u.at x ≡ encode_utf8 c ++ drop v.at x = subst (λ t. drop u.at t ≡ encode_utf8 c ++ drop v.at t) text char.here in
+    let stands : CharAt (place y u.at) c (place y (u.at + len_utf8 c)) =
+    copied x y (drop v.at x) u.at u.at c here (same_bytes y x at u.at (len_utf8 c) same (omega arith)) in
+    subst (λ n. CharAt (place y u.at) c (place y n)) (sym next) stands
+
 -- a run of characters that both texts have
 pub same_run : {test : ℕ → Bool} {u v : Place} (x y : List ℕ) (at : ℕ) → take at y ≡ take at x → u.text ≡ x → v.at ≤ at
     → Run test u v → Run test (place y u.at) (place y v.at)
 same_run x y at same text within stop = stop
 same_run {test} {u} {v} x y at same text within (step {v = w} {c = c} char passes rest) =
-    let next : w.at ≡ u.at + len_utf8 c = char.next in
-    let here : drop u.at x ≡ encode_utf8 c ++ drop w.at x = subst (λ t. drop u.at t ≡ encode_utf8 c ++ drop w.at t) text char.here in
-    let stands : CharAt (place y u.at) c (place y (u.at + len_utf8 c)) =
-    copied x y (drop w.at x) u.at u.at c here
-    (same_bytes y x at u.at (len_utf8 c) same (omega (arith, (ahead_run rest).at))) in
-    step (subst (λ n. CharAt (place y u.at) c (place y n)) (sym next) stands) passes (same_run x y at same (char.same ∙ text) within rest)
+    step (same_character x y at same text (omega (arith, (ahead_run rest).at)) char) passes
+    (same_run x y at same (char.same ∙ text) within rest)
 
 -- an entry that is moved agrees with what it was
 pub moved_agrees : (d : Document) (edit : Edit) (k : ℕ) (e entry : EntryReading) → IsDocument d → edit.start < edit.end

@@ -1,5 +1,5 @@
 -- Braces of a text, counted from its start.
-use Rattle.std.proofs.Common.{◌≡◌, ◌⊎◌, inl, inr, ℕ, zero, suc, ◌+◌, ◌-◌, ◌<◌, ◌≤◌, Bool, true, false, cond, List, length, take, get_or, refl, sym, ap, ◌∙◌, subst, arith}
+use Rattle.std.proofs.Common.{◌≡◌, ◌⊎◌, inl, inr, ℕ, zero, suc, ◌+◌, ◌-◌, ◌<◌, ◌≤◌, Bool, true, false, cond, List, length, take, get_or, refl, sym, ap, ◌∙◌, subst, arith, MatchBool}
 use Rattle.std.specs.Prelude.{◌==◌, ◌&&◌, nat_lt, not}
 use Rattle.std.proofs.lemmas.Bool.Decides.{nat_tests}
 use Rattle.std.proofs.lemmas.List.{take_all}
@@ -195,3 +195,8 @@ test_is text false passed failed = by_case (is_balanced text) refl
     by_case : (c : Bool) → is_balanced text ≡ c → false ≡ c
     by_case true is = absurd (failed refl (test_balanced text is))
     by_case false is = refl
+
+-- the result of the test of a text
+pub balance_is : (text : List ℕ) (b : Bool) → MatchBool b (IsBalanced text) (IsBalanced text → ⊥) → b ≡ is_balanced text
+balance_is text true balanced = test_is text true (λ is. balanced) (λ is. absurd (cc))
+balance_is text false unbalanced = test_is text false (λ is. absurd (cc)) (λ is. unbalanced)

@@ -42,7 +42,7 @@ front start end bytes text within =
     ap (take start) (append_assoc (take start text) bytes (drop end text))
     ∙ take_at (take start text) (bytes ++ drop end text) start (length-take-le start text within)
 
-rest : (start end : ℕ) (bytes text : List ℕ) → start ≤ length text
+pub rest : (start end : ℕ) (bytes text : List ℕ) → start ≤ length text
     → drop (start + length bytes) (take start text ++ bytes ++ drop end text) ≡ drop end text
 rest start end bytes text within =
     drop_at (take start text ++ bytes) (drop end text) (start + length bytes)

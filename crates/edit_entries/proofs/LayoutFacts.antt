@@ -1,11 +1,11 @@
 -- The text between the name and the value of a new field is an equals sign with white space around it.
-use Rattle.std.proofs.Common.{◌≡◌, ℕ, ◌<◌, Bool, true, false, cond, List, [], ◌∷◌, ◌++◌, codes, refl, sym, subst, arith}
-use Rattle.std.specs.Prelude.{◌&&◌, ◌==◌, ◌||◌, max, ◌-◌, length, nat_lt}
+use Rattle.std.proofs.Common.{◌≡◌, ℕ, ◌<◌, Bool, true, false, cond, List, [], ◌∷◌, ◌++◌, codes, refl, sym, subst, arith, Option, Some, None}
+use Rattle.std.specs.Prelude.{◌&&◌, ◌==◌, ◌||◌, max, ◌-◌, length}
 use Rattle.std.specs.Char.{is_whitespace}
 use Rattle.std.specs.List.{list_all}
 use Rattle.std.proofs.lemmas.Bool.Decides.{nat_tests}
 use Rattle.bib_syntax.specs.Reading.{FieldReading}
-use Rattle.edit_entries.specs.Layouts.{after_equals, are_aligned, before_equals, is_blank_byte, new_sign, name_padding, sign_column}
+use Rattle.edit_entries.specs.Layouts.{after_equals, before_equals, is_blank_byte, new_before_sign, new_sign, padding_or, wide_column}
 use Rattle.edit_entries.proofs.NewFieldFacts.{IsSign, usual_sign}
 use Rattle.edit_entries.proofs.StandsFacts.{AreWhite, spaces_white}
 
@@ -35,28 +35,19 @@ pub new_sign_is : (text name : List ℕ) (first : FieldReading) (fields : List F
 new_sign_is text name first fields =
     by_case (list_all is_blank_byte (before_equals text first) && list_all is_blank_byte (after_equals text first)) refl
   where
-    column : ℕ
-    column = sign_column text first
-
-    padded : Bool
-    padded = nat_lt 1 (length (before_equals text first)) || are_aligned text column fields
-
-    aligned : (b : Bool) → AreWhite (before_equals text first) → AreWhite (cond b (name_padding column name) (before_equals text first))
-    aligned true white = spaces_white (max 1 (column - length name))
-    aligned false white = white
+    padded : (column : Option ℕ) → AreWhite (before_equals text first) → AreWhite (padding_or column name (before_equals text first))
+    padded (Some column) white = spaces_white (max 1 (column - length name))
+    padded None white = white
 
     by_case : (b : Bool) → (list_all is_blank_byte (before_equals text first) && list_all is_blank_byte (after_equals text first)) ≡ b
-        → IsSign
-        (cond b
-        (cond padded (name_padding column name) (before_equals text first) ++ 61 ∷ after_equals text first)
-        (codes " = "))
+        → IsSign (cond b (new_before_sign text name first fields ++ 61 ∷ after_equals text first) (codes " = "))
     by_case false is = usual_sign
     by_case true is =
         let parts = both (list_all is_blank_byte (before_equals text first)) (list_all is_blank_byte (after_equals text first)) is in
         record {
-          before = cond padded (name_padding column name) (before_equals text first);
+          before = new_before_sign text name first fields;
           after = after_equals text first;
           is = refl;
-          white = aligned padded (blanks_white (before_equals text first) parts.0);
+          white = padded (wide_column text fields) (blanks_white (before_equals text first) parts.0);
           white' = blanks_white (after_equals text first) parts.1;
         }

@@ -11,6 +11,7 @@ mod DefinitionFacts
 pub mod EditFacts
 pub mod ElementFacts
 pub mod ElementStandsFacts
+pub mod EntriesRemovedFacts
 pub mod EntryChangeFacts
 pub mod EntryFacts
 pub mod FieldEditFacts
@@ -19,6 +20,7 @@ mod FitFacts
 mod IndexFacts
 pub mod GrammarFacts
 pub mod JoinedFacts
+pub mod KeptFacts
 mod KeyFacts
 pub mod KindFacts
 mod LayoutFacts
@@ -36,9 +38,11 @@ pub mod PositionFacts
 pub mod PutFacts
 pub mod ReferenceFacts
 pub mod RemovalFacts
+pub mod RemovalListFacts
 pub mod RemovedFacts
 pub mod RenamedFacts
 pub mod RenamingFacts
+pub mod SelectedFacts
 pub mod SetFacts
 pub mod SetLawFacts
 pub mod SplitFacts

@@ -14,7 +14,7 @@ use Rattle.bib_syntax.specs.Grammar.{BlockKind, block_kind}
 use Rattle.bib_syntax.proofs.FieldFacts.{ahead_elements}
 use Rattle.edit_entries.specs.Edits.{Edit, edited, edited_all, moved_place, moved_part, moved_field, moved_entry, moved_file, placeless}
 use Rattle.edit_entries.specs.Documents.{CanBeName, Document, IsDocument, entry_edited, field_edit, field_limit}
-use Rattle.edit_entries.proofs.AgreementFacts.{Agrees, AgreesIn, agrees_before, edited_agrees, get_set_other, get_set_same, moved_agrees}
+use Rattle.edit_entries.proofs.AgreementFacts.{Agrees, AgreesIn, agrees_before, edited_agrees, get_set_other, get_set_same, moved_agrees, unmoved_part}
 use Rattle.edit_entries.proofs.EditFacts.{moved_after, moved_before}
 use Rattle.edit_entries.proofs.MovedFacts.{exchanged}
 use Rattle.edit_entries.proofs.RenamedFacts.{key_placed}
@@ -107,11 +107,6 @@ stays_made d edits entries k j e f fs here there made =
     }
 
 -- ---- the names of types
-
-unmoved_part : (move : ℕ → ℕ) (p : Part) → move p.start ≡ p.start → move p.end ≡ p.end → moved_part move p ≡ p
-unmoved_part move p start end =
-    let build : ℕ → ℕ → Part = λ (m n : ℕ). record { text = p.text; start = m; end = n } in
-    ap (λ m. build m (move p.end)) start ∙ ap (build p.start) end
 
 -- where the name of an entry's type stands
 pub kind_some : (d : Document) (k : ℕ) (e : EntryReading) → IsDocument d → slice_get d.says.entries k ≡ Some e

@@ -10,17 +10,16 @@ use Rattle.std.proofs.lemmas.Option.{slice_get-map}
 use Rattle.bib_syntax.specs.Reading.{FieldReading, EntryReading}
 use Rattle.edit_entries.specs.Edits.{Edit, edited, edited_all, moved_place, moved_field, moved_entry, placeless}
 use Rattle.edit_entries.specs.Documents.{Document, IsDocument, entry_edited, field_edit, field_limit, has_name}
-use Rattle.edit_entries.specs.EditList.{AreEditsInOrder}
 use Rattle.edit_entries.specs.Unset.{removals}
 use Rattle.edit_entries.proofs.EditFacts.{moved_after, moved_before}
-use Rattle.edit_entries.proofs.AgreementFacts.{field_stays, get_set_same}
-use Rattle.edit_entries.proofs.ChangeListFacts.{earlier}
+use Rattle.edit_entries.proofs.AgreementFacts.{field_stays, get_set_other, get_set_same}
+use Rattle.edit_entries.proofs.KeptFacts.{AreEditsWithin, entry_inside, entry_stays, field_inside, within_earlier}
 use Rattle.edit_entries.proofs.UnsetFacts.{ends_before, field_removed, field_removed_read, fields_placed, limit_past}
 use Rattle.edit_entries.proofs.MadeFacts.{none_put, of_entries, put_alike}
 
 -- ---- lists without one of their elements
 
-get_remove_before : {A : Type 0} (xs : List A) (k i : ℕ) → i < k → slice_get (remove xs k) i ≡ slice_get xs i
+pub get_remove_before : {A : Type 0} (xs : List A) (k i : ℕ) → i < k → slice_get (remove xs k) i ≡ slice_get xs i
 get_remove_before [] zero i less = absurd (omega arith)
 get_remove_before [] (suc k) i less = refl
 get_remove_before (x ∷ xs) zero i less = absurd (omega arith)
@@ -55,7 +54,15 @@ pub record Removed (d : Document) (before others : List EntryReading) (e : Entry
   pub here : slice_get after.says.entries (length before) ≡ Some entry
   pub fields : (i : ℕ) (f : FieldReading) → i < length fb → slice_get e.fields i ≡ Some f → slice_get entry.fields i ≡ Some f
   pub limit : begins entry (length fb) ≡ begins e (length fb)
+  pub kept : (i : ℕ) (x : EntryReading) → i < length before → slice_get d.says.entries i ≡ Some x → slice_get after.says.entries i ≡ Some x
   pub alike : placeless after.says ≡ placeless (of_entries d.says (before ++ with_fields e (fb ++ unnamed name fs) ∷ others))
+
+-- an entry begins before its fields
+start_in_fields : (d : Document) (k : ℕ) (e : EntryReading) (j : ℕ) (f : FieldReading) → IsDocument d
+    → slice_get d.says.entries k ≡ Some e → slice_get e.fields j ≡ Some f → e.start ≤ f.name.start
+start_in_fields d k e j f read here there =
+    let at = entry_inside d k e read here in
+    omega (arith, at.kind_start, at.kind, at.key_start, at.key, (field_inside d k e j f read here there).start)
 
 -- where what stands after a field that is taken out begins then
 limit_moved : (edit : Edit) (o : Option FieldReading) (end : ℕ) → option_map_or (λ f. f.name.start) o end ≡ edit.end
@@ -118,6 +125,13 @@ module _ (d : Document) (before others : List EntryReading) (e : EntryReading) (
             (get_remove_at (map (moved_field move) x.fields) n ∙ slice_get-map (moved_field move) x.fields (suc n))
             ∙ limit_moved edit (slice_get x.fields (suc n)) x.end refl refl
             ∙ sym (ap (λ o. option_map_or (λ g. g.name.start) o e.end) there);
+        kept = λ i y less found.
+            let found' = rest.kept i y less found in
+            get_set_other (map (moved_entry move) rest.after.says.entries) k i z (λ same. omega (arith, same, less))
+            ∙ slice_get-map (moved_entry move) rest.after.says.entries i ∙ ap (option_map (moved_entry move)) found'
+            ∙ ap Some
+            (entry_stays rest.after i k y x move rest.read found' rest.here less
+            (λ m small. stays m (omega (arith, small, start_in_fields rest.after k x n f rest.read rest.here there'))));
         alike =
             ap (λ l. placeless (entry_edited rest.after edit k (put_entry l)).says) (none_put (map (moved_field move) x.fields) n)
             ∙ put ∙ ap (λ l. placeless (of_entries d.says (before ++ with_fields e (fb ++ l) ∷ others))) (sym left);
@@ -132,6 +146,7 @@ module _ (d : Document) (before others : List EntryReading) (e : EntryReading) (
     here = is_here;
     fields = λ i f less found. found;
     limit = refl;
+    kept = λ i x less found. found;
     alike = ap (λ es. placeless (of_entries d.says es)) whole ∙ ap (λ l. placeless (of_entries d.says
         (before ++ with_fields e l ∷ others))) cut;
   }
@@ -163,6 +178,7 @@ module _ (d : Document) (before others : List EntryReading) (e : EntryReading) (
             limit =
                 ap (λ o. option_map_or (λ g. g.name.start) o rest.entry.end) (rest.fields n f (omega (arith, size)) there)
                 ∙ sym (ap (λ o. option_map_or (λ g. g.name.start) o e.end) there);
+            kept = rest.kept;
             alike =
                 rest.alike
                 ∙ ap (λ l. placeless (of_entries d.says (before ++ with_fields e l ∷ others)))
@@ -171,34 +187,51 @@ module _ (d : Document) (before others : List EntryReading) (e : EntryReading) (
 
 -- ---- the edits
 
+-- the next field, or the closing brace
+begins_inside : (d : Document) (k : ℕ) (e : EntryReading) (n : ℕ) → IsDocument d → slice_get d.says.entries k ≡ Some e → begins e n ≤ e.end
+begins_inside d k e n read here = by_case (slice_get e.fields n) refl
+  where
+    by_case : (o : Option FieldReading) → slice_get e.fields n ≡ o → option_map_or (λ f. f.name.start) o e.end ≤ e.end
+    by_case None is = omega arith
+    by_case (Some f) is = let at = field_inside d k e n f read here is in omega (arith, at.name, at.value, at.end)
+
+begins_past : (d : Document) (k : ℕ) (e : EntryReading) (n : ℕ) → IsDocument d → slice_get d.says.entries k ≡ Some e
+    → e.key.end ≤ begins e n
+begins_past d k e n read here = by_case (slice_get e.fields n) refl
+  where
+    by_case : (o : Option FieldReading) → slice_get e.fields n ≡ o → e.key.end ≤ option_map_or (λ f. f.name.start) o e.end
+    by_case None is = (entry_inside d k e read here).key_end
+    by_case (Some f) is = (field_inside d k e n f read here is).start
+
 order_from : (d : Document) (k : ℕ) (e : EntryReading) (name : List ℕ) (n : ℕ) (fs : List FieldReading) → IsDocument d
-    → slice_get d.says.entries k ≡ Some e
+    → slice_get d.says.entries k ≡ Some e → begins e n ≤ e.end
     → ((i : ℕ) (f : FieldReading) → slice_get fs i ≡ Some f → slice_get e.fields (n + i) ≡ Some f)
-    → AreEditsInOrder d.text (begins e n) (removals name e n fs)
-order_from d k e name n [] read here among = tt
-order_from d k e name n (f ∷ fs) read here among =
+    → AreEditsWithin d.text (begins e n) e.end (removals name e n fs)
+order_from d k e name n [] read here inside among = inside
+order_from d k e name n (f ∷ fs) read here inside among =
     let zero_is : n + 0 ≡ n = omega arith in
     let there : slice_get e.fields n ≡ Some f = subst (λ m. slice_get e.fields m ≡ Some f) zero_is (among 0 f refl) in
     let rest =
-    order_from d k e name (suc n) fs read here
+    order_from d k e name (suc n) fs read here (begins_inside d k e (suc n) read here)
     (λ i x found.
     let same : n + suc i ≡ suc n + i = omega arith in
     subst (λ m. slice_get e.fields m ≡ Some x) same (among (suc i) x found)) in
     let starts : begins e n ≡ f.name.start = ap (λ o. option_map_or (λ g. g.name.start) o e.end) there in
     let placed = fields_placed d k e read here n f there in
-    by_case d.text (removals name e (suc n) fs) (has_name name f) (omega (arith, starts)) placed.ordered placed.start placed.end rest
+    by_case d.text e.end (removals name e (suc n) fs) (has_name name f) (omega (arith, starts)) placed.ordered placed.start placed.end rest
   where
-    by_case : {at start end : ℕ} (text : List ℕ) (rest : List Edit) (b : Bool) → at ≡ start → start ≤ end
-        → IsCharBoundary text start → IsCharBoundary text end → AreEditsInOrder text end rest
-        → AreEditsInOrder text at (cond b (record { start = start; end = end; bytes = [] } ∷ []) [] ++ rest)
-    by_case text rest true same ordered first last others = (omega arith, ordered, first, last, others)
-    by_case {at} {start} {end} text rest false same ordered first last others = earlier text end at rest (omega arith) others
+    by_case : {at start stop : ℕ} (text : List ℕ) (end : ℕ) (rest : List Edit) (b : Bool) → at ≡ start → start ≤ stop
+        → IsCharBoundary text start → IsCharBoundary text stop → AreEditsWithin text stop end rest
+        → AreEditsWithin text at end (cond b (record { start = start; end = stop; bytes = [] } ∷ []) [] ++ rest)
+    by_case text end rest true same ordered first last others = (omega arith, ordered, first, last, others)
+    by_case {at} {start} {stop} text end rest false same ordered first last others =
+        within_earlier text at stop end rest (omega arith) others
 
-pub removals_ordered : (d : Document) (k : ℕ) (e : EntryReading) (name : List ℕ) → IsDocument d
-    → slice_get d.says.entries k ≡ Some e → AreEditsInOrder d.text 0 (removals name e 0 e.fields)
-removals_ordered d k e name read here =
-    earlier d.text (begins e 0) 0 (removals name e 0 e.fields) (omega arith)
-    (order_from d k e name 0 e.fields read here
+pub removals_within : (d : Document) (k : ℕ) (e : EntryReading) (name : List ℕ) → IsDocument d
+    → slice_get d.says.entries k ≡ Some e → AreEditsWithin d.text e.key.end e.end (removals name e 0 e.fields)
+removals_within d k e name read here =
+    within_earlier d.text e.key.end (begins e 0) e.end (removals name e 0 e.fields) (begins_past d k e 0 read here)
+    (order_from d k e name 0 e.fields read here (begins_inside d k e 0 read here)
     (λ i f found. let same : i ≡ 0 + i = omega arith in subst (λ n. slice_get e.fields n ≡ Some f) same found))
 
 removals-append : (name : List ℕ) (e : EntryReading) (index : ℕ) (xs ys : List FieldReading)

@@ -206,7 +206,7 @@ text_set d key name value new k e read utf8 entry (IsSetText.changed there can i
     (λ there. fit_read d.says.abbreviations e.start value (can there))) in
     record {
       document = record { text = new; says = r.tells };
-      outcome = FieldSet.changed entry there (record { text = is; alike = r.alike });
+      outcome = FieldSet.changed entry there can (record { text = is; alike = r.alike });
       is = refl;
       read = subst (λ t. IsRawReading t r.tells) (sym is) r.read;
     }
@@ -218,7 +218,7 @@ text_set d key name value new k e read utf8 entry (IsSetText.added {first = firs
     let r = entry_changed_read d k e (field_put d.text name value first others) read utf8 entry.here can in
     record {
       document = record { text = new; says = r.tells };
-      outcome = FieldSet.added entry none are (record { text = is; alike = r.alike });
+      outcome = FieldSet.added entry none are can_name can_value (record { text = is; alike = r.alike });
       is = refl;
       read = subst (λ t. IsRawReading t r.tells) (sym is) r.read;
     }
@@ -247,7 +247,7 @@ text_set d key name value new k e read utf8 entry (IsSetText.only {at = at} none
     ∙ set_here a.before a.following e changed in
     record {
       document = entry_edited d edit k added;
-      outcome = FieldSet.only entry none (record {
+      outcome = FieldSet.only entry none can_name can_value (record {
         at = at;
         comma = comma;
         text = refl;

@@ -250,7 +250,7 @@ map_map f g (y ∷ ys) = ap (λ zs. g (f y) ∷ zs) (map_map f g ys)
 
 pub set_there : {d after : Document} {key name : List ℕ} {value : SetValue} → FieldSet d key name value after
     → HasValue after key name value
-set_there {d} {after} {key} {name} {value} (FieldSet.changed {k = k} {e = e} entry there is) =
+set_there {d} {after} {key} {name} {value} (FieldSet.changed {k = k} {e = e} entry there can is) =
     let x = entry_there d after key k e (entry_changed e (values_set name value e)) entry refl is.alike in
     let view : FieldReading → FieldReading = λ (f : FieldReading). field_no_offsets (set_field name value f) in
     let fields : map field_no_offsets x.entry.fields ≡ map view e.fields =
@@ -277,7 +277,8 @@ set_there {d} {after} {key} {name} {value} (FieldSet.changed {k = k} {e = e} ent
           ∙ value_no_offsets (λ n. 0) value (set_field name value last.element).value.pieces
           ∙ value_is_set name value last.element last.passes;
     }
-set_there {d} {after} {key} {name} {value} (FieldSet.added {k = k} {e = e} {first = first} {others = others} entry none are is) =
+set_there {d} {after} {key} {name} {value}
+    (FieldSet.added {k = k} {e = e} {first = first} {others = others} entry none are can_name can_value is) =
     let x = entry_there d after key k e (entry_changed e (field_put d.text name value first others)) entry refl is.alike in
     let new : FieldReading = field_reading (field_with_value name value) in
     let put : fields_changed e.fields (field_put d.text name value first others).fields ≡ new ∷ e.fields =
@@ -305,7 +306,7 @@ set_there {d} {after} {key} {name} {value} (FieldSet.added {k = k} {e = e} {firs
       is = sym (value_no_offsets (λ n. 0) value found.0.value.pieces) ∙ ap (λ f. is_same_value value f.value.pieces) found.2
           ∙ value_no_offsets (λ n. 0) value (new_value value).pieces ∙ new_is_same value;
     }
-set_there {d} {after} {key} {name} {value} (FieldSet.only {k = k} {e = e} entry none is) =
+set_there {d} {after} {key} {name} {value} (FieldSet.only {k = k} {e = e} entry none can_name can_value is) =
     let new : FieldReading = field_reading (field_with_value name value) in
     let changed : EntryReading = record e { fields = new ∷ [] } in
     let x = entry_there d after key k e changed entry refl is.alike in

@@ -1,7 +1,8 @@
 -- An entry in which a field is unset.
-use Rattle.std.proofs.Common.{◌≡◌, ℕ, zero, suc, Bool, true, false, cond, List, [], ◌∷◌, ◌++◌, length, drop, map, refl, sym, ap, ◌∙◌, subst, arith, Option, Some, None}
-use Rattle.std.specs.Prelude.{filter, not, ◌&&◌, ◌||◌, slice_get, slice_set}
-use Rattle.std.specs.List.{list_any}
+use Rattle.std.proofs.Common.{◌≡◌, ℕ, zero, suc, ◌<◌, Bool, true, false, cond, List, [], ◌∷◌, ◌++◌, length, drop, map, refl, sym, ap, ◌∙◌, subst, arith, Option, Some, None}
+use Rattle.std.specs.Prelude.{filter, not, ◌&&◌, ◌||◌, option_map, slice_get, slice_set}
+use Rattle.std.specs.List.{list_any, remove}
+use Rattle.std.proofs.lemmas.Option.{slice_get-map}
 use Rattle.bib_text.proofs.ListFacts.{get_here}
 use Rattle.bib_syntax.specs.Reading.{EntryReading, FieldReading}
 use Rattle.edit_entries.specs.Changes.{IsTrimmed}
@@ -9,10 +10,13 @@ use Rattle.edit_entries.specs.Documents.{Document, HasEntry, IsDocument, IsEdite
 use Rattle.edit_entries.specs.EditList.{AreEditsInOrder}
 use Rattle.edit_entries.specs.Edits.{Edit, edited_all, moved_entry, moved_field, moved_place, placeless}
 use Rattle.edit_entries.specs.Unset.{FieldUnset, edits_at, edits_from, end_before, has_byte_at, has_percent, is_uncommented, line_edit, removals, unset_edits, without_named}
+use Rattle.edit_entries.proofs.AgreementFacts.{get_set_other}
+use Rattle.edit_entries.proofs.EditFacts.{moved_before}
+use Rattle.edit_entries.proofs.KeptFacts.{AreEditsWithin, entry_inside, entry_stays, within_earlier, within_order}
 use Rattle.edit_entries.proofs.LineFacts.{line_removed}
 use Rattle.edit_entries.proofs.MadeFacts.{none_put, of_entries, put_alike}
 use Rattle.edit_entries.proofs.PutFacts.{put_at}
-use Rattle.edit_entries.proofs.RemovalFacts.{all_removed, removals_ordered, unnamed, with_fields}
+use Rattle.edit_entries.proofs.RemovalFacts.{all_removed, removals_within, unnamed, with_fields}
 use Rattle.edit_entries.proofs.UnsetFacts.{field_cut}
 
 -- ---- lists
@@ -112,7 +116,8 @@ pub record EntryUnset (d : Document) (before others : List EntryReading) (e : En
   pub read : IsDocument after
   pub text : after.text ≡ edited_all (unset_edits d.text name e) d.text
   pub alike : placeless after.says ≡ placeless (of_entries d.says (before ++ without_named name e ∷ others))
-  pub ordered : AreEditsInOrder d.text 0 (unset_edits d.text name e)
+  pub within : AreEditsWithin d.text e.key.end e.end (unset_edits d.text name e)
+  pub kept : (i : ℕ) (x : EntryReading) → i < length before → slice_get d.says.entries i ≡ Some x → slice_get after.says.entries i ≡ Some x
 
 three : (a b c : Bool) → (a && not b && not c) ≡ true → (a ≡ true) × (c ≡ false)
 three true false false is = (refl, refl)
@@ -141,7 +146,8 @@ module _ (d : Document) (before others : List EntryReading) (e : EntryReading) (
         alike =
             ap (λ es. placeless (of_entries d.says es)) whole
             ∙ ap (λ l. placeless (of_entries d.says (before ++ with_fields e l ∷ others))) (sym left);
-        ordered = subst (AreEditsInOrder d.text 0) (sym edits) tt;
+        within = subst (AreEditsWithin d.text e.key.end e.end) (sym edits) (entry_inside d k e read is_here).key_end;
+        kept = λ i x less found. found;
       }
 
   -- each field with the name is removed up to the next one
@@ -153,7 +159,8 @@ module _ (d : Document) (before others : List EntryReading) (e : EntryReading) (
         read = all.read;
         text = all.text ∙ ap (λ es. edited_all es d.text) (sym edits);
         alike = all.alike;
-        ordered = subst (AreEditsInOrder d.text 0) (sym edits) (removals_ordered d k e name read is_here);
+        within = subst (AreEditsWithin d.text e.key.end e.end) (sym edits) (removals_within d k e name read is_here);
+        kept = all.kept;
       }
 
   -- the only field with the name is removed with its line
@@ -184,8 +191,18 @@ module _ (d : Document) (before others : List EntryReading) (e : EntryReading) (
             ap (λ l. placeless (entry_edited d edit k (put_entry l)).says) (none_put (map (moved_field move) e.fields) j)
             ∙ ap (λ n. placeless (entry_edited d edit k (put_entry (put_at n [] (map (moved_field move) e.fields)))).says) (sym a.index)
             ∙ put ∙ ap (λ l. placeless (of_entries d.says (before ++ with_fields e l ∷ others))) (sym left);
-        ordered =
-            subst (AreEditsInOrder d.text 0) (sym edits) (omega arith, omega (arith, x.some), x.start_cut, x.end_cut, tt);
+        within =
+            subst (AreEditsWithin d.text e.key.end e.end) (sym edits)
+            (x.past, omega (arith, x.some), x.start_cut, x.end_cut, x.within);
+        kept = λ i y less found.
+            get_set_other (map (moved_entry move) d.says.entries) k i (put_entry (remove (map (moved_field move) e.fields) j))
+            (λ same. omega (arith, same, less))
+            ∙ slice_get-map (moved_entry move) d.says.entries i ∙ ap (option_map (moved_entry move)) found
+            ∙ ap Some
+            (entry_stays d i k y e move read found is_here less
+            (λ n small.
+            let at = entry_inside d k e read is_here in
+            moved_before edit n (omega (arith, small, at.kind_start, at.kind, at.key_start, at.key, x.past, x.some))));
       }
 
   by_place : (o : Option ℕ) → first_position (has_name name) e.fields ≡ o → EntryUnset d before others e name
@@ -245,4 +262,6 @@ pub unset_ordered : (d : Document) (name : List ℕ) (k : ℕ) (e : EntryReading
     → slice_get d.says.entries k ≡ Some e → AreEditsInOrder d.text 0 (unset_edits d.text name e)
 unset_ordered d name k e read trimmed here =
     let a = around d.says.entries k e here in
-    (entry_unset d a.before a.following e name read a.whole trimmed).ordered
+    let x = entry_unset d a.before a.following e name read a.whole trimmed in
+    within_order d.text 0 e.end (unset_edits d.text name e)
+    (within_earlier d.text 0 e.key.end e.end (unset_edits d.text name e) (omega arith) x.within)

@@ -1,7 +1,7 @@
 -- Meaning: words of public contracts.
 -- The text between the name and the value of a new field: as in the other fields of its entry.
-use Rattle.std.specs.Prelude.{◌==◌, ◌&&◌, ◌||◌, ℕ, ◌+◌, ◌-◌, max, Bool, if◌then◌else◌, List, ◌∷◌, ◌++◌, codes, length, nat_lt, replicate}
-use Rattle.std.specs.List.{after_first, before_first, list_all, list_any}
+use Rattle.std.specs.Prelude.{◌==◌, ◌&&◌, ◌||◌, ℕ, ◌+◌, ◌-◌, max, Bool, if◌then◌else◌, List, [], ◌∷◌, ◌++◌, Option, Some, None, codes, length, nat_lt, replicate}
+use Rattle.std.specs.List.{after_first, before_first, list_all}
 use Rattle.bib_text.specs.Characters as char
 use Rattle.bib_text.specs.Places.{between, place}
 use Rattle.bib_syntax.specs.Reading.{FieldReading}
@@ -26,23 +26,24 @@ is_blank_byte b = b == char.space || b == 9
 abbrev pub sign_column : List ℕ → FieldReading → ℕ
 sign_column text f = length f.name.text + length (before_equals text f)
 
--- whether the equals signs of fields are in one column: each is this far from the start of its name, and one has more than one byte of
--- white space before it
-abbrev pub are_aligned : List ℕ → ℕ → List FieldReading → Bool
-are_aligned text column fields =
-    list_all (λ f. sign_column text f == column) fields && list_any (λ f. nat_lt 1 (length (before_equals text f))) fields
+-- the column of the equals sign of the first of these fields that has more than one byte of white space before it
+abbrev pub wide_column : List ℕ → List FieldReading → Option ℕ
+wide_column text [] = None
+wide_column text (f ∷ fs) = if nat_lt 1 (length (before_equals text f)) then Some (sign_column text f) else wide_column text fs
 
 -- spaces from the end of a name to a column, at least one
 abbrev pub name_padding : ℕ → List ℕ → List ℕ
 name_padding column name = replicate (max 1 (column - length name)) char.space
 
--- the white space before the equals sign of a new field: up to the column of the first field if that has more than one byte there or the
--- fields are aligned, or else that of the first field
+-- the white space from the end of a name to a column, if there is one, or else this white space
+abbrev pub padding_or : Option ℕ → List ℕ → List ℕ → List ℕ
+padding_or (Some column) name white = name_padding column name
+padding_or None name white = white
+
+-- the white space before the equals sign of a new field before these: up to the column of the first of them that has more than one byte
+-- there, or else as in the first field
 abbrev pub new_before_sign : List ℕ → List ℕ → FieldReading → List FieldReading → List ℕ
-new_before_sign text name first fields =
-    if nat_lt 1 (length (before_equals text first)) || are_aligned text (sign_column text first) fields
-    then name_padding (sign_column text first) name
-    else before_equals text first
+new_before_sign text name first fields = padding_or (wide_column text fields) name (before_equals text first)
 
 -- the text between the name and the value of a new field before these, of which this is the first: as in the first one, if that has
 -- only spaces and tabs there

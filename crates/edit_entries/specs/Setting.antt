@@ -162,15 +162,18 @@ pub record IsFirstAdded (d : Document) (k : ℕ) (e : EntryReading) (name : List
 
 -- ---- the outcome
 
--- the outcome of setting a field of the first entry with a key
+-- the outcome of setting a field of the first entry with a key. A value that the entry doesn't have yet can be written in it, and a new
+-- field can have the name.
 pub data FieldSet (d : Document) (key name : List ℕ) (value : SetValue) : Document → Type 0 where
   changed : {k : ℕ} {e : EntryReading} {after : Document} → HasEntry d key k e → list_any (has_name name) e.fields ≡ true
+      → (list_any (has_other_value name value) e.fields ≡ true → IsWritableAt d.says.abbreviations e.start value)
       → IsEntryChanged d k e (values_set name value e) after → FieldSet d key name value after
   added : {k : ℕ} {e : EntryReading} {first : FieldReading} {others : List FieldReading} {after : Document} → HasEntry d key k e
-      → list_any (has_name name) e.fields ≡ false → e.fields ≡ first ∷ others
+      → list_any (has_name name) e.fields ≡ false → e.fields ≡ first ∷ others → CanBeNewName name
+      → IsWritableAt d.says.abbreviations e.start value
       → IsEntryChanged d k e (field_put d.text name value first others) after → FieldSet d key name value after
-  only : {k : ℕ} {e : EntryReading} {after : Document} → HasEntry d key k e → e.fields ≡ []
-      → IsFirstAdded d k e name value after → FieldSet d key name value after
+  only : {k : ℕ} {e : EntryReading} {after : Document} → HasEntry d key k e → e.fields ≡ [] → CanBeNewName name
+      → IsWritableAt d.says.abbreviations e.start value → IsFirstAdded d k e name value after → FieldSet d key name value after
 
 -- the last field with a name, of the first entry with a key, has a value
 pub record HasValue (d : Document) (key name : List ℕ) (value : SetValue) : Type 0 where

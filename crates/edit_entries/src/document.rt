@@ -1,6 +1,6 @@
 //! A bibliography file's text with its raw reading.
 
-ghost use Rattle.std.specs.Prelude.{◌≡◌, ◌⊎◌, IfOk, IfErr, MatchOption, OnOk};
+ghost use Rattle.std.specs.Prelude.{◌≡◌, ◌⊎◌, IfOk, IfErr, MatchOption, OnOk, length};
 ghost use Rattle.std.specs.String.{string_bytes};
 ghost use Rattle.bib_queries.specs.Sets.{is_in_set};
 ghost use Rattle.bib_syntax.specs.Errors.{Refuses, out_of_memory};
@@ -10,10 +10,13 @@ ghost use Rattle.bib_syntax.specs.Views.{file_of};
 ghost use Rattle.edit_entries.specs.Documents.{Document, EntriesAdded, EntriesAreRefused, EntryIsRefused, EntryRemoved, IsEdited, IsDocument, UnsetIsRefused};
 ghost use Rattle.edit_entries.specs.NewNames.{HaveNewKeys, IsFirstUnsafeKey};
 ghost use Rattle.edit_entries.specs.Changes.{IsChanged};
-ghost use Rattle.edit_entries.specs.FieldEdits.{FieldEditIsRefused, selected_edited};
+ghost use Rattle.edit_entries.specs.FieldEdits as fields;
+ghost use Rattle.edit_entries.specs.FieldEdits.{FieldEditIsRefused, HasFitValue, edit_name, selected_edited};
 ghost use Rattle.edit_entries.specs.NewKeys.{key_for};
+ghost use Rattle.edit_entries.specs.Quotes as quotes;
 ghost use Rattle.edit_entries.specs.References.{KeyRenamed, KeysAreRefused, KeysRenamed, RenameIsRefused, given_keys};
-ghost use Rattle.edit_entries.specs.Setting.{FieldSet, SetIsRefused, value_of};
+ghost use Rattle.edit_entries.specs.Selected.{EntriesRemoved, FieldsUnset, UnsettingIsRefused};
+ghost use Rattle.edit_entries.specs.Setting.{CanBeNewName, FieldSet, SetIsRefused, value_of};
 ghost use Rattle.edit_entries.specs.Unset.{FieldUnset};
 
 use crate::definitions::agree_on_definitions;
@@ -25,12 +28,14 @@ use crate::joining::{joined, shares_name};
 use crate::keys::{first_unsafe_key, have_new_keys, may_get_keys};
 use crate::lookup::{entry_index, entry_with};
 use crate::new_keys::NewKeys;
+use crate::quotes::{contain_unbalanced_quote, have_unbalanced_quote};
 use crate::removing::{have_only, without_entry, without_fields};
 use crate::renaming::with_new_keys;
+use crate::selected::{all_unset_edits, removals, would_one_be_empty};
 use crate::setting::with_field_set;
 use crate::taken::is_new_key_taken;
 use bib_syntax::raw::{ParseError, RawBibliography};
-use std::alloc::Global;
+use std::alloc::{AllocError, Global};
 use std::collections::BTreeSet;
 use std::marker::Model;
 
@@ -79,6 +84,16 @@ impl<'s> RawDocument<'s> {
         ensures read { IsDocument self.now }
     {
         &self.raw
+    }
+
+    /// Returns whether a field of an entry or the definition of an abbreviation contains a text in quotes whose braces aren't balanced, as
+    /// in `"The {"}Big{"} one"`. BibTeX, Biber and bibtool end such a text at the first quote outside of braces, this library at the
+    /// first quote. So they read it and what follows it in another way, and an edit can break it.
+    pub fn has_unbalanced_quotes(&self) -> bool
+        ensures { result ≡ quotes.has_unbalanced_quotes self.now }
+    {
+        contain_unbalanced_quote(self.text, &self.raw.entries)
+            || have_unbalanced_quote(self.text, &self.raw.abbreviations)
     }
 
     /// Returns the text with the value of a field of the first entry with `key`: each field with `name`, in any ASCII case, gets `value`. A
@@ -145,6 +160,39 @@ impl<'s> RawDocument<'s> {
         }
     }
 
+    /// Returns the text without a field of each entry with one of these keys, as `unset_field` removes it from one entry. The text stays if
+    /// no such entry has the field.
+    ///
+    /// # Errors
+    ///
+    /// `NoFieldLeft` if all fields of an entry with one of these keys have the name.
+    pub fn unset_fields(
+        &self,
+        alloc: Global,
+        keys: &BTreeSet<&str>,
+        name: &str,
+    ) -> Result<String, EditError>
+        ensures unset { IfOk result (λ new. IsEdited (FieldsUnset self.now (is_in_set keys.now) name.now) (string_bytes new)) }
+        ensures refused { IfErr result (UnsettingIsRefused self.now (is_in_set keys.now) name.now) }
+    {
+        let text = self.text();
+        let entries = &self.raw.entries;
+        if would_one_be_empty(entries, keys, name) {
+            return Err(EditError::NoFieldLeft);
+        }
+        let edits = all_unset_edits(alloc, text, entries, keys, name)?;
+        Ok(edited_all(alloc, text, &edits)?)
+    }
+
+    /// Returns the text without the entries with these keys, and without the white space after each.
+    pub fn remove_entries(&self, alloc: Global, keys: &BTreeSet<&str>) -> Result<String, AllocError>
+        ensures { IfOk result (λ new. IsEdited (EntriesRemoved self.now (is_in_set keys.now)) (string_bytes new)) }
+    {
+        let text = self.text();
+        let edits = removals(alloc, text, &self.raw.entries, keys)?;
+        edited_all(alloc, text, &edits)
+    }
+
     // Returns the text with new keys of entries, also in each reference to them.
     fn with_keys(&self, alloc: Global, keys: NewKeys<'_>) -> Result<String, EditError>
         ensures renamed { IfOk result (λ text. IsEdited (KeysRenamed self.now (key_for keys.entry)) (string_bytes text)) }
@@ -199,6 +247,9 @@ impl<'s> RawDocument<'s> {
         edit: &FieldEdit<'_>,
     ) -> Result<String, EditError>
         ensures edited { IfOk result (λ text. IsChanged (selected_edited self.now.text keys.now edit.now) self.now (string_bytes text)) }
+        ensures name { OnOk result (CanBeNewName (edit_name edit.now)) }
+        ensures value { OnOk result (HasFitValue self.now.says.abbreviations
+            (fields.first_start (is_in_set keys.now) (length self.now.text) self.now.says.entries) edit.now) }
         ensures refused { IfErr result (FieldEditIsRefused self.now (is_in_set keys.now) edit.now) }
     {
         let text = self.text();

@@ -1,7 +1,7 @@
 //! The text between the name and the value of a new field.
 
-ghost use Rattle.std.specs.Prelude.{◌≡◌, ◌==◌, ◌++◌, IfOk, OnOk, length, map, nat_lt, replicate};
-ghost use Rattle.std.specs.List.{AllByRecursion, list_all, list_any};
+ghost use Rattle.std.specs.Prelude.{◌≡◌, ◌++◌, IfOk, OnOk, map, replicate};
+ghost use Rattle.std.specs.List.{AllByRecursion, list_all};
 ghost use Rattle.std.specs.String.{string_bytes};
 ghost use Rattle.bib_text.specs.Characters as char;
 ghost use Rattle.bib_syntax.specs.Views.{field_of};
@@ -44,47 +44,18 @@ fn is_blank(text: &str) -> bool
     true
 }
 
-// Returns the number of bytes from the start of a field's name to its equals sign.
-fn sign_column(text: &str, field: &Pair<'_>) -> usize
-    requires { IsSignPlaced text.now (field_of field.now) }
-    ensures { result ≡ spec.sign_column text.now (field_of field.now) }
-{
-    field.key.v.len() + signs(text, field).0.len()
-}
-
-// Returns whether the equals sign of each of these fields is in a column.
-fn are_in_column(text: &str, column: usize, fields: &[Pair<'_>]) -> bool
+// Returns the column of the equals sign of the first of these fields that has more than one byte of white space before it.
+fn wide_column(text: &str, fields: &[Pair<'_>]) -> Option<usize>
     requires { AllByRecursion (IsSignPlaced text.now) (map field_of fields.now) }
-    ensures { result ≡ list_all (λ f. spec.sign_column text.now f == column) (map field_of fields.now) }
+    ensures { result ≡ spec.wide_column text.now (map field_of fields.now) }
 {
     'fields: for field in fields {
-        let same = sign_column(text, field) == column;
-        if !same {
-            return false;
+        let before = signs(text, field).0;
+        if 1 < before.len() {
+            return Some(field.key.v.len() + before.len());
         }
     }
-    true
-}
-
-// Returns whether one of these fields has more than one byte of white space before its equals sign.
-fn has_wide_sign(text: &str, fields: &[Pair<'_>]) -> bool
-    requires { AllByRecursion (IsSignPlaced text.now) (map field_of fields.now) }
-    ensures { result ≡ list_any (λ f. nat_lt 1 (length (spec.before_equals text.now f))) (map field_of fields.now) }
-{
-    'fields: for field in fields {
-        if 1 < signs(text, field).0.len() {
-            return true;
-        }
-    }
-    false
-}
-
-// Returns whether the equals signs of these fields are in one column, with white space for it.
-fn are_aligned(text: &str, column: usize, fields: &[Pair<'_>]) -> bool
-    requires { AllByRecursion (IsSignPlaced text.now) (map field_of fields.now) }
-    ensures { result ≡ spec.are_aligned text.now column (map field_of fields.now) }
-{
-    are_in_column(text, column, fields) && has_wide_sign(text, fields)
+    None
 }
 
 // Appends some spaces.
@@ -110,11 +81,10 @@ fn push_before_sign(
     ensures { OnOk result (string_bytes out.new ≡ string_bytes out.old ++
         spec.new_before_sign text.now name.now (field_of first.now) (map field_of fields.now)) }
 {
-    let column = sign_column(text, first);
-    if 1 < signs(text, first).0.len() || are_aligned(text, column, fields) {
-        return push_spaces(out, column.saturating_sub(name.len()).max(1));
+    match wide_column(text, fields) {
+        Some(column) => push_spaces(out, column.saturating_sub(name.len()).max(1)),
+        None => out.push_str(signs(text, first).0),
     }
-    out.push_str(signs(text, first).0)
 }
 
 // Returns the text between the name and the value of a new field before these, of which `first` is the first.

@@ -1,6 +1,6 @@
 //! Removes entries and fields.
 
-ghost use Rattle.std.specs.Prelude.{◌≡◌, ◌+◌, ◌-◌, ◌^◌, ◌++◌, ◌≤◌, ◌<◌, ℕ, [], IfOk, IfSome, OnOk, length, map};
+ghost use Rattle.std.specs.Prelude.{◌≡◌, ◌+◌, ◌-◌, ◌^◌, ◌++◌, ◌≤◌, ◌<◌, ℕ, [], ◌∷◌, IfOk, IfSome, OnOk, length, map};
 ghost use Rattle.std.specs.Bool.{OnTrue};
 ghost use Rattle.std.specs.Char.{is_whitespace};
 ghost use Rattle.std.specs.List.{AllByRecursion, list_all};
@@ -15,6 +15,7 @@ ghost use Rattle.edit_entries.specs.Edits as edits;
 ghost use Rattle.edit_entries.specs.Placed.{IsEntryPlaced};
 ghost use Rattle.edit_entries.specs.EditList.{AreEditsInOrder, edit_of};
 ghost use Rattle.edit_entries.specs.Placed.{IsPlaced};
+ghost use Rattle.edit_entries.specs.Selected.{AreRemovals};
 ghost use Rattle.edit_entries.specs.Unset as unset;
 
 use crate::editing::{Edit, edited, edited_all};
@@ -38,6 +39,16 @@ fn after_white(text: &str, place: usize) -> usize
     s.cursor()
 }
 
+// Returns the byte offset after an entry and the white space after it.
+fn after_entry(text: &str, entry: &Spanned<RawEntry<'_>>) -> usize
+    requires { IsEntryPlaced text.now (entry_reading_of entry.now) }
+    ensures white { Longest is_whitespace (places.place text.now ((entry_reading_of entry.now).end + 1)) (places.place text.now result) }
+    ensures boundary { IsCharBoundary text.now result }
+    ensures forward { (entry_reading_of entry.now).end + 1 ≤ result }
+{
+    after_white(text, entry.span.end + 1)
+}
+
 // Returns the text without an entry and the white space after it.
 pub(crate) fn without_entry(
     alloc: Global,
@@ -49,8 +60,20 @@ pub(crate) fn without_entry(
         Longest is_whitespace (places.place text.now ((entry_reading_of entry.now).end + 1)) (places.place text.now at) ×
         (string_bytes new ≡ edits.edited (record { start = (entry_reading_of entry.now).start; end = at; bytes = [] }) text.now)) }
 {
-    let end = after_white(text, entry.span.end + 1);
+    let end = after_entry(text, entry);
     edited(alloc, text, entry.span.start, end, "")
+}
+
+// Returns the edit that removes an entry and the white space after it.
+pub(crate) fn entry_removal(alloc: Global, text: &str, entry: &Spanned<RawEntry<'_>>) -> Edit
+    requires { IsEntryPlaced text.now (entry_reading_of entry.now) }
+    ensures { AreRemovals text.now (entry_reading_of entry.now ∷ []) (edit_of result ∷ []) }
+{
+    Edit {
+        start: entry.span.start,
+        end: after_entry(text, entry),
+        text: String::new(alloc),
+    }
 }
 
 // Returns the byte offset of the next field, or of the closing brace if there is none.
@@ -140,7 +163,7 @@ fn has_percent(text: &str, start: usize, end: usize) -> bool
 }
 
 // Returns whether a text has a byte at a byte offset.
-fn has_byte(text: &str, at: usize, byte: u8) -> bool
+pub(crate) fn has_byte(text: &str, at: usize, byte: u8) -> bool
     ensures is { result ≡ unset.has_byte_at text.now at byte }
     ensures bound { OnTrue result (at < 2 ^ 64 - 1) }
 {

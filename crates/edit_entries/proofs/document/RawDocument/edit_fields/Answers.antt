@@ -9,7 +9,7 @@ use Rattle.edit_entries.specs.Changes.{IsReadPlaceless, edits_of_entries, file_c
 use Rattle.edit_entries.specs.Documents.{Document, IsDocument}
 use Rattle.edit_entries.specs.EditList.{AreEditsInOrder, edit_of}
 use Rattle.edit_entries.specs.Edits.{edited_all}
-use Rattle.edit_entries.specs.FieldEdits.{first_start, selected_edited}
+use Rattle.edit_entries.specs.FieldEdits.{HasFitValue, first_start, selected_edited}
 use Rattle.edit_entries.specs.FieldTexts.{EditTextIsRefused, HaveFieldsPlaced}
 use Rattle.edit_entries.proofs.ChangesFacts.{changed_read, changes_in_order}
 use Rattle.edit_entries.proofs.FieldEditFacts.{edit_refused, fields_placed, selected_can}
@@ -64,6 +64,20 @@ returns-clause-edited c =
     selected_can d.text (map field_of c.deref-2.result.now) c.first_start-at.result c.args.keys.now c.args.edit.now d.says.entries
     (fields_placed d read) c.in_ok-written.ensures.name c.in_ok-written.ensures.value in
     record { is = is; read = subst (IsReadPlaceless (file_changed changes d.says)) (sym is) (changed_read d changes read utf8 can) }
+
+pub returns-clause-value : goal.returns-clause-value
+returns-clause-value c =
+    let d : Document = c.args.self.now in
+    let definitions : map field_of c.deref-2.result.now ≡ d.says.abbreviations =
+    ap (map field_of) c.deref-2.ensures.value ∙ ap (λ x. x.says.abbreviations) c.self.view_is in
+    let entries : map entry_reading_of c.deref.result.now ≡ d.says.entries =
+    ap (map entry_reading_of) c.deref.ensures.value ∙ ap (λ x. x.says.entries) c.self.view_is in
+    let at : c.first_start-at.result ≡ first_start (is_in_set c.args.keys.now) (length d.text) d.says.entries =
+    c.first_start-at.ensures
+    ∙ ap (λ t. first_start (is_in_set c.args.keys.now) (length t) (map entry_reading_of c.deref.result.now)) c.text-text.ensures
+    ∙ ap (first_start (is_in_set c.args.keys.now) (length d.text)) entries in
+    subst (λ n. HasFitValue d.says.abbreviations n c.args.edit.now) at
+    (subst (λ fs. HasFitValue fs c.first_start-at.result c.args.edit.now) definitions c.in_ok-written.ensures.value)
 
 pub returns-in_err-written-clause-refused : goal.returns-in_err-written-clause-refused
 returns-in_err-written-clause-refused c =

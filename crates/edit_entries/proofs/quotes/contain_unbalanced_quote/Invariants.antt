@@ -1,0 +1,11 @@
+use Rattle.std.proofs.Common.{◌≡◌, drop, map}
+use Rattle.std.specs.List.{list_any}
+use Rattle.bib_syntax.specs.Views.{entry_reading_of}
+use Rattle.edit_entries.specs.Quotes as spec
+use Rattle.edit_entries.proofs.quotes.contain_unbalanced_quote.Given as goal
+
+-- the entries still to visit decide
+abbrev pub invariant-entries : goal.invariant-entries
+invariant-entries l =
+    list_any (spec.contains_unbalanced_quote l.text) (map entry_reading_of l.entries)
+    ≡ list_any (spec.contains_unbalanced_quote l.text) (map entry_reading_of (drop l.entry-index l.entries))

@@ -1,0 +1,11 @@
+use Rattle.std.proofs.Common.{◌≡◌, drop, map}
+use Rattle.std.specs.List.{list_any}
+use Rattle.bib_syntax.specs.Views.{field_of, piece_of}
+use Rattle.edit_entries.specs.Quotes as spec
+use Rattle.edit_entries.proofs.quotes.has_unbalanced_quote.Given as goal
+
+-- the pieces still to visit decide
+abbrev pub invariant-pieces : goal.invariant-pieces
+invariant-pieces l =
+    spec.has_unbalanced_quote l.text (field_of l.field)
+    ≡ list_any (spec.is_unbalanced_quote l.text) (map piece_of (drop l.piece-index l.piece-items))

@@ -1,0 +1,11 @@
+use Rattle.std.proofs.Common.{◌≡◌, drop, map}
+use Rattle.std.specs.List.{list_any}
+use Rattle.bib_syntax.specs.Views.{field_of}
+use Rattle.edit_entries.specs.Quotes as spec
+use Rattle.edit_entries.proofs.quotes.have_unbalanced_quote.Given as goal
+
+-- the fields still to visit decide
+abbrev pub invariant-fields : goal.invariant-fields
+invariant-fields l =
+    list_any (spec.has_unbalanced_quote l.text) (map field_of l.fields)
+    ≡ list_any (spec.has_unbalanced_quote l.text) (map field_of (drop l.field-index l.fields))

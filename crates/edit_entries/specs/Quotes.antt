@@ -1,0 +1,29 @@
+-- Meaning: words of public contracts.
+-- Texts in quotes whose braces aren't balanced. BibTeX, Biber and bibtool end a text in quotes at the first quote outside of braces, this
+-- library at the first quote; so they read such a text, and what follows it, in another way.
+use Rattle.std.specs.Prelude.{ℕ, ◌-◌, ◌&&◌, ◌||◌, not, Bool, false, List}
+use Rattle.std.specs.List.{list_any}
+use Rattle.bib_text.specs.Characters as char
+use Rattle.bib_syntax.specs.Reading.{EntryReading, FieldReading, Piece}
+use Rattle.bib_syntax.specs.Reading.Piece.{abbreviation, literal}
+use Rattle.edit_entries.specs.Balance.{is_balanced}
+use Rattle.edit_entries.specs.Documents.{Document}
+use Rattle.edit_entries.specs.Unset.{has_byte_at}
+
+-- whether a piece is in quotes, and its braces aren't balanced
+abbrev pub is_unbalanced_quote : List ℕ → Piece → Bool
+is_unbalanced_quote text (literal p) = has_byte_at text (p.start - 1) char.quote && not (is_balanced p.text)
+is_unbalanced_quote text (abbreviation p) = false
+
+-- whether a field contains such a piece
+abbrev pub has_unbalanced_quote : List ℕ → FieldReading → Bool
+has_unbalanced_quote text f = list_any (is_unbalanced_quote text) f.value.pieces
+
+-- whether an entry contains such a field
+abbrev pub contains_unbalanced_quote : List ℕ → EntryReading → Bool
+contains_unbalanced_quote text e = list_any (has_unbalanced_quote text) e.fields
+
+-- whether an entry of a document contains such a field, or the definition of an abbreviation is one
+abbrev pub has_unbalanced_quotes : Document → Bool
+has_unbalanced_quotes d =
+    list_any (contains_unbalanced_quote d.text) d.says.entries || list_any (has_unbalanced_quote d.text) d.says.abbreviations

@@ -1,0 +1,67 @@
+-- Meaning: words of public contracts.
+-- Entries whose keys are selected: a field of each is unset, or each is removed.
+use Rattle.std.specs.Prelude.{◌≡◌, ℕ, ◌+◌, ◌&&◌, Bool, true, false, if◌then◌else◌, List, [], ◌∷◌, filter, map, not, ⊤}
+use Rattle.std.specs.Char.{is_whitespace}
+use Rattle.std.specs.List.{flat_map, list_any}
+use Rattle.bib_text.specs.Places.{Longest, place}
+use Rattle.bib_syntax.specs.Reading.{EntryReading}
+use Rattle.edit_entries.specs.Documents.{Document, have_only}
+use Rattle.edit_entries.specs.Edits.{Edit, edited_all, placeless}
+use Rattle.edit_entries.specs.Unset.{unset_edits, without_named}
+use Rattle.edit_entries.specs.declared.errors.EditError.{EditError}
+use Rattle.edit_entries.specs.declared.errors.EditError.TheVariants.{UnknownKey, KeyIsThere, NotAKey, NotAName, NotInBraces, NotBare, DefinitionIsThere, NoFieldLeft, OutOfMemory}
+
+-- ---- a field is unset
+
+-- the edits that unset a field of an entry, if its key is selected
+abbrev pub unset_if_selected : (List ℕ → Bool) → List ℕ → List ℕ → EntryReading → List Edit
+unset_if_selected selected text name e = if selected e.key.text then unset_edits text name e else []
+
+-- an entry without its fields with a name, if its key is selected
+abbrev pub without_if_selected : (List ℕ → Bool) → List ℕ → EntryReading → EntryReading
+without_if_selected selected name e = if selected e.key.text then without_named name e else e
+
+-- whether the key of an entry is selected, and all its fields have a name
+abbrev pub would_be_empty : (List ℕ → Bool) → List ℕ → EntryReading → Bool
+would_be_empty selected name e = selected e.key.text && have_only name e.fields
+
+-- the outcome of unsetting a field of entries: each field with the name of each entry whose key is selected is removed, as if by itself,
+-- and no such entry has only such fields. The reading is as it was except for these fields and byte offsets.
+pub record FieldsUnset (d : Document) (selected : List ℕ → Bool) (name : List ℕ) (after : Document) : Type 0 where
+  pub left : list_any (would_be_empty selected name) d.says.entries ≡ false
+  pub text : after.text ≡ edited_all (flat_map (unset_if_selected selected d.text name) d.says.entries) d.text
+  pub alike : placeless after.says ≡ placeless (record d.says { entries = map (without_if_selected selected name) d.says.entries })
+
+-- the conditions under which unsetting a field of entries is refused
+abbrev pub UnsettingIsRefused : Document → (List ℕ → Bool) → List ℕ → EditError → Type 0
+UnsettingIsRefused d selected name UnknownKey = ⊥
+UnsettingIsRefused d selected name KeyIsThere = ⊥
+UnsettingIsRefused d selected name NotAKey = ⊥
+UnsettingIsRefused d selected name NotAName = ⊥
+UnsettingIsRefused d selected name NotInBraces = ⊥
+UnsettingIsRefused d selected name NotBare = ⊥
+UnsettingIsRefused d selected name DefinitionIsThere = ⊥
+UnsettingIsRefused d selected name NoFieldLeft = list_any (would_be_empty selected name) d.says.entries ≡ true
+UnsettingIsRefused d selected name OutOfMemory = ⊤
+
+-- ---- entries are removed
+
+-- the edits that remove entries, each from its at sign up to the end of the white space after it
+pub data AreRemovals (text : List ℕ) : List EntryReading → List Edit → Type 0 where
+  none : AreRemovals text [] []
+  next : {e : EntryReading} {es : List EntryReading} {at : ℕ} {edits : List Edit}
+      → Longest is_whitespace (place text (e.end + 1)) (place text at) → AreRemovals text es edits
+      → AreRemovals text (e ∷ es) (record { start = e.start; end = at; bytes = [] } ∷ edits)
+
+-- whether the key of an entry is selected
+abbrev pub has_selected_key : (List ℕ → Bool) → EntryReading → Bool
+has_selected_key selected e = selected e.key.text
+
+-- the outcome of removing entries: each entry whose key is selected is removed with the white space after it. The reading is as it was
+-- except for these entries and byte offsets.
+pub record EntriesRemoved (d : Document) (selected : List ℕ → Bool) (after : Document) : Type 0 where
+  pub edits : List Edit
+  pub removals : AreRemovals d.text (filter (has_selected_key selected) d.says.entries) edits
+  pub text : after.text ≡ edited_all edits d.text
+  pub alike : placeless after.says
+      ≡ placeless (record d.says { entries = filter (λ e. not (has_selected_key selected e)) d.says.entries })
