@@ -1,0 +1,154 @@
+//! The commands that print findings, keys, entries and counts of files.
+
+use crate::commands::arguments::{Argument, Row, Takes};
+use crate::commands::shared::WHERE;
+
+// The text at the end of the help of `lint`.
+const LINT_HELP: &str = "\
+Findings are lines FILE:LINE:COLUMN: error|warning: TEXT [CODE]. A file bibkit.toml in the folder of the first file, or in one above
+it, has the settings of a project: ignore, only, color and format.
+
+Example:
+  bibkit lint --ignore unknown-field refs.bib
+
+Status: 0 no findings, 1 findings, 2 wrong usage, or a file or the output failed, 3 out of memory";
+
+// The arguments of `lint`.
+const LINT: [Argument; 7] = [
+    Argument {
+        name: "only",
+        takes: Takes::Codes,
+        help: "Report only these codes, separated by commas",
+    },
+    Argument {
+        name: "ignore",
+        takes: Takes::Codes,
+        help: "Don't report these codes, separated by commas",
+    },
+    Argument {
+        name: "format",
+        takes: Takes::Format,
+        help: "Print findings as lines or as JSON",
+    },
+    Argument {
+        name: "color",
+        takes: Takes::Color,
+        help: "When to print colours and source excerpts",
+    },
+    Argument {
+        name: "explain",
+        takes: Takes::Code,
+        help: "Explain a code, and read no file",
+    },
+    Argument {
+        name: "cited",
+        takes: Takes::Document,
+        help: "Report keys that this .aux or .bcf file cites and no file contains",
+    },
+    Argument {
+        name: "unused",
+        takes: Takes::NothingBeside("cited"),
+        help: "Report entries that the document doesn't cite",
+    },
+];
+
+// The arguments of `get`.
+const GET: [Argument; 1] = [Argument {
+    name: "KEYS",
+    takes: Takes::Texts,
+    help: "Keys, separated by commas",
+}];
+
+// The text at the end of the help of `select`.
+const SELECT_HELP: &str = "\
+A condition consists of tests with `and`, `or` and `not`. A test is `has FIELD`, or compares `type`, `key`, `year` or a field by `=` or
+`!=`. A key and a field are also compared by `contains` and by `~` with a regular expression, and a year by `<`, `<=`, `>` and `>=`.
+
+Examples:
+  bibkit select --where 'type = article and year >= 2000' refs.bib
+  bibkit select --where 'author ~ Knuth' --where 'not has doi' --keys refs.bib
+  bibkit select --where 'type = article' --complete refs.bib | bibkit convert --to csl
+
+Status: 0 done, 1 no entry meets the conditions, 2 wrong usage, or a file or the output failed, 3 out of memory";
+
+// The arguments of `select`.
+const SELECT: [Argument; 3] = [
+    WHERE,
+    Argument {
+        name: "complete",
+        takes: Takes::Nothing,
+        help: "Print also the definitions, preambles and entries that they use",
+    },
+    Argument {
+        name: "keys",
+        takes: Takes::Nothing,
+        help: "Print only the keys of the entries",
+    },
+];
+
+// The arguments of `grep`.
+const GREP: [Argument; 2] = [
+    Argument {
+        name: "FIELD",
+        takes: Takes::Text,
+        help: "The name of a field, in any case",
+    },
+    Argument {
+        name: "TEXT",
+        takes: Takes::Text,
+        help: "The text to search for in its value, as it is in the file",
+    },
+];
+
+// The arguments of `cited`.
+const CITED: [Argument; 1] = [Argument {
+    name: "DOCUMENT",
+    takes: Takes::Text,
+    help: "The .aux or .bcf file that LaTeX wrote for the document",
+}];
+
+/// The commands, in the order of help.
+pub static SEARCHING: [Row; 7] = [
+    Row {
+        name: "lint",
+        about: "Report errors and likely mistakes in files",
+        help: LINT_HELP,
+        arguments: &LINT,
+    },
+    Row {
+        name: "keys",
+        about: "Print the key of each entry",
+        help: "Example:\n  bibkit keys refs.bib",
+        arguments: &[],
+    },
+    Row {
+        name: "get",
+        about: "Print the entries with these keys, unchanged",
+        help: "Example:\n  bibkit get tolkien1937,knuth1984 refs.bib\n\nStatus 1 if no entry has any of the keys",
+        arguments: &GET,
+    },
+    Row {
+        name: "select",
+        about: "Print the entries that meet a condition, unchanged",
+        help: SELECT_HELP,
+        arguments: &SELECT,
+    },
+    Row {
+        name: "grep",
+        about: "Print the entries with a text in a field, unchanged",
+        help: "Example:\n  bibkit grep author Knuth refs.bib\n\nStatus 1 if there is no such entry",
+        arguments: &GREP,
+    },
+    Row {
+        name: "cited",
+        about: "Print the entries that a document cites, unchanged",
+        help: "Without FILE, reads the .bib files that the document names.\n\nExample:\n  bibkit cited thesis.bcf >cited.bib\n\nStatus 1 if no cited entry is found",
+        arguments: &CITED,
+    },
+    Row {
+        name: "stats",
+        about: "Count entries by type and year, fields by name, and findings by code",
+        help: "Example:\n  bibkit stats refs.bib",
+        arguments: &[],
+    },
+];
