@@ -4,7 +4,7 @@ use crate::converting::Converting;
 use crate::edits::{Editing, Edits, Mode};
 use crate::recoding::Recoding;
 use crate::rekeying::Rekeying;
-use crate::selecting::{Printed, Selecting};
+use crate::selecting::{Printed, SelectedEdit, Selecting};
 use bib_findings::codes::Code;
 use bib_queries::request::{Request as Excerpts, Search};
 use bib_recode::encoding::Encoding;
@@ -223,25 +223,49 @@ fn field_edit<'a>(option: &str, word: &'a str) -> Option<FieldEdit<'a>> {
 
 // Adds the edits of the words of an option of `edit`. Returns the first word without `=`, if there is one.
 fn push_field_edits<'a>(
-    edits: &mut Vec<FieldEdit<'a>>,
+    edits: &mut Vec<SelectedEdit<'a>>,
     option: &str,
     words: &[&'a str],
 ) -> Result<Option<&'a str>, AllocError> {
     'words: for word in words {
         match field_edit(option, *word) {
-            Some(edit) => edits.push(edit)?,
+            Some(edit) => edits.push(SelectedEdit::Field(edit))?,
             None => return Ok(Some(*word)),
         }
     }
     Ok(None)
 }
 
+// Adds the edits that remove the fields with these names.
+fn push_unset_edits<'a>(
+    edits: &mut Vec<SelectedEdit<'a>>,
+    names: &[&'a str],
+) -> Result<(), AllocError> {
+    'names: for name in names {
+        edits.push(SelectedEdit::Unset(*name))?;
+    }
+    Ok(())
+}
+
+// Returns the edits of `remove`: with `--where`, that of the entries that meet the conditions.
+fn removal_edits<'a>(alloc: Global, matches: &ArgMatches<'a>) -> Result<Edits<'a>, AllocError> {
+    let conditions = texts(alloc, matches, "where")?;
+    if !conditions.is_empty() {
+        return Ok(Edits::Selected {
+            conditions,
+            edits: vec![in alloc; SelectedEdit::Remove]?,
+        });
+    }
+    let keys = texts(alloc, matches, "KEYS")?;
+    Ok(Edits::These(remove_entries(alloc, &keys)?))
+}
+
 // Returns the edits of `edit`.
 fn selected_edits<'a>(alloc: Global, matches: &ArgMatches<'a>) -> Result<Edits<'a>, AllocError> {
-    let mut fields = Vec::new(alloc);
+    let mut edits = Vec::new(alloc);
     'options: for option in &FIELD_OPTIONS {
         let words = texts(alloc, matches, option)?;
-        if let Some(word) = push_field_edits(&mut fields, option, &words)? {
+        if let Some(word) = push_field_edits(&mut edits, option, &words)? {
             let pair = if *option == "rename" {
                 "OLD=NEW"
             } else {
@@ -250,9 +274,10 @@ fn selected_edits<'a>(alloc: Global, matches: &ArgMatches<'a>) -> Result<Edits<'
             return Ok(Edits::NoPair { word, pair });
         }
     }
+    push_unset_edits(&mut edits, &texts(alloc, matches, "unset")?)?;
     Ok(Edits::Selected {
         conditions: texts(alloc, matches, "where")?,
-        fields,
+        edits,
     })
 }
 
@@ -304,10 +329,7 @@ fn edits_of<'a>(
             let names = texts(alloc, matches, "FIELDS")?;
             Ok(Edits::These(unset_fields(alloc, key, &names)?))
         }
-        "remove" => {
-            let keys = texts(alloc, matches, "KEYS")?;
-            Ok(Edits::These(remove_entries(alloc, &keys)?))
-        }
+        "remove" => removal_edits(alloc, matches),
         "strings" => strings_edits(alloc, matches),
         "edit" => selected_edits(alloc, matches),
         "rekey" => Ok(rekeying(matches)),

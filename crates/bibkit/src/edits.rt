@@ -4,7 +4,7 @@ use crate::recoding::{Recoding, recode};
 use crate::refusals::printing_stop;
 use crate::rekeying::{Rekeying, rekey};
 use crate::replacing::replace;
-use crate::selecting::edit_selected;
+use crate::selecting::{SelectedEdit, edit_selected};
 use crate::stops::{Stop, bytes_of, say};
 use bib_source::decoding::decode;
 use bibkit_core::replacing::ReplaceError;
@@ -12,7 +12,6 @@ use bibkit_edits::edit::Edit;
 use bibkit_edits::editing::edit_file;
 use bibkit_edits::printing::{Unprinted, print_difference, print_edited};
 use biblatex::Output;
-use edit_entries::field_edits::FieldEdit;
 use std::alloc::{AllocError, Global};
 use std::io;
 use std::io::ErrorKind;
@@ -31,12 +30,12 @@ pub enum Edits<'a> {
         /// The minimum number of fields with the same text.
         at_least: usize,
     },
-    /// Edits fields of the entries that meet conditions.
+    /// Edits the entries that meet conditions.
     Selected {
         /// The conditions, all of which an entry must meet.
         conditions: Vec<&'a str>,
-        /// The edits of each of these entries.
-        fields: Vec<FieldEdit<'a>>,
+        /// The edits of each of these entries, in turn.
+        edits: Vec<SelectedEdit<'a>>,
     },
     /// Gives entries the keys that a pattern makes.
     Rekey(Rekeying<'a>),
@@ -309,11 +308,14 @@ fn answer(rt: &HostRuntime, editing: &Editing<'_>) -> Result<(), Stop> {
                 }],
             )
         }
-        Edits::Selected { conditions, fields } => {
-            if fields.is_empty() {
-                return wrong_usage(rt.alloc(), "`edit` needs `--rename`, `--set` or `--add`");
+        Edits::Selected { conditions, edits } => {
+            if edits.is_empty() {
+                return wrong_usage(
+                    rt.alloc(),
+                    "`edit` needs `--rename`, `--set`, `--add` or `--unset`",
+                );
             }
-            edit_selected(rt, editing, conditions, fields)
+            edit_selected(rt, editing, conditions, edits)
         }
         Edits::Rekey(rekeying) => rekey(rt, editing, rekeying),
         Edits::Recode(recoding) => recode(rt, editing, recoding),

@@ -11,6 +11,7 @@ use edit_entries::document::RawDocument;
 use edit_entries::errors::EditError;
 use edit_entries::field_edits::FieldEdit;
 use edit_entries::line_ends::with_line_ends_of;
+use edit_entries::quotes::is_unbalanced_quote;
 use std::alloc::{AllocError, Global};
 use std::collections::{BTreeMap, BTreeSet};
 use std::str::from_utf8;
@@ -140,6 +141,36 @@ fn added_line(
     }
 }
 
+// Returns whether the key of an entry is one of these, and all its fields have a name.
+fn would_be_empty(entry: &RawEntry<'_>, keys: &[&str], field: &str) -> bool {
+    keys.contains(&entry.key.v)
+        && !entry.fields.is_empty()
+        && entry
+            .fields
+            .iter()
+            .all(|own| own.key.v.eq_ignore_ascii_case(field))
+}
+
+// Returns the message for the error `why` of unsetting a field of the entries with these keys, with the first key to which it applies.
+fn unset_line(
+    alloc: Global,
+    name: &str,
+    src: &str,
+    keys: &[&str],
+    field: &str,
+    why: EditError,
+) -> Result<String, AllocError> {
+    if let Ok(raw) = RawBibliography::parse(alloc, src) {
+        'entries: for entry in &raw.entries {
+            if would_be_empty(&entry.v, keys, field) {
+                let key = entry.v.key.v;
+                return format!(in alloc; "bibkit: {name}: `{key}`: `{field}`: {why}\n");
+            }
+        }
+    }
+    format!(in alloc; "bibkit: {name}: `{field}`: {why}\n")
+}
+
 // Returns the message for the error `why` of an edit of a file's bytes.
 fn refused_line(
     alloc: Global,
@@ -169,6 +200,10 @@ fn refused_line(
             },
         ) => format!(in alloc; "bibkit: {name}: `{field}`: {why}\n"),
         Some(Edit::Remove { key }) => format!(in alloc; "bibkit: {name}: `{key}`: {why}\n"),
+        Some(Edit::UnsetAll { keys, name: field }) => {
+            let src = from_utf8(after_mark(bytes)).unwrap_or("");
+            unset_line(alloc, name, src, keys, field, why)
+        }
         Some(Edit::Add { text }) => {
             let src = from_utf8(after_mark(bytes)).unwrap_or("");
             added_line(alloc, name, src, text, why)
@@ -234,6 +269,50 @@ fn reference_cycle_line(
     format!(in alloc; "bibkit: {name}: an entry inherits from itself\n")
 }
 
+// Returns the byte offset of the first text in quotes of a field whose braces don't balance.
+fn unbalanced_piece(src: &str, field: &Pair<'_>) -> Option<usize> {
+    'pieces: for piece in &field.value.v {
+        if is_unbalanced_quote(src, piece) {
+            return Some(piece.span.start);
+        }
+    }
+    None
+}
+
+// Returns the byte offset of the first text in quotes of these fields whose braces don't balance.
+fn unbalanced_field(src: &str, fields: &[Pair<'_>]) -> Option<usize> {
+    'fields: for field in fields {
+        if let Some(at) = unbalanced_piece(src, field) {
+            return Some(at);
+        }
+    }
+    None
+}
+
+// Returns the byte offset of the first text in quotes of entries, or else of definitions, whose braces don't balance.
+fn unbalanced_quote(src: &str, raw: &RawBibliography<'_>) -> Option<usize> {
+    'entries: for entry in &raw.entries {
+        if let Some(at) = unbalanced_field(src, &entry.v.fields) {
+            return Some(at);
+        }
+    }
+    unbalanced_field(src, &raw.abbreviations)
+}
+
+// Returns the message for a text in quotes whose braces don't balance, with its position, if `text` has one.
+fn unbalanced_quotes_line(alloc: Global, name: &str, text: &[u8]) -> Result<String, AllocError> {
+    let said =
+        "the braces of this text in quotes don't balance, so BibTeX and Biber end it elsewhere; write it in braces first";
+    if let Ok(src) = from_utf8(text) {
+        if let Ok(raw) = RawBibliography::parse(alloc, src) {
+            if let Some(at) = unbalanced_quote(src, &raw) {
+                return error_line(alloc, name, text, at, said);
+            }
+        }
+    }
+    format!(in alloc; "bibkit: {name}: {said}\n")
+}
+
 // Returns the text that the first edit adds, or an empty text if it adds none.
 fn added_text<'a>(edits: &[Edit<'a>]) -> &'a str {
     match edits.first() {
@@ -282,6 +361,7 @@ fn refusal_message(
             after_mark(bytes),
             *entry,
         ),
+        Refusal::UnbalancedQuotes { .. } => unbalanced_quotes_line(alloc, name, after_mark(bytes)),
         Refusal::OutOfMemory => String::from_str(alloc, "bibkit: out of memory\n"),
     }
 }

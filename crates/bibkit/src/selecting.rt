@@ -1,4 +1,4 @@
-//! Prints the entries that meet conditions, and edits their fields.
+//! Prints the entries that meet conditions, and edits them.
 
 use crate::edits::{Editing, after_mark, apply};
 use crate::stops::{Stop, bytes_of, output_stop, say};
@@ -32,6 +32,17 @@ pub struct Printed {
     pub is_complete: bool,
     /// Whether only the keys of entries are printed.
     pub has_keys: bool,
+}
+
+/// An edit of the entries that meet conditions.
+#[derive(Clone, Copy)]
+pub enum SelectedEdit<'a> {
+    /// Edits a field of each.
+    Field(FieldEdit<'a>),
+    /// Removes the fields with this name from each.
+    Unset(&'a str),
+    /// Removes them.
+    Remove,
 }
 
 // Returns the error of a condition, or fails if out of memory.
@@ -204,36 +215,45 @@ fn push_edit<'e>(
     Ok(())
 }
 
-// Edits fields of the entries of a file's text that meet all conditions.
+// Edits the entries of a file's text that meet all conditions.
 fn edit_text(
     rt: &HostRuntime,
     editing: &Editing<'_>,
     selections: &[Selection],
-    fields: &[FieldEdit<'_>],
+    changes: &[SelectedEdit<'_>],
     bytes: &[u8],
     text: &str,
 ) -> Result<(), Stop> {
     let found = Bibliography::recover(rt.alloc(), text)?;
     let keys = selected_keys(rt.alloc(), selections, &found.bibliography)?;
     let mut edits = Vec::new(rt.alloc());
-    'fields: for edit in fields {
-        let (first, second) = texts_of(edit);
-        push_edit(&mut edits, &keys, edit, first, second)?;
+    'changes: for change in changes {
+        match change {
+            SelectedEdit::Field(edit) => {
+                let (first, second) = texts_of(edit);
+                push_edit(&mut edits, &keys, edit, first, second)?;
+            }
+            SelectedEdit::Unset(name) => edits.push(Edit::UnsetAll {
+                keys: &keys,
+                name: *name,
+            })?,
+            SelectedEdit::Remove => edits.push(Edit::RemoveAll { keys: &keys })?,
+        }
     }
     apply(rt, editing, bytes, &edits)
 }
 
-/// Edits fields of the entries of a file that meet all conditions.
+/// Edits the entries of a file that meet all conditions, by each of these edits in turn.
 pub fn edit_selected(
     rt: &HostRuntime,
     editing: &Editing<'_>,
     conditions: &[&str],
-    fields: &[FieldEdit<'_>],
+    changes: &[SelectedEdit<'_>],
 ) -> Result<(), Stop> {
     let selections = parse_conditions(rt.alloc(), conditions)?;
     let bytes = bytes_of(rt, editing.name)?;
     match from_utf8(after_mark(&bytes)) {
-        Ok(text) => edit_text(rt, editing, &selections, fields, &bytes, text),
+        Ok(text) => edit_text(rt, editing, &selections, changes, &bytes, text),
         Err(_) => apply(rt, editing, &bytes, &[Edit::RenameAll { keys: &[] }]),
     }
 }

@@ -3,7 +3,6 @@ use Rattle.std.proofs.Common.{◌≡◌, ◌⊎◌, inl, inr, ℕ, zero, suc, �
 use Rattle.std.specs.Prelude.{IfOk, filter, not, option_map, slice_get}
 use Rattle.std.specs.Char.{is_whitespace}
 use Rattle.std.specs.List.{remove}
-use Rattle.std.specs.Str.{IsCharBoundary}
 use Rattle.std.proofs.lemmas.List.{drop_at, map-append, length-take-le}
 use Rattle.std.proofs.lemmas.Option.{slice_get-map}
 use Rattle.bib_text.specs.Places.{CharAt, Longest, Place, Run, Stops, place}
@@ -13,7 +12,7 @@ use Rattle.bib_syntax.specs.Reading.{EntryReading, FileReading}
 use Rattle.bib_syntax.specs.Grammar.{Block, File, longest}
 use Rattle.bib_syntax.specs.Grammar.{File as file}
 use Rattle.bib_syntax.proofs.FieldFacts.{ahead_identifier}
-use Rattle.bib_syntax.proofs.FileFacts.{ahead_body, ahead_head}
+use Rattle.bib_syntax.proofs.FileFacts.{ahead_body}
 use Rattle.edit_entries.specs.Cuts.{AreEntriesCut}
 use Rattle.edit_entries.specs.Documents.{Document, IsDocument, IsEdited, entry_removed}
 use Rattle.edit_entries.specs.EditList.{AreEditsInOrder}
@@ -25,7 +24,7 @@ use Rattle.edit_entries.proofs.CutFacts.{cut_file, document_cut, entries_cut}
 use Rattle.edit_entries.proofs.EditFacts as after
 use Rattle.edit_entries.proofs.EditFacts.{front, moved_before}
 use Rattle.edit_entries.proofs.EntryFacts.{ahead_entry}
-use Rattle.edit_entries.proofs.KeptFacts.{AreEditsWithin, entry_inside, entry_stays, within_earlier, within_order}
+use Rattle.edit_entries.proofs.KeptFacts.{entry_inside, entry_stays, within_earlier, within_order}
 use Rattle.edit_entries.proofs.MadeFacts.{of_entries}
 use Rattle.edit_entries.proofs.MovedFacts.{char_within}
 use Rattle.edit_entries.proofs.PlacelessFacts.{file_placeless}

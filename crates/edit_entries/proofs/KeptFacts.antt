@@ -1,14 +1,11 @@
 -- An edit of one entry keeps the entries before it, and the edits of an entry depend only on the text up to its end.
-use Rattle.std.proofs.Common.{◌≡◌, ℕ, zero, suc, ◌+◌, ◌<◌, ◌≤◌, Bool, List, [], ◌∷◌, ◌++◌, length, map, take, drop, refl, sym, ap, ◌∙◌, subst, arith, Option, Some, None}
+use Rattle.std.proofs.Common.{◌≡◌, ℕ, zero, suc, ◌+◌, ◌<◌, ◌≤◌, List, [], ◌∷◌, ◌++◌, length, map, take, refl, ap, ◌∙◌, subst, arith, Some}
 use Rattle.std.specs.Prelude.{slice_get}
-use Rattle.std.specs.List.{flat_map}
 use Rattle.std.specs.Str.{IsCharBoundary}
 use Rattle.std.proofs.lemmas.List.{length-take-le}
-use Rattle.bib_text.specs.Places.{place}
 use Rattle.bib_text.proofs.PlaceFacts.{ahead_char, ahead_run, ahead_then}
 use Rattle.bib_syntax.specs.Reading.{EntryReading, FieldReading, Part}
-use Rattle.bib_syntax.proofs.FieldFacts.{ahead_elements, ahead_field, ahead_fields, ahead_gap}
-use Rattle.bib_syntax.proofs.FileFacts.{ahead_head}
+use Rattle.bib_syntax.proofs.FieldFacts.{ahead_elements, ahead_fields, ahead_gap}
 use Rattle.edit_entries.specs.Cuts.{AreEntriesCut}
 use Rattle.edit_entries.specs.Documents.{Document, IsDocument}
 use Rattle.edit_entries.specs.EditList.{AreEditsInOrder}

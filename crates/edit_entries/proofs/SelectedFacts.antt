@@ -5,7 +5,6 @@ use Rattle.std.specs.Char.{is_whitespace}
 use Rattle.std.specs.List.{flat_map, list_any}
 use Rattle.std.specs.Option.{option_map_or}
 use Rattle.std.specs.Str.{IsUtf8, trim_end}
-use Rattle.std.proofs.lemmas.List.{map-append}
 use Rattle.bib_text.specs.Places.{Run, place}
 use Rattle.bib_text.proofs.ListFacts.{get_here}
 use Rattle.bib_syntax.specs.Reading.{EntryReading, FieldReading, FileReading}
@@ -15,7 +14,7 @@ use Rattle.edit_entries.specs.Documents.{Document, IsDocument, IsEdited, first_p
 use Rattle.edit_entries.specs.EditList.{AreEditsInOrder}
 use Rattle.edit_entries.specs.Edits.{Edit, edited_all, moved_entry, placeless}
 use Rattle.edit_entries.specs.Selected.{FieldsUnset, unset_if_selected, without_if_selected, would_be_empty}
-use Rattle.edit_entries.specs.Unset.{comma_end, edits_at, edits_from, end_before, has_byte_at, has_percent, is_uncommented, line_edit, removals, unset_edits, without_named}
+use Rattle.edit_entries.specs.Unset.{edits_at, edits_from, end_before, has_byte_at, has_percent, is_uncommented, line_edit, removals, unset_edits, without_named}
 use Rattle.edit_entries.proofs.AgreementFacts.{same_bytes, same_run}
 use Rattle.edit_entries.proofs.CutFacts.{document_cut}
 use Rattle.edit_entries.proofs.KeptFacts.{AreEditsWithin, IsFieldInside, edited_append, entry_inside, field_inside, front_kept, within_append, within_earlier, within_order}

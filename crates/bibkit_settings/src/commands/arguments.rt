@@ -16,6 +16,8 @@ pub enum Takes {
     Words,
     /// A required positional argument of one or more words, each of which may be several values separated by commas.
     WordsOrTexts,
+    /// The same, but required only if the option with this name is missing, which conflicts with it.
+    WordsOrTextsUnless(&'static str),
     /// An option that may be repeated: a condition on entries.
     Condition,
     /// An option that may be repeated: two words with an equals sign between them, which help calls by this name.
@@ -195,6 +197,12 @@ fn argument_of<'a>(alloc: Global, row: &'static Argument) -> Result<Arg<'a>, All
         Takes::Texts => Ok(required_argument(alloc, row).value_delimiter(',')),
         Takes::Words => Ok(words(alloc, row)),
         Takes::WordsOrTexts => Ok(words(alloc, row).value_delimiter(',')),
+        Takes::WordsOrTextsUnless(other) => positional(alloc, row)
+            .num_args(0..)
+            .action(ArgAction::Append)
+            .value_delimiter(',')
+            .conflicts_with(other)?
+            .required_unless_present(other),
         Takes::Condition => Ok(values(alloc, row, "CONDITION")),
         Takes::Pair(name) => Ok(values(alloc, row, name)),
         Takes::Pattern => Ok(value(alloc, row, "PATTERN")),

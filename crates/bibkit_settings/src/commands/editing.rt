@@ -4,7 +4,7 @@ use crate::commands::arguments::{Argument, Row, Takes};
 use crate::commands::shared::{DIFF, FILE, WHERE, WRITE};
 
 // The arguments of `edit`.
-const EDIT: [Argument; 7] = [
+const EDIT: [Argument; 8] = [
     WHERE,
     Argument {
         name: "rename",
@@ -20,6 +20,11 @@ const EDIT: [Argument; 7] = [
         name: "add",
         takes: Takes::Pair("FIELD=VALUE"),
         help: "Add a field to entries that lack it",
+    },
+    Argument {
+        name: "unset",
+        takes: Takes::FieldNames,
+        help: "Remove fields, but not all fields of an entry",
     },
     FILE,
     WRITE,
@@ -100,12 +105,13 @@ const RENAME: [Argument; 5] = [
 ];
 
 // The arguments of `remove`.
-const REMOVE: [Argument; 4] = [
+const REMOVE: [Argument; 5] = [
     Argument {
         name: "KEYS",
-        takes: Takes::WordsOrTexts,
+        takes: Takes::WordsOrTextsUnless("where"),
         help: "The keys of entries",
     },
+    WHERE,
     FILE,
     WRITE,
     DIFF,
@@ -196,8 +202,11 @@ Status: 0 done, 1 an edit is refused or the file has errors, 2 wrong usage, or a
 
 // The text at the end of the help of `remove`.
 const REMOVE_HELP: &str = "\
-Example:
+With --where, removes the entries that meet the condition. `bibkit help select` has the conditions.
+
+Examples:
   bibkit remove knuth1984 tolkien1937 --file refs.bib
+  bibkit remove --where 'type = misc and year < 1990' --file refs.bib --write
 
 Status: 0 done, 1 an edit is refused or the file has errors, 2 wrong usage, or a file or the output failed, 3 out of memory";
 
@@ -229,11 +238,12 @@ Status: 0 done, 1 the file isn't in this encoding, 2 no encoding or wrong usage,
 
 // The text at the end of the help of `edit`.
 const EDIT_HELP: &str = "\
-Without --where, edits all entries. Fields are first renamed, then set, then added. FIELD:=VALUE writes a number or an abbreviation without
-braces, and month=jan the abbreviation of a month. `bibkit help select` has the conditions.
+Without --where, edits all entries. Fields are first renamed, then set, then added, then removed. FIELD:=VALUE writes a number or an
+abbreviation without braces, and month=jan the abbreviation of a month. `bibkit help select` has the conditions.
 
-Example:
+Examples:
   bibkit edit --where 'type = article' --rename journal=journaltitle --add langid=english --file refs.bib --write
+  bibkit edit --unset abstract,file --file refs.bib
 
 Status: 0 done, 1 an edit is refused or the file has errors, 2 wrong usage, or a file or the output failed, 3 out of memory";
 

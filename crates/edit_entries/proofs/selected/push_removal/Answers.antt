@@ -1,4 +1,4 @@
-use Rattle.std.proofs.Common.{◌≡◌, false, cond, map, List, [], ◌∷◌, sym, ap, ◌∙◌, subst, append-nil}
+use Rattle.std.proofs.Common.{◌≡◌, false, cond, map, [], ◌∷◌, sym, ◌∙◌, subst, append-nil}
 use Rattle.bib_queries.specs.Sets.{is_in_set}
 use Rattle.bib_syntax.specs.Views.{entry_reading_of}
 use Rattle.bib_syntax.specs.Reading.{EntryReading}

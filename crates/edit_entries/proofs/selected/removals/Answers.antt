@@ -4,7 +4,6 @@ use Rattle.std.specs.List.{AllByRecursion}
 use Rattle.std.proofs.lemmas.List.{drop_more, drop_all}
 use Rattle.bib_queries.specs.Sets.{is_in_set}
 use Rattle.bib_syntax.specs.Views.{entry_reading_of}
-use Rattle.bib_syntax.specs.Reading.{EntryReading}
 use Rattle.edit_entries.specs.EditList.{edit_of}
 use Rattle.edit_entries.specs.Placed.{IsEntryPlaced}
 use Rattle.edit_entries.specs.Selected.{AreRemovals, has_selected_key}

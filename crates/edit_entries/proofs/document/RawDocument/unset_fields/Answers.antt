@@ -1,13 +1,12 @@
-use Rattle.std.proofs.Common.{◌≡◌, false, List, map, sym, ap, ◌∙◌, subst}
+use Rattle.std.proofs.Common.{◌≡◌, false, map, sym, ap, ◌∙◌, subst}
 use Rattle.std.specs.List.{AllByRecursion, flat_map, list_any}
 use Rattle.std.specs.Str.{IsUtf8}
 use Rattle.std.specs.String.{string_bytes}
 use Rattle.bib_queries.specs.Sets.{is_in_set}
-use Rattle.bib_syntax.specs.Reading.{EntryReading}
 use Rattle.bib_syntax.specs.Views.{entry_reading_of}
 use Rattle.edit_entries.specs.Documents.{Document, IsDocument}
 use Rattle.edit_entries.specs.EditList.{AreEditsInOrder, edit_of}
-use Rattle.edit_entries.specs.Edits.{Edit, edited_all}
+use Rattle.edit_entries.specs.Edits.{edited_all}
 use Rattle.edit_entries.specs.FieldTexts.{HaveFieldsPlaced}
 use Rattle.edit_entries.specs.Selected.{unset_if_selected, would_be_empty}
 use Rattle.edit_entries.proofs.FieldEditFacts.{fields_placed}
