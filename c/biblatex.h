@@ -24,14 +24,15 @@ enum biblatex_status {
     BIBLATEX_NOT_UTF8 = 2,
     BIBLATEX_REFUSED = 3,       /* the text has an error, which biblatex_lint reports, or no format has the number */
     BIBLATEX_OUT_OF_MEMORY = 4,
-    BIBLATEX_UNKNOWN_KEY = 5,   /* this status and the next seven: why an edit is refused */
+    BIBLATEX_UNKNOWN_KEY = 5,   /* this status and the next eight: why an edit is refused */
     BIBLATEX_KEY_IS_THERE = 6,
     BIBLATEX_NOT_A_KEY = 7,
     BIBLATEX_NOT_A_NAME = 8,
     BIBLATEX_NOT_IN_BRACES = 9, /* the value, or a changed reference, can't be written in braces */
     BIBLATEX_DEFINITION_IS_THERE = 10,  /* an added abbreviation is defined already with another text */
     BIBLATEX_NO_FIELD_LEFT = 11, /* all fields of the entry would be removed, and bibtool doesn't read such an entry */
-    BIBLATEX_NOT_BARE = 12 /* the value is neither a number, a month nor an abbreviation that is defined before the entry */
+    BIBLATEX_NOT_BARE = 12, /* the value is neither a number, a month nor an abbreviation that is defined before the entry */
+    BIBLATEX_UNBALANCED_QUOTES = 13 /* the braces of a text in quotes aren't balanced: BibTeX and Biber end it elsewhere */
 };
 
 /* The formats that biblatex_recover writes. */
@@ -80,7 +81,8 @@ uint32_t biblatex_fmt(const uint8_t *text, size_t length, uint8_t *out, size_t c
 
 /* Writes the text with a field of the first entry with the key set to `value`, in braces and without escapes. If several fields
    have the name, each is set. A new field comes before the others. The braces of `value` must balance, also those after a
-   backslash. This call and the next five change no other byte. */
+   backslash. This call and the next five change no other byte. Each of them returns BIBLATEX_UNBALANCED_QUOTES for a text that
+   contains a text in quotes with unbalanced braces, such as "The {"}Big{"} one". */
 uint32_t biblatex_set(const uint8_t *text, size_t length, const uint8_t *key, size_t key_length, const uint8_t
     *name, size_t name_length, const uint8_t *value, size_t value_length, uint8_t *out, size_t capacity,
     size_t *size);
@@ -105,10 +107,10 @@ uint32_t biblatex_rename(const uint8_t *text, size_t length, const uint8_t *old_
 uint32_t biblatex_remove(const uint8_t *text, size_t length, const uint8_t *key, size_t key_length, uint8_t
     *out, size_t capacity, size_t *size);
 
-/* Writes the text, and `added` after it on a new line, with its own line ends. Returns BIBLATEX_KEY_IS_THERE if an entry of `added`
-   has the key of another entry, or a name in its field `ids`, in any ASCII case, BIBLATEX_NOT_A_KEY if BibTeX, Biber or bibtool
-   wouldn't read the key of an added entry, and BIBLATEX_DEFINITION_IS_THERE if `added` defines an abbreviation of the text with
-   another value. */
+/* Writes the text, and `added` after it on a new line, with the line ends of the text: \r\n if its first line ends so, otherwise \n.
+   Returns BIBLATEX_KEY_IS_THERE if an entry of `added` has the key of another entry, or a name in its field `ids`, in any ASCII case,
+   BIBLATEX_NOT_A_KEY if BibTeX, Biber or bibtool wouldn't read the key of an added entry, and BIBLATEX_DEFINITION_IS_THERE if `added`
+   defines an abbreviation of the text with another value. */
 uint32_t biblatex_add(const uint8_t *text, size_t length, const uint8_t *added, size_t added_length, uint8_t *out, size_t capacity,
     size_t *size);
 

@@ -114,6 +114,13 @@ static void check_addition(void)
           "an addition of another definition is refused");
     check(biblatex_add(bytes(text), strlen(text), bytes("@misc{b"), 7, out, sizeof out, &size) == BIBLATEX_REFUSED && size == 77,
           "an addition of a text with an error is refused");
+    wanted = "@misc{a,\r\ntitle={T}}\r\n\r\n@misc{b,\r\ntitle={U}}\r\n";
+    status = biblatex_add(bytes("@misc{a,\r\ntitle={T}}\r\n"), 22, bytes("@misc{b,\ntitle={U}}\n"), 20, out, sizeof out, &size);
+    check(status == BIBLATEX_DONE && size == strlen(wanted) && memcmp(out, wanted, size) == 0, "added lines end as those of the text");
+    size = 77;
+    text = "@misc{a, title = \"The {\"}Big{\"} one\"}";
+    check(biblatex_remove(bytes(text), strlen(text), bytes("a"), 1, out, sizeof out, &size) == BIBLATEX_UNBALANCED_QUOTES && size == 77,
+          "an edit beside a text in quotes with unbalanced braces is refused");
 }
 
 /* Whether this is what can be read of a text with an error in the second of its three entries. */

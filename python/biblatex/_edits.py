@@ -13,6 +13,9 @@ class EditError(ValueError):
     """Raised when an edit is refused. The message says why."""
 
 
+_UNBALANCED = {Status.UNBALANCED_QUOTES: "the braces of a text in quotes aren't balanced, so BibTeX and Biber end it elsewhere"}
+
+
 def _like(text: Text, data: bytes) -> Text:
     if isinstance(text, str):
         return data.decode()
@@ -28,7 +31,7 @@ def _edit(text: Text, name: str, *words: str, why: Mapping[Status, str]) -> Text
     try:
         return _like(text, call(name, data, *arguments, capacity=len(data) + sum(map(len, arguments)) + 64))
     except EditRefused as refusal:
-        raise EditError(why[refusal.status]) from None
+        raise EditError({**_UNBALANCED, **why}[refusal.status]) from None
     except (NotUtf8, Refused):
         raise ParseError(findings_with(data, SYNTAX_CODES)) from None
 
@@ -49,7 +52,8 @@ def set_field(text: Text, key: str, name: str, value: str, *, bare: bool = False
 
     Raises an `EditError` if no entry has the key, if `name` isn't a field name, or if `value` can't be written in braces,
     or without braces if `bare`.
-    Each edit raises a `ParseError` if the text has a syntax error or isn't UTF-8.
+    Each edit raises a `ParseError` if the text has a syntax error or isn't UTF-8, and an `EditError` if it contains a text in
+    quotes whose braces aren't balanced, such as `"The {"}Big{"} one"`: BibTeX and Biber end such a text elsewhere.
     """
     why = {
         **_unknown_key(key),
@@ -111,6 +115,8 @@ def _is_unsafe(key: str) -> bool:
 def _why_not_added(status: Status, text: bytes, added: bytes) -> str:
     if status == Status.DEFINITION_IS_THERE:
         return "an abbreviation is defined already with another text"
+    if status == Status.UNBALANCED_QUOTES:
+        return _UNBALANCED[status]
     if status == Status.NOT_A_KEY:
         return f"{min(filter(_is_unsafe, _keys(added)))!r} can't be a key"
     common = _keys(text) & _keys(added)
@@ -120,7 +126,7 @@ def _why_not_added(status: Status, text: bytes, added: bytes) -> str:
 
 
 def add_entries(text: Text, added: Text) -> Text:
-    """Returns the text, and the text `added` after it on a new line, with its own line ends.
+    """Returns the text, and the text `added` after it on a new line, with the line ends of the text.
 
     Raises an `EditError` if an added entry has the key of another entry, or a name in its field `ids`, in any ASCII case, if
     BibTeX, Biber or bibtool wouldn't read its key, if its key is `*`, if `added` defines an abbreviation of the text with another

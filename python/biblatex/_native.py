@@ -29,6 +29,7 @@ class Status(IntEnum):
     DEFINITION_IS_THERE = 10
     NO_FIELD_LEFT = 11
     NOT_BARE = 12
+    UNBALANCED_QUOTES = 13
 
 
 class NotUtf8(Exception):
@@ -82,7 +83,7 @@ def _raise_unless_done(name: str, status: int) -> None:
         raise Refused
     if status == Status.OUT_OF_MEMORY:
         raise MemoryError
-    if Status.UNKNOWN_KEY <= status <= Status.NOT_BARE:
+    if Status.UNKNOWN_KEY <= status <= Status.UNBALANCED_QUOTES:
         raise EditRefused(Status(status))
     if status != Status.DONE:
         raise RuntimeError(f"{name} returned the unknown status {status}")

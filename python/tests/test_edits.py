@@ -115,6 +115,11 @@ class Refusals(unittest.TestCase):
 
     def test_what_is_added_has_an_error(self) -> None:
         self.refuses(biblatex.add_entries, BOTH, "@misc{c", why="what is added can't be read: 1:8: expected comma")
+        self.assertEqual(biblatex.add_entries("@misc{a,}\r\n", "@misc{b,\n}"), "@misc{a,}\r\n\r\n@misc{b,\r\n}")
+        quoted = '@misc{a, title = "The {"}Big{"} one"}'
+        why = "the braces of a text in quotes aren't balanced, so BibTeX and Biber end it elsewhere"
+        self.refuses(biblatex.remove_entry, quoted, "a", why=why)
+        self.refuses(biblatex.add_entries, quoted, "@misc{b,}", why=why)
 
     def test_a_text_with_a_syntax_error(self) -> None:
         text = "@misc{a, title={T}}\n@misc{b title={T}}"

@@ -7,12 +7,13 @@ use Rattle.bib_syntax.specs.declared.raw.ParseError.{ParseError}
 use Rattle.bib_syntax.specs.declared.raw.ParseErrorKind.{ParseErrorKind}
 use Rattle.bib_syntax.specs.declared.raw.ParseErrorKind.TheVariants as kind
 use Rattle.edit_entries.specs.Documents.{Document, EntriesAreRefused, IsDocument}
+use Rattle.edit_entries.specs.LineEnds.{with_line_ends_of}
 use Rattle.edit_entries.specs.declared.errors.EditError.{EditError}
 use Rattle.edit_entries.specs.declared.errors.EditError.TheVariants as edit_error
-use Rattle.biblatex_c.specs.Calls.{AddFails, EditFails, IsNoBibliography, IsNoFile, TextFails}
+use Rattle.biblatex_c.specs.Calls.{AddFails, DocumentFails, EditFails, IsNoBibliography, IsNoFile, TextFails}
 use Rattle.biblatex_c.specs.Statuses.{status_of_edit, status_of_error, status_of_kind}
 use Rattle.biblatex_c.specs.declared.status.Status.{Status}
-use Rattle.biblatex_c.specs.declared.status.Status.TheVariants.{Refused, OutOfMemory}
+use Rattle.biblatex_c.specs.declared.status.Status.TheVariants.{Done, TooShort, NotUtf8, Refused, OutOfMemory, UnknownKey, KeyIsThere, NotAKey, NotAName, NotInBraces, DefinitionIsThere, NoFieldLeft, NotBare, UnbalancedQuotes}
 
 -- if `F` holds for `OutOfMemory` and for `Refused`, it holds for the status of each kind of error
 kind_fails : (F : Status → Type 0) (kind : ParseErrorKind) → F OutOfMemory → F Refused → F (status_of_kind kind)
@@ -45,12 +46,28 @@ pub bibliography_fails : (bytes text : List ℕ) (e : ParseError) → text ≡ b
 bibliography_fails bytes text e same refuses =
     error_fails (TextFails (IsNoBibliography bytes) bytes) e refuses tt (λ unread. subst IsNoBibliography same unread)
 
--- if a text isn't a file of the grammar, an edit of it may fail with the status of the error of that text
-pub unread_fails : (Refuses' : Document → EditError → Type 0) (bytes : List ℕ) (others : List (List ℕ)) (text : List ℕ)
-    (e : ParseError) → text ≡ bytes
-    → Refuses text e (IsFile text → ⊥) → EditFails Refuses' bytes others (status_of_error e)
-unread_fails Refuses' bytes others text e same refuses =
-    error_fails (EditFails Refuses' bytes others) e refuses tt (λ unread. subst IsNoFile same unread)
+-- if a text isn't a file of the grammar, no edit of it is made, with the status of the error of that text
+pub document_fails : (bytes text : List ℕ) (e : ParseError) → text ≡ bytes → Refuses text e (IsFile text → ⊥)
+    → DocumentFails bytes (status_of_error e)
+document_fails bytes text e same refuses = error_fails (DocumentFails bytes) e refuses tt (λ unread. subst IsNoFile same unread)
+
+-- if no edit is made of a text, the call may fail with the same status
+pub no_edit_fails : (Refuses' : Document → EditError → Type 0) (bytes : List ℕ) (others : List (List ℕ)) (why : Status)
+    → DocumentFails bytes why → EditFails Refuses' bytes others why
+no_edit_fails Refuses' bytes others Done fails = fails
+no_edit_fails Refuses' bytes others TooShort fails = fails
+no_edit_fails Refuses' bytes others NotUtf8 fails = λ all. fails all.0
+no_edit_fails Refuses' bytes others Refused fails = fails
+no_edit_fails Refuses' bytes others OutOfMemory fails = tt
+no_edit_fails Refuses' bytes others UnknownKey fails = absurd fails
+no_edit_fails Refuses' bytes others KeyIsThere fails = absurd fails
+no_edit_fails Refuses' bytes others NotAKey fails = absurd fails
+no_edit_fails Refuses' bytes others NotAName fails = absurd fails
+no_edit_fails Refuses' bytes others NotInBraces fails = absurd fails
+no_edit_fails Refuses' bytes others DefinitionIsThere fails = absurd fails
+no_edit_fails Refuses' bytes others NoFieldLeft fails = absurd fails
+no_edit_fails Refuses' bytes others NotBare fails = absurd fails
+no_edit_fails Refuses' bytes others UnbalancedQuotes fails = fails
 
 -- if an edit is refused with an error, the call may fail with the status of that error
 pub edit_fails : (Refuses' : Document → EditError → Type 0) (bytes : List ℕ) (others : List (List ℕ)) (d : Document)
@@ -106,19 +123,31 @@ edit_fails Refuses' bytes others d edit_error.NotBare same read because = record
 }
 edit_fails Refuses' bytes others d edit_error.OutOfMemory same read because = tt
 
--- if the grammar rejects the first text, adding may fail with the status of its error
-pub text_fails : (bytes added text : List ℕ) (e : ParseError) → text ≡ bytes → Refuses text e (IsFile text → ⊥)
-    → AddFails bytes added (status_of_error e)
-text_fails bytes added text e same refuses = error_fails (AddFails bytes added) e refuses tt (λ unread. inl (subst IsNoFile same unread))
+-- if no edit is made of the first text, adding may fail with the same status
+pub no_adding_fails : (bytes added : List ℕ) (why : Status) → DocumentFails bytes why → AddFails bytes added why
+no_adding_fails bytes added Done fails = fails
+no_adding_fails bytes added TooShort fails = fails
+no_adding_fails bytes added NotUtf8 fails = λ all. fails all.0
+no_adding_fails bytes added Refused fails = inl fails
+no_adding_fails bytes added OutOfMemory fails = tt
+no_adding_fails bytes added UnknownKey fails = fails
+no_adding_fails bytes added KeyIsThere fails = absurd fails
+no_adding_fails bytes added NotAKey fails = absurd fails
+no_adding_fails bytes added NotAName fails = fails
+no_adding_fails bytes added NotInBraces fails = fails
+no_adding_fails bytes added DefinitionIsThere fails = absurd fails
+no_adding_fails bytes added NoFieldLeft fails = fails
+no_adding_fails bytes added NotBare fails = fails
+no_adding_fails bytes added UnbalancedQuotes fails = fails
 
 -- if the grammar rejects the added text, adding may fail with the status of its error
-pub added_fails : (bytes added text : List ℕ) (e : ParseError) → text ≡ added → Refuses text e (IsFile text → ⊥)
+pub added_fails : (bytes added text : List ℕ) (e : ParseError) → text ≡ with_line_ends_of bytes added → Refuses text e (IsFile text → ⊥)
     → AddFails bytes added (status_of_error e)
 added_fails bytes added text e same refuses = error_fails (AddFails bytes added) e refuses tt (λ unread. inr (subst IsNoFile same unread))
 
 -- if adding a document is refused with an error, the call may fail with the status of that error
 pub add_fails : (bytes added : List ℕ) (d more : Document) (why : EditError) → d.text ≡ bytes → IsDocument d
-    → more.text ≡ added → IsDocument more
+    → more.text ≡ with_line_ends_of bytes added → IsDocument more
     → EntriesAreRefused d more why → AddFails bytes added (status_of_edit why)
 add_fails bytes added d more edit_error.UnknownKey same read same' read' because = absurd because
 add_fails bytes added d more edit_error.KeyIsThere same read same' read' because =

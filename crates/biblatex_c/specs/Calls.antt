@@ -8,6 +8,8 @@ use Rattle.biblatex.specs.Syntax.{Bibliography, Entry, FileReading, IsFile, IsRa
 use Rattle.bib_queries.specs.Answers.{lines_of_keys}
 use Rattle.bibkit_convert.specs.Converted.{end, is_first_after, texts_after}
 use Rattle.edit_entries.specs.Documents.{Document, EntriesAdded, EntriesAreRefused, IsDocument, IsEdited}
+use Rattle.edit_entries.specs.LineEnds.{with_line_ends_of}
+use Rattle.edit_entries.specs.Quotes.{has_unbalanced_quotes}
 use Rattle.edit_entries.specs.Setting.{SetValue}
 use Rattle.edit_entries.specs.declared.errors.EditError.{EditError}
 use Rattle.edit_entries.specs.declared.errors.EditError.TheVariants as edit_error
@@ -21,7 +23,7 @@ use Rattle.bibkit_core.specs.declared.request.Style.TheVariants as style
 use Rattle.bibkit_core.specs.declared.tally.Tally.{Tally}
 use Rattle.biblatex_c.specs.Statuses.{status_number}
 use Rattle.biblatex_c.specs.declared.status.Status.{Status}
-use Rattle.biblatex_c.specs.declared.status.Status.TheVariants.{Done, TooShort, NotUtf8, Refused, OutOfMemory, UnknownKey, KeyIsThere, NotAKey, NotAName, NotInBraces, DefinitionIsThere, NoFieldLeft, NotBare}
+use Rattle.biblatex_c.specs.declared.status.Status.TheVariants.{Done, TooShort, NotUtf8, Refused, OutOfMemory, UnknownKey, KeyIsThere, NotAKey, NotAName, NotInBraces, DefinitionIsThere, NoFieldLeft, NotBare, UnbalancedQuotes}
 
 -- A call on the buffer `out` and the size `size` leaves this buffer and this size, and returns this status. `Answers` says which bytes
 -- may be the result, and `Fails` says with which statuses the call may fail. A result that fits is at the start of the buffer, and the
@@ -96,11 +98,29 @@ pub record AreFaults (bytes answer : List ℕ) : Type 0 where
   pub printed : PrintsFindings lint [] bytes none found after
   pub is : answer ≡ codes "[" ++ (found ++ codes "\n]\n")
 
--- `answer` is the text after an edit of the document whose text is `text`; `Outcome` relates the documents before and after it
+-- the document whose text is `text` has a text in quotes whose braces aren't balanced
+pub record HasUnbalancedQuotes (text : List ℕ) : Type 0 where
+  pub document : Document
+  pub same : document.text ≡ text
+  pub read : IsDocument document
+  pub unbalanced : has_unbalanced_quotes document ≡ true
+
+-- no edit is made of `text`, with this status: `NotUtf8` only if it isn't UTF-8, `Refused` only if it isn't a file of the grammar,
+-- `UnbalancedQuotes` only if it has a text in quotes whose braces aren't balanced, `OutOfMemory` always, and no other status
+abbrev pub DocumentFails : List ℕ → Status → Type 0
+DocumentFails text NotUtf8 = IsUtf8 text → ⊥
+DocumentFails text Refused = IsNoFile text
+DocumentFails text UnbalancedQuotes = HasUnbalancedQuotes text
+DocumentFails text OutOfMemory = ⊤
+DocumentFails text _ = ⊥
+
+-- `answer` is the text after an edit of the document whose text is `text`; `Outcome` relates the documents before and after it. No text in
+-- quotes of the document has unbalanced braces.
 pub record IsEditedText (Outcome : Document → Document → Type 0) (text answer : List ℕ) : Type 0 where
   pub document : Document
   pub same : document.text ≡ text
   pub read : IsDocument document
+  pub balanced : has_unbalanced_quotes document ≡ false
   pub edited : IsEdited (Outcome document) answer
 
 -- an edit of the document whose text is `text` may be refused with the error `why`, by `Refuses`
@@ -111,7 +131,8 @@ pub record IsRefusedFor (Refuses : Document → EditError → Type 0) (text : Li
   pub refused : Refuses document why
 
 -- an edit of `text` with the arguments `others` may fail with this status: `NotUtf8` only if one of these texts isn't UTF-8, `Refused`
--- only if `text` isn't a file of the grammar, `OutOfMemory` always, and the status of an edit error only if `Refuses` allows that error
+-- only if `text` isn't a file of the grammar, `UnbalancedQuotes` only if it has a text in quotes whose braces aren't balanced,
+-- `OutOfMemory` always, and the status of an edit error only if `Refuses` allows that error
 abbrev pub EditFails : (Document → EditError → Type 0) → List ℕ → List (List ℕ) → Status → Type 0
 EditFails Refuses text others Done = ⊥
 EditFails Refuses text others TooShort = ⊥
@@ -126,32 +147,36 @@ EditFails Refuses text others NotInBraces = IsRefusedFor Refuses text edit_error
 EditFails Refuses text others DefinitionIsThere = IsRefusedFor Refuses text edit_error.DefinitionIsThere
 EditFails Refuses text others NoFieldLeft = IsRefusedFor Refuses text edit_error.NoFieldLeft
 EditFails Refuses text others NotBare = IsRefusedFor Refuses text edit_error.NotBare
+EditFails Refuses text others UnbalancedQuotes = HasUnbalancedQuotes text
 
 -- the value with a text: without braces if the flag is true
 abbrev pub value_with : Bool → List ℕ → SetValue
 value_with false text = SetValue.plain_text text
 value_with true text = SetValue.bare_text text
 
--- the second document is the first with a line end, that of its first line, and the document of the text `added` after it
+-- the second document is the first with a line end, that of its first line, and the document of the text `added` after it, with line ends
+-- of the same kind
 abbrev pub WithEntriesOf : List ℕ → Document → Document → Type 0
-WithEntriesOf added document new = (more : Document) × (more.text ≡ added) × IsDocument more × EntriesAdded document more new
+WithEntriesOf added document new =
+    (more : Document) × (more.text ≡ with_line_ends_of document.text added) × IsDocument more × EntriesAdded document more new
 
--- adding the document of the text `added` to that of `text` may be refused with the error `why`
+-- adding the document of the text `added`, with the line ends of `text`, to that of `text` may be refused with the error `why`
 pub record IsAddingRefused (text added : List ℕ) (why : EditError) : Type 0 where
   pub document : Document
   pub more : Document
   pub same : document.text ≡ text
   pub read : IsDocument document
-  pub same_added : more.text ≡ added
+  pub same_added : more.text ≡ with_line_ends_of text added
   pub read_added : IsDocument more
   pub refused : EntriesAreRefused document more why
 
 -- adding the second text to the first may fail with this status: `NotUtf8` only if one of them isn't UTF-8, `Refused` only if one of them
--- isn't a file of the grammar, `OutOfMemory` always, `KeyIsThere`, `NotAKey` and `DefinitionIsThere` only if adding is refused with that
--- error, and no other status
+-- isn't a file of the grammar, `UnbalancedQuotes` only if the first one has a text in quotes whose braces aren't balanced, `OutOfMemory`
+-- always, `KeyIsThere`, `NotAKey` and `DefinitionIsThere` only if adding is refused with that error, and no other status
 abbrev pub AddFails : List ℕ → List ℕ → Status → Type 0
 AddFails text added NotUtf8 = AllByRecursion IsUtf8 (text ∷ added ∷ []) → ⊥
-AddFails text added Refused = IsNoFile text ⊎ IsNoFile added
+AddFails text added Refused = IsNoFile text ⊎ IsNoFile (with_line_ends_of text added)
+AddFails text added UnbalancedQuotes = HasUnbalancedQuotes text
 AddFails text added OutOfMemory = ⊤
 AddFails text added KeyIsThere = IsAddingRefused text added edit_error.KeyIsThere
 AddFails text added NotAKey = IsAddingRefused text added edit_error.NotAKey

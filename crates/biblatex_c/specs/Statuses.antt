@@ -7,7 +7,7 @@ use Rattle.bib_syntax.specs.declared.raw.ParseError.{ParseError}
 use Rattle.bib_syntax.specs.declared.raw.ParseErrorKind.{ParseErrorKind}
 use Rattle.bib_syntax.specs.declared.raw.ParseErrorKind.TheVariants as kind
 use Rattle.biblatex_c.specs.declared.status.Status.{Status}
-use Rattle.biblatex_c.specs.declared.status.Status.TheVariants.{Done, TooShort, NotUtf8, Refused, OutOfMemory, UnknownKey, KeyIsThere, NotAKey, NotAName, NotInBraces, DefinitionIsThere, NoFieldLeft, NotBare}
+use Rattle.biblatex_c.specs.declared.status.Status.TheVariants.{Done, TooShort, NotUtf8, Refused, OutOfMemory, UnknownKey, KeyIsThere, NotAKey, NotAName, NotInBraces, DefinitionIsThere, NoFieldLeft, NotBare, UnbalancedQuotes}
 
 -- the number of a status
 abbrev pub status_number : Status → ℕ
@@ -24,6 +24,7 @@ status_number NotInBraces = 9
 status_number DefinitionIsThere = 10
 status_number NoFieldLeft = 11
 status_number NotBare = 12
+status_number UnbalancedQuotes = 13
 
 -- the text of the status with a number, or "no status" if no status has it
 abbrev pub status_text : ℕ → List ℕ
@@ -42,6 +43,7 @@ status_text number =
     else if number == status_number NoFieldLeft then codes "the entry would have no field left"
     else if number == status_number NotBare
     then codes "the value is neither a number nor an abbreviation that is defined before the entry"
+    else if number == status_number UnbalancedQuotes then codes "the braces of a text in quotes aren't balanced"
     else codes "no status"
 
 -- the status of a call if parsing its text fails with an error of this kind

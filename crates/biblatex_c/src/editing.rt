@@ -2,18 +2,20 @@
 
 ghost use Rattle.std.specs.Prelude.{◌≡◌, [], ◌∷◌, IfOk, IfErr, true, false};
 ghost use Rattle.std.specs.String.{string_bytes};
-ghost use Rattle.edit_entries.specs.Documents.{EntryIsRefused, EntryRemoved, UnsetIsRefused};
+ghost use Rattle.edit_entries.specs.Documents.{EntryIsRefused, EntryRemoved, IsDocument, UnsetIsRefused};
+ghost use Rattle.edit_entries.specs.Quotes.{has_unbalanced_quotes};
 ghost use Rattle.edit_entries.specs.Setting.{FieldSet, SetIsRefused, value_of};
 ghost use Rattle.edit_entries.specs.Unset.{FieldUnset};
 ghost use Rattle.edit_entries.specs.References.{KeyRenamed, RenameIsRefused};
 ghost use Rattle.biblatex_c.specs.Calls as spec;
-ghost use Rattle.biblatex_c.specs.Calls.{AddFails, EditFails, IsEditedText, IsLaidOut, IsNoFile, IsNumberedEnd, TextFails, WithEntriesOf};
+ghost use Rattle.biblatex_c.specs.Calls.{AddFails, DocumentFails, EditFails, IsEditedText, IsLaidOut, IsNoFile, IsNumberedEnd, TextFails, WithEntriesOf};
 
 use crate::buffers::end;
 use crate::reading::text_of;
 use crate::status::Status;
 use edit_entries::document::RawDocument;
 use edit_entries::field_value::FieldValue;
+use edit_entries::line_ends::with_line_ends_of;
 use edit_format::formatting::format;
 use edit_format::style::Style;
 use std::alloc::Global;
@@ -34,6 +36,20 @@ pub extern "C" fn biblatex_fmt(alloc: Global, text: &[u8], out: &mut [u8], size:
         out.old size.old out.new size.new result }
 {
     end(format_text(alloc, text), out, size).number()
+}
+
+// Returns the document of a text to edit. Fails with `UnbalancedQuotes` if an edit could break a text in quotes.
+fn document_of<'t>(alloc: Global, text: &'t [u8]) -> Result<RawDocument<'t>, Status>
+    ensures same { IfOk result (λ d. d.text ≡ text.now) }
+    ensures read { IfOk result (λ d. IsDocument d) }
+    ensures balanced { IfOk result (λ d. has_unbalanced_quotes d ≡ false) }
+    ensures fails { IfErr result (DocumentFails text.now) }
+{
+    let document = RawDocument::parse(alloc, text_of(text)?)?;
+    if document.has_unbalanced_quotes() {
+        return Err(Status::UnbalancedQuotes);
+    }
+    Ok(document)
 }
 
 // Returns the value with a text: without braces if `is_bare`.
@@ -60,7 +76,7 @@ fn set_in(
     ensures fails { IfErr result (EditFails (λ d why. SetIsRefused d key.now name.now (spec.value_with is_bare value.now) why)
         text.now (key.now ∷ name.now ∷ value.now ∷ [])) }
 {
-    let document = RawDocument::parse(alloc, text_of(text)?)?;
+    let document = document_of(alloc, text)?;
     let key = text_of(key)?;
     let name = text_of(name)?;
     let value = text_of(value)?;
@@ -111,7 +127,7 @@ fn unset_in(alloc: Global, text: &[u8], key: &[u8], name: &[u8]) -> Result<Strin
     ensures made { IfOk result (λ edited. IsEditedText (λ d. FieldUnset d key.now name.now) text.now (string_bytes edited)) }
     ensures fails { IfErr result (EditFails (λ d why. UnsetIsRefused d key.now name.now why) text.now (key.now ∷ name.now ∷ [])) }
 {
-    let document = RawDocument::parse(alloc, text_of(text)?)?;
+    let document = document_of(alloc, text)?;
     let key = text_of(key)?;
     let name = text_of(name)?;
     Ok(document.unset_field(alloc, key, name)?)
@@ -141,7 +157,7 @@ fn rename_in(alloc: Global, text: &[u8], old: &[u8], new: &[u8]) -> Result<Strin
     ensures made { IfOk result (λ edited. IsEditedText (λ d. KeyRenamed d old.now new.now) text.now (string_bytes edited)) }
     ensures fails { IfErr result (EditFails (λ d why. RenameIsRefused d old.now new.now why) text.now (old.now ∷ new.now ∷ [])) }
 {
-    let document = RawDocument::parse(alloc, text_of(text)?)?;
+    let document = document_of(alloc, text)?;
     let old = text_of(old)?;
     let new = text_of(new)?;
     Ok(document.rename_key(alloc, old, new)?)
@@ -171,7 +187,7 @@ fn remove_in(alloc: Global, text: &[u8], key: &[u8]) -> Result<String, Status>
     ensures made { IfOk result (λ edited. IsEditedText (λ d. EntryRemoved d key.now) text.now (string_bytes edited)) }
     ensures fails { IfErr result (EditFails (λ d why. EntryIsRefused d key.now why) text.now (key.now ∷ [])) }
 {
-    let document = RawDocument::parse(alloc, text_of(text)?)?;
+    let document = document_of(alloc, text)?;
     let key = text_of(key)?;
     Ok(document.remove_entry(alloc, key)?)
 }
@@ -192,18 +208,19 @@ pub extern "C" fn biblatex_remove(
     end(remove_in(alloc, text, key), out, size).number()
 }
 
-// Returns the text, a line end, and the text `added`.
+// Returns the text, a line end, and the text `added` with the line ends of the text.
 fn add_to(alloc: Global, text: &[u8], added: &[u8]) -> Result<String, Status>
     ensures made { IfOk result (λ edited. IsEditedText (WithEntriesOf added.now) text.now (string_bytes edited)) }
     ensures fails { IfErr result (AddFails text.now added.now) }
 {
-    let document = RawDocument::parse(alloc, text_of(text)?)?;
-    let more = RawDocument::parse(alloc, text_of(added)?)?;
+    let document = document_of(alloc, text)?;
+    let added = with_line_ends_of(alloc, document.text(), text_of(added)?)?;
+    let more = RawDocument::parse(alloc, &added)?;
     Ok(document.add_entries(alloc, &more)?)
 }
 
-/// Writes the text, a line end like that of its first line, and the text `added` with its own line ends. Returns `KeyIsThere` if an entry
-/// of `added` has a name of another entry, in any ASCII case. Returns `NotAKey` if BibTeX, Biber or bibtool wouldn't read the key of an
+/// Writes the text, a line end like that of its first line, and the text `added` with line ends of that kind. Returns `KeyIsThere` if an
+/// entry of `added` has a name of another entry, in any ASCII case. Returns `NotAKey` if BibTeX, Biber or bibtool wouldn't read the key of an
 /// entry of `added`. Returns `DefinitionIsThere` if `added` defines an abbreviation that the text defines with another value, in any
 /// ASCII case of the name.
 #[unsafe(no_mangle)]

@@ -38,10 +38,13 @@ pub enum Status {
     NoFieldLeft,
     /// The value is neither a number nor an abbreviation that is defined before the entry.
     NotBare,
+    /// The text to edit has a text in quotes whose braces aren't balanced, as `"The {"}Big{"} one"`: BibTeX, Biber and bibtool read it and
+    /// what follows it in another way.
+    UnbalancedQuotes,
 }
 
 impl Status {
-    /// Returns the number of the status, from 0 to 12, as in c/biblatex.h.
+    /// Returns the number of the status, from 0 to 13, as in c/biblatex.h.
     pub fn number(self) -> u32
         ensures { result ≡ spec.status_number self }
     {
@@ -59,6 +62,7 @@ impl Status {
             Status::DefinitionIsThere => 10,
             Status::NoFieldLeft => 11,
             Status::NotBare => 12,
+            Status::UnbalancedQuotes => 13,
         }
     }
 }
@@ -81,6 +85,7 @@ fn text_of(number: u32) -> &'static str
         10 => "an abbreviation is defined already with another text",
         11 => "the entry would have no field left",
         12 => "the value is neither a number nor an abbreviation that is defined before the entry",
+        13 => "the braces of a text in quotes aren't balanced",
         _ => "no status",
     }
 }
