@@ -518,8 +518,8 @@ apc||Addison-Wesley Publishing {Company}|, note={apc}
 ROWS
 printf '@book{a, publisher={ACM}, series={A C M}}\n@book{b, publisher={ACM}, series={A C M}}\n' >named.bib
 run 'two texts with the same letters' 0 $'@string{acm = {ACM}}\n@string{acm2 = {A C M}}\n@book{a, publisher=acm, series=acm2}\n@book{b, publisher=acm, series=acm2}\n' strings --collect -f named.bib
-printf '@book{a, publisher="{", series={S} # {T}}\n@book{b, publisher="{", series={S} # {T}}\n' >uncollected.bib
-run 'texts that can not stand in braces, and joined ones, stay' 0 "$(cat uncollected.bib)"$'\n' strings --collect -f uncollected.bib
+printf '@book{a, publisher={\\{}, series={S} # {T}}\n@book{b, publisher={\\{}, series={S} # {T}}\n' >uncollected.bib
+run 'texts whose braces BibTeX counts in another way, and joined ones, stay' 0 "$(cat uncollected.bib)"$'\n' strings --collect -f uncollected.bib
 printf '\xef\xbb\xbf@book{a, publisher={X}}\n@book{b, publisher={X}}\n' >collect-mark.bib
 run 'definitions stand after a byte order mark' 0 $'\xef\xbb\xbf@string{x = {X}}\n@book{a, publisher=x}\n@book{b, publisher=x}\n' strings --collect -f collect-mark.bib
 printf '%% Encoding: UTF-8\r\n@string{acm = {ACM}}\r\n\r\n@book{a, publisher={ACM}, series={A B}}\r\n@book{b, publisher={ACM}, series={A B}}\r\n' >reused.bib
@@ -1225,7 +1225,26 @@ run_messages 'a value that can not be written' 1 $'bibkit: two.bib: `note`: the 
 run_messages 'a name that can not be one' 1 $'bibkit: two.bib: `1a`: the text can\'t be the name of a field\n' edit --rename title=1a -f two.bib
 run_messages 'an edit without an equals sign' 2 $'bibkit: `note` isn\'t FIELD=VALUE; use `--file` for the name of the file\n' edit --set note -f two.bib
 run_messages 'a new name without an equals sign' 2 $'bibkit: `title` isn\'t OLD=NEW; use `--file` for the name of the file\n' edit --rename title -f two.bib
-run_messages 'no edit' 2 $'bibkit: `edit` needs `--rename`, `--set` or `--add`\n' edit -f two.bib
+run_messages 'no edit' 2 $'bibkit: `edit` needs `--rename`, `--set`, `--add` or `--unset`\n' edit -f two.bib
+run 'a field of all entries is removed' 0 $'@misc{a, author={B}}\n\n@misc{b, author={Knuth, D.}, year={1984}}\n' edit --unset title -f two.bib
+run 'fields of selected entries are removed after the other edits' 0 $'@misc{a, title={A}, author={B}}\n\n@misc{b, date={1984}}\n' \
+    edit --where 'key = b' --unset title,author --rename year=date -f two.bib
+printf '@misc{a, note={x}, title={T}}\n@misc{c, Note={x}}\n' >lone.bib
+refuses 'all fields of an entry' 1 $'bibkit: lone.bib: `c`: `note`: the entry would have no field left\n' edit --unset note -f lone.bib
+refuses 'all fields of an entry, in two steps' 1 $'bibkit: two.bib: `author`: the entry would have no field left\n' edit --unset title,author -f two.bib
+run 'selected entries are removed' 0 $'@misc{a, title={A}, author={B}}\n\n' remove --where 'year = 1984' -f two.bib
+run 'no entry is removed' 0 "$(cat two.bib)"$'\n' remove --where 'key = z' -f two.bib
+run 'neither keys nor a condition' 2 '' remove -f two.bib
+run 'keys and a condition' 2 '' remove a --where 'key = b' -f two.bib
+
+# texts in quotes whose braces don't balance
+printf '@misc{a, title = "The {"}Big{"} one"}\n@misc{b, note={x}, doi={10/y}}\n' >quotes.bib
+unbalanced=$'quotes.bib:1:19: error: the braces of this text in quotes don\'t balance, so BibTeX and Biber end it elsewhere; write it in braces first\n'
+for edit in 'set b note=y -f' 'unset b note -f' 'rename b c -f' 'remove b -f' 'edit --set note=y -f' 'edit --unset note -f' 'remove --where key=b -f' \
+    'rekey -f' 'strings --expand -f' 'strings --collect -f' resolve 'fmt --sort key' 'convert --to biblatex' 'convert --to bibtex'; do
+    refuses "an edit that could cut a text in quotes: $edit" 1 "$unbalanced" $edit quotes.bib
+done
+run 'a format keeps such a text' 0 $'@misc{a, title = "The {"}Big{"} one"}\n@misc{b,\n  note = {x},\n  doi = {10/y},\n}\n' fmt quotes.bib
 run_messages 'a wrong condition of an edit' 2 $'bibkit: --where `or`: expected a test, for example `type = article` or `has doi` at byte 0\n' edit --where or --set note=x -f two.bib
 refuses 'fields of a file with an error' 1 $'broken.bib:3:1: error: expected comma [syntax]\n' edit --set note=x -f broken.bib
 
