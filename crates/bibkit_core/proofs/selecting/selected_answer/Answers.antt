@@ -14,8 +14,14 @@ returns-in-Some c =
     let text = c.args.text.now in
     let printed = string_bytes answer.text in
     let keys = map (λ key. key.now) c.in_ok-keys.keys.items in
-    let listed = subst (λ ks. AreCommonPrinted (map (λ key. key.now) c.deref-in-Some.result.now) (map (λ key. key.now) ks) text printed answer.has_entry) c.deref-in-Some-2.ensures.value are in
-    let common = subst (λ ws. AreCommonPrinted (map (λ key. key.now) ws) keys text printed answer.has_entry) c.deref-in-Some.ensures.value listed in
+    let listed =
+    subst
+    (λ ks.
+    AreCommonPrinted (map (λ key. key.now) c.deref-in-Some.result.now) (map (λ key. key.now) ks) text printed answer.has_entry)
+    c.deref-in-Some-2.ensures.value are in
+    let common =
+    subst (λ ws. AreCommonPrinted (map (λ key. key.now) ws) keys text printed answer.has_entry)
+    c.deref-in-Some.ensures.value listed in
     record {
       keys = keys;
       are_selected = record {
