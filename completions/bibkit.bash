@@ -86,7 +86,8 @@ _bibkit() {
         [ "$command" = convert ] && options='--to --from --where --help'
         [ "$command" = recode ] && options='--from --line-ends --bom --file --write --help'
         [ "$command" = resolve ] && options='--write --diff --help'
-        [ "$command" = lint ] && options='--only --ignore --explain --format --cited --unused --color --help'
+        [ "$command" = lint ] && options='--only --ignore --explain --format --cited --unused --where --color --help'
+        [[ $command =~ ^(keys|get)$ ]] && options='--where --help'
         mapfile -t COMPREPLY < <(compgen -W "$options" -- "$current")
         return
     fi

@@ -54,7 +54,7 @@ complete -c bibkit -n '__fish_seen_subcommand_from resolve' -l write -d 'Write t
 complete -c bibkit -n '__fish_seen_subcommand_from resolve' -l diff -d 'Print a diff'
 complete -c bibkit -n '__fish_seen_subcommand_from convert' -x -l to -a 'csl json ris biblatex bibtex' -d 'The format'
 complete -c bibkit -n '__fish_seen_subcommand_from convert' -x -l from -a 'bib csl' -d 'The format of the input'
-complete -c bibkit -n '__fish_seen_subcommand_from convert select edit' -x -l where -d 'Only entries that meet this condition'
+complete -c bibkit -n '__fish_seen_subcommand_from lint keys get convert select edit' -x -l where -d 'Only entries that meet this condition'
 complete -c bibkit -n '__fish_seen_subcommand_from select' -l complete -d 'Print also what they use'
 complete -c bibkit -n '__fish_seen_subcommand_from select' -l keys -d 'Print only their keys'
 complete -c bibkit -n '__fish_seen_subcommand_from edit' -x -l rename -d 'Rename a field: OLD=NEW'

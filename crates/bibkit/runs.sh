@@ -100,11 +100,11 @@ for word in help --help -h; do
     done
 done
 run_start 'help of lint' 0 $'Report errors and likely mistakes in files\n\nUsage: bibkit lint [OPTIONS] [FILE]...\n' lint --help
-for option in '--only <CODES>' '--ignore <CODES>' '--explain <CODE>' '--format <FORMAT>' '--cited <DOCUMENT>' '--unused' '--color <WHEN>'; do
+for option in '--only <CODES>' '--ignore <CODES>' '--explain <CODE>' '--format <FORMAT>' '--cited <DOCUMENT>' '--unused' '--color <WHEN>' '--where <CONDITION>'; do
     holds "help of lint names $option" grep -qE "^      $option +[A-Z]" results
 done
-run_start 'help of keys' 0 $'Print the key of each entry\n\nUsage: bibkit keys [FILE]...\n' keys --help
-run_start 'help of get' 0 $'Print the entries with these keys, unchanged\n\nUsage: bibkit get <KEYS> [FILE]...\n' get --help
+run_start 'help of keys' 0 $'Print the key of each entry\n\nUsage: bibkit keys [OPTIONS] [FILE]...\n' keys --help
+run_start 'help of get' 0 $'Print the entries with these keys, unchanged\n\nUsage: bibkit get [OPTIONS] <KEYS> [FILE]...\n' get --help
 run_start 'help of grep' 0 $'Print the entries with a text in a field, unchanged\n\nUsage: bibkit grep <FIELD> <TEXT> [FILE]...\n' grep --help
 run_start 'help of cited' 0 $'Print the entries that a document cites, unchanged\n\nUsage: bibkit cited <DOCUMENT> [FILE]...\n' cited --help
 run_start 'help of stats' 0 $'Count entries by type and year, fields by name, and findings by code\n\nUsage: bibkit stats [FILE]...\n' stats --help
@@ -1208,6 +1208,49 @@ run_messages 'a condition that ends too early' 2 $'bibkit: --where `year >`: exp
 run 'a condition that ends too early: nothing is printed' 2 '' select --where 'year >' select.bib
 run 'a file that is not there, and selected keys' 2 $'n\n' select --keys --where 'key = n' nothing.bib select.bib
 
+# keys, get and lint with conditions
+cp two.bib input
+run 'keys of entries that meet a condition' 0 $'b\n' keys --where 'has year' two.bib
+run 'keys of entries that meet all conditions' 1 '' keys --where 'has year' --where 'key = a' two.bib
+run 'keys of selected entries of two files' 0 $'a\nb\n' keys --where 'type = misc' two.bib one.bib
+run 'keys of selected entries of standard input' 0 $'a\n' keys --where 'not has year'
+run 'keys of selected entries beside a block with an error' 0 $'a\n' keys --where 'has title' broken.bib
+run 'keys of selected entries beside a file that is not there' 2 $'b\n' keys --where 'has year' no.bib two.bib
+run 'keys of entries that inherit a field' 0 $'d\nc\n' keys --where 'year = 2000' parent.bib
+run 'entries with these keys that meet a condition' 0 $'@misc{b, title={x y}, author={Knuth, D.}, year={1984}}\n' get a,b --where 'has year' two.bib
+run 'no entry with these keys meets the condition' 1 '' get a --where 'has year' two.bib
+run 'no entry that meets the condition has one of these keys' 1 '' get c --where 'has year' two.bib
+run 'an entry that meets all conditions' 0 $'@misc{a, title={A}, author={B}}\n' get --where 'has author' --where 'title = A' a,b,z two.bib
+for command in keys 'get a' lint; do
+    run_messages "a condition of $command that ends too early" 2 $'bibkit: --where `year >`: expected a year at byte 6\n' $command --where 'year >' two.bib
+    run "a condition of $command that ends too early: nothing is printed" 2 '' $command --where 'year >' two.bib
+done
+run 'findings about selected entries' 1 $'broken.bib:1:7: warning: a: missing author [missing-field]\nerrors: 0, warnings: 1\n' lint --where 'key = a' broken.bib
+run 'no findings about selected entries' 0 $'errors: 0, warnings: 0\n' lint --where 'key = z' broken.bib
+run 'findings about selected entries of two files' 1 "$lines_of_one"$'errors: 0, warnings: 3\n' lint --where 'type = article' broken.bib one.bib
+run 'selected findings about selected entries' 0 $'errors: 0, warnings: 0\n' lint --where 'key = a' --only syntax broken.bib
+run 'findings about selected entries of a file that is not UTF-8' 1 $'latin.bib:1:7: warning: a: missing author [missing-field]\nerrors: 0, warnings: 1\n' lint --where $'title = "\xc3\xa9t\xc3\xa9"' latin.bib
+run 'findings about selected entries in JSON' 1 '[
+{"file":"broken.bib","line":1,"column":7,"severity":"warning","code":"missing-field","message":"a: missing author"}
+]
+' lint --format json --where 'key = a' broken.bib
+run 'no findings about selected entries in JSON' 0 $'[\n]\n' lint --format json --where 'key = z' broken.bib
+run 'a selected entry that is never cited' 1 $'two.bib:1:7: warning: a: never cited [unused-entry]\nerrors: 0, warnings: 1\n' lint --ignore missing-field --cited paper.aux --unused --where 'key = a' two.bib
+run 'a selected entry that is cited' 0 $'errors: 0, warnings: 0\n' lint --ignore missing-field --cited paper.aux --unused --where 'key = b' two.bib
+run 'a meaning is printed without regard to conditions' 0 "$("$program" lint --explain syntax)"$'\n' lint --explain syntax --where 'key = b'
+printf '@misc{a, title={T}, author={Knuth, D.}, year={1984}}\n@misc{b, title={t}, author={Knuth, D.}, year={1984}, note={n}}\n@misc{c, title={C}, author={Y}, year={1990}}\n' >same.bib
+same=$'same.bib:2:7: warning: b: likely the same as "a" [likely-duplicate]\nerrors: 0, warnings: 1\n'
+run 'an entry that is likely the same as an earlier one' 1 "$same" lint same.bib
+run 'the earlier one is selected' 1 "$same" lint --where 'key = a' same.bib
+run 'the later one is selected' 1 "$same" lint --where 'has note' same.bib
+run 'neither is selected' 0 $'errors: 0, warnings: 0\n' lint --where 'year = 1990' same.bib
+printf '@misc{a, title={A}, author={X}, year={2000}, ids={b}}\n@misc{b, title={B}, author={Y}, year={2001}}\n@misc{a, title={C}, author={Z}, year={2002}}\n@misc{c, title={C}, author={Z}, year={2003}}\n' >claimed.bib
+claimed=$'claimed.bib:2:1: error: duplicate key "b" [duplicate-key]\nclaimed.bib:3:1: error: duplicate key "a" [duplicate-key]\nerrors: 2, warnings: 0\n'
+run 'keys that an earlier entry has' 1 "$claimed" lint claimed.bib
+run 'the entry with these keys is selected' 1 "$claimed" lint --where 'year = 2000' claimed.bib
+run 'no entry is tested that is left out' 0 $'errors: 0, warnings: 0\n' lint --where 'year = 2001 or year = 2002' claimed.bib
+run 'entries with the key of a selected one' 0 $'a\na\n' keys --where 'year = 2000' claimed.bib
+
 # edit
 edited='@article{church1936, langid={english}, note={x}, author={Church, Alonzo}, title={A Note}, journal={JSL}, date={1936-03}, doi={10/x}}'
 run 'fields of selected entries' 0 "$(head -1 select.bib)"$'\n'"$edited"$'\n@misc{n, title={No Year}}\n' \
@@ -1358,6 +1401,9 @@ in_bash 'bibkit resolve --' $'--write\n--diff\n--help\n'
 in_bash 'bibkit sel' $'select\n'
 in_bash 'bibkit select --' $'--where\n--complete\n--keys\n--help\n'
 in_bash 'bibkit edit --re' $'--rename\n'
+in_bash 'bibkit keys --' $'--where\n--help\n'
+in_bash 'bibkit get --' $'--where\n--help\n'
+in_bash 'bibkit lint --wh' $'--where\n'
 in_bash 'bibkit rekey --m' $'--map\n'
 in_bash 'bibkit convert --to ' $'csl\njson\nris\nbiblatex\nbibtex\n'
 in_bash 'bibkit set --wr' $'--write\n'

@@ -32,6 +32,8 @@ pub enum Asked<'a> {
         settings: Settings,
         /// The document whose citations are compared with the files.
         cited: Option<Cited<'a>>,
+        /// The conditions, all of which the entries that findings are about must meet.
+        conditions: Vec<&'a str>,
     },
     /// Edits a file.
     Edits(Editing<'a>),
@@ -59,6 +61,13 @@ pub enum Asked<'a> {
     Cited(&'a str),
     /// Prints the entries that meet conditions, or their keys.
     Select(Selecting<'a>),
+    /// Prints entries of files that meet conditions, or their keys.
+    Entries {
+        /// The conditions, all of which an entry must meet.
+        conditions: Vec<&'a str>,
+        /// The keys of the entries to print. If it is `None`, the keys of all entries that meet the conditions are printed.
+        keys: Option<Vec<&'a str>>,
+    },
     /// Runs another request.
     Other(Request<'a>),
     /// Reports that the command line is wrong, for this reason.
@@ -141,7 +150,11 @@ fn lint_asked<'a>(alloc: Global, matches: &ArgMatches<'a>) -> Result<Asked<'a>, 
         name,
         has_unused: matches.get_flag("unused"),
     });
-    Ok(Asked::Lint { settings, cited })
+    Ok(Asked::Lint {
+        settings,
+        cited,
+        conditions: texts(alloc, matches, "where")?,
+    })
 }
 
 // Returns the value of an argument, or an empty text without one.
@@ -458,6 +471,31 @@ fn convert_asked<'a>(alloc: Global, matches: &ArgMatches<'a>) -> Result<Asked<'a
     Ok(asked)
 }
 
+// Returns the request of `keys`.
+fn keys_asked<'a>(alloc: Global, matches: &ArgMatches<'a>) -> Result<Asked<'a>, AllocError> {
+    let conditions = texts(alloc, matches, "where")?;
+    if conditions.is_empty() {
+        return Ok(Asked::Other(Request::Entries(Excerpts::Keys)));
+    }
+    Ok(Asked::Entries {
+        conditions,
+        keys: None,
+    })
+}
+
+// Returns the request of `get`.
+fn get_asked<'a>(alloc: Global, matches: &ArgMatches<'a>) -> Result<Asked<'a>, AllocError> {
+    let keys = texts(alloc, matches, "KEYS")?;
+    let conditions = texts(alloc, matches, "where")?;
+    if conditions.is_empty() {
+        return Ok(Asked::Other(Request::Entries(Excerpts::Get(keys))));
+    }
+    Ok(Asked::Entries {
+        conditions,
+        keys: Some(keys),
+    })
+}
+
 // Returns the request of the command `name`, which reads files.
 fn request_of<'a>(
     alloc: Global,
@@ -472,7 +510,7 @@ fn request_of<'a>(
             let mode = mode_of(matches, false);
             return Ok(Asked::Resolve { mode });
         }
-        "get" => Request::Entries(Excerpts::Get(texts(alloc, matches, "KEYS")?)),
+        "get" => return get_asked(alloc, matches),
         "grep" => Request::Entries(Excerpts::Grep(Search {
             field: matches.get_str("FIELD").unwrap_or(""),
             part: matches.get_str("TEXT").unwrap_or(""),
@@ -488,7 +526,7 @@ fn request_of<'a>(
             }));
         }
         "stats" => Request::Stats,
-        _ => Request::Entries(Excerpts::Keys),
+        _ => return keys_asked(alloc, matches),
     };
     Ok(Asked::Other(request))
 }

@@ -1,7 +1,7 @@
 //! Runs `convert` for bibliography files.
 
 use crate::edits::{after_mark, print};
-use crate::selecting::{parse_conditions, selected_keys};
+use crate::selecting::parse_conditions;
 use crate::stops::{Stop, bytes_of, error_line, output_stop, say};
 use bib_select::selection::Selection;
 use bib_source::decoding::decode;
@@ -10,6 +10,7 @@ use bib_syntax::raw::Pair;
 use bib_tables::dialects::Dialect;
 use bibkit_convert::converting::{ConvertError, print_converted, print_entry};
 use bibkit_convert::target::Target;
+use bibkit_core::conditions::selected_keys;
 use bibkit_edits::edit::Edit;
 use biblatex::{Bibliography, Output, ParseError, Sink};
 use edit_convert::notes::{NoteKind, notes};

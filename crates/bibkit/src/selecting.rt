@@ -2,12 +2,12 @@
 
 use crate::edits::{Editing, after_mark, apply};
 use crate::stops::{Stop, bytes_of, output_stop, say};
-use bib_entry::entry::Entry;
 use bib_queries::excerpts::answer;
 use bib_queries::request::{CitedKeys, Request as Excerpts};
 use bib_select::errors::SelectionError;
 use bib_select::selection::Selection;
 use bib_source::decoding::decode;
+use bibkit_core::conditions::selected_keys;
 use bibkit_edits::edit::Edit;
 use biblatex::{Bibliography, Output, Sink};
 use edit_entries::field_edits::FieldEdit;
@@ -67,31 +67,6 @@ pub fn parse_conditions(alloc: Global, conditions: &[&str]) -> Result<Vec<Select
         }
     }
     Ok(selections)
-}
-
-// Returns whether an entry meets all conditions.
-fn meets_all(alloc: Global, selections: &[Selection], entry: &Entry) -> Result<bool, AllocError> {
-    'selections: for selection in selections {
-        if !selection.selects(alloc, entry)? {
-            return Ok(false);
-        }
-    }
-    Ok(true)
-}
-
-/// Returns the keys of the entries of a bibliography that meet all conditions.
-pub fn selected_keys<'b>(
-    alloc: Global,
-    selections: &[Selection],
-    bibliography: &'b Bibliography,
-) -> Result<Vec<&'b str>, AllocError> {
-    let mut keys = Vec::new(alloc);
-    'entries: for entry in bibliography.iter() {
-        if meets_all(alloc, selections, entry)? {
-            keys.push(entry.key.as_str())?;
-        }
-    }
-    Ok(keys)
 }
 
 // Returns the text to print for a file's text, and whether an entry meets all conditions.

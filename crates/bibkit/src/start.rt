@@ -8,8 +8,10 @@ use crate::files::SystemFiles;
 use crate::formatting::run_format;
 use crate::importing::run_import;
 use crate::resolving::run_resolve;
-use crate::selecting::run_select;
-use bibkit_core::request::{Call, Cited, Request};
+use crate::selecting::{parse_conditions, run_select};
+use crate::stops::say;
+use bib_select::selection::Selection;
+use bibkit_core::request::{Call, Cited, Request, Selected};
 use bibkit_core::run::run;
 use bibkit_settings::configuration::{ConfigurationError, Project, Reader, project_settings};
 use bibkit_settings::settings::Settings;
@@ -63,19 +65,20 @@ fn first<'a>(names: &[&'a str]) -> &'a str {
     names.first().copied().unwrap_or("-")
 }
 
-// Returns the request for `lint`, with the settings of the command line and of the project of the first file.
+// Returns the request for `lint`, with the settings of the command line and of the project of the first file, and these conditions.
 fn lint_request<'a>(
     rt: &HostRuntime,
     settings: Settings,
     cited: Option<Cited<'a>>,
+    conditions: Vec<Selection>,
     names: &[&str],
 ) -> Result<Request<'a>, ConfigurationError> {
     let project = project_settings(rt, Reader::Lint, first(names))?;
-    Ok(Request::Lint(
-        settings
-            .over(project.lint)
-            .lint(rt.alloc(), are_colors_shown(rt), cited),
-    ))
+    let mut lint = settings
+        .over(project.lint)
+        .lint(rt.alloc(), are_colors_shown(rt), cited);
+    lint.conditions = conditions;
+    Ok(Request::Lint(lint))
 }
 
 // Runs a request on files, and returns the status.
@@ -107,11 +110,29 @@ fn run_lint<'a>(
     rt: &HostRuntime,
     settings: Settings,
     cited: Option<Cited<'a>>,
+    conditions: &[&str],
     names: Vec<&'a str>,
 ) -> u8 {
-    match lint_request(rt, settings, cited, &names) {
+    let conditions = match parse_conditions(rt.alloc(), conditions) {
+        Ok(conditions) => conditions,
+        Err(stop) => return say(rt, &stop),
+    };
+    match lint_request(rt, settings, cited, conditions, &names) {
         Ok(request) => run_request(rt, request, names),
         Err(error) => refuse_settings(rt, error),
+    }
+}
+
+// Prints entries of files that meet conditions, or their keys, and returns the status.
+fn run_selected<'a>(
+    rt: &HostRuntime,
+    conditions: &[&str],
+    keys: Option<Vec<&'a str>>,
+    names: Vec<&'a str>,
+) -> u8 {
+    match parse_conditions(rt.alloc(), conditions) {
+        Ok(conditions) => run_request(rt, Request::Selected(Selected { conditions, keys }), names),
+        Err(stop) => say(rt, &stop),
     }
 }
 
@@ -180,7 +201,11 @@ fn refuse_order(rt: &HostRuntime, error: OrderError<'_>) -> u8 {
 fn answer(rt: &HostRuntime, words: Words<'_>) -> u8 {
     let Words { asked, names } = words;
     match asked {
-        Asked::Lint { settings, cited } => run_lint(rt, settings, cited, names),
+        Asked::Lint {
+            settings,
+            cited,
+            conditions,
+        } => run_lint(rt, settings, cited, &conditions, names),
         Asked::Edits(editing) => run_edits(rt, &editing),
         Asked::Format {
             settings,
@@ -193,6 +218,7 @@ fn answer(rt: &HostRuntime, words: Words<'_>) -> u8 {
         Asked::Import(dialect) => run_import(rt, dialect, &names),
         Asked::Cited(document) => run_cited(rt, document, &names),
         Asked::Select(selecting) => run_select(rt, &selecting, &names),
+        Asked::Entries { conditions, keys } => run_selected(rt, &conditions, keys, names),
         Asked::Other(request) => run_request(rt, request, names),
         Asked::Wrong(reason) => refuse_words(rt, reason),
         Asked::WrongOrder(error) => refuse_order(rt, error),

@@ -11,12 +11,14 @@ use Rattle.bibkit_core.specs.Compared.{AreCitedBy, ReadsDocument}
 use Rattle.bibkit_core.specs.Outcomes.{HasPrinted}
 use Rattle.bibkit_core.specs.Printed.{is_none}
 use Rattle.bibkit_core.specs.Running.{IsTaskPrinted}
-use Rattle.bibkit_core.specs.Steps.{AreComparedPrinted, AreEntriesPrinted, AreFindingsPrinted, HasNoText, HasStopped, IsMeaningPrinted, ReadsText}
+use Rattle.bibkit_core.specs.Selecting.{selecting_status}
+use Rattle.bibkit_core.specs.Steps.{AreComparedPrinted, AreEntriesPrinted, AreFindingsPrinted, AreSelectedPrinted, HasNoText, HasStopped, IsMeaningPrinted, ReadsText}
 use Rattle.bibkit_core.specs.Tasks.{entries_status, is_search, lint_status}
 use Rattle.bibkit_core.specs.declared.request.Cited.{Cited}
 use Rattle.bibkit_core.specs.declared.request.Lint.{Lint}
 use Rattle.bibkit_core.specs.declared.request.Request.{Request}
 use Rattle.bibkit_core.specs.declared.request.Request.TheVariants as request
+use Rattle.bibkit_core.specs.declared.request.Selected.{Selected}
 use Rattle.bibkit_core.specs.declared.tally.Tally.{Tally}
 use Rattle.bibkit_core.specs.declared.run.Stop.{Stop}
 use Rattle.bibkit_core.specs.declared.run.Stop.TheVariants.{Refused, NoDocument, OutOfMemory}
@@ -37,6 +39,11 @@ pub entries_answer : {F : Type 0} {reads : F → List ℕ → Option (List ℕ) 
     {names : List (List ℕ)} {asked : Excerpts} (text : List ℕ) (status : Option ℕ)
     → AreEntriesPrinted reads asked files names text status → IsCallAnswer reads files names (request.Entries asked) text status
 entries_answer text status are = IsCallAnswer.entries are.task are.begins are.printed
+
+pub selected_answer : {F : Type 0} {reads : F → List ℕ → Option (List ℕ) → F → Type 0} {files : F}
+    {names : List (List ℕ)} {selected : Selected} (text : List ℕ) (status : Option ℕ)
+    → AreSelectedPrinted reads selected files names text status → IsCallAnswer reads files names (request.Selected selected) text status
+selected_answer text status are = IsCallAnswer.selected are.task are.begins are.printed
 
 pub cited_answer : {F : Type 0} {reads : F → List ℕ → Option (List ℕ) → F → Type 0} {files files' : F}
     {names : List (List ℕ)} (name : Bor (List ℕ)) (found : Citations) (document : List ℕ) (asked : CitedKeys)
@@ -113,6 +120,10 @@ entries_bounded asked is_found =
     elim (is_search asked && not is_found) as (λ b. (if b then 1 else 0) ≤ 2)
     [ true ↦ omega arith | false ↦ omega arith ]
 
+selecting_bounded : (is_found : Bool) → selecting_status is_found ≤ 2
+selecting_bounded true = omega arith
+selecting_bounded false = omega arith
+
 -- if each end of a task has a status of at most 2, so has its whole output
 task_bounded : {F T : Type 0} {reads : F → List ℕ → Option (List ℕ) → F → Type 0} {begins : T → List ℕ}
     {prints : T → List ℕ → List ℕ → List ℕ → T → Type 0} {ends : T → List ℕ → ℕ → Type 0} {files : F} {task : T}
@@ -136,6 +147,8 @@ call_bounded (IsCallAnswer.meaning text) = omega arith
 call_bounded IsCallAnswer.no_meaning = tt
 call_bounded (IsCallAnswer.entries task begins printed) =
     task_bounded (λ t last s e. subst (λ n. n ≤ 2) (sym e.1) (entries_bounded t.request.now t.is_found)) printed
+call_bounded (IsCallAnswer.selected task begins printed) =
+    task_bounded (λ t last s e. subst (λ n. n ≤ 2) (sym e.1) (selecting_bounded t.is_found)) printed
 call_bounded (IsCallAnswer.cited found document files' asked task read asks begins printed) =
     task_bounded (λ t last s e. subst (λ n. n ≤ 2) (sym e.1) (entries_bounded t.request.now t.is_found)) printed
 call_bounded (IsCallAnswer.counts printed) = task_bounded (λ t last s e. subst (λ n. n ≤ 2) (sym e.done) (omega arith)) printed

@@ -11,7 +11,9 @@ use Rattle.bib_queries.specs.declared.citations.Citations.{Citations}
 use Rattle.bib_findings.specs.declared.finding.Finding.{Finding}
 use Rattle.bib_syntax.specs.Reading.{FileReading, Part}
 use Rattle.bib_syntax.proofs.RecoveryFacts.{recovery_same}
+use Rattle.bib_select.specs.declared.selection.Selection.{Selection}
 use Rattle.bibkit_core.specs.Asked.{selected_findings}
+use Rattle.bibkit_core.specs.Conditions.{AreReportedFindings, findings_of_no_entry}
 use Rattle.bibkit_core.specs.Compared.{ComparisonState, EndsCompared, PrintsCompared, cited_keys, compared_begins, is_in_files, missing_finding, missing_findings, none_compared, unused_finding, unused_findings}
 use Rattle.bibkit_core.specs.Linted.{ArePrinted}
 use Rattle.bibkit_core.specs.Marks.{AreUnused, BeginsDocument, EndsComparing, PrintsComparing, comparing_begins, either_mark, unmarked_findings}
@@ -205,17 +207,16 @@ step_compared lint has_unused name document found old new before file bytes text
             (subst (λ l. PrintsFindings l file bytes old.linting.tally p.first p.between) same.lint_is p.found);
         of_bytes = p.of_bytes;
         recovery = p.known.known_in.recovery;
+        kept = p.kept;
+        reported =
+            subst (λ l. AreReportedFindings l.conditions.items decoded (unused_findings has_unused found says.entries) p.kept) same.lint_is
+            (subst (λ u. AreReportedFindings old.linting.lint.now.conditions.items decoded u p.kept)
+            (p.are_unused says p.known.known_in.skipped p.known.known_in.recovery
+            ∙ ap₂ (λ b f. unused_findings b f says.entries) same.unused_is same.citations) p.reported);
         unused =
             subst
-            (λ l.
-            ArePrinted l.style file decoded (selected_findings l.selection (unused_findings has_unused found says.entries))
-            p.between p.second new.linting.tally) same.lint_is
-            (subst
-            (λ u.
-            ArePrinted old.linting.lint.now.style file decoded (selected_findings old.linting.lint.now.selection u)
-            p.between p.second new.linting.tally)
-            (p.are_unused says p.known.known_in.skipped p.known.known_in.recovery
-            ∙ ap₂ (λ b f. unused_findings b f says.entries) same.unused_is same.citations) p.more);
+            (λ l. ArePrinted l.style file decoded (selected_findings l.selection p.kept) p.between p.second new.linting.tally)
+            same.lint_is p.more;
         is = p.is;
         readings = refl;
       },
@@ -239,6 +240,7 @@ ends_compared : (lint : Lint) (has_unused : Bool) (name document : List ℕ) (fo
     (s : ComparisonState) (text : List ℕ) (status : ℕ) → IsSeen lint has_unused name document found task s
     → EndsComparing task text status → EndsCompared lint name document found s text status
 ends_compared lint has_unused name document found task s text status same e =
+    let conditions : List Selection = task.linting.lint.now.conditions.items in
     let missing : List Finding = missing_findings s.readings found.keys.items in
     let lists : unmarked_findings task.document.citations.keys.items task.document.known.items ≡ missing
     =
@@ -249,29 +251,34 @@ ends_compared lint has_unused name document found task s text status same e =
     subst
     (λ l.
     ArePrinted task.linting.lint.now.style task.document.name.now task.document.text.now
-    (selected_findings task.linting.lint.now.selection l) task.linting.tally e.first e.after) lists e.more in
+    (selected_findings task.linting.lint.now.selection (findings_of_no_entry conditions l)) task.linting.tally e.first e.after)
+    lists e.more in
     let named =
     subst
     (λ n.
     ArePrinted task.linting.lint.now.style n task.document.text.now
-    (selected_findings task.linting.lint.now.selection missing) task.linting.tally e.first e.after) same.name_is
-    listed in
+    (selected_findings task.linting.lint.now.selection (findings_of_no_entry conditions missing)) task.linting.tally e.first e.after)
+    same.name_is listed in
     let placed =
     subst
     (λ d.
-    ArePrinted task.linting.lint.now.style name d (selected_findings task.linting.lint.now.selection missing)
-    task.linting.tally e.first e.after) same.text_is named in
+    ArePrinted task.linting.lint.now.style name d
+    (selected_findings task.linting.lint.now.selection (findings_of_no_entry conditions missing)) task.linting.tally e.first e.after)
+    same.text_is named in
     let counted =
     subst
     (λ t.
-    ArePrinted task.linting.lint.now.style name document (selected_findings task.linting.lint.now.selection missing) t
-    e.first e.after) same.tally placed in
+    ArePrinted task.linting.lint.now.style name document
+    (selected_findings task.linting.lint.now.selection (findings_of_no_entry conditions missing)) t e.first e.after) same.tally
+    placed in
     record {
       first = e.first;
       after = e.after;
       missing =
-          subst (λ l. ArePrinted l.style name document (selected_findings l.selection missing) s.tally e.first e.after)
-          same.lint_is counted;
+          subst
+          (λ l.
+          ArePrinted l.style name document (selected_findings l.selection (findings_of_no_entry l.conditions.items missing))
+          s.tally e.first e.after) same.lint_is counted;
       is = e.is ∙ ap (λ l. e.first ++ closing l.style e.after) same.lint_is;
       status_is = e.status_is;
     }

@@ -16,6 +16,7 @@ use Rattle.bibkit_core.specs.declared.selection.Selection.{Selection}
 use Rattle.bibkit_core.specs.declared.tally.Tally.{Tally}
 use Rattle.bibkit_core.specs.Asked.{is_asked, selected_findings}
 use Rattle.bibkit_core.specs.Adding.{IsAdded, IsPrintedOne}
+use Rattle.bibkit_core.specs.Conditions.{AreReportedFindings, findings_of_no_entry}
 use Rattle.bib_source.specs.declared.decoding.Decoded.{Decoded}
 use Rattle.bib_findings.specs.Findings.{AreFindings}
 use Rattle.bibkit_core.specs.declared.request.Lint.{Lint}
@@ -123,16 +124,21 @@ step_passed {style} {name} {bytes} s xs more f {a} {b} {d} grows isnt before sam
     (subst (λ ys. IsAdded (ArePrinted style name bytes ys) a b) (sym (ap (selected_findings s) grows ∙ asked_same s xs f isnt)) before)
 
 -- the output for the finding that a file isn't UTF-8, followed by the output for the findings of its text, is that for the file
-pub file_added : {lint : Lint} {name bytes : List ℕ} {decoded : Decoded} (found : List Finding) {a b c : Printed}
+pub file_added : {lint : Lint} {name bytes : List ℕ} {decoded : Decoded} (found kept : List Finding) {a b c : Printed}
     → AreFindings (string_bytes decoded.text) found
-    → IsAdded (ArePrinted lint.style name bytes (selected_findings lint.selection (unread_findings decoded.invalid))) a b
-    → IsAdded (ArePrinted lint.style name (string_bytes decoded.text) (selected_findings lint.selection found)) b c
+    → AreReportedFindings lint.conditions.items (string_bytes decoded.text) found kept
+    → IsAdded
+    (ArePrinted lint.style name bytes
+    (selected_findings lint.selection (findings_of_no_entry lint.conditions.items (unread_findings decoded.invalid)))) a b
+    → IsAdded (ArePrinted lint.style name (string_bytes decoded.text) (selected_findings lint.selection kept)) b c
     → IsAdded (IsPrintedFile lint name bytes decoded) a c
-file_added found {a} {b} {c} are first second = record {
+file_added found kept {a} {b} {c} are reported first second = record {
   text = first.text ++ second.text;
   are = record {
     found = found;
     are = are;
+    kept = kept;
+    reported = reported;
     between = b.tally;
     first = first.text;
     second = second.text;

@@ -1,5 +1,6 @@
 pub mod AnswerFacts
 pub mod ComparedFacts
+pub mod ConditionFacts
 pub mod CountFacts
 pub mod FindingFacts
 pub mod RunFacts

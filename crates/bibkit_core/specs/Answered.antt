@@ -11,6 +11,7 @@ use Rattle.bib_findings.specs.declared.codes.Code.{Code}
 use Rattle.bibkit_core.specs.Compared.{EndsCompared, PrintsCompared, ReadsDocument, cited_keys, compared_begins, none_compared}
 use Rattle.bibkit_core.specs.Outcomes.{HasPrinted, IsRefusedAfter}
 use Rattle.bibkit_core.specs.Running.{IsTaskPrinted}
+use Rattle.bibkit_core.specs.Selecting.{BeginsSelecting, selecting_begins, selecting_ends, selecting_prints}
 use Rattle.bibkit_core.specs.Stats.{EndsCounted, PrintsCounted, counted_begins, none_counted}
 use Rattle.bibkit_core.specs.Tasks.{BeginsEntries, BeginsLinting, entries_begins, entries_ends, entries_prints, linting_begins, linting_ends, linting_prints}
 use Rattle.bibkit_core.specs.declared.entries.Entries.{Entries}
@@ -19,6 +20,8 @@ use Rattle.bibkit_core.specs.declared.request.Cited.{Cited}
 use Rattle.bibkit_core.specs.declared.request.Lint.{Lint}
 use Rattle.bibkit_core.specs.declared.request.Request.{Request}
 use Rattle.bibkit_core.specs.declared.request.Request.TheVariants as request
+use Rattle.bibkit_core.specs.declared.request.Selected.{Selected}
+use Rattle.bibkit_core.specs.declared.selecting.Selecting.{Selecting}
 
 -- the line that explains a code: its name, its severity and this meaning
 abbrev pub meaning_text : Code → List ℕ → List ℕ
@@ -47,6 +50,9 @@ pub data IsCallAnswer {F : Type 0} (reads : F → List ℕ → Option (List ℕ)
   entries : {asked : Excerpts} {text : List ℕ} {status : Option ℕ} (task : Entries) → BeginsEntries asked task
       → IsTaskPrinted reads entries_begins entries_prints entries_ends files task names text status
       → IsCallAnswer reads files names (request.Entries asked) text status
+  selected : {selected : Selected} {text : List ℕ} {status : Option ℕ} (task : Selecting) → BeginsSelecting selected task
+      → IsTaskPrinted reads selecting_begins selecting_prints selecting_ends files task names text status
+      → IsCallAnswer reads files names (request.Selected selected) text status
   cited : {name : Bor (List ℕ)} {text : List ℕ} {status : Option ℕ} (found : Citations) (document : List ℕ) (files' : F)
       (asked : CitedKeys) (task : Entries)
       → ReadsDocument reads files name.now files' document found → AsksForCited found asked → BeginsEntries (excerpts.Cited asked) task

@@ -14,6 +14,7 @@ use Rattle.bib_syntax.specs.Reading.{EntryReading, FileReading, Part}
 use Rattle.bib_syntax.specs.Recovery.{IsRecovery}
 use Rattle.bib_syntax.specs.declared.raw.recovery.SkippedBlock.{SkippedBlock}
 use Rattle.bibkit_core.specs.Asked.{selected_findings}
+use Rattle.bibkit_core.specs.Conditions.{AreReportedFindings, findings_of_no_entry}
 use Rattle.bibkit_core.specs.Linted.{ArePrinted}
 use Rattle.bibkit_core.specs.Tasks.{AreDecoded, PrintsFindings, closing, lint_status, opening}
 use Rattle.bibkit_core.specs.declared.request.Lint.{Lint}
@@ -83,7 +84,8 @@ none_compared = record { tally = record { errors = 0; warnings = 0 }; readings =
 abbrev pub compared_begins : Lint → ComparisonState → List ℕ
 compared_begins lint before = opening lint.style
 
--- the output for a file: the findings of `lint`, and then those of the entries that the document doesn't cite, at their keys
+-- the output for a file: the findings of `lint`, and then those of the entries that the document doesn't cite, at their keys; with
+-- conditions, only those about the selected entries
 pub record PrintsCompared (lint : Lint) (has_unused : Bool) (found : Citations) (before : ComparisonState)
     (name bytes text : List ℕ) (after : ComparisonState) : Type 0 where
   pub first : List ℕ
@@ -95,18 +97,20 @@ pub record PrintsCompared (lint : Lint) (has_unused : Bool) (found : Citations) 
   pub findings : PrintsFindings lint name bytes before.tally first between
   pub of_bytes : AreDecoded bytes decoded
   pub recovery : IsRecovery (string_bytes decoded.text) says skipped
-  pub unused : ArePrinted lint.style name (string_bytes decoded.text)
-      (selected_findings lint.selection (unused_findings has_unused found says.entries)) between second after.tally
+  pub kept : List Finding
+  pub reported : AreReportedFindings lint.conditions.items (string_bytes decoded.text) (unused_findings has_unused found says.entries) kept
+  pub unused : ArePrinted lint.style name (string_bytes decoded.text) (selected_findings lint.selection kept) between second after.tally
   pub is : text ≡ first ++ second
   pub readings : after.readings ≡ before.readings ++ says ∷ []
 
--- the output after all files, and the status: the findings of the citations for which no file has an entry, at their positions in
--- the file of the document, and then the text after findings
+-- the output after all files, and the status: without conditions the findings of the citations for which no file has an entry, at
+-- their positions in the file of the document, and then the text after findings
 pub record EndsCompared (lint : Lint) (name document : List ℕ) (found : Citations) (before : ComparisonState) (text : List ℕ)
     (status : ℕ) : Type 0 where
   pub first : List ℕ
   pub after : Tally
   pub missing : ArePrinted lint.style name document
-      (selected_findings lint.selection (missing_findings before.readings found.keys.items)) before.tally first after
+      (selected_findings lint.selection (findings_of_no_entry lint.conditions.items (missing_findings before.readings found.keys.items)))
+      before.tally first after
   pub is : text ≡ first ++ closing lint.style after
   pub status_is : status ≡ lint_status after

@@ -2,11 +2,13 @@ pub mod Adding
 pub mod Answered
 pub mod Asked
 pub mod Compared
+pub mod Conditions
 pub mod Linted
 pub mod Marks
 pub mod Outcomes
 pub mod Printed
 pub mod Running
+pub mod Selecting
 pub mod Stats
 pub mod Steps
 pub mod Tables

@@ -8,6 +8,7 @@ use Rattle.bib_findings.specs.Findings.{AreFindings}
 use Rattle.bib_findings.specs.declared.codes.Code.TheVariants.{UnreadBytes}
 use Rattle.bib_findings.specs.declared.finding.Finding.{Finding}
 use Rattle.bibkit_core.specs.Asked.{selected_findings}
+use Rattle.bibkit_core.specs.Conditions.{AreReportedFindings, findings_of_no_entry}
 use Rattle.bibkit_core.specs.declared.request.Lint.{Lint}
 use Rattle.bibkit_core.specs.declared.request.Style.{Style}
 use Rattle.bibkit_core.specs.declared.tally.Tally.{Tally}
@@ -45,14 +46,18 @@ unread_findings None = []
 unread_findings (Some at) = unread_finding at ∷ []
 
 -- `text` is the output for the selected findings of a file, with the counts before and after them: the finding that the file isn't
--- UTF-8, if it isn't, at its position in the bytes, and then the findings of the decoded text, at their positions in that text
+-- UTF-8, if it isn't and there are no conditions, at its position in the bytes, and then the findings of the decoded text that are
+-- reported, at their positions in that text
 pub record IsPrintedFile (lint : Lint) (name bytes : List ℕ) (decoded : Decoded) (before : Tally) (text : List ℕ)
     (after : Tally) : Type 0 where
   pub found : List Finding
   pub are : AreFindings (string_bytes decoded.text) found
+  pub kept : List Finding
+  pub reported : AreReportedFindings lint.conditions.items (string_bytes decoded.text) found kept
   pub between : Tally
   pub first : List ℕ
   pub second : List ℕ
-  pub unread : ArePrinted lint.style name bytes (selected_findings lint.selection (unread_findings decoded.invalid)) before first between
-  pub of_text : ArePrinted lint.style name (string_bytes decoded.text) (selected_findings lint.selection found) between second after
+  pub unread : ArePrinted lint.style name bytes
+      (selected_findings lint.selection (findings_of_no_entry lint.conditions.items (unread_findings decoded.invalid))) before first between
+  pub of_text : ArePrinted lint.style name (string_bytes decoded.text) (selected_findings lint.selection kept) between second after
   pub is : text ≡ first ++ second

@@ -9,6 +9,7 @@ use Rattle.bib_syntax.specs.Reading.{FileReading, Part}
 use Rattle.bib_syntax.specs.Recovery.{IsRecovery}
 use Rattle.bib_syntax.specs.declared.raw.recovery.SkippedBlock.{SkippedBlock}
 use Rattle.bibkit_core.specs.Asked.{selected_findings}
+use Rattle.bibkit_core.specs.Conditions.{AreReportedFindings, findings_of_no_entry}
 use Rattle.bibkit_core.specs.Compared.{AreCitedBy, cited_keys, missing_finding, unused_finding, unused_findings}
 use Rattle.bibkit_core.specs.Linted.{ArePrinted}
 use Rattle.bibkit_core.specs.Tasks.{AreDecoded, PrintsFindings, closing, lint_status, opening}
@@ -73,14 +74,16 @@ pub record PrintsComparing (old : Comparing) (name bytes text : List ℕ) (new :
   pub between : Tally
   pub decoded : Decoded
   pub unused : List Finding
+  pub kept : List Finding
   pub lint : new.linting.lint.now ≡ old.linting.lint.now
   pub document : IsSameDocument old.document new.document
   pub found : PrintsFindings old.linting.lint.now name bytes old.linting.tally first between
   pub of_bytes : AreDecoded bytes decoded
   pub known : AreKnownWith (string_bytes decoded.text) old.document new.document.known.items
   pub are_unused : AreUnused old.document (string_bytes decoded.text) unused
+  pub reported : AreReportedFindings old.linting.lint.now.conditions.items (string_bytes decoded.text) unused kept
   pub more : ArePrinted old.linting.lint.now.style name (string_bytes decoded.text)
-      (selected_findings old.linting.lint.now.selection unused) between second new.linting.tally
+      (selected_findings old.linting.lint.now.selection kept) between second new.linting.tally
   pub is : text ≡ first ++ second
 
 -- the text of the comparing task after the files, and its status
@@ -89,7 +92,8 @@ pub record EndsComparing (task : Comparing) (text : List ℕ) (status : ℕ) : T
   pub after : Tally
   pub more : ArePrinted task.linting.lint.now.style task.document.name.now task.document.text.now
       (selected_findings task.linting.lint.now.selection
-      (unmarked_findings task.document.citations.keys.items task.document.known.items)) task.linting.tally first
+      (findings_of_no_entry task.linting.lint.now.conditions.items
+      (unmarked_findings task.document.citations.keys.items task.document.known.items))) task.linting.tally first
       after
   pub is : text ≡ first ++ closing task.linting.lint.now.style after
   pub status_is : status ≡ lint_status after

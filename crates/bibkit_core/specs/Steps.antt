@@ -10,11 +10,14 @@ use Rattle.bibkit_core.specs.Answered.{meaning_text}
 use Rattle.bibkit_core.specs.Compared.{EndsCompared, PrintsCompared, ReadsDocument, compared_begins, none_compared}
 use Rattle.bibkit_core.specs.Outcomes.{IsRefusedAfter}
 use Rattle.bibkit_core.specs.Running.{AreRun, IsStep, IsTaskPrinted}
+use Rattle.bibkit_core.specs.Selecting.{BeginsSelecting, selecting_begins, selecting_ends, selecting_prints}
 use Rattle.bibkit_core.specs.Tasks.{AreDecoded, BeginsEntries, BeginsLinting, entries_begins, entries_ends, entries_prints, linting_begins, linting_ends, linting_prints}
 use Rattle.bibkit_core.specs.declared.entries.Entries.{Entries}
 use Rattle.bibkit_core.specs.declared.linting.Linting.{Linting}
 use Rattle.bibkit_core.specs.declared.request.Cited.{Cited}
 use Rattle.bibkit_core.specs.declared.request.Lint.{Lint}
+use Rattle.bibkit_core.specs.declared.request.Selected.{Selected}
+use Rattle.bibkit_core.specs.declared.selecting.Selecting.{Selecting}
 use Rattle.bibkit_core.specs.declared.run.Stop.{Stop}
 use Rattle.bibkit_core.specs.declared.run.Stop.TheVariants.{Refused, NoDocument, OutOfMemory}
 
@@ -98,6 +101,13 @@ pub record AreEntriesPrinted {F : Type 0} (reads : F → List ℕ → Option (Li
   pub task : Entries
   pub begins : BeginsEntries asked task
   pub printed : IsTaskPrinted reads entries_begins entries_prints entries_ends files task names text status
+
+-- the output of a request for entries that meet conditions
+pub record AreSelectedPrinted {F : Type 0} (reads : F → List ℕ → Option (List ℕ) → F → Type 0) (selected : Selected)
+    (files : F) (names : List (List ℕ)) (text : List ℕ) (status : Option ℕ) : Type 0 where
+  pub task : Selecting
+  pub begins : BeginsSelecting selected task
+  pub printed : IsTaskPrinted reads selecting_begins selecting_prints selecting_ends files task names text status
 
 -- the output of explaining a code: nothing so far, or the whole explanation with status 0
 pub data IsMeaningPrinted (c : Code) : List ℕ → Option ℕ → Type 0 where

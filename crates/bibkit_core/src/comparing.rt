@@ -5,6 +5,7 @@ ghost use Rattle.bibkit_core.specs.Marks.{EndsComparing, PrintsComparing, compar
 ghost use Rattle.bibkit_core.specs.Tasks.{BeginsLinting};
 
 use crate::cited::Document;
+use crate::conditions::{findings_of_no_entry, reported_findings};
 use crate::decoding::decode_bytes;
 use crate::lint::Origin;
 use crate::linting::Linting;
@@ -44,23 +45,24 @@ impl<'r, 'a> Task for Comparing<'r, 'a> {
     }
 
     fn file(&mut self, alloc: Global, name: &str, bytes: &[u8]) -> Result<String, AllocError> {
+        let lint = self.linting.lint();
         let mut text = self.linting.file(alloc, name, bytes)?;
         let decoded = decode_bytes(alloc, bytes)?;
         let unused = self.document.compare(alloc, decoded.text.as_str())?;
+        let kept = reported_findings(alloc, &lint.conditions, decoded.text.as_str(), unused)?;
         let origin = Origin {
             name,
             bytes: decoded.text.as_bytes(),
         };
-        let more = self.linting.print(alloc, &origin, &unused)?;
+        let more = self.linting.print(alloc, &origin, &kept)?;
         text.push_str(&more)?;
         Ok(text)
     }
 
     fn end(&mut self, alloc: Global) -> Result<End, AllocError> {
         let missing = self.document.missing_findings(alloc)?;
-        let mut text = self
-            .linting
-            .print(alloc, &self.document.origin(), &missing)?;
+        let kept = findings_of_no_entry(alloc, &self.linting.lint().conditions, missing);
+        let mut text = self.linting.print(alloc, &self.document.origin(), &kept)?;
         let end = self.linting.end(alloc)?;
         text.push_str(&end.text)?;
         Ok(End {

@@ -40,7 +40,7 @@ fn is_search(request: &Excerpts<'_>) -> bool
 }
 
 // Returns whether an entry (or a key, for the request `Keys`) is found so far: before this file, or in the output for this file.
-fn is_found_with(is_found: bool, has_entry: bool) -> bool
+pub(crate) fn is_found_with(is_found: bool, has_entry: bool) -> bool
     ensures { result ≡ (is_found || has_entry) }
 {
     is_found || has_entry

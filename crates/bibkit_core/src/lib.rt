@@ -1,10 +1,11 @@
 //! Runs the commands of `bibkit` that print findings, entries and counts, and replaces files safely.
 //!
 //! `request` contains the requests, and `files` the trait for reading files. A command is a `task`, which returns the text to
-//! print for each file. `linting` prints findings, `entries` prints entries, `counting` prints counts, and `comparing` prints
-//! findings and checks the citations of a document with `cited`. `run` reads the files in turn and prints those texts.
+//! print for each file. `linting` prints findings, `entries` prints entries, `selecting` prints entries that meet conditions,
+//! `counting` prints counts, and `comparing` prints findings and checks the citations of a document with `cited`. `run` reads the
+//! files in turn and prints those texts.
 //!
-//! `selection` selects findings by their codes. `lint` prints the selected ones, each as a line (`lines`), as a line in colours
+//! `selection` selects findings by their codes, and `conditions` by the conditions that entries meet. `lint` prints the selected ones, each as a line (`lines`), as a line in colours
 //! (`frames`) or as a JSON object (`objects`), and counts them (`tally`). `tables` prints counts. `messages` prints messages and
 //! progress.
 //!
@@ -15,6 +16,7 @@
 
 mod cited;
 mod comparing;
+pub mod conditions;
 mod counting;
 mod decoding;
 mod entries;
@@ -30,6 +32,7 @@ mod objects;
 pub mod replacing;
 pub mod request;
 pub mod run;
+mod selecting;
 pub mod selection;
 mod tables;
 mod tally;

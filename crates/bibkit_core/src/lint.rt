@@ -5,9 +5,11 @@ ghost use Rattle.std.specs.String.{string_bytes};
 ghost use Rattle.bibkit_core.specs.Printed.{IsShown};
 ghost use Rattle.bibkit_core.specs.Asked.{selected_findings};
 ghost use Rattle.bibkit_core.specs.Adding.{IsAdded, IsPrintedOne};
+ghost use Rattle.bibkit_core.specs.Conditions.{findings_of_no_entry};
 ghost use Rattle.bibkit_core.specs.Linted.{ArePrinted, IsPrintedFile, unread_finding, unread_findings};
 ghost use Rattle.bibkit_core.specs.Printed as spec;
 
+use crate::conditions::{findings_of_no_entry, reported_findings};
 use crate::frames::framed_finding;
 use crate::lines::finding_line;
 use crate::objects::finding_object;
@@ -110,7 +112,19 @@ fn unread_bytes(alloc: Global, at: usize) -> Result<Finding, AllocError>
     })
 }
 
-// Appends the finding that a file isn't UTF-8, and counts it, if `invalid` is an offset and the code is selected.
+// Returns the finding that the byte at the offset `invalid` isn't UTF-8, or no finding for `None`.
+fn unread_findings(alloc: Global, invalid: Option<usize>) -> Result<Vec<Finding>, AllocError>
+    ensures { IfOk result (λ found. found.items ≡ unread_findings invalid) }
+{
+    let mut found = Vec::new(alloc);
+    if let Some(at) = invalid {
+        found.push(unread_bytes(alloc, at)?)?;
+    }
+    Ok(found)
+}
+
+// Appends the finding that a file isn't UTF-8, and counts it, if `invalid` is an offset, the code is selected and there are no
+// conditions.
 fn print_unread(
     alloc: Global,
     printed: &mut Printed,
@@ -119,17 +133,15 @@ fn print_unread(
     invalid: Option<usize>,
 ) -> Result<(), AllocError>
     ensures { OnOk result (IsAdded (ArePrinted lint.now.style origin.now.name.now origin.now.bytes.now
-        (selected_findings lint.now.selection (unread_findings invalid))) printed.old printed.new) }
+        (selected_findings lint.now.selection (findings_of_no_entry lint.now.conditions.items (unread_findings invalid)))) printed.old printed.new) }
 {
-    let Some(at) = invalid else {
-        return print_findings(alloc, printed, lint, origin, &[]);
-    };
-    let unread = unread_bytes(alloc, at)?;
-    print_findings(alloc, printed, lint, origin, &[unread])
+    let found = unread_findings(alloc, invalid)?;
+    let kept = findings_of_no_entry(alloc, &lint.conditions, found);
+    print_findings(alloc, printed, lint, origin, &kept)
 }
 
 /// Appends the selected findings of a file to `printed`, and counts them: the finding that the file isn't UTF-8, if it isn't, and then
-/// the findings of its decoded text. The position of the former is that in the file's bytes, and the positions of the latter are those
+/// the findings of its decoded text. With conditions, only those that are about entries that meet them. The position of the former is that in the file's bytes, and the positions of the latter are those
 /// in the decoded text.
 pub fn print_file(
     alloc: Global,
@@ -146,6 +158,7 @@ pub fn print_file(
         bytes: decoded.text.as_bytes(),
     };
     let found = findings(alloc, decoded.text.as_str())?;
-    print_findings(alloc, printed, lint, &text, &found)?;
+    let kept = reported_findings(alloc, &lint.conditions, decoded.text.as_str(), found)?;
+    print_findings(alloc, printed, lint, &text, &kept)?;
     Ok(())
 }

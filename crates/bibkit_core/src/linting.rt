@@ -33,6 +33,13 @@ impl<'r, 'a> Linting<'r, 'a> {
         }
     }
 
+    /// Returns the request.
+    pub fn lint(&self) -> &'r Lint<'a>
+        ensures { result.now ≡ self.now.lint.now }
+    {
+        self.lint
+    }
+
     // Returns an empty text, with the counts of the findings so far.
     fn nothing(&self, alloc: Global) -> Printed
         ensures text { string_bytes result.text ≡ [] }

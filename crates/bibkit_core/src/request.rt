@@ -3,6 +3,7 @@
 use crate::selection::Selection;
 use bib_findings::codes::Code;
 use bib_queries::request::Request as Excerpts;
+use bib_select::selection::Selection as Condition;
 
 /// The style in which findings are printed.
 #[derive(Debug, Clone, Copy, PartialEq, Eq)]
@@ -25,7 +26,7 @@ pub struct Cited<'a> {
 }
 
 /// The findings to print, and their style.
-#[derive(Debug, Drop)]
+#[derive(Drop)]
 pub struct Lint<'a> {
     /// The codes to report.
     pub selection: Selection,
@@ -33,10 +34,22 @@ pub struct Lint<'a> {
     pub style: Style,
     /// The document whose citations are compared with the files.
     pub cited: Option<Cited<'a>>,
+    /// The conditions on entries. If there is one, only findings about entries whose key is that of an entry that meets all conditions
+    /// are reported.
+    pub conditions: Vec<Condition>,
+}
+
+/// The entries of files that meet conditions, and what to print of them.
+#[derive(Drop)]
+pub struct Selected<'a> {
+    /// The conditions, all of which an entry must meet.
+    pub conditions: Vec<Condition>,
+    /// The keys of the entries to print. If it is `None`, the keys of all entries that meet the conditions are printed.
+    pub keys: Option<Vec<&'a str>>,
 }
 
 /// The request of a command.
-#[derive(Debug, Drop)]
+#[derive(Drop)]
 pub enum Request<'a> {
     /// Prints the findings of files.
     Lint(Lint<'a>),
@@ -44,6 +57,8 @@ pub enum Request<'a> {
     Explain(Code),
     /// Prints entries of files, or their keys.
     Entries(Excerpts<'a>),
+    /// Prints entries of files that meet conditions, or their keys.
+    Selected(Selected<'a>),
     /// Prints the entries that the document of this .aux or .bcf file cites.
     Cited(&'a str),
     /// Prints the number of entries, and the counts of types, fields, years and codes of findings.
@@ -51,7 +66,7 @@ pub enum Request<'a> {
 }
 
 /// A request and the files to run it on.
-#[derive(Debug, Drop)]
+#[derive(Drop)]
 pub struct Call<'a> {
     /// The request.
     pub request: Request<'a>,

@@ -6,7 +6,7 @@ ghost use Rattle.std.specs.Io.KnownBytes.{Appends};
 ghost use Rattle.bibkit_core.specs.Answered.{CantReadDocument, HasFailed, IsCallAnswer};
 ghost use Rattle.bibkit_core.specs.Outcomes.{HasPrinted};
 ghost use Rattle.bibkit_core.specs.Running.{IsTaskPrinted, names_given};
-ghost use Rattle.bibkit_core.specs.Steps.{AreComparedPrinted, AreEntriesPrinted, AreFindingsPrinted, AreFirst, HasNoText, HasRun, HasStep, HasStopped, IsMeaningPrinted, IsNothing, ReadsText};
+ghost use Rattle.bibkit_core.specs.Steps.{AreComparedPrinted, AreEntriesPrinted, AreFindingsPrinted, AreFirst, AreSelectedPrinted, HasNoText, HasRun, HasStep, HasStopped, IsMeaningPrinted, IsNothing, ReadsText};
 ghost use Rattle.bibkit_core.specs.declared.run.Stop.TheVariants.{OutOfMemory};
 
 use crate::cited::{Document, citations, keys};
@@ -17,7 +17,8 @@ use crate::entries::Entries;
 use crate::files::Files;
 use crate::linting::Linting;
 use crate::messages::Messages;
-use crate::request::{Call, Cited, Lint, Request};
+use crate::request::{Call, Cited, Lint, Request, Selected};
+use crate::selecting::Selecting;
 use crate::task::Task;
 use bib_findings::codes::Code;
 use bib_queries::request::{CitedKeys, Request as Excerpts};
@@ -271,6 +272,27 @@ fn run_entries<F: Files, K: Sink, M: Sink>(
     Ok(status)
 }
 
+// Prints entries of files that meet conditions, or their keys, and returns the status.
+fn run_selected<F: Files, K: Sink, M: Sink>(
+    alloc: Global,
+    selected: &Selected<'_>,
+    names: &[&str],
+    files: &mut F,
+    output: &mut K,
+    messages: &mut Messages<M>,
+) -> Result<u8, Stop>
+    ensures printed { IfOk result (HasPrinted K.taken
+        (AreSelectedPrinted F.reads selected.now files.old (names_given names.now)) output.old output.new) }
+    ensures same { OnOk result (K.refusals output.new ≡ K.refusals output.old) }
+    ensures stopped { IfErr result (HasStopped K.taken K.refusals K.hands_over
+        (AreSelectedPrinted F.reads selected.now files.old (names_given names.now))
+        ⊥ output.old output.new) }
+{
+    let mut task = Selecting::new(selected);
+    let status = run_task(alloc, names, &mut task, files, output, messages)?;
+    Ok(status)
+}
+
 // Prints the entries of files that a document cites, and returns the status.
 fn run_cited<F: Files, K: Sink, M: Sink>(
     alloc: Global,
@@ -363,6 +385,10 @@ fn answer<F: Files, K: Sink, M: Sink>(
         }
         Request::Entries(request) => {
             let status = run_entries(alloc, request, names, files, output, messages)?;
+            Ok(status)
+        }
+        Request::Selected(selected) => {
+            let status = run_selected(alloc, selected, names, files, output, messages)?;
             Ok(status)
         }
         Request::Cited(document) => {

@@ -1,6 +1,6 @@
 //! Settings of `lint`, from the command line or from bibkit.toml.
 
-ghost use Rattle.std.specs.Prelude.{◌≡◌, bytes_eq, find, map};
+ghost use Rattle.std.specs.Prelude.{◌≡◌, [], bytes_eq, find, map};
 ghost use Rattle.bib_findings.specs.Codes.{all_codes, code_name};
 ghost use Rattle.bibkit_settings.specs.Settings.{all_colors, all_formats, color_name, color_named, format_name, format_named};
 ghost use Rattle.bibkit_settings.specs.Settings.{is_colored, listed_codes, no_settings, over, style_of};
@@ -144,7 +144,8 @@ impl Settings {
     }
 
     /// Returns the request for `lint` with these settings. If `only` isn't set or empty, all codes except the ignored ones are reported.
-    /// If `color` is `Auto` or isn't set, `are_colors_shown` says whether lines are printed in colours. JSON has no colours.
+    /// If `color` is `Auto` or isn't set, `are_colors_shown` says whether lines are printed in colours. JSON has no colours. The request
+    /// has no conditions.
     pub fn lint<'a>(
         self,
         alloc: Global,
@@ -155,6 +156,7 @@ impl Settings {
         ensures ignored { result.selection.ignored.items ≡ listed_codes self.ignored }
         ensures style { result.style ≡ style_of self.format (is_colored self.color are_colors_shown) }
         ensures cited { result.cited ≡ cited.entry }
+        ensures conditions { result.conditions.items ≡ [] }
     {
         let style = style(self.format, is_colored(self.color, are_colors_shown));
         Lint {
@@ -164,6 +166,7 @@ impl Settings {
             },
             style,
             cited,
+            conditions: Vec::new(alloc),
         }
     }
 }

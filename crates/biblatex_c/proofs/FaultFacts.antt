@@ -9,9 +9,10 @@ use Rattle.biblatex_c.specs.Calls.{AreFaults}
 -- the texts of the lint task before, for and after one file with an empty name are the JSON array of all findings of the file
 pub faults_found : {bytes begin found end : List ℕ} {status : ℕ} {lint : Lint} (begun ended : Linting)
     → BeginsLinting lint begun → lint.style ≡ style.Json
-    → lint.selection.only.items ≡ [] → lint.selection.ignored.items ≡ [] → lint.cited ≡ None → begin ≡ linting_begins begun
+    → lint.selection.only.items ≡ [] → lint.selection.ignored.items ≡ [] → lint.cited ≡ None → lint.conditions.items ≡ []
+    → begin ≡ linting_begins begun
     → linting_prints begun [] bytes found ended → linting_ends ended end status → AreFaults bytes ((begin ++ found) ++ end)
-faults_found {bytes} {begin} {found} {end} begun ended begins json only ignored cited opens prints ends =
+faults_found {bytes} {begin} {found} {end} begun ended begins json only ignored cited every opens prints ends =
     let same = begins.lint_is in
     let in_json : begun.lint.now.style ≡ style.Json = ap (λ l. l.style) same ∙ json in
     let opened : begin ≡ codes "[" = opens ∙ ap opening in_json in
@@ -22,6 +23,7 @@ faults_found {bytes} {begin} {found} {end} begun ended begins json only ignored 
       any = ap (λ l. l.selection.only.items) same ∙ only;
       all = ap (λ l. l.selection.ignored.items) same ∙ ignored;
       uncited = ap (λ l. l.cited) same ∙ cited;
+      every = ap (λ l. l.conditions.items) same ∙ every;
       none = begun.tally;
       no_errors = begins.no_errors;
       no_warnings = begins.no_warnings;

@@ -90,6 +90,7 @@ pub record AreFaults (bytes answer : List ℕ) : Type 0 where
   pub any : lint.selection.only.items ≡ []
   pub all : lint.selection.ignored.items ≡ []
   pub uncited : lint.cited ≡ None
+  pub every : lint.conditions.items ≡ []
   pub none : Tally
   pub no_errors : none.errors ≡ 0
   pub no_warnings : none.warnings ≡ 0

@@ -25,6 +25,7 @@ fn faults_of(alloc: Global, bytes: &[u8]) -> Result<String, Status>
         },
         style: Style::Json,
         cited: None,
+        conditions: Vec::new(alloc),
     };
     let mut linting = Linting::new(&lint);
     let mut text = String::from_str(alloc, linting.begin())?;

@@ -8,13 +8,17 @@ const LINT_HELP: &str = "\
 Findings are lines FILE:LINE:COLUMN: error|warning: TEXT [CODE]. A file bibkit.toml in the folder of the first file, or in one above
 it, has the settings of a project: ignore, only, color and format.
 
-Example:
+With --where, findings that are about no entry are left out, such as errors between entries, and so are keys that no file contains. A
+finding about two entries, such as a duplicate, is kept if one of them meets the conditions. `bibkit help select` has the conditions.
+
+Examples:
   bibkit lint --ignore unknown-field refs.bib
+  bibkit lint --where 'year >= 2020' refs.bib
 
 Status: 0 no findings, 1 findings, 2 wrong usage, or a file or the output failed, 3 out of memory";
 
 // The arguments of `lint`.
-const LINT: [Argument; 7] = [
+const LINT: [Argument; 8] = [
     Argument {
         name: "only",
         takes: Takes::Codes,
@@ -50,14 +54,25 @@ const LINT: [Argument; 7] = [
         takes: Takes::NothingBeside("cited"),
         help: "Report entries that the document doesn't cite",
     },
+    Argument {
+        name: "where",
+        takes: Takes::Condition,
+        help: "Only findings about entries that meet this condition, and those of all other --where",
+    },
 ];
 
+// The arguments of `keys`.
+const KEYS: [Argument; 1] = [WHERE];
+
 // The arguments of `get`.
-const GET: [Argument; 1] = [Argument {
-    name: "KEYS",
-    takes: Takes::Texts,
-    help: "Keys, separated by commas",
-}];
+const GET: [Argument; 2] = [
+    Argument {
+        name: "KEYS",
+        takes: Takes::Texts,
+        help: "Keys, separated by commas",
+    },
+    WHERE,
+];
 
 // The text at the end of the help of `select`.
 const SELECT_HELP: &str = "\
@@ -118,13 +133,13 @@ pub static SEARCHING: [Row; 7] = [
     Row {
         name: "keys",
         about: "Print the key of each entry",
-        help: "Example:\n  bibkit keys refs.bib",
-        arguments: &[],
+        help: "`bibkit help select` has the conditions of --where.\n\nExamples:\n  bibkit keys refs.bib\n  bibkit keys --where 'year >= 2000' refs.bib\n\nStatus 1 if no entry meets the conditions",
+        arguments: &KEYS,
     },
     Row {
         name: "get",
         about: "Print the entries with these keys, unchanged",
-        help: "Example:\n  bibkit get tolkien1937,knuth1984 refs.bib\n\nStatus 1 if no entry has any of the keys",
+        help: "`bibkit help select` has the conditions of --where.\n\nExample:\n  bibkit get tolkien1937,knuth1984 refs.bib\n\nStatus 1 if no entry has any of the keys and meets the conditions",
         arguments: &GET,
     },
     Row {

@@ -1,6 +1,6 @@
 use Rattle.std.specs.Prelude.{None}
 use Rattle.std.proofs.lemmas.Result.{err_from_is_err_and}
-use Rattle.bibkit_core.proofs.AnswerFacts.{entries_answer, meaning_answer}
+use Rattle.bibkit_core.proofs.AnswerFacts.{entries_answer, meaning_answer, selected_answer}
 use Rattle.bibkit_core.proofs.RunFacts.{printed_so, stopped_so}
 use Rattle.bibkit_core.proofs.run.answer.Goals as goal
 
@@ -33,6 +33,17 @@ returns-in_err-status-in-Entries-clause-stopped g c =
     rw (p.1, p.2, c.in-Entries.is)
     (stopped_so (λ text p. entries_answer text None p) (λ unread. absurd unread)
     c.in_err-status-in-Entries.ensures.stopped)
+
+pub returns-in_ok-status-in-Selected-clause-printed : goal.returns-in_ok-status-in-Selected-clause-printed
+returns-in_ok-status-in-Selected-clause-printed g c =
+    rw c.in-Selected.is (printed_so (λ text p. selected_answer text _ p) c.in_ok-status-in-Selected.ensures.printed)
+
+pub returns-in_err-status-in-Selected-clause-stopped : goal.returns-in_err-status-in-Selected-clause-stopped
+returns-in_err-status-in-Selected-clause-stopped g c =
+    let p = err_from_is_err_and c.from_residual-in_err-status-in-Selected.result c.from_residual-in_err-status-in-Selected.ensures.1 in
+    rw (p.1, p.2, c.in-Selected.is)
+    (stopped_so (λ text p. selected_answer text None p) (λ unread. absurd unread)
+    c.in_err-status-in-Selected.ensures.stopped)
 
 pub returns-in_ok-status-in-Cited-clause-printed : goal.returns-in_ok-status-in-Cited-clause-printed
 returns-in_ok-status-in-Cited-clause-printed g c = rw c.in-Cited.is (c.in_ok-status-in-Cited.ensures.printed)

@@ -1,6 +1,7 @@
-use Rattle.std.proofs.Common.{◌++◌, ap, subst, ◌∙◌}
+use Rattle.std.proofs.Common.{◌++◌, ap, subst, sym, ◌∙◌}
 use Rattle.std.specs.String.{string_bytes}
 use Rattle.bibkit_core.specs.Asked.{selected_findings}
+use Rattle.bibkit_core.specs.Conditions.{AreReportedFindings}
 use Rattle.bibkit_core.specs.Linted.{ArePrinted}
 use Rattle.bibkit_core.specs.Marks.{AreKnownWith, AreUnused}
 use Rattle.bibkit_core.proofs.comparing.ComparingTask.file.Goals as goal
@@ -10,22 +11,25 @@ returns c =
     let before = c.file.new.self.tally in
     let after = c.print.new.self.tally in
     let text = string_bytes c.in_ok-more.more in
+    let unused = c.in_ok-unused.unused.items in
+    let kept = c.in_ok-kept.kept.items in
     let of_lint =
     subst
     (λ l.
-    ArePrinted l.style c.args.name.now c.as_bytes.result.now (selected_findings l.selection c.deref.result.now) before
+    ArePrinted l.style c.args.name.now c.as_bytes.result.now (selected_findings l.selection c.deref-2.result.now) before
     text after) c.in_ok-text.ensures.0 c.in_ok-more.ensures.printed in
     let lint = c.args.self.now.linting.lint.now in
     let listed =
     subst
     (λ f. ArePrinted lint.style c.args.name.now c.as_bytes.result.now (selected_findings lint.selection f) before text after)
-    c.deref.ensures.value of_lint in
+    c.deref-2.ensures.value of_lint in
     record {
       first = string_bytes c.in_ok-text.text;
       second = text;
       between = before;
       decoded = c.in_ok-decoded.decoded;
-      unused = c.in_ok-unused.unused.items;
+      unused = unused;
+      kept = kept;
       lint = c.in_ok-more.ensures.lint ∙ c.in_ok-text.ensures.0;
       document = c.in_ok-unused.ensures.same;
       found = c.in_ok-text.ensures.1;
@@ -36,10 +40,14 @@ returns c =
       are_unused =
           subst (λ t. AreUnused c.args.self.now.document t c.in_ok-unused.unused.items) c.as_str.ensures.value
           c.in_ok-unused.ensures.unused;
+      reported =
+          subst (λ l. AreReportedFindings l.conditions.items (string_bytes c.in_ok-decoded.decoded.text) unused kept) c.lint-lint.ensures
+          (subst (λ t. AreReportedFindings c.lint-lint.result.now.conditions.items t unused kept) c.as_str-2.ensures.value
+          (subst (λ cs. AreReportedFindings cs c.as_str-2.result.now unused kept) c.deref.ensures.value c.in_ok-kept.ensures));
       more =
           subst
           (λ b.
-          ArePrinted lint.style c.args.name.now b (selected_findings lint.selection c.in_ok-unused.unused.items) before text
+          ArePrinted lint.style c.args.name.now b (selected_findings lint.selection kept) before text
           after) c.as_bytes.ensures.value listed;
-      is = c.in_ok-push_str.ensures.bytes ∙ ap (λ t. string_bytes c.in_ok-text.text ++ t) c.deref-2.ensures;
+      is = c.in_ok-push_str.ensures.bytes ∙ ap (λ t. string_bytes c.in_ok-text.text ++ t) c.deref-3.ensures;
     }
