@@ -1,25 +1,19 @@
 //! Parses the command line into a request.
 
+use crate::argument_values::{given_texts, number, text, texts};
 use crate::converting::Converting;
-use crate::edits::{Editing, Edits, Mode};
-use crate::recoding::Recoding;
-use crate::rekeying::Rekeying;
-use crate::selecting::{Printed, SelectedEdit, Selecting};
+use crate::edit_arguments::edits_of;
+use crate::edits::{Editing, Mode};
+use crate::selecting::{Printed, Selecting};
 use bib_findings::codes::Code;
 use bib_queries::request::{Request as Excerpts, Search};
-use bib_recode::encoding::Encoding;
-use bib_recode::line_ends::LineEnds;
 use bib_tables::dialects::Dialect;
-use bib_tables::months::Month;
 use bibkit_convert::target::Target;
 use bibkit_core::request::{Cited, Request};
-use bibkit_edits::edit::Edit;
 use bibkit_settings::commands::{command, is_editing};
 use bibkit_settings::settings::{Color, OutputFormat, Settings};
 use bibkit_settings::style_settings::{StyleSettings, delimiters_named, width_of};
 use clap::{ArgMatches, Error};
-use edit_entries::field_edits::FieldEdit;
-use edit_entries::field_value::FieldValue;
 use edit_orders::order::{Order, OrderError};
 use std::alloc::{AllocError, Global};
 
@@ -86,37 +80,6 @@ pub struct Words<'a> {
     pub names: Vec<&'a str>,
 }
 
-// Returns the values of an argument, or an empty list if the argument is missing.
-fn texts<'a>(
-    alloc: Global,
-    matches: &ArgMatches<'a>,
-    id: &str,
-) -> Result<Vec<&'a str>, AllocError> {
-    match matches.get_strs(id) {
-        Some(texts) => Vec::from_slice(alloc, texts),
-        None => Ok(Vec::new(alloc)),
-    }
-}
-
-// Returns the values of an option, or `None` if the option is missing.
-fn given_texts<'a>(
-    alloc: Global,
-    matches: &ArgMatches<'a>,
-    id: &str,
-) -> Result<Option<Vec<&'a str>>, AllocError> {
-    match matches.get_strs(id) {
-        Some(texts) => Ok(Some(Vec::from_slice(alloc, texts)?)),
-        None => Ok(None),
-    }
-}
-
-// Returns the number that is the value of an option, or `None` if the option is missing.
-fn number(matches: &ArgMatches<'_>, id: &str) -> Option<usize> {
-    matches
-        .get_str(id)
-        .and_then(|word| word.parse::<usize>().ok())
-}
-
 // Returns the codes that are the values of an option, or `None` if the option is missing.
 fn given_codes(
     alloc: Global,
@@ -155,205 +118,6 @@ fn lint_asked<'a>(alloc: Global, matches: &ArgMatches<'a>) -> Result<Asked<'a>, 
         cited,
         conditions: texts(alloc, matches, "where")?,
     })
-}
-
-// Returns the value of an argument, or an empty text without one.
-fn text<'a>(matches: &ArgMatches<'a>, id: &str) -> &'a str {
-    matches.get_str(id).unwrap_or("")
-}
-
-// Returns whether a field with this name and value gets the abbreviation of a month.
-fn is_month(name: &str, value: &str) -> bool {
-    name.eq_ignore_ascii_case("month") && Month::from_abbreviation(value).is_some()
-}
-
-// Returns the name and the value of a word FIELD=VALUE or FIELD:=VALUE, or `None` for a word without `=`. The value after `:=` is written
-// without braces, and so is the abbreviation of a month in the field `month`.
-fn field_of<'a>(word: &'a str) -> Option<(&'a str, FieldValue<'a>)> {
-    let (name, value) = word.split_once('=')?;
-    match name.strip_suffix(":") {
-        Some(name) => Some((name, FieldValue::Bare(value))),
-        None if is_month(name, value) => Some((name, FieldValue::Bare(value))),
-        None => Some((name, FieldValue::Text(value))),
-    }
-}
-
-// Returns the edits that set fields of an entry. Each word is FIELD=VALUE. Returns `NoPair` for the first word without `=`.
-fn set_fields<'a>(alloc: Global, key: &'a str, words: &[&'a str]) -> Result<Edits<'a>, AllocError> {
-    let mut edits = Vec::new(alloc);
-    'words: for word in words {
-        match field_of(*word) {
-            Some((name, value)) => edits.push(Edit::Set { key, name, value })?,
-            None => {
-                return Ok(Edits::NoPair {
-                    word: *word,
-                    pair: "FIELD=VALUE",
-                });
-            }
-        }
-    }
-    Ok(Edits::These(edits))
-}
-
-// Returns the edits that remove the fields with these names from an entry.
-fn unset_fields<'a>(
-    alloc: Global,
-    key: &'a str,
-    names: &[&'a str],
-) -> Result<Vec<Edit<'a>>, AllocError> {
-    let mut edits = Vec::new(alloc);
-    'names: for name in names {
-        edits.push(Edit::Unset { key, name: *name })?;
-    }
-    Ok(edits)
-}
-
-// Returns the edits that remove the entries with these keys.
-fn remove_entries<'a>(alloc: Global, keys: &[&'a str]) -> Result<Vec<Edit<'a>>, AllocError> {
-    let mut edits = Vec::new(alloc);
-    'keys: for key in keys {
-        edits.push(Edit::Remove { key: *key })?;
-    }
-    Ok(edits)
-}
-
-// The options of `edit`, in the order in which their edits are made.
-static FIELD_OPTIONS: [&str; 3] = ["rename", "set", "add"];
-
-// Returns the edit of an option of `edit` for its word, or `None` for a word without `=`.
-fn field_edit<'a>(option: &str, word: &'a str) -> Option<FieldEdit<'a>> {
-    if option == "rename" {
-        let (old, new) = word.split_once('=')?;
-        return Some(FieldEdit::Rename { old, new });
-    }
-    let (name, value) = field_of(word)?;
-    if option == "set" {
-        Some(FieldEdit::Set { name, value })
-    } else {
-        Some(FieldEdit::Add { name, value })
-    }
-}
-
-// Adds the edits of the words of an option of `edit`. Returns the first word without `=`, if there is one.
-fn push_field_edits<'a>(
-    edits: &mut Vec<SelectedEdit<'a>>,
-    option: &str,
-    words: &[&'a str],
-) -> Result<Option<&'a str>, AllocError> {
-    'words: for word in words {
-        match field_edit(option, *word) {
-            Some(edit) => edits.push(SelectedEdit::Field(edit))?,
-            None => return Ok(Some(*word)),
-        }
-    }
-    Ok(None)
-}
-
-// Adds the edits that remove the fields with these names.
-fn push_unset_edits<'a>(
-    edits: &mut Vec<SelectedEdit<'a>>,
-    names: &[&'a str],
-) -> Result<(), AllocError> {
-    'names: for name in names {
-        edits.push(SelectedEdit::Unset(*name))?;
-    }
-    Ok(())
-}
-
-// Returns the edits of `remove`: with `--where`, that of the entries that meet the conditions.
-fn removal_edits<'a>(alloc: Global, matches: &ArgMatches<'a>) -> Result<Edits<'a>, AllocError> {
-    let conditions = texts(alloc, matches, "where")?;
-    if !conditions.is_empty() {
-        return Ok(Edits::Selected {
-            conditions,
-            edits: vec![in alloc; SelectedEdit::Remove]?,
-        });
-    }
-    let keys = texts(alloc, matches, "KEYS")?;
-    Ok(Edits::These(remove_entries(alloc, &keys)?))
-}
-
-// Returns the edits of `edit`.
-fn selected_edits<'a>(alloc: Global, matches: &ArgMatches<'a>) -> Result<Edits<'a>, AllocError> {
-    let mut edits = Vec::new(alloc);
-    'options: for option in &FIELD_OPTIONS {
-        let words = texts(alloc, matches, option)?;
-        if let Some(word) = push_field_edits(&mut edits, option, &words)? {
-            let pair = if *option == "rename" {
-                "OLD=NEW"
-            } else {
-                "FIELD=VALUE"
-            };
-            return Ok(Edits::NoPair { word, pair });
-        }
-    }
-    push_unset_edits(&mut edits, &texts(alloc, matches, "unset")?)?;
-    Ok(Edits::Selected {
-        conditions: texts(alloc, matches, "where")?,
-        edits,
-    })
-}
-
-// The pattern of keys without `--pattern`.
-const PATTERN: &str = "{author}{year}{title:1}";
-
-// Returns the edits of `rekey`.
-fn rekeying<'a>(matches: &ArgMatches<'a>) -> Edits<'a> {
-    Edits::Rekey(Rekeying {
-        pattern: matches.get_str("pattern").unwrap_or(PATTERN),
-        has_map: matches.get_flag("map"),
-        is_check: matches.get_flag("check"),
-    })
-}
-
-// Returns the edits of `recode`.
-fn recoding<'a>(matches: &ArgMatches<'a>) -> Edits<'a> {
-    Edits::Recode(Recoding {
-        from: matches.get_str("from").and_then(Encoding::from_name),
-        line_ends: matches.get_str("line-ends").and_then(LineEnds::from_name),
-        has_mark: matches.get_flag("bom"),
-    })
-}
-
-// Returns the edits of `strings`.
-fn strings_edits<'a>(alloc: Global, matches: &ArgMatches<'a>) -> Result<Edits<'a>, AllocError> {
-    if matches.get_flag("expand") {
-        return Ok(Edits::These(vec![in alloc; Edit::Expand]?));
-    }
-    Ok(Edits::Collect {
-        fields: given_texts(alloc, matches, "fields")?,
-        at_least: number(matches, "at-least").unwrap_or(2),
-    })
-}
-
-// Returns the edits of the command `name`, which edits a file.
-fn edits_of<'a>(
-    alloc: Global,
-    name: &str,
-    matches: &ArgMatches<'a>,
-) -> Result<Edits<'a>, AllocError> {
-    let key = text(matches, "KEY");
-    match name {
-        "set" => {
-            let words = texts(alloc, matches, "FIELD=VALUE")?;
-            set_fields(alloc, key, &words)
-        }
-        "unset" => {
-            let names = texts(alloc, matches, "FIELDS")?;
-            Ok(Edits::These(unset_fields(alloc, key, &names)?))
-        }
-        "remove" => removal_edits(alloc, matches),
-        "strings" => strings_edits(alloc, matches),
-        "edit" => selected_edits(alloc, matches),
-        "rekey" => Ok(rekeying(matches)),
-        "recode" => Ok(recoding(matches)),
-        "rename" => {
-            let old = text(matches, "OLD");
-            let new = text(matches, "NEW");
-            Ok(Edits::These(vec![in alloc; Edit::Rename { old, new }]?))
-        }
-        _ => Ok(Edits::AddInput),
-    }
 }
 
 // Returns the use of the new text. With `--diff`, that is a diff, with a check if `is_check`. Otherwise a check takes precedence over

@@ -1,9 +1,11 @@
 //! The program `bibkit`: it lints, searches, edits, formats and converts bibliography files.
 #![tactic(auto)]
 
+mod argument_values;
 mod arguments;
 mod converting;
 mod document;
+mod edit_arguments;
 mod edits;
 mod files;
 mod formatting;
