@@ -1,5 +1,4 @@
-use Rattle.std.proofs.Common.{◌≡◌, ◌∙◌, ◌||◌, ◌&&◌, ap, ap₂, arith, false, get_or}
-use Rattle.std.specs.Prelude.{nat_le, nat_lt}
+use Rattle.std.proofs.Common.{◌≡◌, ◌∙◌, ◌||◌, ap, ap₂, arith, false, get_or}
 use Rattle.bibkit_core.proofs.ConditionFacts.{grown, range_ends}
 use Rattle.bibkit_core.proofs.conditions.cover.Goals as goal
 use Rattle.bibkit_core.proofs.conditions.cover.Goals.{then-len-end+in_ok-resize, else-len-end}

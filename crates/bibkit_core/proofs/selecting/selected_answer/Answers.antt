@@ -1,5 +1,4 @@
 use Rattle.std.proofs.Common.{◌∙◌, ap, map, subst, sym}
-use Rattle.std.specs.Prelude.{Some, None}
 use Rattle.std.specs.String.{string_bytes}
 use Rattle.bibkit_core.specs.Conditions.{selected_keys}
 use Rattle.bibkit_core.specs.Selecting.{AreCommonPrinted, AreKeysPrinted, ArePrintedOf}
