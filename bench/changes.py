@@ -58,6 +58,16 @@ def with_user_field(entries):
     return [Entry(it.key, it.entry_type, [*keep(it.fields), ("usera", "An {E}dit")]) for it in entries]
 
 
+def without_notes(entries):
+    """The entries without their notes and pages."""
+    return [Entry(it.key, it.entry_type, [field for field in it.fields if field[0] not in ("note", "pages")]) for it in entries]
+
+
+def without_misc(entries):
+    """The entries that aren't of the type misc."""
+    return [it for it in entries if it.entry_type.lower() != "misc"]
+
+
 CONVERT = ["convert", "--to"]
 # The commands without a key.
 LAYOUTS = [
@@ -69,6 +79,8 @@ LAYOUTS = [
     Command("collect", ["strings", "--collect", "-f", "FILE"]),
     Command("resolve", ["resolve", "FILE"], "resolved"),
     Command("edit", ["edit", "--set", "usera=An {E}dit", "-f", "FILE"], "edited", with_user_field),
+    Command("edit-unset", ["edit", "--unset", "note,pages", "-f", "FILE"], "edited", without_notes),
+    Command("remove-where", ["remove", "--where", "type = misc", "-f", "FILE"], "edited", without_misc),
     Command("to-biblatex", [*CONVERT, "biblatex", "FILE"], "biblatex"),
     Command("to-bibtex", [*CONVERT, "bibtex", "FILE"], "bibtex"),
     Command("there-and-back", [*CONVERT, "biblatex", "FILE"], "back", then=[*CONVERT, "bibtex", "FILE"]),

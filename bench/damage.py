@@ -30,7 +30,7 @@ from changes import REFERENCES, Difference
 
 TOP = pathlib.Path(__file__).resolve().parent.parent
 LARGEST, LARGEST_BIBER = 400_000, 30_000
-STEPS = 8
+STEPS = 20
 TEXTS = ["Plain", "{Br}aced {T}itle", "a # b", 'a "q" b', "50\\% x", "é ü", "x = y, z", "a@b.c", "Knuth, D. and {Big, Co}", "", " two  spaces ",
          '\\"{o} {\\ss}', "line\nbreak", "% no comment", "{a} # {b}", "a}b{c", "{", "}", "\\", "\\{", "x\\}y", "$a_1$ ~ z", "2020-01", "12", "jan", '"',
          '"{"', "\\'e", "{\\", "@misc{b,"]

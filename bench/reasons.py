@@ -113,11 +113,6 @@ def refers_by_abbreviation(case):
     return any("\x01" in text for it in case.source.values() for name, text in it.fields if name in REFERENCES)
 
 
-def hides_quote(case):
-    """Whether a text in quotes has a quote in braces, which doesn't end the text for BibTeX."""
-    return re.search(r'=\s*"[^"{}]*\{[^"{}]*"[^"{}]*\}', case.text) is not None
-
-
 def has_only_other_case(case):
     """Whether a print differs in case, in italics or in nothing else."""
     return letters(case.difference.before) == letters(case.difference.after)
@@ -154,8 +149,8 @@ REASONS = [
     Reason(FAULT, "rename leaves a reference by an abbreviation", "rename", ".*", ".*", refers_by_abbreviation),
     Reason(RULE, "unset is refused if the entry would have no field left", "(walk-)?unset.*", "bibkit", "refused",
            lambda it: is_emptied(it) and "no field left" in it.difference.after),
-    Reason(FAULT, "BibTeX doesn't end a text in quotes at a quote in braces, as this library and bibtool do", f"{LAYOUTS}|{EDITS}", "bibtex|bibtool",
-           ".*", hides_quote),
+    Reason(RULE, "an edit is refused beside a text in quotes whose braces don't balance", ".*", "bibkit", "refused",
+           lambda it: "braces of this text in quotes" in it.difference.after),
     Reason(FAULT, "an abbreviation isn't shorter than its text", "collect", "bytes", "long name"),
     Reason(RULE, "a comment after the field goes with it", "unset.*|resolve", "bytes", "comment lost"),
 ]
