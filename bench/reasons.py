@@ -123,7 +123,7 @@ def is_longer(case):
     return len(case.difference.after) > len(case.difference.before)
 
 
-LAYOUTS, SORTS, EDITS = "fmt.*|sort-.*", "sort-.*", "(walk-)?(set|unset|rename|remove|add).*"
+SORTS = "sort-.*"
 REASONS = [
     Reason(RULE, "an edit, a layout or a conversion is refused for a file with an error", ".*", "bibkit", "refused",
            lambda it: re.search(r"status [12]$", it.difference.before) and re.search("unknown abbreviation|expected|unexpected", it.difference.after)),
