@@ -67,6 +67,7 @@ refusal_status (refusal.Added e) = 1
 refusal_status (refusal.Edit index why) = 1
 refusal_status (refusal.EarlyUse index definition) = 1
 refusal_status (refusal.ReferenceCycle index entry) = 1
+refusal_status (refusal.UnbalancedQuotes index) = 1
 refusal_status refusal.OutOfMemory = 3
 
 -- the status of an error of printing
