@@ -1229,7 +1229,7 @@ run 'findings about selected entries' 1 $'broken.bib:1:7: warning: a: missing au
 run 'no findings about selected entries' 0 $'errors: 0, warnings: 0\n' lint --where 'key = z' broken.bib
 run 'findings about selected entries of two files' 1 "$lines_of_one"$'errors: 0, warnings: 3\n' lint --where 'type = article' broken.bib one.bib
 run 'selected findings about selected entries' 0 $'errors: 0, warnings: 0\n' lint --where 'key = a' --only syntax broken.bib
-run 'findings about selected entries of a file that is not UTF-8' 1 $'latin.bib:1:7: warning: a: missing author [missing-field]\nerrors: 0, warnings: 1\n' lint --where $'title = "\xc3\xa9t\xc3\xa9"' latin.bib
+run 'findings about selected entries of a file that is not UTF-8' 1 $'latin.bib:1:7: warning: a: missing author [missing-field]\nerrors: 0, warnings: 1\n' lint --where $'title = "\xc3\xa9"' latin.bib
 run 'findings about selected entries in JSON' 1 '[
 {"file":"broken.bib","line":1,"column":7,"severity":"warning","code":"missing-field","message":"a: missing author"}
 ]

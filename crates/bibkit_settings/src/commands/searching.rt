@@ -8,8 +8,8 @@ const LINT_HELP: &str = "\
 Findings are lines FILE:LINE:COLUMN: error|warning: TEXT [CODE]. A file bibkit.toml in the folder of the first file, or in one above
 it, has the settings of a project: ignore, only, color and format.
 
-With --where, findings that are about no entry are left out, such as errors between entries, and so are keys that no file contains. A
-finding about two entries, such as a duplicate, is kept if one of them meets the conditions. `bibkit help select` has the conditions.
+--where leaves out findings that are about no entry, such as syntax errors and bytes that aren't UTF-8. It keeps a finding about two
+entries, such as a duplicate, if one of them meets the conditions. `bibkit help select` has the conditions.
 
 Examples:
   bibkit lint --ignore unknown-field refs.bib
