@@ -56,6 +56,8 @@ enum Takes {
     Encoding,
     // An option: the line ends of a text.
     LineEnds,
+    // The form of accents: one of `ACCENTS`.
+    Accents,
     // A required option: the format to convert to.
     Target,
     // An option: the format to convert from.
@@ -365,8 +367,11 @@ static ENCODINGS: [&str; 6] = [
 // The values of `--line-ends`.
 static LINE_ENDS: [&str; 2] = ["lf", "crlf"];
 
+// The values of `--accents`.
+static ACCENTS: [&str; 1] = ["characters"];
+
 // The arguments of `recode`.
-const RECODE: [Argument; 5] = [
+const RECODE: [Argument; 6] = [
     Argument {
         name: "from",
         takes: Takes::Encoding,
@@ -381,6 +386,11 @@ const RECODE: [Argument; 5] = [
         name: "bom",
         takes: Takes::Nothing,
         help: "Write a byte order mark; without it there is none",
+    },
+    Argument {
+        name: "accents",
+        takes: Takes::Accents,
+        help: "Write LaTeX commands for accents and letters as characters [default: keep them]",
     },
     FILE,
     WRITE,
@@ -836,6 +846,7 @@ fn argument_of<'a>(alloc: Global, row: &'static Argument) -> Result<Arg<'a>, All
             .conflicts_with("expand"),
         Takes::Encoding => Ok(value(alloc, row, "ENCODING").value_parser(ENCODINGS.as_slice())),
         Takes::LineEnds => Ok(value(alloc, row, "ENDS").value_parser(LINE_ENDS.as_slice())),
+        Takes::Accents => Ok(value(alloc, row, "FORM").value_parser(ACCENTS.as_slice())),
         Takes::Target => Ok(
             value(alloc, row, "FORMAT")
                 .value_parser(TARGETS.as_slice())

@@ -1,0 +1,3 @@
+pub mod Accents
+pub mod Balance
+pub mod Recoded
