@@ -8,6 +8,7 @@ use lib.Dec.{eqb}
 use Rattle.bib_text.specs.Characters as char
 use Rattle.bib_text.specs.Enums.{value_named}
 use Rattle.bib_contents.specs.Commands.{accents, command_text, letter}
+use Rattle.edit_accents.specs.declared.decoding.Reduction.{Reduction}
 use Rattle.edit_accents.specs.declared.signs.Sign.{Sign}
 use Rattle.edit_accents.specs.declared.signs.Sign.TheVariants.{Command, Opening, Closing, Plain, Composed, Grouped}
 use Rattle.edit_accents.specs.declared.signs.Stretch.{Stretch}
@@ -82,20 +83,40 @@ is_group Opening = true
 is_group (Grouped c) = true
 is_group s = false
 
+-- a character, if it passes a test
+abbrev pub character_if : Bool → ℕ → Option ℕ
+character_if passes c = if passes then Some c else None
+
+-- the letter that a sign is
+abbrev pub letter_of : Sign → Option ℕ
+letter_of (Plain c) = character_if (is_ascii_alphabetic c) c
+letter_of s = None
+
+-- a character before others, which are dropped if there is none
+abbrev pub before_others : Option ℕ → List ℕ → List ℕ
+before_others None cs = []
+before_others (Some c) cs = c ∷ cs
+
 -- the letters at the start of signs
 abbrev pub letters : List Sign → List ℕ
-letters (Plain c ∷ rest) = if is_ascii_alphabetic c then c ∷ letters rest else []
-letters ss = []
+letters [] = []
+letters (s ∷ ss) = before_others (letter_of s) (letters ss)
+
+-- whether a sign is white space
+abbrev pub is_white : Sign → Bool
+is_white (Plain c) = is_whitespace c
+is_white s = false
 
 -- the number of signs at their start that are white space
 abbrev pub white_count : List Sign → ℕ
-white_count (Plain c ∷ rest) = if is_whitespace c then suc (white_count rest) else 0
-white_count ss = 0
+white_count [] = 0
+white_count (s ∷ ss) = if is_white s then suc (white_count ss) else 0
 
 -- the name of a command before these signs, as TeX reads it: letters, or one other character
 abbrev pub command_name : List Sign → List ℕ
+command_name [] = []
 command_name (Plain c ∷ rest) = if is_ascii_alphabetic c then c ∷ letters rest else c ∷ []
-command_name ss = []
+command_name (s ∷ rest) = []
 
 -- the commands for letters
 abbrev pub letter_names : List (List ℕ)
@@ -121,10 +142,6 @@ is_beyond_ascii c = not (nat_lt c 128)
 abbrev pub takes_accent : ℕ → Bool
 takes_accent c = is_ascii_alphabetic c || is_beyond_ascii c
 
--- a character, if it passes a test
-abbrev pub character_if : Bool → ℕ → Option ℕ
-character_if passes c = if passes then Some c else None
-
 -- a character, if there is one and it is beyond ASCII
 abbrev pub only_beyond_ascii : Option ℕ → Option ℕ
 only_beyond_ascii None = None
@@ -141,10 +158,7 @@ composed_with mark (Some c) = composed mark c
 
 -- ---- what commands become
 
--- what a sign becomes before other signs: another sign, and the number of these that it takes with it
-pub record Reduction : Type 0 where
-  pub sign : Sign
-  pub taken : ℕ
+-- what a sign becomes before other signs is a reduction: another sign, and the number of these that it takes with it
 
 -- a sign that stays
 abbrev pub stays : Sign → Reduction

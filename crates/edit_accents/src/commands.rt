@@ -1,14 +1,13 @@
 //! The commands for accents and letters.
 
-ghost use Rattle.std.specs.Prelude.{◌≡◌, IfOk};
+ghost use Rattle.std.specs.Prelude.{◌≡◌, ◌∷◌, [], IfOk};
 ghost use Rattle.bib_text.specs.Enums.{value_named};
 ghost use Rattle.bib_contents.specs.Commands as commands;
 ghost use Rattle.bib_contents.specs.Commands.{accents};
-ghost use Rattle.std.specs.Prelude.{List, ◌∷◌, [], ℕ, Some};
 ghost use Rattle.edit_accents.specs.Accents as spec;
 
 use std::alloc::{AllocError, Global};
-use unicode_normalization::to_nfc;
+use unicode_normalization::slice::extend_nfc;
 
 // Returns the combining mark of the accent that a character names.
 #[tactic(auto, unfolding(bib_contents::specs::Commands::accents))]
@@ -54,6 +53,7 @@ pub(crate) fn accent_mark(name: &[char]) -> Option<char>
 }
 
 /// Returns the character of the command for a letter with this name.
+#[tactic(auto, unfolding(bib_contents::specs::Commands::accents, bib_contents::specs::Commands::symbols, bib_contents::specs::Commands::command_text))]
 pub(crate) fn named_letter(name: &[char]) -> Option<char>
     ensures { result ≡ spec.named_letter name.now }
 {
@@ -69,6 +69,7 @@ pub(crate) fn named_letter(name: &[char]) -> Option<char>
 }
 
 // Returns the character of the command for a letter with a name of two characters.
+#[tactic(auto, unfolding(bib_contents::specs::Commands::accents, bib_contents::specs::Commands::symbols, bib_contents::specs::Commands::command_text))]
 fn letter_of_two(first: char, second: char) -> Option<char>
     ensures { result ≡ spec.named_letter (first ∷ second ∷ []) }
 {
@@ -103,26 +104,31 @@ fn letter(c: char) -> char
     }
 }
 
-// Returns the only character of a text.
-fn only_character(text: &str) -> Option<char>
-    ensures { result ≡ spec.only_character (Rattle.std.specs.Str.chars text.now) }
+// Returns the only one of these characters.
+fn only_character(cs: &[char]) -> Option<char>
+    ensures { result ≡ spec.only_character cs.now }
 {
-    let mut chars = text.chars();
-    let c = chars.next()?;
-    if chars.as_str().is_empty() {
-        Some(c)
-    } else {
-        None
+    match cs {
+        [c] => Some(*c),
+        _ => None,
     }
 }
 
-// Returns a character and a mark as one character beyond ASCII, if NFC has one.
+// Returns a character, if there is one and it is beyond ASCII.
+fn only_beyond_ascii(c: Option<char>) -> Option<char>
+    ensures { result ≡ spec.only_beyond_ascii c }
+{
+    match c {
+        Some(c) if !c.is_ascii() => Some(c),
+        _ => None,
+    }
+}
+
+/// Returns a character and a mark as one character beyond ASCII, if NFC has one.
 pub(crate) fn composed(alloc: Global, mark: char, c: char) -> Result<Option<char>, AllocError>
     ensures { IfOk result (λ found. found ≡ spec.composed mark c) }
 {
-    let mut pair = String::new(alloc);
-    pair.push(letter(c))?;
-    pair.push(mark)?;
-    let text = to_nfc(alloc, pair.as_str())?;
-    Ok(only_character(&text).filter(|d| !d.is_ascii()))
+    let mut found = Vec::new(alloc);
+    extend_nfc(&mut found, &[letter(c), mark])?;
+    Ok(only_beyond_ascii(only_character(&found)))
 }

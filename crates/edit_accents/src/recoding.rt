@@ -1,7 +1,18 @@
 //! Recodes the values of entries.
 
-ghost use Rattle.std.specs.Prelude.{◌≡◌, IfOk};
+ghost use Rattle.std.specs.Prelude.{◌≡◌, ◌++◌, IfOk, OnOk, encode_utf8_all, map};
+ghost use Rattle.std.specs.List.{AllByRecursion, list_any};
+ghost use Rattle.std.specs.Option.{option_map};
+ghost use Rattle.std.specs.Str.{chars};
 ghost use Rattle.std.specs.String.{string_bytes};
+ghost use Rattle.bib_syntax.specs.Views.{entry_reading_of, field_of, piece_of};
+ghost use Rattle.edit_entries.specs.Cuts.{IsPieceCut};
+ghost use Rattle.edit_entries.specs.EditList.{edit_of};
+ghost use Rattle.edit_strings.specs.Expanded.{elements, laid_out};
+ghost use Rattle.edit_strings.specs.Tables.{AreAllFieldsCut, IsFieldCut, entry_edits, field_edits, lent_pieces, value_edits};
+ghost use Rattle.edit_accents.specs.Accents.{with_characters};
+ghost use Rattle.edit_accents.specs.Pieces.{new_texts, piece_text, with_text};
+ghost use Rattle.edit_accents.specs.Recoded as spec;
 ghost use Rattle.edit_accents.specs.Recoded.{IsRecoded};
 
 use crate::decoding::decoded;
@@ -17,7 +28,9 @@ use edit_strings::elements::laid_out;
 use std::alloc::{AllocError, Global};
 
 // Returns whether a text contains a backslash.
-fn has_command(text: &str) -> bool {
+fn has_command(text: &str) -> bool
+    ensures { result ≡ spec.has_command text.now }
+{
     'bytes: for byte in text.as_bytes() {
         if *byte == b'\\' {
             return true;
@@ -27,14 +40,18 @@ fn has_command(text: &str) -> bool {
 }
 
 // Returns a text with its commands for accents and letters as characters.
-fn with_characters(alloc: Global, text: &str) -> Result<String, AllocError> {
+fn with_characters(alloc: Global, text: &str) -> Result<String, AllocError>
+    ensures { IfOk result (λ new. string_bytes new ≡ encode_utf8_all (with_characters (chars text.now))) }
+{
     let cut = signs(alloc, text)?;
     let made = decoded(alloc, &cut)?;
     written(alloc, &made)
 }
 
 // Returns the text of a literal with its commands for accents and letters as characters.
-fn text_recoded(alloc: Global, text: &str) -> Result<String, AllocError> {
+fn text_recoded(alloc: Global, text: &str) -> Result<String, AllocError>
+    ensures { IfOk result (λ new. string_bytes new ≡ spec.text_recoded text.now) }
+{
     if has_command(text) {
         with_characters(alloc, text)
     } else {
@@ -43,10 +60,12 @@ fn text_recoded(alloc: Global, text: &str) -> Result<String, AllocError> {
 }
 
 // Returns the new text of a piece.
-fn new_text(alloc: Global, piece: &RawChunk<'_>) -> Result<String, AllocError> {
-    match piece {
-        RawChunk::Normal(text) => text_recoded(alloc, *text),
-        RawChunk::Abbreviation(name) => String::from_str(alloc, *name),
+fn new_text(alloc: Global, piece: &Spanned<RawChunk<'_>>) -> Result<String, AllocError>
+    ensures { IfOk result (λ new. string_bytes new ≡ piece_text (spec.piece_recoded (piece_of piece.now))) }
+{
+    match piece.v {
+        RawChunk::Normal(text) => text_recoded(alloc, text),
+        RawChunk::Abbreviation(name) => String::from_str(alloc, name),
     }
 }
 
@@ -54,16 +73,20 @@ fn new_text(alloc: Global, piece: &RawChunk<'_>) -> Result<String, AllocError> {
 fn new_texts(
     alloc: Global,
     pieces: &[Spanned<RawChunk<'_>>],
-) -> Result<Vec<String>, AllocError> {
+) -> Result<Vec<String>, AllocError>
+    ensures { IfOk result (λ texts. map string_bytes texts.items ≡ new_texts (map piece_of pieces.now)) }
+{
     let mut texts = Vec::with_capacity(alloc, pieces.len())?;
     'pieces: for piece in pieces {
-        texts.push(new_text(alloc, &piece.v)?)?;
+        texts.push(new_text(alloc, piece)?)?;
     }
     Ok(texts)
 }
 
 // Returns a piece with a new text.
-fn with_text<'n>(piece: &Spanned<RawChunk<'_>>, text: &'n str) -> Spanned<RawChunk<'n>> {
+fn with_text<'n>(piece: &Spanned<RawChunk<'_>>, text: &'n str) -> Spanned<RawChunk<'n>>
+    ensures { piece_of result ≡ with_text (piece_of piece.now) text.now }
+{
     let v = match piece.v {
         RawChunk::Normal(_) => RawChunk::Normal(text),
         RawChunk::Abbreviation(_) => RawChunk::Abbreviation(text),
@@ -75,7 +98,9 @@ fn with_text<'n>(piece: &Spanned<RawChunk<'_>>, text: &'n str) -> Spanned<RawChu
 }
 
 // Returns whether a piece has another text than this.
-fn differs(piece: &Spanned<RawChunk<'_>>, text: &str) -> bool {
+fn differs(piece: &Spanned<RawChunk<'_>>, text: &str) -> bool
+    ensures { text.now ≡ piece_text (spec.piece_recoded (piece_of piece.now)) → result ≡ spec.changes_piece (piece_of piece.now) }
+{
     match piece.v {
         RawChunk::Normal(old) => old != text,
         RawChunk::Abbreviation(_) => false,
@@ -83,7 +108,10 @@ fn differs(piece: &Spanned<RawChunk<'_>>, text: &str) -> bool {
 }
 
 // Returns whether a piece has another text than the new one.
-fn any_differs(pieces: &[Spanned<RawChunk<'_>>], texts: &[String]) -> bool {
+fn any_differs(pieces: &[Spanned<RawChunk<'_>>], texts: &[String]) -> bool
+    requires { map string_bytes texts.now ≡ new_texts (map piece_of pieces.now) }
+    ensures { result ≡ list_any spec.changes_piece (map piece_of pieces.now) }
+{
     'pieces: for (at, piece) in pieces.iter().enumerate() {
         if differs(piece, &texts[at]) {
             return true;
@@ -97,7 +125,10 @@ fn new_pieces<'n>(
     alloc: Global,
     pieces: &[Spanned<RawChunk<'_>>],
     texts: &'n [String],
-) -> Result<Vec<Spanned<RawChunk<'n>>>, AllocError> {
+) -> Result<Vec<Spanned<RawChunk<'n>>>, AllocError>
+    requires { map string_bytes texts.now ≡ new_texts (map piece_of pieces.now) }
+    ensures { IfOk result (λ new. map piece_of new.items ≡ map spec.piece_recoded (map piece_of pieces.now)) }
+{
     let mut new = Vec::with_capacity(alloc, pieces.len())?;
     'pieces: for (at, piece) in pieces.iter().enumerate() {
         new.push(with_text(piece, &texts[at]))?;
@@ -109,7 +140,9 @@ fn new_pieces<'n>(
 fn lent<'p, 's>(
     alloc: Global,
     pieces: &'p [Spanned<RawChunk<'s>>],
-) -> Result<Vec<&'p Spanned<RawChunk<'s>>>, AllocError> {
+) -> Result<Vec<&'p Spanned<RawChunk<'s>>>, AllocError>
+    ensures { IfOk result (λ lent. lent_pieces lent.items ≡ map piece_of pieces.now) }
+{
     let mut lent = Vec::with_capacity(alloc, pieces.len())?;
     'pieces: for piece in pieces {
         lent.push(piece)?;
@@ -117,14 +150,40 @@ fn lent<'p, 's>(
     Ok(lent)
 }
 
+// Returns whether the value of a field may change: whether the field isn't verbatim.
+fn is_open(alloc: Global, field: &Pair<'_>) -> Result<bool, AllocError>
+    ensures { IfOk result (λ b. b ≡ spec.is_open (field_of field.now)) }
+{
+    let name = field.key.v.to_ascii_lowercase(alloc)?;
+    Ok(!is_verbatim_field(&name))
+}
+
+// Returns the new bytes of a value with these pieces.
+fn value_text(
+    alloc: Global,
+    text: &str,
+    pieces: &[Spanned<RawChunk<'_>>],
+    texts: &[String],
+) -> Result<String, AllocError>
+    requires cut { AllByRecursion (IsPieceCut text.now) (map piece_of pieces.now) }
+    requires texts { map string_bytes texts.now ≡ new_texts (map piece_of pieces.now) }
+    ensures { IfOk result (λ new. string_bytes new ≡ laid_out text.now (map spec.piece_recoded (map piece_of pieces.now))) }
+{
+    let new = new_pieces(alloc, pieces, texts)?;
+    let lent = lent(alloc, &new)?;
+    laid_out(alloc, text, &lent)
+}
+
 // Returns the new bytes of a value, if they change.
 fn new_value(
     alloc: Global,
     text: &str,
     field: &Pair<'_>,
-) -> Result<Option<String>, AllocError> {
-    let name = field.key.v.to_ascii_lowercase(alloc)?;
-    if is_verbatim_field(&name) {
+) -> Result<Option<String>, AllocError>
+    requires { AllByRecursion (IsPieceCut text.now) (elements (field_of field.now)) }
+    ensures { IfOk result (λ new. option_map string_bytes new ≡ option_map (λ n. n.bytes) (spec.recoding text.now (field_of field.now))) }
+{
+    if !is_open(alloc, field)? {
         return Ok(None);
     }
     let pieces = &field.value.v;
@@ -132,8 +191,7 @@ fn new_value(
     if !any_differs(pieces, &texts) {
         return Ok(None);
     }
-    let new = new_pieces(alloc, pieces, &texts)?;
-    Ok(Some(laid_out(alloc, text, &lent(alloc, &new)?)?))
+    Ok(Some(value_text(alloc, text, pieces, &texts)?))
 }
 
 // Appends the edit of a field, if its value changes.
@@ -142,7 +200,11 @@ fn push_edit(
     alloc: Global,
     text: &str,
     field: &Pair<'_>,
-) -> Result<(), AllocError> {
+) -> Result<(), AllocError>
+    requires { IsFieldCut text.now (field_of field.now) }
+    ensures { OnOk result (map edit_of edits.new.items ≡ map edit_of edits.old.items ++
+        value_edits text.now (field_of field.now) (spec.recoding text.now (field_of field.now))) }
+{
     let Some(new) = new_value(alloc, text, field)? else {
         return Ok(());
     };
@@ -160,7 +222,11 @@ fn push_edits(
     alloc: Global,
     text: &str,
     fields: &[Pair<'_>],
-) -> Result<(), AllocError> {
+) -> Result<(), AllocError>
+    requires { AllByRecursion (IsFieldCut text.now) (map field_of fields.now) }
+    ensures { OnOk result (map edit_of edits.new.items ≡ map edit_of edits.old.items ++
+        field_edits (spec.recoding text.now) text.now (map field_of fields.now)) }
+{
     'fields: for field in fields {
         push_edit(edits, alloc, text, field)?;
     }
@@ -172,7 +238,10 @@ fn edits(
     alloc: Global,
     text: &str,
     entries: &[Spanned<RawEntry<'_>>],
-) -> Result<Vec<Edit>, AllocError> {
+) -> Result<Vec<Edit>, AllocError>
+    requires { AreAllFieldsCut text.now (map entry_reading_of entries.now) }
+    ensures { IfOk result (λ edits. map edit_of edits.items ≡ entry_edits (spec.recoding text.now) text.now (map entry_reading_of entries.now)) }
+{
     let mut edits = Vec::new(alloc);
     'entries: for entry in entries {
         push_edits(&mut edits, alloc, text, &entry.v.fields)?;

@@ -1,6 +1,11 @@
 //! The text of signs.
 
-ghost use Rattle.std.specs.Prelude.{◌≡◌, ◌++◌, List, IfOk, OnOk};
+ghost use Rattle.std.specs.Prelude.{◌≡◌, ◌∷◌, [], IfOk, OnOk, encode_utf8_all};
+ghost use Rattle.std.specs.String.{string_bytes};
+ghost use Rattle.bib_chunks.specs.Writing.{Writes};
+ghost use Rattle.bib_text.specs.Characters as char;
+ghost use Rattle.edit_accents.specs.declared.signs.Sign.TheVariants.{Grouped};
+ghost use Rattle.edit_accents.specs.declared.writing.Spot.TheVariants.{Free};
 ghost use Rattle.edit_accents.specs.Accents as spec;
 
 use crate::commands::is_accent_sign;
@@ -60,6 +65,7 @@ fn spot_after(spot: Spot, sign: Sign) -> Spot
 
 // Appends a character in braces.
 fn push_grouped(text: &mut String, c: char) -> Result<(), AllocError>
+    ensures { OnOk result (Writes text.old text.new (char.open_brace ∷ c ∷ char.close_brace ∷ [])) }
 {
     text.push('{')?;
     text.push(c)?;
@@ -67,33 +73,46 @@ fn push_grouped(text: &mut String, c: char) -> Result<(), AllocError>
     Ok(())
 }
 
+// Appends a composed character at a spot.
+fn push_composed(text: &mut String, spot: Spot, c: char) -> Result<(), AllocError>
+    ensures { OnOk result (Writes text.old text.new (spec.composed_text spot c)) }
+{
+    if spot == Spot::Word {
+        text.push(' ')?;
+    }
+    text.push(c)?;
+    Ok(())
+}
+
+// Appends a grouped character at a spot.
+fn push_group(text: &mut String, spot: Spot, c: char) -> Result<(), AllocError>
+    ensures { OnOk result (Writes text.old text.new (spec.sign_text spot (Grouped c))) }
+{
+    if spot != Spot::Free {
+        return push_grouped(text, c);
+    }
+    text.push(c)?;
+    Ok(())
+}
+
 // Appends the text of a sign at a spot.
 fn push_sign(text: &mut String, spot: Spot, sign: Sign) -> Result<(), AllocError>
+    ensures { OnOk result (Writes text.old text.new (spec.sign_text spot sign)) }
 {
     match sign {
         Sign::Command => text.push('\\')?,
         Sign::Opening => text.push('{')?,
         Sign::Closing => text.push('}')?,
         Sign::Plain(c) => text.push(c)?,
-        Sign::Composed(c) => {
-            if spot == Spot::Word {
-                text.push(' ')?;
-            }
-            text.push(c)?;
-        }
-        Sign::Grouped(c) => {
-            if spot == Spot::Free {
-                text.push(c)?;
-            } else {
-                push_grouped(text, c)?;
-            }
-        }
+        Sign::Composed(c) => push_composed(text, spot, c)?,
+        Sign::Grouped(c) => push_group(text, spot, c)?,
     }
     Ok(())
 }
 
 /// Returns the text of signs. The only error is out of memory.
 pub(crate) fn written(alloc: Global, signs: &[Sign]) -> Result<String, AllocError>
+    ensures { IfOk result (λ text. string_bytes text ≡ encode_utf8_all (spec.written Free signs.now)) }
 {
     let mut text = String::new(alloc);
     let mut spot = Spot::Free;
