@@ -1,6 +1,6 @@
 -- Meaning: words of public contracts.
 -- The text of a file with LaTeX commands for accents and letters as characters: the changes of its fields.
-use Rattle.std.specs.Prelude.{◌==◌, ◌&&◌, ℕ, Bool, not, if◌then◌else◌, List, map, bytes_eq, Some, None, encode_utf8_all}
+use Rattle.std.specs.Prelude.{◌==◌, ◌&&◌, ℕ, Bool, false, not, if◌then◌else◌, List, map, bytes_eq, Some, None, encode_utf8_all}
 use Rattle.std.specs.List.{list_any}
 use Rattle.std.specs.Str.{chars, str_to_ascii_lowercase}
 use Rattle.bib_syntax.specs.Reading.{Piece, FieldReading}

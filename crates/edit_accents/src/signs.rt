@@ -1,6 +1,6 @@
 //! Signs, into which a text is cut.
 
-ghost use Rattle.std.specs.Prelude.{◌≡◌, ◌<◌, ◌^◌, ℕ, false, List, IfOk};
+ghost use Rattle.std.specs.Prelude.{◌≡◌, ◌+◌, ◌<◌, ◌≤◌, ◌^◌, ℕ, false, List, IfOk};
 ghost use Rattle.std.specs.Str.{chars};
 ghost use Rattle.edit_accents.specs.Accents as spec;
 ghost use Rattle.edit_accents.specs.Balance.{open_count};
@@ -64,7 +64,8 @@ fn sign_of(stretch: Stretch, c: char) -> Sign
 
 // Returns the stretch after a closing brace in an address with so many open braces.
 fn address_closed(depth: usize) -> Stretch
-    ensures { result ≡ spec.address_closed depth }
+    ensures closed { result ≡ spec.address_closed depth }
+    ensures count { open_count result ≤ depth }
 {
     if depth > 1 {
         Stretch::Address(depth - 1)
@@ -75,7 +76,8 @@ fn address_closed(depth: usize) -> Stretch
 
 // Returns the stretch after a character of text.
 fn after_text(c: char, rest: &[char]) -> Stretch
-    ensures { result ≡ spec.stretch_after Text c rest.now }
+    ensures after { result ≡ spec.stretch_after Text c rest.now }
+    ensures count { open_count result ≡ 0 }
 {
     if c == '$' {
         return Stretch::Math;
@@ -89,7 +91,8 @@ fn after_text(c: char, rest: &[char]) -> Stretch
 // Returns the stretch after a character of an address with so many open braces.
 fn after_address(depth: usize, c: char) -> Stretch
     requires { depth < 2 ^ 63 }
-    ensures { (rest : List ℕ) → result ≡ spec.stretch_after (Address depth) c rest }
+    ensures after { (rest : List ℕ) → result ≡ spec.stretch_after (Address depth) c rest }
+    ensures count { open_count result ≤ depth + 1 }
 {
     if c == '{' {
         return Stretch::Address(depth + 1);
@@ -104,6 +107,7 @@ fn after_address(depth: usize, c: char) -> Stretch
 fn stretch_after(stretch: Stretch, c: char, rest: &[char]) -> Stretch
     requires { open_count stretch < 2 ^ 63 }
     ensures after { result ≡ spec.stretch_after stretch c rest.now }
+    ensures count { open_count result ≤ open_count stretch + 1 }
 {
     match stretch {
         Stretch::Text => after_text(c, rest),
