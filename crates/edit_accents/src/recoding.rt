@@ -1,6 +1,6 @@
 //! Recodes the values of entries.
 
-ghost use Rattle.std.specs.Prelude.{◌≡◌, ◌++◌, IfOk, OnOk, encode_utf8_all, map};
+ghost use Rattle.std.specs.Prelude.{◌≡◌, ◌++◌, ◌<◌, IfOk, OnOk, encode_utf8_all, length, map, slice_index_or};
 ghost use Rattle.std.specs.List.{AllByRecursion, list_any};
 ghost use Rattle.std.specs.Option.{option_map};
 ghost use Rattle.std.specs.Str.{chars};
@@ -107,15 +107,26 @@ fn differs(piece: &Spanned<RawChunk<'_>>, text: &str) -> bool
     }
 }
 
+// Returns the piece at an index.
+fn piece_at<'p, 's>(pieces: &'p [Spanned<RawChunk<'s>>], at: usize) -> &'p Spanned<RawChunk<'s>>
+    requires { at < length pieces.now }
+    ensures { result.now ≡ slice_index_or pieces.now at result.now }
+{
+    &pieces[at]
+}
+
 // Returns whether a piece has another text than the new one.
 fn any_differs(pieces: &[Spanned<RawChunk<'_>>], texts: &[String]) -> bool
     requires { map string_bytes texts.now ≡ new_texts (map piece_of pieces.now) }
     ensures { result ≡ list_any spec.changes_piece (map piece_of pieces.now) }
 {
-    'pieces: for (at, piece) in pieces.iter().enumerate() {
+    let mut at = 0usize;
+    'pieces: while at < pieces.len() {
+        let piece = piece_at(pieces, at);
         if differs(piece, &texts[at]) {
             return true;
         }
+        at += 1;
     }
     false
 }
@@ -130,8 +141,11 @@ fn new_pieces<'n>(
     ensures { IfOk result (λ new. map piece_of new.items ≡ map spec.piece_recoded (map piece_of pieces.now)) }
 {
     let mut new = Vec::with_capacity(alloc, pieces.len())?;
-    'pieces: for (at, piece) in pieces.iter().enumerate() {
+    let mut at = 0usize;
+    'pieces: while at < pieces.len() {
+        let piece = piece_at(pieces, at);
         new.push(with_text(piece, &texts[at]))?;
+        at += 1;
     }
     Ok(new)
 }

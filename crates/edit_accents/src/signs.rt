@@ -117,11 +117,22 @@ fn stretch_after(stretch: Stretch, c: char, rest: &[char]) -> Stretch
     }
 }
 
+// Returns the characters of a text.
+fn characters(alloc: Global, text: &str) -> Result<Vec<char>, AllocError>
+    ensures { IfOk result (λ cs. cs.items ≡ chars text.now) }
+{
+    let mut cs = Vec::with_capacity(alloc, text.len())?;
+    'characters: for c in text.chars() {
+        cs.push(c)?;
+    }
+    Ok(cs)
+}
+
 /// Returns the signs of a text. The only error is out of memory.
 pub(crate) fn signs(alloc: Global, text: &str) -> Result<Vec<Sign>, AllocError>
     ensures { IfOk result (λ made. made.items ≡ spec.signs Text false (chars text.now)) }
 {
-    let cs: Vec<char> = text.chars().collect(alloc)?;
+    let cs = characters(alloc, text)?;
     let mut signs = Vec::with_capacity(alloc, cs.len())?;
     let mut stretch = Stretch::Text;
     let mut is_escaped = false;
