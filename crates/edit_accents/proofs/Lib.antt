@@ -1,3 +1,6 @@
+pub mod FitFacts
+pub mod GrammarFacts
 pub mod NameFacts
 pub mod PieceFacts
+pub mod ReducedFacts
 pub mod SignFacts

@@ -2,7 +2,7 @@
 use Rattle.std.proofs.Common.{◌≡◌, ℕ, ◌+◌, ◌<◌, Bool, true, false, List, [], ◌∷◌, ◌++◌, length, drop, take, map, get_or, refl, sym, ap, ◌∙◌, subst, arith, codes}
 use Rattle.std.specs.Prelude.{◌||◌, String}
 use Rattle.std.specs.Global.{Global}
-use Rattle.std.specs.List.{list_any}
+use Rattle.std.specs.List.{AllByRecursion, list_any}
 use Rattle.std.specs.String.{string_bytes}
 use Rattle.std.proofs.lemmas.List.{drop_more, drop-map, length-map, map-append, take_more}
 use Rattle.bib_syntax.specs.Reading.{Piece}
@@ -10,6 +10,7 @@ use Rattle.bib_syntax.specs.Reading.Piece.{literal, abbreviation}
 use Rattle.bib_syntax.specs.Views.{piece_of}
 use Rattle.bib_syntax.specs.declared.raw.RawChunk.{RawChunk}
 use Rattle.bib_text.specs.declared.spanned.Spanned.{Spanned}
+use Rattle.edit_entries.specs.Cuts.{IsPieceCut}
 use Rattle.edit_accents.specs.Pieces.{new_texts, piece_text, with_text}
 use Rattle.edit_accents.specs.Recoded.{changes_piece, piece_recoded}
 
@@ -73,3 +74,10 @@ recoded_more pieces i p within p_is old new made so_far pushed is =
     (ap (λ l. map piece_recoded (map piece_of l)) one_more
     ∙ ap (map piece_recoded) (map-append piece_of (take i pieces) (p ∷ []))
     ∙ map-append piece_recoded (map piece_of (take i pieces)) (piece_of p ∷ []))
+
+-- literals that begin at character boundaries still do when they are recoded
+pub recoded_cut : (text : List ℕ) (pieces : List Piece) → AllByRecursion (IsPieceCut text) pieces
+    → AllByRecursion (IsPieceCut text) (map piece_recoded pieces)
+recoded_cut text [] cut = tt
+recoded_cut text (literal p ∷ rest) cut = (cut.0, recoded_cut text rest cut.1)
+recoded_cut text (abbreviation p ∷ rest) cut = (tt, recoded_cut text rest cut.1)
