@@ -33,7 +33,7 @@ use Rattle.edit_strings.specs.Expanded.{laid_out}
 use Rattle.edit_strings.proofs.ElementFacts.{IsElement, IsSome}
 use Rattle.edit_strings.proofs.StandingFacts.{element_written}
 use Rattle.edit_accents.specs.Accents.{decoded, signs, with_characters}
-use Rattle.edit_accents.specs.Balance.{fits}
+use Rattle.edit_accents.specs.Balance.{text_fits}
 use Rattle.edit_accents.specs.Recoded.{has_command, piece_recoded, text_recoded}
 use Rattle.edit_accents.specs.declared.signs.Stretch.TheVariants.{Text}
 use Rattle.edit_accents.specs.declared.writing.Spot.TheVariants.{Free}
@@ -47,22 +47,22 @@ use Rattle.edit_accents.proofs.ReducedFacts.{decoded_fit}
 record IsRecodedBy (q : Bool) (old : List ℕ) : Type 0 where
   characters : List ℕ
   spelt : text_recoded old ≡ encode_utf8_all characters
-  fits : fits q false 0 characters ≡ true
+  balanced : text_fits q false 0 characters ≡ true
 
 same_text : (old : List ℕ) → has_command old ≡ false → text_recoded old ≡ old
 same_text old none = ap (λ b. cond b (encode_utf8_all (with_characters (chars old))) old) none
 
-recoded_by : (q : Bool) (old : List ℕ) → IsUtf8 old → fits q false 0 (chars old) ≡ true → IsRecodedBy q old
+recoded_by : (q : Bool) (old : List ℕ) → IsUtf8 old → text_fits q false 0 (chars old) ≡ true → IsRecodedBy q old
 recoded_by q old utf8 fit = by_command (has_command old) refl
   where
     by_command : (b : Bool) → has_command old ≡ b → IsRecodedBy q old
     by_command true some = record {
       characters = with_characters (chars old);
       spelt = ap (λ b. cond b (encode_utf8_all (with_characters (chars old))) old) some;
-      fits = written_fits q false 0 Free (decoded (signs Text false (chars old)))
+      balanced = written_fits q false 0 Free (decoded (signs Text false (chars old)))
           (decoded_fit q false 0 (signs Text false (chars old)) (signs_fit q false 0 Text (chars old) fit));
     }
-    by_command false none = record { characters = chars old; spelt = same_text old none ∙ sym (encodes-chars old utf8); fits = fit }
+    by_command false none = record { characters = chars old; spelt = same_text old none ∙ sym (encodes-chars old utf8); balanced = fit }
 
 -- ---- numbers have no commands
 
@@ -165,7 +165,7 @@ braced_read {a} {b} {u} {v} {p} x within utf8 s =
             inside = one;
             following = two;
             opens = ascii 123 (omega arith) (first_part (123 ∷ []) (new ++ 125 ∷ []) s0);
-            parts = parts_stand t.characters inner t.fits;
+            parts = parts_stand t.characters inner t.balanced;
             closes = ascii 125 (omega arith) (last_part new (125 ∷ []) s1);
             reading = refl;
           });
@@ -212,7 +212,7 @@ quoted_read {a} {b} {u} {v} {p} x within utf8 s =
             inside = one;
             following = two;
             opens = ascii 34 (omega arith) (first_part (34 ∷ []) (new ++ 34 ∷ []) s0);
-            parts = quoted_stand t.characters inner t.fits;
+            parts = quoted_stand t.characters inner t.balanced;
             closes = ascii 34 (omega arith) (last_part new (34 ∷ []) s1);
             reading = refl;
           });

@@ -18,7 +18,7 @@ use Rattle.bib_syntax.proofs.FieldFacts.{ahead_parts, ahead_quoted_parts}
 use Rattle.edit_entries.proofs.ElementFacts.{char_parted, parted}
 use Rattle.edit_entries.proofs.StandsFacts.{Stands, char_stands, first_part, last_part, nothing, past}
 use Rattle.edit_format.proofs.NameFacts.{none_between}
-use Rattle.edit_accents.specs.Balance.{can_close, closed, fits, opened}
+use Rattle.edit_accents.specs.Balance.{can_close, depth_closed, text_fits, depth_opened}
 use Rattle.edit_accents.proofs.FitFacts.{IsDull, back_again, close_opened, over_dull}
 
 -- ---- the characters of a literal
@@ -27,10 +27,10 @@ plain_is : {c : ℕ} (d : ℕ) → is_plain c ≡ true → is_plain d ≡ false 
 plain_is d passes fails same = test_clash (is_plain d) (subst (λ x. is_plain x ≡ true) same passes) fails
 
 -- characters in braces: a quote has no meaning there
-over_plain : (d c : ℕ) (cs : List ℕ) → is_plain c ≡ true → fits false false d (c ∷ cs) ≡ fits false false d cs
+over_plain : (d c : ℕ) (cs : List ℕ) → is_plain c ≡ true → text_fits false false d (c ∷ cs) ≡ text_fits false false d cs
 over_plain d c cs plain =
     elim (cases_eq c 34) [
-      | inl quote ↦ subst (λ x. fits false false d (x ∷ cs) ≡ fits false false d cs) (sym quote) refl
+      | inl quote ↦ subst (λ x. text_fits false false d (x ∷ cs) ≡ text_fits false false d cs) (sym quote) refl
       | inr no_quote ↦ over_dull false d c cs
           (record {
             no_slash = plain_is 92 plain refl;
@@ -40,10 +40,10 @@ over_plain d c cs plain =
           })
     ]
 
-over_pair : (d : ℕ) (cs : List ℕ) → fits false false (suc d) (125 ∷ cs) ≡ fits false false d cs
+over_pair : (d : ℕ) (cs : List ℕ) → text_fits false false (suc d) (125 ∷ cs) ≡ text_fits false false d cs
 over_pair d cs =
     let less : suc d - 1 ≡ d = omega arith in
-    ap (λ b. b && fits false false (suc d - 1) cs) (lt-ltb 0 (suc d) (omega arith)) ∙ ap (λ n. fits false false n cs) less
+    ap (λ b. b && text_fits false false (suc d - 1) cs) (lt-ltb 0 (suc d) (omega arith)) ∙ ap (λ n. text_fits false false n cs) less
 
 -- the characters between two places
 record HasCharacters (u v : Place) (skips : List ℕ → Type 0) : Type 0 where
@@ -53,7 +53,7 @@ record HasCharacters (u v : Place) (skips : List ℕ → Type 0) : Type 0 where
 
 -- characters that balance before any others
 abbrev Balance : List ℕ → Type 0
-Balance cs = (d : ℕ) (more : List ℕ) → fits false false d (cs ++ more) ≡ fits false false d more
+Balance cs = (d : ℕ) (more : List ℕ) → text_fits false false d (cs ++ more) ≡ text_fits false false d more
 
 spelt_more : (u v w : Place) (c : ℕ) (cs : List ℕ) → between u w ≡ encode_utf8 c ++ between v w → between v w ≡ encode_utf8_all cs
     → between u w ≡ encode_utf8_all (c ∷ cs)
@@ -98,25 +98,25 @@ parts_characters {u} {v} (parts.nested {v = w} {w = x} {x = y} opens inner close
       spelt = spelt_more u w v 123 (inside.characters ++ 125 ∷ others.characters)
           (char_parted opens (ahead_then (ahead_parts inner) from_close) within) from_inner;
       skipped = λ d more.
-          ap (fits false false (suc d)) (append_assoc inside.characters (125 ∷ others.characters) more)
+          ap (text_fits false false (suc d)) (append_assoc inside.characters (125 ∷ others.characters) more)
           ∙ inside.skipped (suc d) (125 ∷ (others.characters ++ more)) ∙ over_pair d (others.characters ++ more)
           ∙ others.skipped d more;
     }
 
 -- characters in quotes
 abbrev Unquoted : List ℕ → Type 0
-Unquoted cs = fits true false 0 cs ≡ true
+Unquoted cs = text_fits true false 0 cs ≡ true
 
 unquoted_is : {c : ℕ} (d : ℕ) → not (c == 34) && not (c == 92) ≡ true → not (d == 34) && not (d == 92) ≡ false → c ≡ d → ⊥
 unquoted_is d passes fails same =
     test_clash (not (d == 34) && not (d == 92)) (subst (λ x. not (x == 34) && not (x == 92) ≡ true) same passes) fails
 
-over_unquoted : (c : ℕ) (cs : List ℕ) → not (c == 34) && not (c == 92) ≡ true → fits true false 0 (c ∷ cs) ≡ fits true false 0 cs
+over_unquoted : (c : ℕ) (cs : List ℕ) → not (c == 34) && not (c == 92) ≡ true → text_fits true false 0 (c ∷ cs) ≡ text_fits true false 0 cs
 over_unquoted c cs passes =
     elim (cases_eq c 123) [
-      | inl opens ↦ subst (λ x. fits true false 0 (x ∷ cs) ≡ fits true false 0 cs) (sym opens) refl
+      | inl opens ↦ subst (λ x. text_fits true false 0 (x ∷ cs) ≡ text_fits true false 0 cs) (sym opens) refl
       | inr no_open ↦ elim (cases_eq c 125) [
-        | inl closes ↦ subst (λ x. fits true false 0 (x ∷ cs) ≡ fits true false 0 cs) (sym closes) refl
+        | inl closes ↦ subst (λ x. text_fits true false 0 (x ∷ cs) ≡ text_fits true false 0 cs) (sym closes) refl
         | inr no_close ↦ over_dull true 0 c cs
             (record {
               no_slash = unquoted_is 92 passes refl;
@@ -149,17 +149,18 @@ quoted_characters {u} {v} (quotes.hidden {v = w} {w = x} {c = c} slash char rest
     }
 
 -- the characters of a braced and of a quoted literal
-pub parts_fit : {u v : Place} → Parts u v → v.at ≤ length u.text → IsUtf8 (between u v) → fits false false 0 (chars (between u v)) ≡ true
+pub parts_fit : {u v : Place} → Parts u v → v.at ≤ length u.text → IsUtf8 (between u v)
+    → text_fits false false 0 (chars (between u v)) ≡ true
 parts_fit {u} {v} x within utf8 =
     let found = parts_characters x within in
-    ap (fits false false 0) (chars_whole found.characters (between u v) utf8 found.spelt)
-    ∙ ap (fits false false 0) (sym (append-nil found.characters)) ∙ found.skipped 0 []
+    ap (text_fits false false 0) (chars_whole found.characters (between u v) utf8 found.spelt)
+    ∙ ap (text_fits false false 0) (sym (append-nil found.characters)) ∙ found.skipped 0 []
 
 pub quoted_fit : {u v : Place} → QuotedParts u v → v.at ≤ length u.text → IsUtf8 (between u v)
-    → fits true false 0 (chars (between u v)) ≡ true
+    → text_fits true false 0 (chars (between u v)) ≡ true
 quoted_fit {u} {v} x within utf8 =
     let found = quoted_characters x within in
-    ap (fits true false 0) (chars_whole found.characters (between u v) utf8 found.spelt) ∙ found.skipped
+    ap (text_fits true false 0) (chars_whole found.characters (between u v) utf8 found.spelt) ∙ found.skipped
 
 -- ---- other characters in braces
 
@@ -175,7 +176,7 @@ open_before : {n : ℕ} {u v w : Place} → CharAt u 123 v → ClosesOpen (suc n
 open_before opens (level inner close (last rest)) = last (parts.nested opens inner close rest)
 open_before opens (level inner close (level rest close' more)) = level (parts.nested opens inner close rest) close' more
 
-nothing_open : (d : ℕ) (u : Place) → fits false false d [] ≡ true → ClosesOpen d u u
+nothing_open : (d : ℕ) (u : Place) → text_fits false false d [] ≡ true → ClosesOpen d u u
 nothing_open zero u is = last parts.none
 nothing_open (suc d) u is = absurd (test_clash (suc d == 0) is (ne_eqb (suc d) 0 (λ same. omega (arith, same))))
 
@@ -184,8 +185,8 @@ is_plain_from c no_open no_close no_slash =
     ap (λ x. not x && not (c == 125) && not (c == 92)) (ne_eqb c 123 no_open)
     ∙ ap (λ x. not x && not (c == 92)) (ne_eqb c 125 no_close) ∙ ap not (ne_eqb c 92 no_slash)
 
-close_before : (d : ℕ) (cs : List ℕ) {u v w : Place} → CharAt u 125 v → fits false false d (125 ∷ cs) ≡ true
-    → ((n : ℕ) → fits false false n cs ≡ true → ClosesOpen n v w) → ClosesOpen d u w
+close_before : (d : ℕ) (cs : List ℕ) {u v w : Place} → CharAt u 125 v → text_fits false false d (125 ∷ cs) ≡ true
+    → ((n : ℕ) → text_fits false false n cs ≡ true → ClosesOpen n v w) → ClosesOpen d u w
 close_before zero cs close on others = absurd (cc)
 close_before (suc n) cs close on others = level parts.none close (others n (sym (over_pair n cs) ∙ on))
 
@@ -195,7 +196,7 @@ ClosesFrom false d u v = ClosesOpen d u v
 ClosesFrom true d u v = (t : Place) → CharAt t 92 u → ClosesOpen d t v
 
 -- characters that stand between two places close the open braces
-closes_stands : (h : Bool) (d : ℕ) (cs : List ℕ) (u v : Place) → Stands u (encode_utf8_all cs) v → fits false h d cs ≡ true
+closes_stands : (h : Bool) (d : ℕ) (cs : List ℕ) (u v : Place) → Stands u (encode_utf8_all cs) v → text_fits false h d cs ≡ true
     → ClosesFrom h d u v
 closes_stands false d [] u v s is = subst (λ p. ClosesOpen d u p) (nothing s) (nothing_open d u is)
 closes_stands true d [] u v s is = absurd (cc)
@@ -207,14 +208,14 @@ closes_stands false d (c ∷ cs) u v s is =
     let char : CharAt u c w = char_stands c (first_part (encode_utf8 c) (encode_utf8_all cs) s) in
     let rest : Stands w (encode_utf8_all cs) v = last_part (encode_utf8 c) (encode_utf8_all cs) s in
     elim (cases_eq c 92) [
-      | inl slash ↦ closes_stands true d cs w v rest (subst (λ x. fits false false d (x ∷ cs) ≡ true) slash is) u
+      | inl slash ↦ closes_stands true d cs w v rest (subst (λ x. text_fits false false d (x ∷ cs) ≡ true) slash is) u
           (subst (λ x. CharAt u x w) slash char)
       | inr no_slash ↦ elim (cases_eq c 123) [
         | inl opens ↦ open_before (subst (λ x. CharAt u x w) opens char)
-            (closes_stands false (suc d) cs w v rest (subst (λ x. fits false false d (x ∷ cs) ≡ true) opens is))
+            (closes_stands false (suc d) cs w v rest (subst (λ x. text_fits false false d (x ∷ cs) ≡ true) opens is))
         | inr no_open ↦ elim (cases_eq c 125) [
           | inl closes ↦ close_before d cs (subst (λ x. CharAt u x w) closes char)
-              (subst (λ x. fits false false d (x ∷ cs) ≡ true) closes is) (λ n fit. closes_stands false n cs w v rest fit)
+              (subst (λ x. text_fits false false d (x ∷ cs) ≡ true) closes is) (λ n fit. closes_stands false n cs w v rest fit)
           | inr no_close ↦
               let plain = is_plain_from c no_open no_close no_slash in
               plain_before char plain (closes_stands false d cs w v rest (sym (over_plain d c cs plain) ∙ is))
@@ -222,7 +223,7 @@ closes_stands false d (c ∷ cs) u v s is =
       ]
     ]
 
-pub parts_stand : (cs : List ℕ) {u v : Place} → Stands u (encode_utf8_all cs) v → fits false false 0 cs ≡ true → Parts u v
+pub parts_stand : (cs : List ℕ) {u v : Place} → Stands u (encode_utf8_all cs) v → text_fits false false 0 cs ≡ true → Parts u v
 parts_stand cs {u} {v} s is = all_closed (closes_stands false 0 cs u v s is)
   where
     all_closed : {u v : Place} → ClosesOpen 0 u v → Parts u v
@@ -238,7 +239,7 @@ abbrev QuotedFrom : Bool → Place → Place → Type 0
 QuotedFrom false u v = QuotedParts u v
 QuotedFrom true u v = (t : Place) → CharAt t 92 u → QuotedParts t v
 
-quotes_stand : (h : Bool) (cs : List ℕ) (u v : Place) → Stands u (encode_utf8_all cs) v → fits true h 0 cs ≡ true → QuotedFrom h u v
+quotes_stand : (h : Bool) (cs : List ℕ) (u v : Place) → Stands u (encode_utf8_all cs) v → text_fits true h 0 cs ≡ true → QuotedFrom h u v
 quotes_stand false [] u v s is = subst (λ p. QuotedParts u p) (nothing s) quotes.none
 quotes_stand true [] u v s is = absurd (cc)
 quotes_stand true (c ∷ cs) u v s is = λ t slash.
@@ -249,11 +250,11 @@ quotes_stand false (c ∷ cs) u v s is =
     let char : CharAt u c w = char_stands c (first_part (encode_utf8 c) (encode_utf8_all cs) s) in
     let rest : Stands w (encode_utf8_all cs) v = last_part (encode_utf8 c) (encode_utf8_all cs) s in
     elim (cases_eq c 92) [
-      | inl slash ↦ quotes_stand true cs w v rest (subst (λ x. fits true false 0 (x ∷ cs) ≡ true) slash is) u
+      | inl slash ↦ quotes_stand true cs w v rest (subst (λ x. text_fits true false 0 (x ∷ cs) ≡ true) slash is) u
           (subst (λ x. CharAt u x w) slash char)
       | inr no_slash ↦ elim (cases_eq c 34) [
         | inl quote ↦
-            let bad : fits true false 0 (34 ∷ cs) ≡ true = subst (λ x. fits true false 0 (x ∷ cs) ≡ true) quote is in
+            let bad : text_fits true false 0 (34 ∷ cs) ≡ true = subst (λ x. text_fits true false 0 (x ∷ cs) ≡ true) quote is in
             absurd (cc)
         | inr no_quote ↦
             let passes = unquoted_from c no_quote no_slash in
@@ -261,5 +262,5 @@ quotes_stand false (c ∷ cs) u v s is =
       ]
     ]
 
-pub quoted_stand : (cs : List ℕ) {u v : Place} → Stands u (encode_utf8_all cs) v → fits true false 0 cs ≡ true → QuotedParts u v
+pub quoted_stand : (cs : List ℕ) {u v : Place} → Stands u (encode_utf8_all cs) v → text_fits true false 0 cs ≡ true → QuotedParts u v
 quoted_stand cs {u} {v} s is = quotes_stand false cs u v s is

@@ -11,7 +11,7 @@ use Rattle.bib_syntax.specs.Views.{piece_of}
 use Rattle.bib_syntax.specs.declared.raw.RawChunk.{RawChunk}
 use Rattle.bib_text.specs.declared.spanned.Spanned.{Spanned}
 use Rattle.edit_entries.specs.Cuts.{IsPieceCut}
-use Rattle.edit_accents.specs.Pieces.{new_texts, piece_text, with_text}
+use Rattle.edit_accents.specs.Pieces.{new_texts, text_of_piece, piece_with_text}
 use Rattle.edit_accents.specs.Recoded.{changes_piece, piece_recoded}
 
 first_is : {A : Type 0} {x y : A} {xs ys : List A} → x ∷ xs ≡ y ∷ ys → x ≡ y
@@ -20,14 +20,14 @@ first_is {x = x} same = ap (λ l. get_or l 0 x) same
 -- the new text of a piece is at its index
 pub text_at : (pieces : List (Spanned RawChunk)) (texts : List (String Global)) (i : ℕ) (p : Spanned RawChunk) (t : String Global)
     → i < length pieces → p ≡ get_or pieces i p → t ≡ get_or texts i t
-    → map string_bytes texts ≡ new_texts (map piece_of pieces) → string_bytes t ≡ piece_text (piece_recoded (piece_of p))
+    → map string_bytes texts ≡ new_texts (map piece_of pieces) → string_bytes t ≡ text_of_piece (piece_recoded (piece_of p))
 text_at pieces texts i p t within p_is t_is same =
     let sizes : length texts ≡ length pieces =
     sym (length-map texts string_bytes) ∙ ap length same
-    ∙ length-map (map piece_of pieces) (λ q. piece_text (piece_recoded q)) ∙ length-map pieces piece_of in
+    ∙ length-map (map piece_of pieces) (λ q. text_of_piece (piece_recoded q)) ∙ length-map pieces piece_of in
     let both : map string_bytes (drop i texts) ≡ new_texts (map piece_of (drop i pieces)) =
     sym (drop-map string_bytes i texts) ∙ ap (drop i) same
-    ∙ drop-map (λ q. piece_text (piece_recoded q)) i (map piece_of pieces)
+    ∙ drop-map (λ q. text_of_piece (piece_recoded q)) i (map piece_of pieces)
     ∙ ap new_texts (drop-map piece_of i pieces) in
     let text_first : drop i texts ≡ t ∷ drop (i + 1) texts =
     drop_more texts i t (omega (arith, sizes, within)) ∙ ap (λ y. y ∷ drop (i + 1) texts) (sym t_is) in
@@ -37,7 +37,7 @@ text_at pieces texts i p t within p_is t_is same =
     (sym (ap (map string_bytes) text_first) ∙ both ∙ ap (λ l. new_texts (map piece_of l)) piece_first)
 
 -- a piece with the text that it gets is the recoded piece
-pub recoded_is : (p : Piece) (text : List ℕ) → text ≡ piece_text (piece_recoded p) → with_text p text ≡ piece_recoded p
+pub recoded_is : (p : Piece) (text : List ℕ) → text ≡ text_of_piece (piece_recoded p) → piece_with_text p text ≡ piece_recoded p
 recoded_is (literal p) text is = ap (λ t. literal (record p { text = t })) is
 recoded_is (abbreviation p) text is = ap (λ t. abbreviation (record p { text = t })) is
 

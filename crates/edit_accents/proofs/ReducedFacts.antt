@@ -10,8 +10,8 @@ use Rattle.bib_text.proofs.PlaceFacts.{test_clash}
 use Rattle.bib_text.specs.Enums.{value_named}
 use Rattle.bib_contents.specs.Commands.{accents, command_text, letter, symbols}
 use Rattle.unicode_normalization.specs.Forms.{nfc}
-use Rattle.edit_accents.specs.Accents.{accent_reduced, accented_count, accented_letter, before_others, begins, begins_empty, character_if, command_name, command_reduced, composed, composed_with, decoded, end_count, group_reduced, is_beyond_ascii, is_closing, is_group, is_white, letter_in_braces, letter_names, letter_of, letter_reduced, letters, named_letter, only_beyond_ascii, only_character, reduced, reduced_to, replaced, stays, takes_accent, white_count}
-use Rattle.edit_accents.specs.Balance.{can_close, closed, fit, is_neutral, opened}
+use Rattle.edit_accents.specs.Accents.{accent_reduced, accented_count, accented_letter, before_others, first_sign_passes, begins_empty, character_if, name_in_signs, command_reduced, composed, composed_with, decoded, end_count, group_reduced, is_beyond_ascii, is_closing, is_group, is_white, letter_in_braces, letter_names, letter_of, letter_reduced, leading_letters, named_letter, only_beyond_ascii, only_character, reduced, reduced_to, with_reduction, stays, takes_accent, white_count}
+use Rattle.edit_accents.specs.Balance.{can_close, depth_closed, fit, is_neutral, depth_opened}
 use Rattle.edit_accents.specs.declared.decoding.Reduction.{Reduction}
 use Rattle.edit_accents.specs.declared.signs.Sign.{Sign}
 use Rattle.edit_accents.specs.declared.signs.Sign.TheVariants.{Command, Opening, Closing, Plain, Composed, Grouped}
@@ -35,7 +35,7 @@ some_if true c e is = refl
 some_if false c e is = cc
 
 -- the signs after the letters at their start
-letters_over : (q : Bool) (d : ℕ) (ss : List Sign) → fit q false d ss ≡ true → fit q false d (drop (length (letters ss)) ss) ≡ true
+letters_over : (q : Bool) (d : ℕ) (ss : List Sign) → fit q false d ss ≡ true → fit q false d (drop (length (leading_letters ss)) ss) ≡ true
 letters_over q d [] is = is
 letters_over q d (Command ∷ ss) is = is
 letters_over q d (Opening ∷ ss) is = is
@@ -45,8 +45,8 @@ letters_over q d (Grouped c ∷ ss) is = is
 letters_over q d (Plain c ∷ ss) is = by_letter (is_ascii_alphabetic c) refl (letters_over q d ss)
   where
     by_letter : (b : Bool) → is_ascii_alphabetic c ≡ b
-        → (fit q false d ss ≡ true → fit q false d (drop (length (letters ss)) ss) ≡ true)
-        → fit q false d (drop (length (before_others (character_if b c) (letters ss))) (Plain c ∷ ss)) ≡ true
+        → (fit q false d ss ≡ true → fit q false d (drop (length (leading_letters ss)) ss) ≡ true)
+        → fit q false d (drop (length (before_others (character_if b c) (leading_letters ss))) (Plain c ∷ ss)) ≡ true
     by_letter true letter more = more (after_plain q d c ss (other_than is_ascii_alphabetic c letter refl) is)
     by_letter false letter more = is
 
@@ -68,12 +68,12 @@ white_over q d (Plain c ∷ ss) is = by_white (is_whitespace c) refl (white_over
 -- ---- braces
 
 -- the signs after a pair of braces
-pair_over : (q : Bool) (d : ℕ) (ss : List Sign) → fit q false (opened q d) (Closing ∷ ss) ≡ true → fit q false d ss ≡ true
+pair_over : (q : Bool) (d : ℕ) (ss : List Sign) → fit q false (depth_opened q d) (Closing ∷ ss) ≡ true → fit q false d ss ≡ true
 pair_over q d ss is =
     subst (λ n. fit q false n ss ≡ true) (back_again q d)
-    (and_parts (can_close q (opened q d)) (fit q false (closed q (opened q d)) ss) is).1
+    (and_parts (can_close q (depth_opened q d)) (fit q false (depth_closed q (depth_opened q d)) ss) is).1
 
-closing_over : (q : Bool) (d : ℕ) (ss : List Sign) → begins is_closing ss ≡ true → fit q false (opened q d) ss ≡ true
+closing_over : (q : Bool) (d : ℕ) (ss : List Sign) → first_sign_passes is_closing ss ≡ true → fit q false (depth_opened q d) ss ≡ true
     → fit q false d (drop 1 ss) ≡ true
 closing_over q d [] closing is = cc
 closing_over q d (Command ∷ ss) closing is = cc
@@ -101,8 +101,10 @@ argument_over q d e (Opening ∷ Closing ∷ ss) found is = cc
 argument_over q d e (Opening ∷ Composed c ∷ ss) found is = cc
 argument_over q d e (Opening ∷ Grouped c ∷ ss) found is = cc
 argument_over q d e (Opening ∷ Plain c ∷ ss) found is =
-    let parts = and_parts (takes_accent c) (begins is_closing ss) (some_if (takes_accent c && begins is_closing ss) c e found) in
-    closing_over q d ss parts.1 (after_plain q (opened q d) c ss (other_than takes_accent c parts.0 refl) is)
+    let parts =
+    and_parts (takes_accent c) (first_sign_passes is_closing ss)
+    (some_if (takes_accent c && first_sign_passes is_closing ss) c e found) in
+    closing_over q d ss parts.1 (after_plain q (depth_opened q d) c ss (other_than takes_accent c parts.0 refl) is)
 
 -- ---- what commands become
 
@@ -125,7 +127,11 @@ record IsComposed (o : Option ℕ) (e : ℕ) : Type 0 where
 
 composed_is : (mark : ℕ) (o : Option ℕ) (e : ℕ) → composed_with mark o ≡ Some e → IsComposed o e
 composed_is mark None e found = cc
-composed_is mark (Some c) e found = record { base = c; found = refl; beyond = only_beyond (only_character (nfc (letter c ∷ mark ∷ []))) e found }
+composed_is mark (Some c) e found = record {
+  base = c;
+  found = refl;
+  beyond = only_beyond (only_character (nfc (letter c ∷ mark ∷ []))) e found;
+}
 
 -- each command for a letter becomes a character beyond ASCII
 abbrev is_none_or_beyond : Option ℕ → Bool
@@ -165,10 +171,10 @@ letter_beyond name e found = by_test (list_any (bytes_eq name) letter_names) ref
     by_test false listed is = cc
 
 -- the signs after the name of a command
-name_over : (q : Bool) (d : ℕ) (ss : List Sign) → fit q true d ss ≡ true → fit q false d (drop (length (command_name ss)) ss) ≡ true
+name_over : (q : Bool) (d : ℕ) (ss : List Sign) → fit q true d ss ≡ true → fit q false d (drop (length (name_in_signs ss)) ss) ≡ true
 name_over q d (Plain c ∷ ss) is = by_letter (is_ascii_alphabetic c)
   where
-    by_letter : (b : Bool) → fit q false d (drop (length (cond b (c ∷ letters ss) (c ∷ []))) (Plain c ∷ ss)) ≡ true
+    by_letter : (b : Bool) → fit q false d (drop (length (cond b (c ∷ leading_letters ss) (c ∷ []))) (Plain c ∷ ss)) ≡ true
     by_letter true = letters_over q d ss is
     by_letter false = is
 name_over q d ss is = absurd (cc)
@@ -176,13 +182,13 @@ name_over q d ss is = absurd (cc)
 -- a command that takes signs with it, or stays
 taken_fit : (q : Bool) (d : ℕ) (o : Option ℕ) (count : ℕ) (ss : List Sign) → fit q false d (Command ∷ ss) ≡ true
     → ((e : ℕ) → o ≡ Some e → (is_beyond_ascii e ≡ true) × (fit q false d (drop count ss) ≡ true))
-    → fit q false d (replaced (reduced_to o count Command) ss) ≡ true
+    → fit q false d (with_reduction (reduced_to o count Command) ss) ≡ true
 taken_fit q d None count ss is found = is
 taken_fit q d (Some e) count ss is found =
     and_from (is_beyond_ascii e) (fit q false d (drop count ss)) (found e refl).0 (found e refl).1
 
 accent_fit : (q : Bool) (d mark size : ℕ) (ss : List Sign) → fit q false d (Command ∷ ss) ≡ true
-    → fit q false d (drop size ss) ≡ true → fit q false d (replaced (accent_reduced mark size (drop size ss)) ss) ≡ true
+    → fit q false d (drop size ss) ≡ true → fit q false d (with_reduction (accent_reduced mark size (drop size ss)) ss) ≡ true
 accent_fit q d mark size ss is rest_fits =
     let rest : List Sign = drop size ss in
     let white : ℕ = white_count rest in
@@ -210,14 +216,16 @@ end_over q d ss is = by_test (begins_empty ss) refl
 
 letter_fit : (q : Bool) (d : ℕ) (name : List ℕ) (ss : List Sign) → fit q false d (Command ∷ ss) ≡ true
     → fit q false d (drop (length name) ss) ≡ true
-    → fit q false d (replaced (letter_reduced (named_letter name) (length name) (drop (length name) ss)) ss) ≡ true
-letter_fit q d name ss is rest_fits = by_test (begins is_group rest && not (begins_empty rest))
+    → fit q false d (with_reduction (letter_reduced (named_letter name) (length name) (drop (length name) ss)) ss) ≡ true
+letter_fit q d name ss is rest_fits = by_test (first_sign_passes is_group rest && not (begins_empty rest))
   where
     rest : List Sign
     rest = drop (length name) ss
+
     by_test : (b : Bool)
         → fit q false d
-        (replaced (cond b (stays Command) (reduced_to (named_letter name) (length name + end_count (drop (length name) ss)) Command)) ss)
+        (with_reduction
+        (cond b (stays Command) (reduced_to (named_letter name) (length name + end_count (drop (length name) ss)) Command)) ss)
         ≡ true
     by_test true = is
     by_test false =
@@ -229,22 +237,22 @@ letter_fit q d name ss is rest_fits = by_test (begins is_group rest && not (begi
         ))
 
 command_fit : (q : Bool) (d : ℕ) (o : Option ℕ) (ss : List Sign) → fit q false d (Command ∷ ss) ≡ true
-    → fit q false d (replaced (command_reduced o (command_name ss) ss) ss) ≡ true
-command_fit q d None ss is = letter_fit q d (command_name ss) ss is (name_over q d ss is)
-command_fit q d (Some mark) ss is = accent_fit q d mark (length (command_name ss)) ss is (name_over q d ss is)
+    → fit q false d (with_reduction (command_reduced o (name_in_signs ss) ss) ss) ≡ true
+command_fit q d None ss is = letter_fit q d (name_in_signs ss) ss is (name_over q d ss is)
+command_fit q d (Some mark) ss is = accent_fit q d mark (length (name_in_signs ss)) ss is (name_over q d ss is)
 
 group_fit : (q : Bool) (d : ℕ) (ss : List Sign) → fit q false d (Opening ∷ ss) ≡ true
-    → fit q false d (replaced (group_reduced ss) ss) ≡ true
+    → fit q false d (with_reduction (group_reduced ss) ss) ≡ true
 group_fit q d (Composed c ∷ Closing ∷ ss) is =
-    let parts = and_parts (is_beyond_ascii c) (fit q false (opened q d) (Closing ∷ ss)) is in
+    let parts = and_parts (is_beyond_ascii c) (fit q false (depth_opened q d) (Closing ∷ ss)) is in
     and_from (is_beyond_ascii c) (fit q false d ss) parts.0 (pair_over q d ss parts.1)
 group_fit q d ss is = is
 
 reduced_fit : (q h : Bool) (d : ℕ) (s : Sign) (ss : List Sign) → fit q h d (s ∷ ss) ≡ true
-    → fit q h d (replaced (reduced s ss) ss) ≡ true
+    → fit q h d (with_reduction (reduced s ss) ss) ≡ true
 reduced_fit q true d (Plain c) ss is = is
 reduced_fit q true d s ss is = absurd (cc)
-reduced_fit q false d Command ss is = command_fit q d (value_named accents (command_name ss)) ss is
+reduced_fit q false d Command ss is = command_fit q d (value_named accents (name_in_signs ss)) ss is
 reduced_fit q false d Opening ss is = group_fit q d ss is
 reduced_fit q false d s ss is = is
 
@@ -254,10 +262,10 @@ cons_fit : (q h : Bool) (d : ℕ) (s : Sign) (ss ts : List Sign)
 cons_fit q true d (Plain c) ss ts on is = on false d is
 cons_fit q true d s ss ts on is = absurd (cc)
 cons_fit q false d Command ss ts on is = on true d is
-cons_fit q false d Opening ss ts on is = on false (opened q d) is
+cons_fit q false d Opening ss ts on is = on false (depth_opened q d) is
 cons_fit q false d Closing ss ts on is =
-    let parts = and_parts (can_close q d) (fit q false (closed q d) ss) is in
-    and_from (can_close q d) (fit q false (closed q d) ts) parts.0 (on false (closed q d) parts.1)
+    let parts = and_parts (can_close q d) (fit q false (depth_closed q d) ss) is in
+    and_from (can_close q d) (fit q false (depth_closed q d) ts) parts.0 (on false (depth_closed q d) parts.1)
 cons_fit q false d (Composed c) ss ts on is =
     let parts = and_parts (is_beyond_ascii c) (fit q false d ss) is in
     and_from (is_beyond_ascii c) (fit q false d ts) parts.0 (on false d parts.1)

@@ -26,17 +26,17 @@ begins_address text =
     || starts_with eqb text (codes "nolinkurl{")
 
 -- whether commands become characters in a stretch of a text: neither in math nor in addresses
-abbrev pub is_text : Stretch → Bool
-is_text Text = true
-is_text Math = false
-is_text (Address depth) = false
+abbrev pub reads_commands : Stretch → Bool
+reads_commands Text = true
+reads_commands Math = false
+reads_commands (Address depth) = false
 
 -- the sign of a character that no backslash escapes
 abbrev pub sign_of : Stretch → ℕ → Sign
 sign_of stretch c =
     if c == char.open_brace then Opening
     else if c == char.close_brace then Closing
-    else if c == char.backslash && is_text stretch then Command
+    else if c == char.backslash && reads_commands stretch then Command
     else Plain c
 
 -- the stretch after a closing brace in an address with so many open braces
@@ -65,9 +65,9 @@ signs stretch false (c ∷ cs) = sign_of stretch c ∷ signs (stretch_after stre
 -- ---- a command
 
 -- whether signs begin with one that passes a test
-abbrev pub begins : (Sign → Bool) → List Sign → Bool
-begins test [] = false
-begins test (s ∷ ss) = test s
+abbrev pub first_sign_passes : (Sign → Bool) → List Sign → Bool
+first_sign_passes test [] = false
+first_sign_passes test (s ∷ ss) = test s
 
 abbrev pub is_opening : Sign → Bool
 is_opening Opening = true
@@ -98,9 +98,9 @@ before_others None cs = []
 before_others (Some c) cs = c ∷ cs
 
 -- the letters at the start of signs
-abbrev pub letters : List Sign → List ℕ
-letters [] = []
-letters (s ∷ ss) = before_others (letter_of s) (letters ss)
+abbrev pub leading_letters : List Sign → List ℕ
+leading_letters [] = []
+leading_letters (s ∷ ss) = before_others (letter_of s) (leading_letters ss)
 
 -- whether a sign is white space
 abbrev pub is_white : Sign → Bool
@@ -113,10 +113,10 @@ white_count [] = 0
 white_count (s ∷ ss) = if is_white s then suc (white_count ss) else 0
 
 -- the name of a command before these signs, as TeX reads it: letters, or one other character
-abbrev pub command_name : List Sign → List ℕ
-command_name [] = []
-command_name (Plain c ∷ rest) = if is_ascii_alphabetic c then c ∷ letters rest else c ∷ []
-command_name (s ∷ rest) = []
+abbrev pub name_in_signs : List Sign → List ℕ
+name_in_signs [] = []
+name_in_signs (Plain c ∷ rest) = if is_ascii_alphabetic c then c ∷ leading_letters rest else c ∷ []
+name_in_signs (s ∷ rest) = []
 
 -- the commands for letters
 abbrev pub letter_names : List (List ℕ)
@@ -171,7 +171,7 @@ reduced_to (Some c) count s = record { sign = Composed c; taken = count }
 
 -- the character in an argument in braces, after its opening brace
 abbrev pub letter_in_braces : List Sign → Option ℕ
-letter_in_braces (Plain c ∷ rest) = character_if (takes_accent c && begins is_closing rest) c
+letter_in_braces (Plain c ∷ rest) = character_if (takes_accent c && first_sign_passes is_closing rest) c
 letter_in_braces ss = None
 
 -- the character on which an accent before these signs is put: the next one, or the only one in braces
@@ -186,7 +186,7 @@ accented_letter (Command ∷ rest) = None
 
 -- the number of its signs
 abbrev pub accented_count : List Sign → ℕ
-accented_count ss = if begins is_opening ss then 3 else 1
+accented_count ss = if first_sign_passes is_opening ss then 3 else 1
 
 -- an accent whose name has so many characters, before the signs after its name: it is put on a character after white space
 abbrev pub accent_reduced : ℕ → ℕ → List Sign → Reduction
@@ -197,7 +197,7 @@ accent_reduced mark size rest =
 
 -- whether signs begin with an empty pair of braces
 abbrev pub begins_empty : List Sign → Bool
-begins_empty ss = begins is_opening ss && begins is_closing (drop 1 ss)
+begins_empty ss = first_sign_passes is_opening ss && first_sign_passes is_closing (drop 1 ss)
 
 -- the number of signs that end the name of a letter: an empty pair of braces, or white space
 abbrev pub end_count : List Sign → ℕ
@@ -206,7 +206,7 @@ end_count rest = if begins_empty rest then 2 else white_count rest
 -- a command for a letter whose name has so many characters, before the signs after its name: before an argument that isn't empty it stays
 abbrev pub letter_reduced : Option ℕ → ℕ → List Sign → Reduction
 letter_reduced found size rest =
-    if begins is_group rest && not (begins_empty rest) then stays Command else reduced_to found (size + end_count rest) Command
+    if first_sign_passes is_group rest && not (begins_empty rest) then stays Command else reduced_to found (size + end_count rest) Command
 
 -- a command with a name before signs, given the mark if its name is that of an accent
 abbrev pub command_reduced : Option ℕ → List ℕ → List Sign → Reduction
@@ -220,19 +220,19 @@ group_reduced ss = stays Opening
 
 -- what a sign becomes before other signs
 abbrev pub reduced : Sign → List Sign → Reduction
-reduced Command following = command_reduced (value_named accents (command_name following)) (command_name following) following
+reduced Command following = command_reduced (value_named accents (name_in_signs following)) (name_in_signs following) following
 reduced Opening following = group_reduced following
 reduced s following = stays s
 
 -- the signs after a reduction of the first of them
-abbrev pub replaced : Reduction → List Sign → List Sign
-replaced r following = r.sign ∷ drop r.taken following
+abbrev pub with_reduction : Reduction → List Sign → List Sign
+with_reduction r following = r.sign ∷ drop r.taken following
 
 -- signs with each command that becomes a character replaced by it, from the last to the first, so that an accent is put on a character
 -- that a command became
 abbrev pub decoded : List Sign → List Sign
 decoded [] = []
-decoded (s ∷ ss) = replaced (reduced s (decoded ss)) (decoded ss)
+decoded (s ∷ ss) = with_reduction (reduced s (decoded ss)) (decoded ss)
 
 -- ---- the text of signs
 
@@ -275,18 +275,18 @@ composed_text Word c = char.space ∷ c ∷ []
 composed_text spot c = c ∷ []
 
 -- the text of a sign. The braces of a grouped character are kept where a command may take them as its argument.
-abbrev pub sign_text : Spot → Sign → List ℕ
-sign_text spot Command = char.backslash ∷ []
-sign_text spot Opening = char.open_brace ∷ []
-sign_text spot Closing = char.close_brace ∷ []
-sign_text spot (Plain c) = c ∷ []
-sign_text spot (Composed c) = composed_text spot c
-sign_text spot (Grouped c) = if is_free spot then c ∷ [] else char.open_brace ∷ c ∷ char.close_brace ∷ []
+abbrev pub written_sign : Spot → Sign → List ℕ
+written_sign spot Command = char.backslash ∷ []
+written_sign spot Opening = char.open_brace ∷ []
+written_sign spot Closing = char.close_brace ∷ []
+written_sign spot (Plain c) = c ∷ []
+written_sign spot (Composed c) = composed_text spot c
+written_sign spot (Grouped c) = if is_free spot then c ∷ [] else char.open_brace ∷ c ∷ char.close_brace ∷ []
 
 -- the text of signs
 abbrev pub written : Spot → List Sign → List ℕ
 written spot [] = []
-written spot (s ∷ ss) = sign_text spot s ++ written (spot_after spot s) ss
+written spot (s ∷ ss) = written_sign spot s ++ written (spot_after spot s) ss
 
 -- a text with its commands for accents and letters as characters
 abbrev pub with_characters : List ℕ → List ℕ

@@ -16,28 +16,28 @@ open_count Math = 0
 open_count (Address depth) = depth
 
 -- the number of open braces after an opening and after a closing one, and whether a closing one may come
-abbrev pub opened : Bool → ℕ → ℕ
-opened true depth = depth
-opened false depth = suc depth
+abbrev pub depth_opened : Bool → ℕ → ℕ
+depth_opened true depth = depth
+depth_opened false depth = suc depth
 
-abbrev pub closed : Bool → ℕ → ℕ
-closed true depth = depth
-closed false depth = depth - 1
+abbrev pub depth_closed : Bool → ℕ → ℕ
+depth_closed true depth = depth
+depth_closed false depth = depth - 1
 
 abbrev pub can_close : Bool → ℕ → Bool
 can_close true depth = true
 can_close false depth = nat_lt 0 depth
 
 -- whether characters close this number of braces and all that they open, and in quotes contain no quote
-abbrev pub fits : Bool → Bool → ℕ → List ℕ → Bool
-fits quoted is_escaped depth [] = not is_escaped && depth == 0
-fits quoted true depth (c ∷ cs) = fits quoted false depth cs
-fits quoted false depth (c ∷ cs) =
-    cond (c == char.backslash) (fits quoted true depth cs)
-    (cond (c == char.quote) (not quoted && fits quoted false depth cs)
-    (cond (c == char.open_brace) (fits quoted false (opened quoted depth) cs)
-    (cond (c == char.close_brace) (can_close quoted depth && fits quoted false (closed quoted depth) cs)
-    (fits quoted false depth cs))))
+abbrev pub text_fits : Bool → Bool → ℕ → List ℕ → Bool
+text_fits quoted is_escaped depth [] = not is_escaped && depth == 0
+text_fits quoted true depth (c ∷ cs) = text_fits quoted false depth cs
+text_fits quoted false depth (c ∷ cs) =
+    cond (c == char.backslash) (text_fits quoted true depth cs)
+    (cond (c == char.quote) (not quoted && text_fits quoted false depth cs)
+    (cond (c == char.open_brace) (text_fits quoted false (depth_opened quoted depth) cs)
+    (cond (c == char.close_brace) (can_close quoted depth && text_fits quoted false (depth_closed quoted depth) cs)
+    (text_fits quoted false depth cs))))
 
 -- whether a plain character that no backslash escapes has no meaning
 abbrev pub is_neutral : Bool → ℕ → Bool
@@ -49,8 +49,8 @@ fit quoted is_escaped depth [] = not is_escaped && depth == 0
 fit quoted true depth (Plain c ∷ ss) = fit quoted false depth ss
 fit quoted true depth (s ∷ ss) = false
 fit quoted false depth (Command ∷ ss) = fit quoted true depth ss
-fit quoted false depth (Opening ∷ ss) = fit quoted false (opened quoted depth) ss
-fit quoted false depth (Closing ∷ ss) = can_close quoted depth && fit quoted false (closed quoted depth) ss
+fit quoted false depth (Opening ∷ ss) = fit quoted false (depth_opened quoted depth) ss
+fit quoted false depth (Closing ∷ ss) = can_close quoted depth && fit quoted false (depth_closed quoted depth) ss
 fit quoted false depth (Plain c ∷ ss) =
     cond (c == char.backslash) (fit quoted true depth ss) (is_neutral quoted c && fit quoted false depth ss)
 fit quoted false depth (Composed c ∷ ss) = is_beyond_ascii c && fit quoted false depth ss

@@ -32,12 +32,12 @@ changes_piece (literal p) = not (bytes_eq (text_recoded p.text) p.text)
 changes_piece (abbreviation p) = false
 
 -- whether the value of a field may change: verbatim fields stay
-abbrev pub is_open : FieldReading → Bool
-is_open f = not (is_verbatim_field (str_to_ascii_lowercase f.name.text))
+abbrev pub is_recodable_field : FieldReading → Bool
+is_recodable_field f = not (is_verbatim_field (str_to_ascii_lowercase f.name.text))
 
 -- whether the value of a field changes: it may, and a piece does
 abbrev pub changes_value : FieldReading → Bool
-changes_value f = is_open f && list_any changes_piece f.value.pieces
+changes_value f = is_recodable_field f && list_any changes_piece f.value.pieces
 
 -- the new value of a field: each piece with its delimiters in the file, and ` # ` between two pieces
 abbrev pub value_recoded : List ℕ → FieldReading → NewValue

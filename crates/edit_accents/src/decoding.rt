@@ -52,7 +52,7 @@ fn letter_of(sign: Sign) -> Option<char>
 
 // Returns the letters at the start of signs.
 fn letters(alloc: Global, signs: &[Sign]) -> Result<Vec<char>, AllocError>
-    ensures letters { IfOk result (λ found. found.items ≡ spec.letters signs.now) }
+    ensures letters { IfOk result (λ found. found.items ≡ spec.leading_letters signs.now) }
     ensures within { IfOk result (λ found. length found.items ≤ length signs.now) }
 {
     let mut found = Vec::new(alloc);
@@ -76,7 +76,7 @@ fn short_name(alloc: Global, c: char) -> Result<Vec<char>, AllocError>
 
 // Returns the name of the command before these signs.
 fn command_name(alloc: Global, signs: &[Sign]) -> Result<Vec<char>, AllocError>
-    ensures name { IfOk result (λ name. name.items ≡ spec.command_name signs.now) }
+    ensures name { IfOk result (λ name. name.items ≡ spec.name_in_signs signs.now) }
     ensures within { IfOk result (λ name. length name.items ≤ length signs.now) }
 {
     match signs {
@@ -170,7 +170,7 @@ fn accent_reduced(
 
 // Returns whether signs begin with an argument in braces.
 fn begins_group(signs: &[Sign]) -> bool
-    ensures { result ≡ spec.begins spec.is_group signs.now }
+    ensures { result ≡ spec.first_sign_passes spec.is_group signs.now }
 {
     matches!(signs, [Sign::Opening, ..] | [Sign::Grouped(_), ..])
 }

@@ -11,7 +11,7 @@ ghost use Rattle.edit_entries.specs.EditList.{edit_of};
 ghost use Rattle.edit_strings.specs.Expanded.{elements, laid_out};
 ghost use Rattle.edit_strings.specs.Tables.{AreAllFieldsCut, IsFieldCut, entry_edits, field_edits, lent_pieces, value_edits};
 ghost use Rattle.edit_accents.specs.Accents.{with_characters};
-ghost use Rattle.edit_accents.specs.Pieces.{new_texts, piece_text, with_text};
+ghost use Rattle.edit_accents.specs.Pieces.{new_texts, text_of_piece, piece_with_text};
 ghost use Rattle.edit_accents.specs.Recoded as spec;
 ghost use Rattle.edit_accents.specs.Recoded.{IsRecoded};
 
@@ -61,7 +61,7 @@ fn text_recoded(alloc: Global, text: &str) -> Result<String, AllocError>
 
 // Returns the new text of a piece.
 fn new_text(alloc: Global, piece: &Spanned<RawChunk<'_>>) -> Result<String, AllocError>
-    ensures { IfOk result (λ new. string_bytes new ≡ piece_text (spec.piece_recoded (piece_of piece.now))) }
+    ensures { IfOk result (λ new. string_bytes new ≡ text_of_piece (spec.piece_recoded (piece_of piece.now))) }
 {
     match piece.v {
         RawChunk::Normal(text) => text_recoded(alloc, text),
@@ -70,10 +70,7 @@ fn new_text(alloc: Global, piece: &Spanned<RawChunk<'_>>) -> Result<String, Allo
 }
 
 // Returns the new texts of pieces.
-fn new_texts(
-    alloc: Global,
-    pieces: &[Spanned<RawChunk<'_>>],
-) -> Result<Vec<String>, AllocError>
+fn new_texts(alloc: Global, pieces: &[Spanned<RawChunk<'_>>]) -> Result<Vec<String>, AllocError>
     ensures { IfOk result (λ texts. map string_bytes texts.items ≡ new_texts (map piece_of pieces.now)) }
 {
     let mut texts = Vec::with_capacity(alloc, pieces.len())?;
@@ -85,7 +82,7 @@ fn new_texts(
 
 // Returns a piece with a new text.
 fn with_text<'n>(piece: &Spanned<RawChunk<'_>>, text: &'n str) -> Spanned<RawChunk<'n>>
-    ensures { piece_of result ≡ with_text (piece_of piece.now) text.now }
+    ensures { piece_of result ≡ piece_with_text (piece_of piece.now) text.now }
 {
     let v = match piece.v {
         RawChunk::Normal(_) => RawChunk::Normal(text),
@@ -99,7 +96,7 @@ fn with_text<'n>(piece: &Spanned<RawChunk<'_>>, text: &'n str) -> Spanned<RawChu
 
 // Returns whether a piece has another text than this.
 fn differs(piece: &Spanned<RawChunk<'_>>, text: &str) -> bool
-    ensures { text.now ≡ piece_text (spec.piece_recoded (piece_of piece.now)) → result ≡ spec.changes_piece (piece_of piece.now) }
+    ensures { text.now ≡ text_of_piece (spec.piece_recoded (piece_of piece.now)) → result ≡ spec.changes_piece (piece_of piece.now) }
 {
     match piece.v {
         RawChunk::Normal(old) => old != text,
@@ -166,7 +163,7 @@ fn lent<'p, 's>(
 
 // Returns whether the value of a field may change: whether the field isn't verbatim.
 fn is_open(alloc: Global, field: &Pair<'_>) -> Result<bool, AllocError>
-    ensures { IfOk result (λ b. b ≡ spec.is_open (field_of field.now)) }
+    ensures { IfOk result (λ b. b ≡ spec.is_recodable_field (field_of field.now)) }
 {
     let name = field.key.v.to_ascii_lowercase(alloc)?;
     Ok(!is_verbatim_field(&name))
@@ -189,11 +186,7 @@ fn value_text(
 }
 
 // Returns the new bytes of a value, if they change.
-fn new_value(
-    alloc: Global,
-    text: &str,
-    field: &Pair<'_>,
-) -> Result<Option<String>, AllocError>
+fn new_value(alloc: Global, text: &str, field: &Pair<'_>) -> Result<Option<String>, AllocError>
     requires { AllByRecursion (IsPieceCut text.now) (elements (field_of field.now)) }
     ensures { IfOk result (λ new. option_map string_bytes new ≡ option_map (λ n. n.bytes) (spec.recoding text.now (field_of field.now))) }
 {

@@ -34,7 +34,11 @@ fn spot_in_name(is_first: bool, c: char) -> Spot
     if c.is_ascii_alphabetic() {
         return Spot::Word;
     }
-    let waits = if is_first { is_accent_sign(c) } else { c.is_whitespace() };
+    let waits = if is_first {
+        is_accent_sign(c)
+    } else {
+        c.is_whitespace()
+    };
     if waits { Spot::Waits } else { Spot::Free }
 }
 
@@ -59,7 +63,11 @@ fn spot_after(spot: Spot, sign: Sign) -> Spot
         Sign::Opening | Sign::Composed(_) => Spot::Free,
         Sign::Closing => Spot::Closed,
         Sign::Plain(c) => spot_after_plain(spot, c),
-        Sign::Grouped(_) => if spot == Spot::Free { Spot::Free } else { Spot::Closed },
+        Sign::Grouped(_) => if spot == Spot::Free {
+            Spot::Free
+        } else {
+            Spot::Closed
+        },
     }
 }
 
@@ -86,7 +94,7 @@ fn push_composed(text: &mut String, spot: Spot, c: char) -> Result<(), AllocErro
 
 // Appends a grouped character at a spot.
 fn push_group(text: &mut String, spot: Spot, c: char) -> Result<(), AllocError>
-    ensures { OnOk result (Writes text.old text.new (spec.sign_text spot (Grouped c))) }
+    ensures { OnOk result (Writes text.old text.new (spec.written_sign spot (Grouped c))) }
 {
     if spot != Spot::Free {
         return push_grouped(text, c);
@@ -97,7 +105,7 @@ fn push_group(text: &mut String, spot: Spot, c: char) -> Result<(), AllocError>
 
 // Appends the text of a sign at a spot.
 fn push_sign(text: &mut String, spot: Spot, sign: Sign) -> Result<(), AllocError>
-    ensures { OnOk result (Writes text.old text.new (spec.sign_text spot sign)) }
+    ensures { OnOk result (Writes text.old text.new (spec.written_sign spot sign)) }
 {
     match sign {
         Sign::Command => text.push('\\')?,

@@ -9,7 +9,8 @@ returns-then-differs c =
     let i = c.pieces.at in
     let p = c.piece_at-piece.result.now in
     let text =
-    text_at pieces c.args.texts.now i p c.index-texts-at.result c.pieces-test.true c.piece_at-piece.ensures c.index-texts-at.is c.requires in
+    text_at pieces c.args.texts.now i p c.index-texts-at.result c.pieces-test.true c.piece_at-piece.ensures c.index-texts-at.is
+    c.requires in
     changes_here (piece_of p) (map piece_of (drop (i + 1) pieces)) (map piece_of (drop i pieces)) c.differs.result
     (c.differs.ensures (c.deref.ensures ∙ text)) c.if-differs.true
     (left_from pieces i p c.pieces-test.true c.piece_at-piece.ensures) ∙ sym c.pieces.invariant
@@ -20,7 +21,8 @@ pieces-preserved c =
     let i = c.pieces.at in
     let p = c.piece_at-piece.result.now in
     let text =
-    text_at pieces c.args.texts.now i p c.index-texts-at.result c.pieces-test.true c.piece_at-piece.ensures c.index-texts-at.is c.requires in
+    text_at pieces c.args.texts.now i p c.index-texts-at.result c.pieces-test.true c.piece_at-piece.ensures c.index-texts-at.is
+    c.requires in
     c.pieces.invariant
     ∙ changes_later (piece_of p) (map piece_of (drop (i + 1) pieces)) (map piece_of (drop i pieces)) c.differs.result
     (c.differs.ensures (c.deref.ensures ∙ text)) c.if-differs.false

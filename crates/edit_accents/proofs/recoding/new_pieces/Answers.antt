@@ -9,7 +9,8 @@ pieces-preserved c =
     let i = c.pieces.at in
     let p = c.piece_at-piece.result.now in
     let text =
-    text_at pieces c.args.texts.now i p c.index-texts-at.result c.pieces-test.true c.piece_at-piece.ensures c.index-texts-at.is c.requires in
+    text_at pieces c.args.texts.now i p c.index-texts-at.result c.pieces-test.true c.piece_at-piece.ensures c.index-texts-at.is
+    c.requires in
     record {
       made = recoded_more pieces i p c.pieces-test.true c.piece_at-piece.ensures c.pieces.new.items c.push.new.self.items
           c.with_text.result c.pieces.invariant.made (c.in_ok-push.ensures.items)
