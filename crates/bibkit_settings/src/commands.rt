@@ -448,10 +448,11 @@ Status: 0 done, 1 a definition uses its own name or one that is defined later, o
 const RECODE_HELP: &str = "\
 A file that isn't UTF-8 and has no byte order mark requires --from. utf-16 is little-endian.
 
-Example:
+Examples:
   bibkit recode --from windows-1252 --line-ends lf --file refs.bib --write
+  bibkit recode --accents characters --file refs.bib
 
-Status: 0 done, 1 the file isn't in this encoding, 2 no encoding or wrong usage, or a file or the output failed, 3 out of memory";
+Status: 0 done, 1 the file isn't in this encoding or --accents finds an error in it, 2 no encoding or wrong usage, or a file or the output failed, 3 out of memory";
 
 // The text at the end of the help of `select`.
 const SELECT_HELP: &str = "\
