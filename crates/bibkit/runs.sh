@@ -1298,7 +1298,7 @@ cat >accents.bib <<'END'
 @article{a1, title = {M{\"u}ller \'e \`a \^o \~n \=a \.z \"{o} \v{s} \v s \c c {\c c} \H{o} \u{g} \r{a} \k{a} \d{s}}}
 @article{a2, title = {Stra\ss e Stra\ss{}e, \aa ngstr, \AE{}, {\"O}ster, {{\"O}}ster, {ABC {\"o} \"o}}}
 @article{a3, title = {\'{\ae} {\'\ae} \emph{\"o \ss} \textbf{{\'e}} \"q \&}}
-@article{a4, title = "Die {\"O}ber, \"ob", url = {\"o}, DOI = {\'e}, author = m # " and \'E"}
+@article{a4, title = "Die {\"O}ber, {\"o}b", url = {\"o}, DOI = {\'e}, author = m # " and \'E"}
 @article{b1, title = {$\"o$ \url{http://a.b/\~n} \href{\~n}{x\"o} \\"o \{\'e\} \S 5}}
 @article{b2, title = {\'\i \'{\i} {\'\i} \`\i x {\O}re Stra{\ss}e \l\'od\'z}}
 @article{b3, title = {\d{\^e} \'{\^e} \it\"o \emph{\ss} \"{\ss} \o{x} \c {c}}}

@@ -162,7 +162,7 @@ fn lent<'p, 's>(
 }
 
 // Returns whether the value of a field may change: whether the field isn't verbatim.
-fn is_open(alloc: Global, field: &Pair<'_>) -> Result<bool, AllocError>
+fn is_recodable(alloc: Global, field: &Pair<'_>) -> Result<bool, AllocError>
     ensures { IfOk result (λ b. b ≡ spec.is_recodable_field (field_of field.now)) }
 {
     let name = field.key.v.to_ascii_lowercase(alloc)?;
@@ -190,7 +190,7 @@ fn new_value(alloc: Global, text: &str, field: &Pair<'_>) -> Result<Option<Strin
     requires { AllByRecursion (IsPieceCut text.now) (elements (field_of field.now)) }
     ensures { IfOk result (λ new. option_map string_bytes new ≡ option_map (λ n. n.bytes) (spec.recoding text.now (field_of field.now))) }
 {
-    if !is_open(alloc, field)? {
+    if !is_recodable(alloc, field)? {
         return Ok(None);
     }
     let pieces = &field.value.v;
