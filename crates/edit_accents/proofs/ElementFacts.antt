@@ -13,7 +13,7 @@ use Rattle.bib_text.specs.Places.Run.{stop, step}
 use Rattle.bib_text.proofs.PlaceFacts.{Ahead, ahead_then, ahead_char, ahead_run, stops_at}
 use Rattle.bib_syntax.specs.Reading.{Part, part, Piece}
 use Rattle.bib_syntax.specs.Reading.Piece.{literal, abbreviation}
-use Rattle.bib_syntax.specs.Grammar.{Braced, Element, Elements, Number, Quoted, longest}
+use Rattle.bib_syntax.specs.Grammar.{Braced, Element, Number, Quoted, longest}
 use Rattle.bib_syntax.specs.Grammar.{Element as element}
 use Rattle.bib_syntax.specs.Grammar.{Elements as elements}
 use Rattle.bib_syntax.specs.Grammar.{Number as number}

@@ -1,7 +1,7 @@
 -- The signs of a text have its braces and quotes, and so has the text of signs.
 use Rattle.std.proofs.Common.{◌≡◌, inl, inr, ℕ, suc, ◌-◌, ◌<◌, Bool, true, false, cond, List, [], ◌∷◌, ◌++◌, refl, sym, ap, ◌∙◌, subst, arith}
-use Rattle.std.specs.Prelude.{◌==◌, ◌&&◌, not, nat_lt}
-use Rattle.std.proofs.lemmas.Bool.{and_from, and_parts, cases_eq, lt-ltb, ltb-true, ne_eqb}
+use Rattle.std.specs.Prelude.{◌==◌, ◌&&◌, not}
+use Rattle.std.proofs.lemmas.Bool.{and_from, and_parts, cases_eq, lt-ltb, ne_eqb}
 use Rattle.bib_text.proofs.PlaceFacts.{test_clash}
 use Rattle.edit_accents.specs.Accents.{is_beyond_ascii, reads_commands, sign_of, signs, written_sign, spot_after, stretch_after, written}
 use Rattle.edit_accents.specs.Balance.{can_close, depth_closed, fit, text_fits, is_neutral, depth_opened}

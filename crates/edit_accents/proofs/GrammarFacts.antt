@@ -1,8 +1,8 @@
 -- The texts of literals: their characters have balanced braces, or no quote, and other such characters are the text of a literal too.
-use Rattle.std.proofs.Common.{◌≡◌, inl, inr, ℕ, zero, suc, ◌+◌, ◌-◌, ◌<◌, ◌≤◌, Bool, true, false, List, [], ◌∷◌, ◌++◌, length, drop, refl, sym, ap, ◌∙◌, subst, arith, append_assoc}
-use Rattle.std.specs.Prelude.{◌==◌, ◌&&◌, not, nat_lt, encode_utf8, encode_utf8_all}
+use Rattle.std.proofs.Common.{◌≡◌, inl, inr, ℕ, zero, suc, ◌+◌, ◌-◌, ◌≤◌, Bool, true, false, List, [], ◌∷◌, ◌++◌, length, refl, sym, ap, ◌∙◌, subst, arith, append_assoc}
+use Rattle.std.specs.Prelude.{◌==◌, ◌&&◌, not, encode_utf8, encode_utf8_all}
 use Rattle.std.specs.Str.{IsUtf8, chars}
-use Rattle.std.proofs.lemmas.Bool.{and_from, and_parts, cases_eq, lt-ltb, ne_eqb}
+use Rattle.std.proofs.lemmas.Bool.{cases_eq, lt-ltb, ne_eqb}
 use Rattle.std.proofs.lemmas.List.{append-nil}
 use Rattle.std.proofs.lemmas.Str.{encodes-append}
 use Rattle.bib_text.specs.Places.{Place, CharAt, between}
@@ -18,8 +18,8 @@ use Rattle.bib_syntax.proofs.FieldFacts.{ahead_parts, ahead_quoted_parts}
 use Rattle.edit_entries.proofs.ElementFacts.{char_parted, parted}
 use Rattle.edit_entries.proofs.StandsFacts.{Stands, char_stands, first_part, last_part, nothing, past}
 use Rattle.edit_format.proofs.NameFacts.{none_between}
-use Rattle.edit_accents.specs.Balance.{can_close, depth_closed, text_fits, depth_opened}
-use Rattle.edit_accents.proofs.FitFacts.{IsDull, back_again, close_opened, over_dull}
+use Rattle.edit_accents.specs.Balance.{text_fits}
+use Rattle.edit_accents.proofs.FitFacts.{over_dull}
 
 -- ---- the characters of a literal
 

@@ -5,4 +5,3 @@ pub mod NameFacts
 pub mod PieceFacts
 pub mod RecodedFacts
 pub mod ReducedFacts
-pub mod SignFacts

@@ -1,6 +1,6 @@
 -- Names of commands that no table has, since they are too long or too short.
 use Rattle.std.proofs.Common.{◌≡◌, ℕ, ◌≤◌, Bool, true, false, cond, List, [], ◌∷◌, length, refl, sym, ap, ◌∙◌, Option, Some, None, arith}
-use Rattle.std.specs.Prelude.{bytes_eq, nat_lt, ◌||◌, ◌==◌}
+use Rattle.std.specs.Prelude.{bytes_eq, nat_lt, ◌||◌}
 use Rattle.std.specs.List.{list_all, list_any}
 use lib.Dec.{eqb}
 use Rattle.std.specs.Cmp.Lexicographic.{bytes_decides}
@@ -47,7 +47,3 @@ none_longer (n ∷ names) name short long =
 pub no_letter : (name : List ℕ) → 3 ≤ length name → named_letter name ≡ None
 no_letter name long =
     ap (λ b. cond {A = Option ℕ} b (only_character (command_text name None)) None) (none_longer letter_names name letters_short long)
-
-pub no_letter_empty : (name : List ℕ) → length name ≡ 0 → named_letter name ≡ None
-no_letter_empty [] none = refl
-no_letter_empty (c ∷ cs) none = absurd (omega (arith, none))

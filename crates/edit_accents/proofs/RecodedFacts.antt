@@ -1,10 +1,10 @@
 -- A document with its accents and letters as characters.
-use Rattle.std.proofs.Common.{◌≡◌, ℕ, Bool, true, false, cond, List, map, refl, sym, ap, ◌∙◌, subst, Some, None, Result, Ok, Err}
+use Rattle.std.proofs.Common.{◌≡◌, ℕ, Bool, true, false, cond, List, refl, sym, ap, ◌∙◌, subst, Some, None, Result, Ok, Err}
 use Rattle.std.specs.Prelude.{IfOk}
 use Rattle.std.specs.List.{AllByRecursion}
 use Rattle.std.specs.Str.{IsUtf8}
 use Rattle.bib_syntax.specs.Reading.{FieldReading}
-use Rattle.edit_entries.specs.Changes.{IsReadPlaceless, NewValue, file_changed, text_changed}
+use Rattle.edit_entries.specs.Changes.{IsReadPlaceless, file_changed, text_changed}
 use Rattle.edit_entries.specs.Documents.{Document, IsDocument}
 use Rattle.edit_entries.specs.EditList.{AreEditsInOrder}
 use Rattle.edit_entries.specs.Edits.{edited_all}

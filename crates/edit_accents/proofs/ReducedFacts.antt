@@ -1,18 +1,17 @@
 -- Commands that become characters keep the braces and quotes of signs.
-use Rattle.std.proofs.Common.{◌≡◌, inl, inr, ℕ, suc, ◌+◌, ◌-◌, ◌<◌, ◌≤◌, Bool, true, false, cond, List, [], ◌∷◌, ◌++◌, length, drop, refl, sym, ap, ◌∙◌, subst, Option, Some, None, arith}
-use Rattle.std.specs.Prelude.{◌==◌, ◌&&◌, ◌||◌, not, nat_lt, bytes_eq}
+use Rattle.std.proofs.Common.{◌≡◌, ℕ, suc, ◌+◌, ◌-◌, Bool, true, false, cond, List, [], ◌∷◌, length, drop, refl, sym, ap, ◌∙◌, subst, Option, Some, None}
+use Rattle.std.specs.Prelude.{◌==◌, ◌&&◌, ◌||◌, not, bytes_eq}
 use Rattle.std.specs.Char.{is_ascii_alphabetic, is_whitespace}
 use Rattle.std.specs.List.{list_all, list_any}
 use Rattle.std.specs.Cmp.Lexicographic.{bytes_decides}
-use Rattle.std.proofs.lemmas.Bool.{and_from, and_parts, cases_eq, lt-ltb, ne_eqb}
+use Rattle.std.proofs.lemmas.Bool.{and_from, and_parts, ne_eqb}
 use Rattle.std.proofs.lemmas.List.{drop-drop}
 use Rattle.bib_text.proofs.PlaceFacts.{test_clash}
 use Rattle.bib_text.specs.Enums.{value_named}
 use Rattle.bib_contents.specs.Commands.{accents, command_text, letter, symbols}
 use Rattle.unicode_normalization.specs.Forms.{nfc}
-use Rattle.edit_accents.specs.Accents.{accent_reduced, accented_count, accented_letter, before_others, first_sign_passes, begins_empty, character_if, name_in_signs, command_reduced, composed, composed_with, decoded, end_count, group_reduced, is_beyond_ascii, is_closing, is_group, is_white, letter_in_braces, letter_names, letter_of, letter_reduced, leading_letters, named_letter, only_beyond_ascii, only_character, reduced, reduced_to, with_reduction, stays, takes_accent, white_count}
+use Rattle.edit_accents.specs.Accents.{accent_reduced, accented_count, accented_letter, before_others, first_sign_passes, begins_empty, character_if, name_in_signs, command_reduced, composed_with, decoded, end_count, group_reduced, is_beyond_ascii, is_closing, is_group, letter_names, letter_reduced, leading_letters, named_letter, only_beyond_ascii, only_character, reduced, reduced_to, with_reduction, stays, takes_accent, white_count}
 use Rattle.edit_accents.specs.Balance.{can_close, depth_closed, fit, is_neutral, depth_opened}
-use Rattle.edit_accents.specs.declared.decoding.Reduction.{Reduction}
 use Rattle.edit_accents.specs.declared.signs.Sign.{Sign}
 use Rattle.edit_accents.specs.declared.signs.Sign.TheVariants.{Command, Opening, Closing, Plain, Composed, Grouped}
 use Rattle.edit_accents.proofs.FitFacts.{back_again}

@@ -1,7 +1,7 @@
 -- Machinery: words of private contracts and of proofs.
 -- Braces and quotes of characters and of signs, as the file grammar counts them. The first flag says whether the text is in quotes, where
 -- braces don't count. The second flag says whether a backslash escapes the first character.
-use Rattle.std.specs.Prelude.{◌==◌, ◌&&◌, ◌||◌, not, ℕ, suc, ◌-◌, Bool, true, false, cond, nat_lt, List, [], ◌∷◌}
+use Rattle.std.specs.Prelude.{◌==◌, ◌&&◌, not, ℕ, suc, ◌-◌, Bool, true, false, cond, nat_lt, List, [], ◌∷◌}
 use Rattle.bib_text.specs.Characters as char
 use Rattle.edit_accents.specs.Accents.{is_beyond_ascii}
 use Rattle.edit_accents.specs.declared.signs.Sign.{Sign}
