@@ -35,6 +35,10 @@ _bibkit() {
             mapfile -t COMPREPLY < <(compgen -W "$from" -- "$current")
             return
             ;;
+        --accents)
+            mapfile -t COMPREPLY < <(compgen -W 'characters' -- "$current")
+            return
+            ;;
         --line-ends)
             mapfile -t COMPREPLY < <(compgen -W 'lf crlf' -- "$current")
             return
@@ -84,7 +88,7 @@ _bibkit() {
         [ "$command" = fmt ] && options='--indent --align --no-align --trailing-comma --no-trailing-comma --blank-lines --delimiters --order
             --width --sort --check --write --diff --help'
         [ "$command" = convert ] && options='--to --from --where --help'
-        [ "$command" = recode ] && options='--from --line-ends --bom --file --write --help'
+        [ "$command" = recode ] && options='--from --line-ends --bom --accents --file --write --help'
         [ "$command" = resolve ] && options='--write --diff --help'
         [ "$command" = lint ] && options='--only --ignore --explain --format --cited --unused --where --color --help'
         [[ $command =~ ^(keys|get)$ ]] && options='--where --help'

@@ -1284,7 +1284,7 @@ run 'keys and a condition' 2 '' remove a --where 'key = b' -f two.bib
 printf '@misc{a, title = "The {"}Big{"} one"}\n@misc{b, note={x}, doi={10/y}}\n' >quotes.bib
 unbalanced=$'quotes.bib:1:19: error: the braces of this text in quotes don\'t balance, so BibTeX and Biber end it elsewhere; write it in braces first\n'
 for edit in 'set b note=y -f' 'unset b note -f' 'rename b c -f' 'remove b -f' 'edit --set note=y -f' 'edit --unset note -f' 'remove --where key=b -f' \
-    'rekey -f' 'strings --expand -f' 'strings --collect -f' resolve 'fmt --sort key' 'convert --to biblatex' 'convert --to bibtex'; do
+    'rekey -f' 'recode --accents characters -f' 'strings --expand -f' 'strings --collect -f' resolve 'fmt --sort key' 'convert --to biblatex' 'convert --to bibtex'; do
     refuses "an edit that could cut a text in quotes: $edit" 1 "$unbalanced" $edit quotes.bib
 done
 run 'a format keeps such a text' 0 $'@misc{a, title = "The {"}Big{"} one"}\n@misc{b,\n  note = {x},\n  doi = {10/y},\n}\n' fmt quotes.bib
@@ -1354,6 +1354,37 @@ run 'a byte order mark of UTF-16 against an encoding' 0 $'@misc{k, title = {\303
 run 'an encoding that is none' 2 '' recode --from koi8 -f western.bib
 run 'line ends that are none' 2 '' recode --line-ends cr -f marked.bib
 
+# recode --accents: what `biber --tool` makes of the same commands, and what DECISIONS.md lists as different
+cat >accents.bib <<'END'
+@string{m = {M{\"u}ller}}
+@article{a1, title = {M{\"u}ller \'e \`a \^o \~n \=a \.z \"{o} \v{s} \v s \c c {\c c} \H{o} \u{g} \r{a} \k{a} \d{s}}}
+@article{a2, title = {Stra\ss e Stra\ss{}e, \aa ngstr, \AE{}, {\"O}ster, {{\"O}}ster, {ABC {\"o} \"o}}}
+@article{a3, title = {\'{\ae} {\'\ae} \emph{\"o \ss} \textbf{{\'e}} \"q \&}}
+@article{a4, title = "Die {\"O}ber, {\"o}b", url = {\"o}, DOI = {\'e}, author = m # " and \'E"}
+@article{b1, title = {$\"o$ \url{http://a.b/\~n} \href{\~n}{x\"o} \\"o \{\'e\} \S 5}}
+@article{b2, title = {\'\i \'{\i} {\'\i} \`\i x {\O}re Stra{\ss}e \l\'od\'z}}
+@article{b3, title = {\d{\^e} \'{\^e} \it\"o \emph{\ss} \"{\ss} \o{x} \c {c}}}
+@article{b4, title = {Costs $5 and \"o}}
+END
+run 'accents as characters' 0 '@string{m = {M{\"u}ller}}
+@article{a1, title = {Müller é à ô ñ ā ż ö š š ç ç ő ğ å ą ṣ}}
+@article{a2, title = {Straße Straße, ångstr, Æ, Öster, {Ö}ster, {ABC ö ö}}}
+@article{a3, title = {ǽ ǽ \emph{ö ß} \textbf{é} \"q \&}}
+@article{a4, title = "Die Öber, öb", url = {\"o}, DOI = {\'"'"'e}, author = m # " and É"}
+@article{b1, title = {$\"o$ \url{http://a.b/\~n} \href{\~n}{xö} \\"o \{é\} \S 5}}
+@article{b2, title = {í í í ìx Øre Straße łódź}}
+@article{b3, title = {ệ ế \it ö \emph{ß} \"{ß} \o{x} ç}}
+@article{b4, title = {Costs $5 and \"o}}
+' recode --accents characters -f accents.bib
+cp accents.bib plain.bib
+run 'accents are written as characters' 0 '' recode --accents characters --write -f plain.bib
+run 'characters stay' 0 "$(cat plain.bib)"$'\n' recode --accents characters -f plain.bib
+printf '@misc{k, title = {na\357ve \\"o}}\r\n' >both.bib
+run 'accents of a file in Windows-1252' 0 $'@misc{k, title = {na\303\257ve \303\266}}\n' \
+    recode --from windows-1252 --line-ends lf --accents characters -f both.bib
+refuses 'accents of a file with an error' 1 $'broken.bib:3:1: error: expected comma [syntax]\n' recode --accents characters -f broken.bib
+run 'a form of accents that is none' 2 '' recode --accents tex -f accents.bib
+
 # completions, in the shells that are there: each row is a line, and what its last word can be
 completed() {
     if printf %s "$3" | cmp -s - output; then
@@ -1422,6 +1453,7 @@ in_bash 'bibkit fmt --wi' $'--width\n'
 in_bash 'bibkit fmt --sort ' $'keep\nkey\nyear\nauthor\ntitle\ntype\n'
 in_bash 'bibkit rec' $'recode\n'
 in_bash 'bibkit recode --from win' $'windows-1252\n'
+in_bash 'bibkit recode --accents ' $'characters\n'
 in_bash 'bibkit convert --from b' $'bib\n'
 in_bash 'bibkit convert --wh' $'--where\n'
 in_bash 'bibkit fmt --delimiters ' $'keep\nbraces\nquotes\n'

@@ -164,6 +164,7 @@ fn recoding<'a>(matches: &ArgMatches<'a>) -> Edits<'a> {
         from: matches.get_str("from").and_then(Encoding::from_name),
         line_ends: matches.get_str("line-ends").and_then(LineEnds::from_name),
         has_mark: matches.get_flag("bom"),
+        has_characters: matches.get_str("accents").is_some(),
     })
 }
 

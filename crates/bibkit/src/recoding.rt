@@ -1,11 +1,15 @@
 //! Runs `recode`, which writes a file as UTF-8.
 
 use crate::edits::{Editing, Mode, write_new};
-use crate::stops::{Stop, bytes_of, output_stop};
+use crate::refusals::unbalanced_quotes_line;
+use crate::stops::{Stop, bytes_of, output_stop, syntax_line};
 use bib_recode::decoding::{DecodeError, decode};
 use bib_recode::encoding::{Encoding, detect, marked_as};
 use bib_recode::line_ends::{LineEnds, with_line_ends};
+use bib_syntax::raw::ParseError;
 use biblatex::{Output, Sink};
+use edit_accents::recoding::recode as accents;
+use edit_entries::document::RawDocument;
 use std::alloc::{AllocError, Global};
 use std::io;
 
@@ -18,6 +22,8 @@ pub struct Recoding {
     pub line_ends: Option<LineEnds>,
     /// Whether the new text begins with a byte order mark.
     pub has_mark: bool,
+    /// Whether LaTeX commands for accents and letters become characters.
+    pub has_characters: bool,
 }
 
 // Returns the encoding of a file: that of its byte order mark, or else the given one. Fails with a message and status 2 if neither is
@@ -76,6 +82,42 @@ fn decoded(alloc: Global, name: &str, bytes: &[u8], encoding: Encoding) -> Resul
     }
 }
 
+// Returns the message and status 1 for the error of parsing a text as a bibliography.
+fn syntax_stop(
+    alloc: Global,
+    name: &str,
+    text: &str,
+    error: &ParseError,
+) -> Result<Stop, AllocError> {
+    let line = syntax_line(alloc, name, text.as_bytes(), error)?;
+    Ok(Stop::Said(line, 1))
+}
+
+// Returns a text with its LaTeX commands for accents and letters as characters. Fails with a message and status 1 if it can't be parsed, or
+// if the edit could break a text in quotes.
+fn with_characters(alloc: Global, name: &str, text: &str) -> Result<String, Stop> {
+    match RawDocument::parse(alloc, text) {
+        Ok(document) if document.has_unbalanced_quotes() => {
+            let line = unbalanced_quotes_line(alloc, name, text.as_bytes())?;
+            Err(Stop::Said(line, 1))
+        }
+        Ok(document) => Ok(accents(alloc, &document)?),
+        Err(error) => {
+            error.unless_out_of_memory()?;
+            Err(syntax_stop(alloc, name, text, &error)?)
+        }
+    }
+}
+
+// Returns a text with its LaTeX commands as characters, if `recoding` says so.
+fn exchanged(alloc: Global, name: &str, recoding: &Recoding, text: String) -> Result<String, Stop> {
+    if recoding.has_characters {
+        with_characters(alloc, name, &text)
+    } else {
+        Ok(text)
+    }
+}
+
 // Returns a text with the line ends and the byte order mark of `recoding`.
 fn recoded(alloc: Global, recoding: &Recoding, text: String) -> Result<String, AllocError> {
     match recoding.line_ends {
@@ -101,6 +143,7 @@ pub fn recode(rt: &HostRuntime, editing: &Editing<'_>, recoding: &Recoding) -> R
     let bytes = bytes_of(rt, name)?;
     let encoding = encoding_of(rt.alloc(), name, recoding, &bytes)?;
     let text = decoded(rt.alloc(), name, &bytes, encoding)?;
+    let text = exchanged(rt.alloc(), name, recoding, text)?;
     let new = recoded(rt.alloc(), recoding, text)?;
     if editing.mode == Mode::Write {
         write_new(rt, name, &bytes, &new)

@@ -299,8 +299,12 @@ fn unbalanced_quote(src: &str, raw: &RawBibliography<'_>) -> Option<usize> {
     unbalanced_field(src, &raw.abbreviations)
 }
 
-// Returns the message for a text in quotes whose braces don't balance, with its position, if `text` has one.
-fn unbalanced_quotes_line(alloc: Global, name: &str, text: &[u8]) -> Result<String, AllocError> {
+/// Returns the message for a text in quotes whose braces don't balance, with its position, if `text` has one.
+pub fn unbalanced_quotes_line(
+    alloc: Global,
+    name: &str,
+    text: &[u8],
+) -> Result<String, AllocError> {
     let said =
         "the braces of this text in quotes don't balance, so BibTeX and Biber end it elsewhere; write it in braces first";
     if let Ok(src) = from_utf8(text) {

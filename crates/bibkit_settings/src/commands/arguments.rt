@@ -58,6 +58,8 @@ pub enum Takes {
     Encoding,
     /// An option: the line ends of a text.
     LineEnds,
+    /// An option: the form of accents.
+    Accents,
     /// A required option: the format to convert to.
     Target,
     /// An option: the format to convert from.
@@ -108,6 +110,9 @@ static ENCODINGS: [&str; 6] = [
 
 // The values of `--line-ends`.
 static LINE_ENDS: [&str; 2] = ["lf", "crlf"];
+
+// The values of `--accents`.
+static ACCENTS: [&str; 1] = ["characters"];
 
 // The values of `--indent`.
 static INDENTS: [&str; 9] = ["0", "1", "2", "3", "4", "5", "6", "7", "8"];
@@ -229,6 +234,7 @@ fn argument_of<'a>(alloc: Global, row: &'static Argument) -> Result<Arg<'a>, All
             .conflicts_with("expand"),
         Takes::Encoding => Ok(value(alloc, row, "ENCODING").value_parser(ENCODINGS.as_slice())),
         Takes::LineEnds => Ok(value(alloc, row, "ENDS").value_parser(LINE_ENDS.as_slice())),
+        Takes::Accents => Ok(value(alloc, row, "FORM").value_parser(ACCENTS.as_slice())),
         Takes::Target => Ok(
             value(alloc, row, "FORMAT")
                 .value_parser(TARGETS.as_slice())

@@ -156,7 +156,7 @@ const STRINGS: [Argument; 7] = [
 ];
 
 // The arguments of `recode`.
-const RECODE: [Argument; 5] = [
+const RECODE: [Argument; 6] = [
     Argument {
         name: "from",
         takes: Takes::Encoding,
@@ -171,6 +171,11 @@ const RECODE: [Argument; 5] = [
         name: "bom",
         takes: Takes::Nothing,
         help: "Write a byte order mark; without it there is none",
+    },
+    Argument {
+        name: "accents",
+        takes: Takes::Accents,
+        help: "Write LaTeX commands for accents and letters as characters [default: keep them]",
     },
     FILE,
     WRITE,
@@ -231,10 +236,11 @@ Status: 0 done, 1 a definition uses its own name or one that is defined later, o
 const RECODE_HELP: &str = "\
 A file that isn't UTF-8 and has no byte order mark requires --from. utf-16 is little-endian.
 
-Example:
+Examples:
   bibkit recode --from windows-1252 --line-ends lf --file refs.bib --write
+  bibkit recode --accents characters --file refs.bib
 
-Status: 0 done, 1 the file isn't in this encoding, 2 no encoding or wrong usage, or a file or the output failed, 3 out of memory";
+Status: 0 done, 1 the file isn't in this encoding or --accents finds an error in it, 2 no encoding or wrong usage, or a file or the output failed, 3 out of memory";
 
 // The text at the end of the help of `edit`.
 const EDIT_HELP: &str = "\

@@ -1,0 +1,55 @@
+-- A document with its accents and letters as characters.
+use Rattle.std.proofs.Common.{◌≡◌, ℕ, Bool, true, false, cond, List, refl, sym, ap, ◌∙◌, subst, Some, None, Result, Ok, Err}
+use Rattle.std.specs.Prelude.{IfOk}
+use Rattle.std.specs.List.{AllByRecursion}
+use Rattle.std.specs.Str.{IsUtf8}
+use Rattle.bib_syntax.specs.Reading.{FieldReading}
+use Rattle.edit_entries.specs.Changes.{IsReadPlaceless, file_changed, text_changed}
+use Rattle.edit_entries.specs.Documents.{Document, IsDocument}
+use Rattle.edit_entries.specs.EditList.{AreEditsInOrder}
+use Rattle.edit_entries.specs.Edits.{edited_all}
+use Rattle.edit_entries.proofs.AllFacts.{all_weaker}
+use Rattle.edit_entries.proofs.NewValueFacts.{CanBeRead}
+use Rattle.edit_strings.specs.Exchanged.{exchanges}
+use Rattle.edit_strings.specs.Tables.{entry_edits}
+use Rattle.edit_strings.proofs.ElementFacts.{IsValue, file_stands}
+use Rattle.edit_strings.proofs.ExchangedFacts.{CanBeExchanged, edits_are_changes, exchange_in_order, exchanged_read}
+use Rattle.edit_accents.specs.Recoded.{IsRecoded, changes_value, recoding, value_recoded}
+use Rattle.edit_accents.proofs.ElementFacts.{can_be_read}
+
+-- the edits are in order and don't overlap
+pub in_order : (d : Document) → IsDocument d → IsUtf8 d.text
+    → AreEditsInOrder d.text 0 (entry_edits (recoding d.text) d.text d.says.entries)
+in_order d read utf8 = exchange_in_order d (λ e. recoding d.text) read utf8
+
+-- the new value of a field can be read
+value_read : (text : List ℕ) (f : FieldReading) → IsUtf8 text → IsValue text f → CanBeExchanged (recoding text) f
+value_read text f utf8 value new = by_change (changes_value f)
+  where
+    by_change : (b : Bool) → cond b (Some (value_recoded text f)) None ≡ Some new → CanBeRead new
+    by_change true is =
+        let same : value_recoded text f ≡ new = cc in
+        subst CanBeRead same (can_be_read text f.value.pieces utf8 value.some value.all)
+    by_change false is = absurd (cc)
+
+pub recoded : (d : Document) (text : List ℕ) → IsDocument d → IsUtf8 d.text
+    → text ≡ edited_all (entry_edits (recoding d.text) d.text d.says.entries) d.text → IsRecoded d text
+recoded d text read utf8 is =
+    let whole : text ≡ text_changed (λ e. exchanges (recoding d.text) e) d =
+    is ∙ ap (λ es. edited_all es d.text) (edits_are_changes (λ e. recoding d.text) d.text d.says.entries) in
+    record {
+      is = whole;
+      read = subst (IsReadPlaceless (file_changed (λ e. exchanges (recoding d.text) e) d.says)) (sym whole)
+          (exchanged_read d (λ e. recoding d.text) read utf8
+          (all_weaker (λ e. AllByRecursion (IsValue d.text) e.fields) (λ e. AllByRecursion (CanBeExchanged (recoding d.text)) e.fields)
+          (λ e all.
+          all_weaker (IsValue d.text) (CanBeExchanged (recoding d.text)) (λ f value. value_read d.text f utf8 value) e.fields all)
+          d.says.entries (file_stands d.text refl read).entries));
+    }
+
+-- the text that the code returns is the recoded one
+pub recoded_answer : {A E : Type 0} (bytes_of : A → List ℕ) (r : Result A E) (d : Document) → IsDocument d → IsUtf8 d.text
+    → IfOk r (λ new. bytes_of new ≡ edited_all (entry_edits (recoding d.text) d.text d.says.entries) d.text)
+    → IfOk r (λ new. IsRecoded d (bytes_of new))
+recoded_answer bytes_of (Ok new) d read utf8 is = recoded d (bytes_of new) read utf8 is
+recoded_answer bytes_of (Err e) d read utf8 is = is

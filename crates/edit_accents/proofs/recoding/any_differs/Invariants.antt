@@ -1,0 +1,11 @@
+use Rattle.std.proofs.Common.{◌≡◌, ◌-◌, length, map, drop}
+use Rattle.std.specs.List.{list_any}
+use Rattle.bib_syntax.specs.Views.{piece_of}
+use Rattle.edit_accents.specs.Recoded.{changes_piece}
+use Rattle.edit_accents.proofs.recoding.any_differs.Given as goal
+
+abbrev pub invariant-pieces : goal.invariant-pieces
+invariant-pieces l = list_any changes_piece (map piece_of l.pieces) ≡ list_any changes_piece (map piece_of (drop l.at l.pieces))
+
+abbrev pub decreases-pieces : goal.decreases-pieces
+decreases-pieces l = length l.pieces - l.at

@@ -1,0 +1,293 @@
+-- Meaning: words of public contracts.
+-- LaTeX commands for accents and letters, and the characters that they become. A text is a list of its characters. The marks of accents
+-- and the texts of letters are those of `bib_contents`.
+use Rattle.std.specs.Prelude.{◌==◌, ◌&&◌, ◌||◌, not, ℕ, suc, ◌-◌, Bool, true, false, if◌then◌else◌, nat_lt, List, [], ◌∷◌, ◌++◌, codes, drop, length, Option, Some, None, bytes_eq, is_some, ◌+◌}
+use Rattle.std.specs.Char.{is_whitespace, is_ascii_alphabetic}
+use Rattle.std.specs.List.{list_any, starts_with}
+use lib.Dec.{eqb}
+use Rattle.bib_text.specs.Characters as char
+use Rattle.bib_text.specs.Enums.{value_named}
+use Rattle.bib_contents.specs.Commands.{accents, command_text, letter}
+use Rattle.edit_accents.specs.declared.decoding.Reduction.{Reduction}
+use Rattle.edit_accents.specs.declared.signs.Sign.{Sign}
+use Rattle.edit_accents.specs.declared.signs.Sign.TheVariants.{Command, Opening, Closing, Plain, Composed, Grouped}
+use Rattle.edit_accents.specs.declared.signs.Stretch.{Stretch}
+use Rattle.edit_accents.specs.declared.signs.Stretch.TheVariants.{Text, Math, Address}
+use Rattle.edit_accents.specs.declared.writing.Spot.{Spot}
+use Rattle.edit_accents.specs.declared.writing.Spot.TheVariants.{Free, Begun, Word, Waits, Closed}
+use Rattle.unicode_normalization.specs.Forms.{nfc}
+
+-- ---- the signs of a text
+
+-- whether a text begins with a command whose first argument is an address, without its backslash
+abbrev pub begins_address : List ℕ → Bool
+begins_address text =
+    starts_with eqb text (codes "url{") || starts_with eqb text (codes "href{") || starts_with eqb text (codes "path{")
+    || starts_with eqb text (codes "nolinkurl{")
+
+-- whether commands become characters in a stretch of a text: neither in math nor in addresses
+abbrev pub reads_commands : Stretch → Bool
+reads_commands Text = true
+reads_commands Math = false
+reads_commands (Address depth) = false
+
+-- the sign of a character that no backslash escapes
+abbrev pub sign_of : Stretch → ℕ → Sign
+sign_of stretch c =
+    if c == char.open_brace then Opening
+    else if c == char.close_brace then Closing
+    else if c == char.backslash && reads_commands stretch then Command
+    else Plain c
+
+-- the stretch after a closing brace in an address with so many open braces
+abbrev pub address_closed : ℕ → Stretch
+address_closed depth = if nat_lt 1 depth then Address (depth - 1) else Text
+
+-- the stretch after a character that no backslash escapes, which the rest of the text follows. A dollar sign begins and ends math. An
+-- address ends with the brace that closes the argument.
+abbrev pub stretch_after : Stretch → ℕ → List ℕ → Stretch
+stretch_after Text c rest =
+    if c == char.dollar then Math
+    else if c == char.backslash && begins_address rest then Address 0
+    else Text
+stretch_after Math c rest = if c == char.dollar then Text else Math
+stretch_after (Address depth) c rest =
+    if c == char.open_brace then Address (suc depth)
+    else if c == char.close_brace then address_closed depth
+    else Address depth
+
+-- the signs of a text that begins in a stretch; the flag says whether a backslash escapes its first character
+abbrev pub signs : Stretch → Bool → List ℕ → List Sign
+signs stretch is_escaped [] = []
+signs stretch true (c ∷ cs) = Plain c ∷ signs stretch false cs
+signs stretch false (c ∷ cs) = sign_of stretch c ∷ signs (stretch_after stretch c cs) (c == char.backslash) cs
+
+-- ---- a command
+
+-- whether signs begin with one that passes a test
+abbrev pub first_sign_passes : (Sign → Bool) → List Sign → Bool
+first_sign_passes test [] = false
+first_sign_passes test (s ∷ ss) = test s
+
+abbrev pub is_opening : Sign → Bool
+is_opening Opening = true
+is_opening s = false
+
+abbrev pub is_closing : Sign → Bool
+is_closing Closing = true
+is_closing s = false
+
+-- whether a sign begins an argument in braces
+abbrev pub is_group : Sign → Bool
+is_group Opening = true
+is_group (Grouped c) = true
+is_group s = false
+
+-- a character, if it passes a test
+abbrev pub character_if : Bool → ℕ → Option ℕ
+character_if passes c = if passes then Some c else None
+
+-- the letter that a sign is
+abbrev pub letter_of : Sign → Option ℕ
+letter_of (Plain c) = character_if (is_ascii_alphabetic c) c
+letter_of s = None
+
+-- a character before others, which are dropped if there is none
+abbrev pub before_others : Option ℕ → List ℕ → List ℕ
+before_others None cs = []
+before_others (Some c) cs = c ∷ cs
+
+-- the letters at the start of signs
+abbrev pub leading_letters : List Sign → List ℕ
+leading_letters [] = []
+leading_letters (s ∷ ss) = before_others (letter_of s) (leading_letters ss)
+
+-- whether a sign is white space
+abbrev pub is_white : Sign → Bool
+is_white (Plain c) = is_whitespace c
+is_white s = false
+
+-- the number of signs at their start that are white space
+abbrev pub white_count : List Sign → ℕ
+white_count [] = 0
+white_count (s ∷ ss) = if is_white s then suc (white_count ss) else 0
+
+-- the name of a command before these signs, as TeX reads it: letters, or one other character
+abbrev pub name_in_signs : List Sign → List ℕ
+name_in_signs [] = []
+name_in_signs (Plain c ∷ rest) = if is_ascii_alphabetic c then c ∷ leading_letters rest else c ∷ []
+name_in_signs (s ∷ rest) = []
+
+-- the commands for letters
+abbrev pub letter_names : List (List ℕ)
+letter_names =
+    codes "aa" ∷ codes "AA" ∷ codes "ae" ∷ codes "AE" ∷ codes "oe" ∷ codes "OE" ∷ codes "o" ∷ codes "O" ∷ codes "l" ∷ codes "L"
+    ∷ codes "ss" ∷ codes "i" ∷ codes "dh" ∷ codes "DH" ∷ codes "dj" ∷ codes "DJ" ∷ codes "ng" ∷ codes "NG" ∷ codes "th"
+    ∷ codes "TH" ∷ []
+
+-- the only character of a text
+abbrev pub only_character : List ℕ → Option ℕ
+only_character (c ∷ []) = Some c
+only_character text = None
+
+-- the character of a command for a letter
+abbrev pub named_letter : List ℕ → Option ℕ
+named_letter name = if list_any (bytes_eq name) letter_names then only_character (command_text name None) else None
+
+-- a character beyond ASCII
+abbrev pub is_beyond_ascii : ℕ → Bool
+is_beyond_ascii c = not (nat_lt c 128)
+
+-- whether an accent may be put on a character
+abbrev pub takes_accent : ℕ → Bool
+takes_accent c = is_ascii_alphabetic c || is_beyond_ascii c
+
+-- a character, if there is one and it is beyond ASCII
+abbrev pub only_beyond_ascii : Option ℕ → Option ℕ
+only_beyond_ascii None = None
+only_beyond_ascii (Some c) = character_if (is_beyond_ascii c) c
+
+-- a character and a mark as one character beyond ASCII, if NFC has one; a dotless i has its dot under a mark
+abbrev pub composed : ℕ → ℕ → Option ℕ
+composed mark c = only_beyond_ascii (only_character (nfc (letter c ∷ mark ∷ [])))
+
+-- the same, if there is a character
+abbrev pub composed_with : ℕ → Option ℕ → Option ℕ
+composed_with mark None = None
+composed_with mark (Some c) = composed mark c
+
+-- ---- what commands become
+
+-- what a sign becomes before other signs is a reduction: another sign, and the number of these that it takes with it
+
+-- a sign that stays
+abbrev pub stays : Sign → Reduction
+stays s = record { sign = s; taken = 0 }
+
+-- a sign that becomes a character and takes a number of signs with it, or stays if there is no character
+abbrev pub reduced_to : Option ℕ → ℕ → Sign → Reduction
+reduced_to None count s = stays s
+reduced_to (Some c) count s = record { sign = Composed c; taken = count }
+
+-- the character in an argument in braces, after its opening brace
+abbrev pub letter_in_braces : List Sign → Option ℕ
+letter_in_braces (Plain c ∷ rest) = character_if (takes_accent c && first_sign_passes is_closing rest) c
+letter_in_braces ss = None
+
+-- the character on which an accent before these signs is put: the next one, or the only one in braces
+abbrev pub accented_letter : List Sign → Option ℕ
+accented_letter [] = None
+accented_letter (Plain c ∷ rest) = character_if (takes_accent c) c
+accented_letter (Composed c ∷ rest) = Some c
+accented_letter (Grouped c ∷ rest) = Some c
+accented_letter (Opening ∷ rest) = letter_in_braces rest
+accented_letter (Closing ∷ rest) = None
+accented_letter (Command ∷ rest) = None
+
+-- the number of its signs
+abbrev pub accented_count : List Sign → ℕ
+accented_count ss = if first_sign_passes is_opening ss then 3 else 1
+
+-- an accent whose name has so many characters, before the signs after its name: it is put on a character after white space
+abbrev pub accent_reduced : ℕ → ℕ → List Sign → Reduction
+accent_reduced mark size rest =
+    let white : ℕ = white_count rest in
+    let argument : List Sign = drop white rest in
+    reduced_to (composed_with mark (accented_letter argument)) (size + white + accented_count argument) Command
+
+-- whether signs begin with an empty pair of braces
+abbrev pub begins_empty : List Sign → Bool
+begins_empty ss = first_sign_passes is_opening ss && first_sign_passes is_closing (drop 1 ss)
+
+-- the number of signs that end the name of a letter: an empty pair of braces, or white space
+abbrev pub end_count : List Sign → ℕ
+end_count rest = if begins_empty rest then 2 else white_count rest
+
+-- a command for a letter whose name has so many characters, before the signs after its name: before an argument that isn't empty it stays
+abbrev pub letter_reduced : Option ℕ → ℕ → List Sign → Reduction
+letter_reduced found size rest =
+    if first_sign_passes is_group rest && not (begins_empty rest) then stays Command else reduced_to found (size + end_count rest) Command
+
+-- a command with a name before signs, given the mark if its name is that of an accent
+abbrev pub command_reduced : Option ℕ → List ℕ → List Sign → Reduction
+command_reduced None name following = letter_reduced (named_letter name) (length name) (drop (length name) following)
+command_reduced (Some mark) name following = accent_reduced mark (length name) (drop (length name) following)
+
+-- an opening brace before signs: with a character that a command became and a closing brace it is one sign
+abbrev pub group_reduced : List Sign → Reduction
+group_reduced (Composed c ∷ Closing ∷ rest) = record { sign = Grouped c; taken = 2 }
+group_reduced ss = stays Opening
+
+-- what a sign becomes before other signs
+abbrev pub reduced : Sign → List Sign → Reduction
+reduced Command following = command_reduced (value_named accents (name_in_signs following)) (name_in_signs following) following
+reduced Opening following = group_reduced following
+reduced s following = stays s
+
+-- the signs after a reduction of the first of them
+abbrev pub with_reduction : Reduction → List Sign → List Sign
+with_reduction r following = r.sign ∷ drop r.taken following
+
+-- signs with each command that becomes a character replaced by it, from the last to the first, so that an accent is put on a character
+-- that a command became
+abbrev pub decoded : List Sign → List Sign
+decoded [] = []
+decoded (s ∷ ss) = with_reduction (reduced s (decoded ss)) (decoded ss)
+
+-- ---- the text of signs
+
+-- the characters that are the name of an accent and no letters
+abbrev pub is_accent_sign : ℕ → Bool
+is_accent_sign c = is_some (value_named accents (c ∷ []))
+
+-- the spot after a character in the name of a command, whose first one it is if the flag says so
+abbrev pub spot_in_name : Bool → ℕ → Spot
+spot_in_name is_first c =
+    if is_ascii_alphabetic c then Word
+    else if (if is_first then is_accent_sign c else is_whitespace c) then Waits
+    else Free
+
+-- the spot after a plain character
+abbrev pub spot_after_plain : Spot → ℕ → Spot
+spot_after_plain Free c = Free
+spot_after_plain Begun c = spot_in_name true c
+spot_after_plain Word c = spot_in_name false c
+spot_after_plain Waits c = if is_whitespace c then Waits else Free
+spot_after_plain Closed c = Free
+
+-- whether braces around a character have no meaning at a spot: no command before them takes an argument
+abbrev pub is_free : Spot → Bool
+is_free Free = true
+is_free s = false
+
+-- the spot after a sign
+abbrev pub spot_after : Spot → Sign → Spot
+spot_after spot Command = Begun
+spot_after spot Opening = Free
+spot_after spot Closing = Closed
+spot_after spot (Plain c) = spot_after_plain spot c
+spot_after spot (Composed c) = Free
+spot_after spot (Grouped c) = if is_free spot then Free else Closed
+
+-- the text of a composed character: after the name of a command a space keeps them apart
+abbrev pub composed_text : Spot → ℕ → List ℕ
+composed_text Word c = char.space ∷ c ∷ []
+composed_text spot c = c ∷ []
+
+-- the text of a sign. The braces of a grouped character are kept where a command may take them as its argument.
+abbrev pub written_sign : Spot → Sign → List ℕ
+written_sign spot Command = char.backslash ∷ []
+written_sign spot Opening = char.open_brace ∷ []
+written_sign spot Closing = char.close_brace ∷ []
+written_sign spot (Plain c) = c ∷ []
+written_sign spot (Composed c) = composed_text spot c
+written_sign spot (Grouped c) = if is_free spot then c ∷ [] else char.open_brace ∷ c ∷ char.close_brace ∷ []
+
+-- the text of signs
+abbrev pub written : Spot → List Sign → List ℕ
+written spot [] = []
+written spot (s ∷ ss) = written_sign spot s ++ written (spot_after spot s) ss
+
+-- a text with its commands for accents and letters as characters
+abbrev pub with_characters : List ℕ → List ℕ
+with_characters text = written Free (decoded (signs Text false text))

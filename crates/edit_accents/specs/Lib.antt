@@ -1,0 +1,4 @@
+pub mod Accents
+pub mod Balance
+pub mod Pieces
+pub mod Recoded

@@ -1,0 +1,16 @@
+//! Replaces LaTeX commands for accents and letters by characters in the values of entries.
+//!
+//! A text is cut into *signs* (`signs`): backslashes that begin commands, braces, and plain characters. The signs are reduced from the
+//! last to the first (`decoding`), in place: a command that becomes a character takes the signs after it with it. So an accent is put on
+//! a character that an inner command became, without recursion, and each sign is looked at a bounded number of times. At last the signs
+//! are written (`writing`): the braces around a character are kept only where a command may take them as its argument.
+//!
+//! Each changed value is one edit of the text (`recoding`). The new text isn't parsed again. `close` in specs/Balance.antt counts the
+//! braces of signs; each step keeps what it counts, so that the new literals can be written with their delimiters.
+#![tactic(auto)]
+
+mod commands;
+mod decoding;
+pub mod recoding;
+pub mod signs;
+pub mod writing;
