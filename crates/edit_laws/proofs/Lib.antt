@@ -2,6 +2,12 @@ pub mod AlikeFacts
 pub mod CollectedFacts
 pub mod ExchangedFacts
 pub mod ExpandedFacts
+pub mod FieldFacts
 pub mod FoundFacts
+pub mod LiftFacts
 pub mod ReadAlikeFacts
 pub mod ReorderedFacts
+pub mod ReplacedFacts
+pub mod SetFacts
+pub mod SolutionFacts
+pub mod TextFacts

@@ -1,6 +1,8 @@
 //! Laws of edited files. The functions have no code: their clauses are theorems about definitions.
 
-ghost use Rattle.std.specs.Prelude.{List, ℕ};
+ghost use Rattle.std.specs.Prelude.{◌≡◌, false, List, ℕ};
+ghost use Rattle.std.specs.Str.{str_to_ascii_lowercase};
+ghost use Rattle.bib_entry.specs.declared.entry.Entry.{Entry};
 ghost use Rattle.bib_file_entries.specs.Bibliography.{Bibliography};
 ghost use Rattle.edit_entries.specs.Documents.{Document, IsDocument};
 ghost use Rattle.edit_format.specs.Formatted.{IsReadAlike, says_in_order};
@@ -8,9 +10,13 @@ ghost use Rattle.edit_format.specs.declared.style.Style.{Style};
 ghost use Rattle.bib_syntax.specs.Grammar.{IsRawReading};
 ghost use Rattle.bib_syntax.specs.Reading.{FileReading};
 ghost use Rattle.bib_syntax.specs.declared.raw.ParseError.{ParseError};
+ghost use Rattle.bib_tables.specs.Requirements.{is_one_of};
 ghost use Rattle.biblatex.specs.Headline.{IsAcceptedText, IsBibliographyOf, IsErrorOf};
+ghost use Rattle.biblatex.specs.Resolved.{AreOwn};
+ghost use Rattle.edit_entries.specs.Setting.{FieldSet, SetValue};
 ghost use Rattle.edit_laws.specs.Alike.{AreAlike};
 ghost use Rattle.edit_laws.specs.DefinedAlike.{AreDefinedAlike};
+ghost use Rattle.edit_laws.specs.OneField.{AreSet, HasContents, replaced_names};
 ghost use Rattle.edit_strings.specs.Collected.{AreMadeAbbreviations};
 ghost use Rattle.edit_strings.specs.Expanded.{IsExpanded};
 
@@ -41,4 +47,15 @@ pub fn collected_is_alike()
         → AreMadeAbbreviations d fields least text → IsAcceptedText d.text → IsErrorOf text e → ⊥ }
     ensures alike { (d : Document) (fields : List (List ℕ)) (least : ℕ) (text : List ℕ) (one other : Bibliography) → IsDocument d
         → AreMadeAbbreviations d fields least text → IsBibliographyOf d.text one → IsBibliographyOf text other → AreAlike one other }
+{}
+
+/// After a field is set to a text, the entries of the new file, before they inherit, are those of the old one, except that this field of
+/// the entry with the key has the contents of the text. Each bibliography of the new text has one entry with the key, and the field has
+/// these contents. Three fields are excluded: `xdata`, which is removed, and `month` and `day`, which an inherited date replaces.
+pub fn set_is_read()
+    ensures own { (d after : Document) (key name text : List ℕ) (own others : List Entry) → FieldSet d key name (SetValue.plain_text text) after
+        → AreOwn d.says own → AreOwn after.says others → AreSet own others key (str_to_ascii_lowercase name) text }
+    ensures contents { (d after : Document) (key name text : List ℕ) (bibliography : Bibliography) → IsDocument after
+        → FieldSet d key name (SetValue.plain_text text) after → is_one_of replaced_names (str_to_ascii_lowercase name) ≡ false
+        → IsBibliographyOf after.text bibliography → HasContents bibliography key (str_to_ascii_lowercase name) text }
 {}

@@ -1,0 +1,12 @@
+use Rattle.std.proofs.Common.{subst}
+use Rattle.bib_syntax.proofs.FileFacts.{file_same}
+use Rattle.biblatex.specs.Resolved.{IsLoaded}
+use Rattle.edit_laws.proofs.SetFacts.{plain_set, set_contents, set_own}
+use Rattle.edit_laws.proofs.laws.set_is_read.Goals as goal
+
+pub returns-clause-own : goal.returns-clause-own
+returns-clause-own c d after key name text own others set first second = set_own (plain_set set) own others first second
+
+pub returns-clause-contents : goal.returns-clause-contents
+returns-clause-contents c d after key name text bibliography reads set apart is =
+    set_contents (plain_set set) (subst (λ s. IsLoaded s bibliography) (file_same is.reading reads) is.loaded) apart

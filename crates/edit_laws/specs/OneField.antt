@@ -1,0 +1,71 @@
+-- Meaning: words of public contracts.
+-- Files that differ in one field of one entry: their entries before inheriting, and their bibliographies.
+use Rattle.std.specs.Prelude.{◌≡◌, ℕ, Bool, not, ◌&&◌, bytes_eq, List, [], ◌∷◌, codes, map, slice_get, slice_set, Option, Some, None, if◌then◌else◌}
+use Rattle.std.specs.FinMap as by_name
+use Rattle.std.specs.List.{list_any}
+use Rattle.std.specs.Str.{chars}
+use Rattle.bib_chunks.specs.Styled.{Atom, styled}
+use Rattle.bib_chunks.specs.declared.chunk.Chunk.{Chunk}
+use Rattle.bib_collections.specs.Graph.{Graph, Leads, refs_of}
+use Rattle.bib_contents.specs.Contents.{IsContent}
+use Rattle.bib_entry.specs.declared.entry.Entry.{Entry}
+use Rattle.bib_file_entries.specs.Bibliography.{Bibliography}
+use Rattle.bib_inheritance.specs.EntryTexts.{EntryTexts}
+use Rattle.bib_inheritance.specs.Resolving.{at_index, texts_of_entries, texts_of_entry}
+use Rattle.bib_tables.specs.Requirements.{Names, fields}
+use Rattle.bib_tables.specs.VerbatimFields.{is_verbatim_field}
+use Rattle.bib_text.specs.declared.spanned.Spanned.{Spanned}
+use Rattle.edit_entries.specs.Setting.{SetValue, is_bare_number}
+
+-- ---- values
+
+-- the text of a value that isn't the name of an abbreviation: a text in braces, or a number
+abbrev pub text_of_value : SetValue → Option (List ℕ)
+text_of_value (SetValue.plain_text text) = Some text
+text_of_value (SetValue.bare_text text) = if is_bare_number text then Some text else None
+
+-- ---- entries before inheriting
+
+-- the texts of an entry with this text as the field of a name, or without the field if there is no text
+abbrev pub with_field : List ℕ → Option (List Atom) → EntryTexts → EntryTexts
+with_field name text texts = record texts { fields = λ other. if bytes_eq other name then text else texts.fields other }
+
+-- the keys, types and own fields of entries are those of other entries, except for one field of the entry at an index, which has this text
+-- or is missing
+pub record DifferInField (own others : List Entry) (index : ℕ) (name : List ℕ) (text : Option (List Atom)) : Type 0 where
+  pub entry : Entry
+  pub here : slice_get own index ≡ Some entry
+  pub keys : map (λ e. e.key) others ≡ map (λ e. e.key) own
+  pub texts : texts_of_entries others ≡ slice_set (texts_of_entries own) index (with_field name text (texts_of_entry entry))
+
+-- own entries are others, except that a field of the entry with a key has the contents of a text
+pub record AreSet (own others : List Entry) (key name text : List ℕ) : Type 0 where
+  pub index : ℕ
+  pub atoms : List Atom
+  pub contents : IsContent (is_verbatim_field name) (chars text) atoms
+  pub differ : DifferInField own others index name (Some atoms)
+  pub is : differ.entry.key ≡ key
+
+-- own entries are others, except that the entry with a key has no field with a name
+pub record AreUnset (own others : List Entry) (key name : List ℕ) : Type 0 where
+  pub index : ℕ
+  pub differ : DifferInField own others index name None
+  pub is : differ.entry.key ≡ key
+
+-- ---- bibliographies
+
+-- the fields that an entry may lack after inheriting although it has them itself: `xdata` is removed, and an inherited date replaces the
+-- month and the day of an entry without a year
+abbrev pub replaced_names : Names
+replaced_names = fields "xdata month day"
+
+-- a bibliography has exactly one entry with a key, and its field of this name has the contents of a text
+pub record HasContents (bibliography : Bibliography) (key name text : List ℕ) : Type 0 where
+  pub index : ℕ
+  pub entry : Entry
+  pub here : slice_get bibliography.entries index ≡ Some entry
+  pub is : entry.key ≡ key
+  pub one : (other : ℕ) (e : Entry) → slice_get bibliography.entries other ≡ Some e → e.key ≡ key → other ≡ index
+  pub chunks : List (Spanned Chunk)
+  pub has : by_name.get entry.fields name ≡ Some chunks
+  pub contents : IsContent (is_verbatim_field name) (chars text) (styled chunks)
