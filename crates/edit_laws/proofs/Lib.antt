@@ -2,6 +2,7 @@ pub mod AlikeFacts
 pub mod CollectedFacts
 pub mod ExchangedFacts
 pub mod ExpandedFacts
+pub mod DifferFacts
 pub mod FieldFacts
 pub mod FoundFacts
 pub mod LiftFacts

@@ -1,12 +1,11 @@
 -- Meaning: words of public contracts.
 -- Files that differ in one field of one entry: their entries before inheriting, and their bibliographies.
-use Rattle.std.specs.Prelude.{◌≡◌, ℕ, Bool, not, ◌&&◌, bytes_eq, List, [], ◌∷◌, codes, map, slice_get, slice_set, Option, Some, None, if◌then◌else◌}
+use Rattle.std.specs.Prelude.{◌≡◌, ℕ, false, bytes_eq, List, [], ◌∷◌, codes, map, slice_get, slice_set, Option, Some, None, if◌then◌else◌}
 use Rattle.std.specs.FinMap as by_name
-use Rattle.std.specs.List.{list_any}
 use Rattle.std.specs.Str.{chars}
 use Rattle.bib_chunks.specs.Styled.{Atom, styled}
 use Rattle.bib_chunks.specs.declared.chunk.Chunk.{Chunk}
-use Rattle.bib_collections.specs.Graph.{Graph, Leads, refs_of}
+use Rattle.bib_collections.specs.Graph.{Leads}
 use Rattle.bib_contents.specs.Contents.{IsContent}
 use Rattle.bib_entry.specs.declared.entry.Entry.{Entry}
 use Rattle.bib_file_entries.specs.Bibliography.{Bibliography}
@@ -15,6 +14,7 @@ use Rattle.bib_inheritance.specs.Resolving.{at_index, texts_of_entries, texts_of
 use Rattle.bib_tables.specs.Requirements.{Names, fields}
 use Rattle.bib_tables.specs.VerbatimFields.{is_verbatim_field}
 use Rattle.bib_text.specs.declared.spanned.Spanned.{Spanned}
+use Rattle.biblatex.specs.Resolved.{graph_of}
 use Rattle.edit_entries.specs.Setting.{SetValue, is_bare_number}
 
 -- ---- values
@@ -69,3 +69,22 @@ pub record HasContents (bibliography : Bibliography) (key name text : List ℕ) 
   pub chunks : List (Spanned Chunk)
   pub has : by_name.get entry.fields name ≡ Some chunks
   pub contents : IsContent (is_verbatim_field name) (chars text) (styled chunks)
+
+-- the fields that decide more than their own contents: they name the entry, refer to other entries, or are parts of a date
+abbrev pub linked_names : Names
+linked_names = fields "ids crossref xdata date year month day"
+
+-- two bibliographies have the same keys, entry types and names. They have the same fields in each entry, except for one field of the entry
+-- with a key, and in the entries that lead to this one by the references of `own`, the entries before inheriting: these may inherit it.
+pub record AreAlikeExcept (own : List Entry) (one other : Bibliography) (key name : List ℕ) : Type 0 where
+  pub index : ℕ
+  pub entry : Entry
+  pub here : slice_get own index ≡ Some entry
+  pub is : entry.key ≡ key
+  pub keys : map (λ e. e.key) one.entries ≡ map (λ e. e.key) other.entries
+  pub types : map (λ e. e.entry_type) one.entries ≡ map (λ e. e.entry_type) other.entries
+  pub names : one.names ≡ other.names
+  pub fields : (field : List ℕ) → bytes_eq field name ≡ false
+      → (at_index (texts_of_entries one.entries) index).fields field ≡ (at_index (texts_of_entries other.entries) index).fields field
+  pub others : (at : ℕ) → (at ≡ index → ⊥) → (Leads (graph_of own) at index → ⊥)
+      → at_index (texts_of_entries one.entries) at ≡ at_index (texts_of_entries other.entries) at

@@ -16,7 +16,7 @@ ghost use Rattle.biblatex.specs.Resolved.{AreOwn};
 ghost use Rattle.edit_entries.specs.Setting.{FieldSet, SetValue};
 ghost use Rattle.edit_laws.specs.Alike.{AreAlike};
 ghost use Rattle.edit_laws.specs.DefinedAlike.{AreDefinedAlike};
-ghost use Rattle.edit_laws.specs.OneField.{AreSet, HasContents, replaced_names};
+ghost use Rattle.edit_laws.specs.OneField.{AreAlikeExcept, AreSet, HasContents, linked_names, replaced_names};
 ghost use Rattle.edit_strings.specs.Collected.{AreMadeAbbreviations};
 ghost use Rattle.edit_strings.specs.Expanded.{IsExpanded};
 
@@ -52,10 +52,15 @@ pub fn collected_is_alike()
 /// After a field is set to a text, the entries of the new file, before they inherit, are those of the old one, except that this field of
 /// the entry with the key has the contents of the text. Each bibliography of the new text has one entry with the key, and the field has
 /// these contents. Three fields are excluded: `xdata`, which is removed, and `month` and `day`, which an inherited date replaces.
+/// All else is as it was, except in entries that can inherit from this one, if the field isn't `ids`, a reference or a part of a date.
 pub fn set_is_read()
     ensures own { (d after : Document) (key name text : List ℕ) (own others : List Entry) → FieldSet d key name (SetValue.plain_text text) after
         → AreOwn d.says own → AreOwn after.says others → AreSet own others key (str_to_ascii_lowercase name) text }
     ensures contents { (d after : Document) (key name text : List ℕ) (bibliography : Bibliography) → IsDocument after
         → FieldSet d key name (SetValue.plain_text text) after → is_one_of replaced_names (str_to_ascii_lowercase name) ≡ false
         → IsBibliographyOf after.text bibliography → HasContents bibliography key (str_to_ascii_lowercase name) text }
+    ensures rest { (d after : Document) (key name text : List ℕ) (own : List Entry) (one other : Bibliography) → IsDocument d
+        → IsDocument after → FieldSet d key name (SetValue.plain_text text) after → is_one_of linked_names (str_to_ascii_lowercase name) ≡ false
+        → AreOwn d.says own → IsBibliographyOf d.text one → IsBibliographyOf after.text other
+        → AreAlikeExcept own one other key (str_to_ascii_lowercase name) }
 {}
