@@ -57,6 +57,12 @@ same_zip [] (y ∷ ys) all = absurd all
 same_zip (x ∷ xs) [] all = absurd all
 same_zip (x ∷ xs) (y ∷ ys) all = ap (λ z. z ∷ xs) all.0 ∙ ap (λ l. y ∷ l) (same_zip xs ys all.1)
 
+-- beyond the last index, there are no texts
+pub past : (xs : List EntryTexts) (i : ℕ) → length xs ≤ i → at_index xs i ≡ no_entry
+past [] i above = refl
+past (x ∷ xs) zero above = absurd (omega (arith, above))
+past (x ∷ xs) (suc i) above = past xs i (omega (arith, above))
+
 -- ---- a field that isn't one of the linked ones
 
 pub record IsUnlinked (name : List ℕ) : Type 0 where
@@ -330,11 +336,6 @@ module _ {says tells : FileReading} {one other : Bibliography} (first : IsLoaded
     others = λ at not leads. by_range at (order at (length (graph_of own))) not leads;
   }
     where
-      past : (xs : List EntryTexts) (i : ℕ) → length xs ≤ i → at_index xs i ≡ no_entry
-      past [] i above = refl
-      past (x ∷ xs) zero above = absurd (omega (arith, above))
-      past (x ∷ xs) (suc i) above = past xs i (omega (arith, above))
-
       by_range : (at : ℕ) → (at < length (graph_of own)) ⊎ (length (graph_of own) ≤ at) → (at ≡ k → ⊥)
           → (Leads (graph_of own) at k → ⊥)
           → at_index (texts_of_entries one.entries) at ≡ at_index (texts_of_entries other.entries) at

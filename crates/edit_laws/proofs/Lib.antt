@@ -2,6 +2,8 @@ pub mod AlikeFacts
 pub mod CollectedFacts
 pub mod ExchangedFacts
 pub mod ExpandedFacts
+pub mod AcceptedFacts
+pub mod DateFacts
 pub mod DifferFacts
 pub mod FieldFacts
 pub mod FoundFacts

@@ -212,7 +212,7 @@ module _ (one other : Definitions) where
       )
 
   -- fields that are alike to readable ones have no error
-  fields_faultless : (fs gs : List FieldReading) {e : ParseError} → AllZip (AreAlikeFields one other) fs gs → AllCanBeRead one fs
+  pub fields_faultless : (fs gs : List FieldReading) {e : ParseError} → AllZip (AreAlikeFields one other) fs gs → AllCanBeRead one fs
       → IsFirstErrorOfFields other gs e → ⊥
   fields_faultless [] [] are read error = elim error [ ]
   fields_faultless [] (g ∷ gs) are read error = absurd are

@@ -1,6 +1,8 @@
 use Rattle.std.proofs.Common.{subst}
 use Rattle.bib_syntax.proofs.FileFacts.{file_same}
 use Rattle.biblatex.specs.Resolved.{IsLoaded}
+use Rattle.edit_laws.proofs.AcceptedFacts.{still_accepted}
+use Rattle.edit_laws.proofs.DateFacts.{dates_inherited}
 use Rattle.edit_laws.proofs.DifferFacts.{alike_except, unlinked}
 use Rattle.edit_laws.proofs.SetFacts.{plain_set, set_contents, set_own}
 use Rattle.edit_laws.proofs.laws.set_is_read.Goals as goal
