@@ -1,7 +1,9 @@
 //! Laws of edited files. The functions have no code: their clauses are theorems about definitions.
 
-ghost use Rattle.std.specs.Prelude.{◌≡◌, false, List, ℕ};
-ghost use Rattle.std.specs.Str.{str_to_ascii_lowercase};
+ghost use Rattle.std.specs.Prelude.{◌≡◌, false, List, Some, ℕ};
+ghost use Rattle.std.specs.Str.{chars, str_to_ascii_lowercase};
+ghost use Rattle.bib_chunks.specs.Styled.{Atom};
+ghost use Rattle.bib_contents.specs.Contents.{IsContent};
 ghost use Rattle.bib_entry.specs.declared.entry.Entry.{Entry};
 ghost use Rattle.bib_file_entries.specs.Bibliography.{Bibliography};
 ghost use Rattle.edit_entries.specs.Documents.{Document, IsDocument};
@@ -11,12 +13,13 @@ ghost use Rattle.bib_syntax.specs.Grammar.{IsRawReading};
 ghost use Rattle.bib_syntax.specs.Reading.{FileReading};
 ghost use Rattle.bib_syntax.specs.declared.raw.ParseError.{ParseError};
 ghost use Rattle.bib_tables.specs.Requirements.{is_one_of};
+ghost use Rattle.bib_tables.specs.VerbatimFields.{is_verbatim_field};
 ghost use Rattle.biblatex.specs.Headline.{IsAcceptedText, IsBibliographyOf, IsErrorOf};
 ghost use Rattle.biblatex.specs.Resolved.{AreOwn};
 ghost use Rattle.edit_entries.specs.Setting.{FieldSet, SetValue};
 ghost use Rattle.edit_laws.specs.Alike.{AreAlike};
 ghost use Rattle.edit_laws.specs.DefinedAlike.{AreDefinedAlike};
-ghost use Rattle.edit_laws.specs.OneField.{AreAlikeExcept, AreSet, HasContents, linked_names, replaced_names};
+ghost use Rattle.edit_laws.specs.OneField.{AreAlikeExcept, AreSet, HasContents, linked_names, replaced_names, text_of_value};
 ghost use Rattle.edit_strings.specs.Collected.{AreMadeAbbreviations};
 ghost use Rattle.edit_strings.specs.Expanded.{IsExpanded};
 
@@ -49,18 +52,26 @@ pub fn collected_is_alike()
         → AreMadeAbbreviations d fields least text → IsBibliographyOf d.text one → IsBibliographyOf text other → AreAlike one other }
 {}
 
-/// After a field is set to a text, the entries of the new file, before they inherit, are those of the old one, except that this field of
-/// the entry with the key has the contents of the text. Each bibliography of the new text has one entry with the key, and the field has
-/// these contents. Three fields are excluded: `xdata`, which is removed, and `month` and `day`, which an inherited date replaces.
-/// All else is as it was, except in entries that can inherit from this one, if the field isn't `ids`, a reference or a part of a date.
+/// After a field is set to a text or a number, the entries of the new file, before they inherit, are those of the old one, except that
+/// this field of the entry with the key has the contents of the text. Each bibliography of the new text has one entry with the key, and its
+/// field has these contents. Three fields are excluded: `xdata`, which is removed, and `month` and `day`, which an inherited date replaces.
+/// If the field isn't `ids`, a reference or a part of a date, all else is as it was, except in entries that can inherit from this one. The
+/// new text is then accepted if the old one is, and if the contents of the text can be parsed.
 pub fn set_is_read()
-    ensures own { (d after : Document) (key name text : List ℕ) (own others : List Entry) → FieldSet d key name (SetValue.plain_text text) after
-        → AreOwn d.says own → AreOwn after.says others → AreSet own others key (str_to_ascii_lowercase name) text }
-    ensures contents { (d after : Document) (key name text : List ℕ) (bibliography : Bibliography) → IsDocument after
-        → FieldSet d key name (SetValue.plain_text text) after → is_one_of replaced_names (str_to_ascii_lowercase name) ≡ false
-        → IsBibliographyOf after.text bibliography → HasContents bibliography key (str_to_ascii_lowercase name) text }
-    ensures rest { (d after : Document) (key name text : List ℕ) (own : List Entry) (one other : Bibliography) → IsDocument d
-        → IsDocument after → FieldSet d key name (SetValue.plain_text text) after → is_one_of linked_names (str_to_ascii_lowercase name) ≡ false
-        → AreOwn d.says own → IsBibliographyOf d.text one → IsBibliographyOf after.text other
-        → AreAlikeExcept own one other key (str_to_ascii_lowercase name) }
+    ensures own { (d after : Document) (key name text : List ℕ) (value : SetValue) (own others : List Entry) → IsDocument d
+        → text_of_value value ≡ Some text → FieldSet d key name value after → AreOwn d.says own → AreOwn after.says others
+        → AreSet own others key (str_to_ascii_lowercase name) text }
+    ensures contents { (d after : Document) (key name text : List ℕ) (value : SetValue) (bibliography : Bibliography) → IsDocument d
+        → IsDocument after → text_of_value value ≡ Some text → FieldSet d key name value after
+        → is_one_of replaced_names (str_to_ascii_lowercase name) ≡ false → IsBibliographyOf after.text bibliography
+        → HasContents bibliography key (str_to_ascii_lowercase name) text }
+    ensures rest { (d after : Document) (key name text : List ℕ) (value : SetValue) (own : List Entry) (one other : Bibliography)
+        → IsDocument d → IsDocument after → text_of_value value ≡ Some text → FieldSet d key name value after
+        → is_one_of linked_names (str_to_ascii_lowercase name) ≡ false → AreOwn d.says own → IsBibliographyOf d.text one
+        → IsBibliographyOf after.text other → AreAlikeExcept own one other key (str_to_ascii_lowercase name) }
+    ensures accepted { (d after : Document) (key name text : List ℕ) (value : SetValue) (atoms : List Atom) (e : ParseError) → IsDocument d
+        → IsDocument after → text_of_value value ≡ Some text → FieldSet d key name value after
+        → is_one_of linked_names (str_to_ascii_lowercase name) ≡ false
+        → IsContent (is_verbatim_field (str_to_ascii_lowercase name)) (chars text) atoms → IsAcceptedText d.text
+        → IsErrorOf after.text e → ⊥ }
 {}
