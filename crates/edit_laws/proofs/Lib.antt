@@ -15,3 +15,4 @@ pub mod ReplacedFacts
 pub mod SetFacts
 pub mod SolutionFacts
 pub mod TextFacts
+pub mod UnsetFacts

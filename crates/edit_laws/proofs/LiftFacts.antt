@@ -20,6 +20,7 @@ use Rattle.bib_syntax.specs.Reading.{FileReading}
 use Rattle.bib_tables.specs.Requirements.{fields, is_one_of, rules_of}
 use Rattle.bib_text.proofs.ListFacts.{some_same}
 use Rattle.bib_text.specs.declared.spanned.Spanned.{Spanned}
+use Rattle.biblatex.proofs.ResolvedFacts.{all_texts_same, graph_same}
 use Rattle.biblatex.specs.Resolved.{AreOwn, IsLoaded, graph_of}
 use Rattle.edit_laws.specs.OneField.{replaced_names}
 
@@ -160,3 +161,11 @@ module _ {says : FileReading} {bibliography : Bibliography} (loaded : IsLoaded s
         has = found.1;
         says = found.2;
       }
+
+-- the texts of a bibliography solve the inheritance equation of any own entries of the file
+pub inherits_by : (says : FileReading) {bibliography : Bibliography} → IsLoaded says bibliography → (own : List Entry) → AreOwn says own
+    → Inherits (texts_of_entries own) (graph_of own) (texts_of_entries bibliography.entries)
+inherits_by says {bibliography} loaded own are =
+    subst (λ g. Inherits (texts_of_entries own) g (texts_of_entries bibliography.entries)) (graph_same says loaded.accepted.entries are)
+    (subst (λ t. Inherits t (graph_of loaded.accepted.own) (texts_of_entries bibliography.entries))
+    (all_texts_same says loaded.accepted.entries are) loaded.inherits)

@@ -124,6 +124,11 @@ content_found one other texts name text f (FoundAlike.in_each {x = x} {y = y} ar
           (content_of (subst (λ ps. Evaluates one (is_verbatim_field name) ps has.0) says.are moved));
     }
 
+nothing_found : (one other : Definitions) {o p : Option FieldReading} {text : Option (List Atom)} → FoundAlike (AreAlikeFields other one) o p
+    → p ≡ None → HasText other o text → text ≡ None
+nothing_found one other FoundAlike.in_neither is has = has
+nothing_found one other (FoundAlike.in_each are) is has = cc
+
 module _ {said tells : FileReading} {k : ℕ} {e changed : EntryReading} (is : IsReplaced said tells k e changed) where
   abbrev old_definitions : Definitions
   old_definitions = definition_in said.abbreviations
@@ -175,6 +180,15 @@ module _ {said tells : FileReading} {k : ℕ} {e changed : EntryReading} (is : I
       (field_alike at.4.ordered changed.fields name at.4.fields)) here
       (sym ((bytes_eq-Decides name (name_of f)).0 (found_passes (λ g. bytes_eq name (name_of g)) (reverse changed.fields) f here))) says
       ((texts_of_entry_are at.1 at.3).fields name)
+
+  -- the replaced entry lacks a field that no raw field has
+  pub field_absent : (others : List Entry) (second : AreOwn tells others) (name : List ℕ) → field_in changed.fields name ≡ None
+      → (texts_of_entry (replaced_at others second).1).fields name ≡ None
+  field_absent others second name none =
+      let at = replaced_at others second in
+      nothing_found old_definitions new_definitions
+      (subst (λ o. FoundAlike (AreAlikeFields new_definitions old_definitions) o (field_in changed.fields name)) (at.4.reordered.found name)
+      (field_alike at.4.ordered changed.fields name at.4.fields)) none ((texts_of_entry_are at.1 at.3).fields name)
 
   -- the own entries of the new reading differ from those of the old one in this field
   pub differ_at : (own others : List Entry) (name : List ℕ) (text : Option (List Atom)) → AreOwn said own → AreOwn tells others

@@ -72,7 +72,7 @@ text_readable {definitions} {is_verbatim} {pieces} {text} {atoms} says contents 
       inner_texts = λ name definition there is. absurd (reaches_nothing there);
     })
 
-key_is : {d : Document} {key : List ℕ} {k : ℕ} {e : EntryReading} → HasEntry d key k e → e.key.text ≡ key
+pub key_is : {d : Document} {key : List ℕ} {k : ℕ} {e : EntryReading} → HasEntry d key k e → e.key.text ≡ key
 key_is {d} {key} {k} {e} entry =
     (bytes_eq-Decides e.key.text key).0 (first_passes (is_keyed key) d.says.entries k e entry.first entry.here)
 

@@ -5,11 +5,12 @@ use Rattle.std.specs.FinMap as by_name
 use Rattle.std.specs.Str.{chars}
 use Rattle.bib_chunks.specs.Styled.{Atom, styled}
 use Rattle.bib_chunks.specs.declared.chunk.Chunk.{Chunk}
-use Rattle.bib_collections.specs.Graph.{Leads}
+use Rattle.bib_collections.specs.Graph.{Leads, refs_of}
 use Rattle.bib_contents.specs.Contents.{IsContent}
 use Rattle.bib_entry.specs.declared.entry.Entry.{Entry}
 use Rattle.bib_file_entries.specs.Bibliography.{Bibliography}
 use Rattle.bib_inheritance.specs.EntryTexts.{EntryTexts}
+use Rattle.bib_inheritance.specs.Inherited.{inherited_field}
 use Rattle.bib_inheritance.specs.Resolving.{at_index, texts_of_entries, texts_of_entry}
 use Rattle.bib_tables.specs.Requirements.{Names, fields}
 use Rattle.bib_tables.specs.VerbatimFields.{is_verbatim_field}
@@ -88,3 +89,12 @@ pub record AreAlikeExcept (own : List Entry) (one other : Bibliography) (key nam
       → (at_index (texts_of_entries one.entries) index).fields field ≡ (at_index (texts_of_entries other.entries) index).fields field
   pub others : (at : ℕ) → (at ≡ index → ⊥) → (Leads (graph_of own) at index → ⊥)
       → at_index (texts_of_entries one.entries) at ≡ at_index (texts_of_entries other.entries) at
+
+-- an entry of a bibliography has a field exactly if it inherits it: `own` are the entries before inheriting
+pub record IsInherited (own : List Entry) (bibliography : Bibliography) (key name : List ℕ) : Type 0 where
+  pub index : ℕ
+  pub entry : Entry
+  pub here : slice_get own index ≡ Some entry
+  pub is : entry.key ≡ key
+  pub field : (at_index (texts_of_entries bibliography.entries) index).fields name
+      ≡ inherited_field entry.entry_type name (map (at_index (texts_of_entries bibliography.entries)) (refs_of (graph_of own) index))

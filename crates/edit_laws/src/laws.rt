@@ -17,9 +17,10 @@ ghost use Rattle.bib_tables.specs.VerbatimFields.{is_verbatim_field};
 ghost use Rattle.biblatex.specs.Headline.{IsAcceptedText, IsBibliographyOf, IsErrorOf};
 ghost use Rattle.biblatex.specs.Resolved.{AreOwn};
 ghost use Rattle.edit_entries.specs.Setting.{FieldSet, SetValue};
+ghost use Rattle.edit_entries.specs.Unset.{FieldUnset};
 ghost use Rattle.edit_laws.specs.Alike.{AreAlike};
 ghost use Rattle.edit_laws.specs.DefinedAlike.{AreDefinedAlike};
-ghost use Rattle.edit_laws.specs.OneField.{AreAlikeExcept, AreSet, HasContents, linked_names, replaced_names, text_of_value};
+ghost use Rattle.edit_laws.specs.OneField.{AreAlikeExcept, AreSet, AreUnset, HasContents, IsInherited, linked_names, replaced_names, text_of_value};
 ghost use Rattle.edit_strings.specs.Collected.{AreMadeAbbreviations};
 ghost use Rattle.edit_strings.specs.Expanded.{IsExpanded};
 
@@ -73,5 +74,24 @@ pub fn set_is_read()
         → IsDocument after → text_of_value value ≡ Some text → FieldSet d key name value after
         → is_one_of linked_names (str_to_ascii_lowercase name) ≡ false
         → IsContent (is_verbatim_field (str_to_ascii_lowercase name)) (chars text) atoms → IsAcceptedText d.text
+        → IsErrorOf after.text e → ⊥ }
+{}
+
+/// After a field is unset, the entries of the new file, before they inherit, are those of the old one, except that the entry with the key
+/// lacks this field. If the field isn't `ids`, a reference or a part of a date, the entry of each bibliography of the new text has it exactly
+/// if it inherits it. All else is then as it was, except in entries that can inherit from this one, and the new text is accepted if the old
+/// one is.
+pub fn unset_is_read()
+    ensures own { (d after : Document) (key name : List ℕ) (own others : List Entry) → FieldUnset d key name after → AreOwn d.says own
+        → AreOwn after.says others → AreUnset own others key (str_to_ascii_lowercase name) }
+    ensures inherited { (d after : Document) (key name : List ℕ) (own : List Entry) (bibliography : Bibliography) → IsDocument after
+        → FieldUnset d key name after → is_one_of linked_names (str_to_ascii_lowercase name) ≡ false → AreOwn after.says own
+        → IsBibliographyOf after.text bibliography → IsInherited own bibliography key (str_to_ascii_lowercase name) }
+    ensures rest { (d after : Document) (key name : List ℕ) (own : List Entry) (one other : Bibliography) → IsDocument d → IsDocument after
+        → FieldUnset d key name after → is_one_of linked_names (str_to_ascii_lowercase name) ≡ false → AreOwn d.says own
+        → IsBibliographyOf d.text one → IsBibliographyOf after.text other
+        → AreAlikeExcept own one other key (str_to_ascii_lowercase name) }
+    ensures accepted { (d after : Document) (key name : List ℕ) (e : ParseError) → IsDocument d → IsDocument after
+        → FieldUnset d key name after → is_one_of linked_names (str_to_ascii_lowercase name) ≡ false → IsAcceptedText d.text
         → IsErrorOf after.text e → ⊥ }
 {}
