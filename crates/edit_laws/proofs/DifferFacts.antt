@@ -51,7 +51,7 @@ set_here [] k x y d here = cc
 set_here (z ∷ xs) zero x y d here = refl
 set_here (z ∷ xs) (suc k) x y d here = set_here xs k x y d here
 
-same_zip : {A : Type 0} (xs ys : List A) → AllZip (λ x y. x ≡ y) xs ys → xs ≡ ys
+pub same_zip : {A : Type 0} (xs ys : List A) → AllZip (λ x y. x ≡ y) xs ys → xs ≡ ys
 same_zip [] [] all = refl
 same_zip [] (y ∷ ys) all = absurd all
 same_zip (x ∷ xs) [] all = absurd all

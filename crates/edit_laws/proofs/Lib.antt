@@ -8,6 +8,7 @@ pub mod DifferFacts
 pub mod FieldFacts
 pub mod FoundFacts
 pub mod LiftFacts
+pub mod MovedFacts
 pub mod NumberFacts
 pub mod ReadAlikeFacts
 pub mod ReorderedFacts
