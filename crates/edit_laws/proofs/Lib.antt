@@ -11,6 +11,7 @@ pub mod LiftFacts
 pub mod MovedFacts
 pub mod NumberFacts
 pub mod ReadAlikeFacts
+pub mod RemovedFacts
 pub mod ReorderedFacts
 pub mod ReplacedFacts
 pub mod SetFacts

@@ -3,6 +3,7 @@ use Rattle.std.proofs.Common.{◌≡◌, ◌⊎◌, ℕ, zero, suc, ◌<◌, ◌
 use Rattle.std.specs.Prelude.{slice_get, ◌&&◌, ◌||◌, MatchOption}
 use Rattle.std.specs.FinMap as by_name
 use Rattle.std.specs.List.{AllZip, Contains, cons_option, list_any}
+use Rattle.std.proofs.lemmas.Bool.{both_ways}
 use Rattle.std.proofs.lemmas.List.{get_or-map, length-map}
 use Rattle.std.proofs.lemmas.Option.{get_or_from_slice_get, slice_get-get_or, slice_get_within}
 use Rattle.bib_collections.proofs.Walks.{below_from_edge, one_solution}
@@ -22,7 +23,7 @@ use Rattle.biblatex.proofs.ResolvedFacts.{all_after, names_below}
 use Rattle.biblatex.specs.Places.{ClaimsAt, IsLastClaim, PointsToLastClaims}
 use Rattle.biblatex.specs.Resolved.{graph_of, names_of}
 use Rattle.core.proofs.str.Laws.{order}
-use Rattle.edit_laws.proofs.DifferFacts.{same_zip}
+use Rattle.edit_laws.proofs.DifferFacts.{past, same_zip}
 use Rattle.edit_laws.proofs.LiftFacts.{at_texts}
 use Rattle.edit_laws.proofs.SolutionFacts.{Contains-first, Contains-later, related}
 use Rattle.edit_laws.proofs.TextFacts.{claims_are, claims_by, graph_texts}
@@ -236,3 +237,35 @@ module _ {own others : List Entry} {move : ℕ → ℕ} (are : AreMoved own othe
         (ap (list_any (is_bad_date values)) (references_moved i below)
         ∙ any_moved (is_bad_date values) (is_bad_date news) move (refs_of (graph_of others) i)
         (λ b edge. ap (λ (t : EntryTexts). is_unreadable (inheritable_date t.fields)) (same_moved b (edge_below i b below edge)))))
+
+-- ---- errors
+
+no_date_required : looks_for_date no_entry ≡ true → ⊥
+no_date_required looks = cc
+
+module _ {own others : List Entry} {move : ℕ → ℕ} (are : AreMoved own others move) (gone : ℕ)
+    (names : (name : List ℕ) → (by_name.get (names_of own) name ≡ Some gone → ⊥)
+    → by_name.get (names_of own) name ≡ option_map move (by_name.get (names_of others) name))
+    (unreferenced : (at : ℕ) → Contains (refs_of (graph_of own) at) gone → ⊥) where
+  -- no entry of the new file has a bad date if none of the old file has one
+  pub no_bad_date : HasNoCycle (graph_of own)
+      → ((values : List EntryTexts) → Inherits (texts_of_entries own) (graph_of own) values
+      → AreDatesRead (texts_of_entries own) (graph_of own) values)
+      → (news : List EntryTexts) → Inherits (texts_of_entries others) (graph_of others) news → (index : ℕ)
+      → looks_for_date (at_index (texts_of_entries others) index) ≡ true
+      → list_any (is_bad_date news) (refs_of (graph_of others) index) ≡ true → ⊥
+  no_bad_date none dates news second index looks bad = by_range (order index (length others))
+    where
+      by_range : (index < length others) ⊎ (length others ≤ index) → ⊥
+      by_range (inl below) =
+          let old =
+          one_solution (graph_of own) (graph_in_range (names_of own) own (names_below own)) none no_entry (rule_by (texts_of_entries own)) in
+          let is_bad : has_bad_date (texts_of_entries others) (graph_of others) news index ≡ true =
+          ap (λ b. b && list_any (is_bad_date news) (refs_of (graph_of others) index)) looks ∙ bad in
+          both_ways _ (dates old.0 old.1 (move index))
+          (sym (bad_moved are gone names unreferenced (no_cycle_moved are gone names unreferenced none) old.0 news old.1 second index below)
+          ∙ is_bad)
+      by_range (inr above) =
+          no_date_required
+          (subst (λ t. looks_for_date t ≡ true)
+          (past (texts_of_entries others) index (omega (arith, above, length-map others texts_of_entry))) looks)

@@ -63,7 +63,7 @@ module _ {one other : Definitions} (both : DefineAlike one other) where
   bare_entries_alike (e ∷ es) [] is = cc
   bare_entries_alike (e ∷ es) (g ∷ gs) is = (bare_entry_alike e g (cons_head _ _ is), bare_entries_alike es gs (cons_tail is))
 
-bare_keys : (es : List EntryReading) → map (λ (e : EntryReading). e.key.text) (map bare_entry es) ≡ map (λ (e : EntryReading). e.key.text) es
+pub bare_keys : (es : List EntryReading) → map (λ (e : EntryReading). e.key.text) (map bare_entry es) ≡ map (λ (e : EntryReading). e.key.text) es
 bare_keys [] = refl
 bare_keys (e ∷ es) = ap (λ l. e.key.text ∷ l) (bare_keys es)
 

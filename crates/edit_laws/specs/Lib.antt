@@ -1,3 +1,4 @@
 pub mod Alike
 pub mod DefinedAlike
 pub mod OneField
+pub mod WithoutEntry

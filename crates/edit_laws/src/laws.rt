@@ -6,7 +6,7 @@ ghost use Rattle.bib_chunks.specs.Styled.{Atom};
 ghost use Rattle.bib_contents.specs.Contents.{IsContent};
 ghost use Rattle.bib_entry.specs.declared.entry.Entry.{Entry};
 ghost use Rattle.bib_file_entries.specs.Bibliography.{Bibliography};
-ghost use Rattle.edit_entries.specs.Documents.{Document, IsDocument};
+ghost use Rattle.edit_entries.specs.Documents.{Document, EntryRemoved, IsDocument};
 ghost use Rattle.edit_format.specs.Formatted.{IsReadAlike, says_in_order};
 ghost use Rattle.edit_format.specs.declared.style.Style.{Style};
 ghost use Rattle.bib_syntax.specs.Grammar.{IsRawReading};
@@ -21,6 +21,7 @@ ghost use Rattle.edit_entries.specs.Unset.{FieldUnset};
 ghost use Rattle.edit_laws.specs.Alike.{AreAlike};
 ghost use Rattle.edit_laws.specs.DefinedAlike.{AreDefinedAlike};
 ghost use Rattle.edit_laws.specs.OneField.{AreAlikeExcept, AreSet, AreUnset, HasContents, IsInherited, linked_names, replaced_names, text_of_value};
+ghost use Rattle.edit_laws.specs.WithoutEntry.{AreWithout, IsUnreferenced, IsWithout};
 ghost use Rattle.edit_strings.specs.Collected.{AreMadeAbbreviations};
 ghost use Rattle.edit_strings.specs.Expanded.{IsExpanded};
 
@@ -94,4 +95,17 @@ pub fn unset_is_read()
     ensures accepted { (d after : Document) (key name : List ℕ) (e : ParseError) → IsDocument d → IsDocument after
         → FieldUnset d key name after → is_one_of linked_names (str_to_ascii_lowercase name) ≡ false → IsAcceptedText d.text
         → IsErrorOf after.text e → ⊥ }
+{}
+
+/// After an entry is removed, the entries of the new file, before they inherit, are the others of the old one. If no entry refers to the
+/// removed one by `crossref` or `xdata`, each bibliography of the new text is that of the old one without this entry, and the new text is
+/// accepted if the old one is.
+pub fn removal_is_read()
+    ensures own { (d after : Document) (key : List ℕ) (own others : List Entry) → EntryRemoved d key after → AreOwn d.says own
+        → AreOwn after.says others → AreWithout own others key }
+    ensures rest { (d after : Document) (key : List ℕ) (own : List Entry) (one other : Bibliography) → IsDocument d → IsDocument after
+        → EntryRemoved d key after → AreOwn d.says own → IsUnreferenced own key → IsBibliographyOf d.text one
+        → IsBibliographyOf after.text other → IsWithout one other key }
+    ensures accepted { (d after : Document) (key : List ℕ) (own : List Entry) (e : ParseError) → IsDocument d → IsDocument after
+        → EntryRemoved d key after → AreOwn d.says own → IsUnreferenced own key → IsAcceptedText d.text → IsErrorOf after.text e → ⊥ }
 {}

@@ -4,7 +4,6 @@ use Rattle.bib_syntax.proofs.ModeFacts.{file_any}
 use Rattle.biblatex.specs.Headline.{IsErrorOf}
 use Rattle.biblatex.specs.Resolved.{IsAccepted, IsFirstErrorOf, IsLoaded}
 use Rattle.edit_laws.proofs.DifferFacts.{alike_except, unlinked}
-use Rattle.edit_laws.proofs.MovedFacts.{bad_moved}
 use Rattle.edit_laws.proofs.UnsetFacts.{unset_accepted, unset_inherited, unset_own, unset_read}
 use Rattle.edit_laws.proofs.laws.unset_is_read.Goals as goal
 
