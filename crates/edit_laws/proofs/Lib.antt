@@ -16,5 +16,7 @@ pub mod ReorderedFacts
 pub mod ReplacedFacts
 pub mod SetFacts
 pub mod SolutionFacts
+pub mod SortedFacts
+pub mod SwapFacts
 pub mod TextFacts
 pub mod UnsetFacts

@@ -1,4 +1,5 @@
 pub mod Alike
 pub mod DefinedAlike
 pub mod OneField
+pub mod SameEntries
 pub mod WithoutEntry

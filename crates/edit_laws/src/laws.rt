@@ -21,7 +21,9 @@ ghost use Rattle.edit_entries.specs.Unset.{FieldUnset};
 ghost use Rattle.edit_laws.specs.Alike.{AreAlike};
 ghost use Rattle.edit_laws.specs.DefinedAlike.{AreDefinedAlike};
 ghost use Rattle.edit_laws.specs.OneField.{AreAlikeExcept, AreSet, AreUnset, HasContents, IsInherited, linked_names, replaced_names, text_of_value};
+ghost use Rattle.edit_laws.specs.SameEntries.{AreClaimsDistinct, HaveSameEntries};
 ghost use Rattle.edit_laws.specs.WithoutEntry.{AreWithout, IsUnreferenced, IsWithout};
+ghost use Rattle.edit_sort.specs.Sorted.{IsReadSorted};
 ghost use Rattle.edit_strings.specs.Collected.{AreMadeAbbreviations};
 ghost use Rattle.edit_strings.specs.Expanded.{IsExpanded};
 
@@ -108,4 +110,12 @@ pub fn removal_is_read()
         → IsBibliographyOf after.text other → IsWithout one other key }
     ensures accepted { (d after : Document) (key : List ℕ) (own : List Entry) (e : ParseError) → IsDocument d → IsDocument after
         → EntryRemoved d key after → AreOwn d.says own → IsUnreferenced own key → IsAcceptedText d.text → IsErrorOf after.text e → ⊥ }
+{}
+
+/// After the entries of a file are sorted, each bibliography of the new text has the same entries in another order, and each name points to
+/// the same entry, if no two entries of the old file claim one name. The entries before inheriting are the same in any case.
+pub fn sorted_is_alike()
+    ensures rest { (d : Document) (places new : List ℕ) (own : List Entry) (one other : Bibliography) → IsDocument d
+        → IsReadSorted d places new → AreOwn d.says own → AreClaimsDistinct own → IsBibliographyOf d.text one
+        → IsBibliographyOf new other → HaveSameEntries one other }
 {}
