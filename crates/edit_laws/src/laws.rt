@@ -1,6 +1,7 @@
 //! Laws of edited files. The functions have no code: their clauses are theorems about definitions.
 
-ghost use Rattle.std.specs.Prelude.{◌≡◌, false, List, Some, ℕ};
+ghost use Rattle.std.specs.Prelude.{◌≡◌, false, List, Some, map, ℕ};
+ghost use Rattle.std.specs.List.Sorted.{IsPermutation};
 ghost use Rattle.std.specs.Str.{chars, str_to_ascii_lowercase};
 ghost use Rattle.bib_chunks.specs.Styled.{Atom};
 ghost use Rattle.bib_contents.specs.Contents.{IsContent};
@@ -21,7 +22,7 @@ ghost use Rattle.edit_entries.specs.Unset.{FieldUnset};
 ghost use Rattle.edit_laws.specs.Alike.{AreAlike};
 ghost use Rattle.edit_laws.specs.DefinedAlike.{AreDefinedAlike};
 ghost use Rattle.edit_laws.specs.OneField.{AreAlikeExcept, AreSet, AreUnset, HasContents, IsInherited, linked_names, replaced_names, text_of_value};
-ghost use Rattle.edit_laws.specs.SameEntries.{AreClaimsDistinct, HaveSameEntries};
+ghost use Rattle.edit_laws.specs.SameEntries.{AreClaimsDistinct, HaveSameEntries, described};
 ghost use Rattle.edit_laws.specs.WithoutEntry.{AreWithout, IsUnreferenced, IsWithout};
 ghost use Rattle.edit_sort.specs.Sorted.{IsReadSorted};
 ghost use Rattle.edit_strings.specs.Collected.{AreMadeAbbreviations};
@@ -112,10 +113,15 @@ pub fn removal_is_read()
         → EntryRemoved d key after → AreOwn d.says own → IsUnreferenced own key → IsAcceptedText d.text → IsErrorOf after.text e → ⊥ }
 {}
 
-/// After the entries of a file are sorted, each bibliography of the new text has the same entries in another order, and each name points to
-/// the same entry, if no two entries of the old file claim one name. The entries before inheriting are the same in any case.
+/// After the entries of a file are sorted, the entries of the new file, before they inherit, are those of the old one in another order. If no
+/// two entries of the old file claim one name, each bibliography of the new text has the same entries as that of the old one, and each name
+/// points to the same entry. The new text is then accepted if the old one is.
 pub fn sorted_is_alike()
+    ensures own { (d : Document) (places new : List ℕ) (says : FileReading) (own others : List Entry) → IsReadSorted d places new
+        → AreOwn d.says own → IsRawReading new says → AreOwn says others → IsPermutation (map described own) (map described others) }
     ensures rest { (d : Document) (places new : List ℕ) (own : List Entry) (one other : Bibliography) → IsDocument d
         → IsReadSorted d places new → AreOwn d.says own → AreClaimsDistinct own → IsBibliographyOf d.text one
         → IsBibliographyOf new other → HaveSameEntries one other }
+    ensures accepted { (d : Document) (places new : List ℕ) (own : List Entry) (e : ParseError) → IsDocument d
+        → IsReadSorted d places new → AreOwn d.says own → AreClaimsDistinct own → IsAcceptedText d.text → IsErrorOf new e → ⊥ }
 {}
