@@ -1,6 +1,6 @@
 -- A file is accepted after a field of an accepted one is set or unset.
-use Rattle.std.proofs.Common.{◌≡◌, ◌⊎◌, ℕ, zero, suc, ◌<◌, ◌≤◌, eqb, inl, inr, List, [], ◌∷◌, ◌++◌, Bool, true, false, cond, get_or, length, map, refl, sym, ap, ◌∙◌, subst, arith, Some, None, Option}
-use Rattle.std.specs.Prelude.{bytes_eq, codes, slice_get, slice_set, ◌||◌}
+use Rattle.std.proofs.Common.{◌≡◌, ◌⊎◌, ℕ, zero, suc, ◌<◌, ◌≤◌, eqb, inl, inr, List, [], ◌∷◌, ◌++◌, Bool, true, false, length, map, refl, sym, ap, ◌∙◌, subst, arith, Some, Option}
+use Rattle.std.specs.Prelude.{codes, slice_get, slice_set, ◌||◌}
 use Rattle.std.specs.List.{AllZip, list_any}
 use Rattle.std.specs.Option.{option_map_or}
 use Rattle.std.proofs.lemmas.Bool.{both_ways}
@@ -18,7 +18,7 @@ use Rattle.bib_syntax.specs.declared.raw.ParseError.{ParseError}
 use Rattle.bib_collections.proofs.Walks.{one_solution}
 use Rattle.bib_collections.specs.Graph.{IsInRange, Leads, refs_of}
 use Rattle.bib_inheritance.proofs.RangeFacts.{graph_in_range}
-use Rattle.bib_inheritance.specs.InheritableDate.{inheritable_date, is_unreadable, looks_for_date}
+use Rattle.bib_inheritance.specs.InheritableDate.{inheritable_date, is_unreadable}
 use Rattle.bib_text.proofs.ListFacts.{found_any}
 use Rattle.biblatex.proofs.ResolvedFacts.{bad_apart, names_below}
 use Rattle.biblatex.specs.Resolved.{AreOwn, IsAccepted, IsFirstErrorOf, graph_of, names_of}
@@ -28,7 +28,7 @@ use Rattle.edit_laws.proofs.DifferFacts.{IsUnlinked, differ_apart, differ_graph,
 use Rattle.edit_laws.proofs.LiftFacts.{at_texts}
 use Rattle.edit_laws.proofs.ReplacedFacts.{IsReplaced, entries_alike}
 use Rattle.edit_laws.proofs.SolutionFacts.{related}
-use Rattle.edit_laws.specs.OneField.{DifferInField, with_field}
+use Rattle.edit_laws.specs.OneField.{DifferInField, with_field_text}
 use Rattle.edit_laws.proofs.ReadAlikeFacts.{AreAlikeEntries, fields_faultless}
 use Rattle.edit_laws.proofs.TextFacts.{AreTexts, AreTextsOf, claims_are, claims_by, own_at, texts_are, texts_of_entry_are, texts_same}
 
@@ -41,7 +41,8 @@ pub texts_faultless : (one other : Definitions) (earlier : List (List ℕ)) (sai
 texts_faultless one other earlier [] [] are read error = elim error [ ]
 texts_faultless one other earlier [] (t ∷ tells) are read error = absurd are
 texts_faultless one other earlier (s ∷ said) [] are read error = absurd are
-texts_faultless one other earlier (s ∷ said) (t ∷ tells) are (AreTexts.next fresh is read rest) (IsFirstErrorOfEntries.duplicate was error) =
+texts_faultless one other earlier (s ∷ said) (t ∷ tells) are (AreTexts.next fresh is read rest)
+    (IsFirstErrorOfEntries.duplicate was error) =
     both_ways _ (sym (ap (is_claimed earlier) are.0.key) ∙ fresh) was
 texts_faultless one other earlier (s ∷ said) (t ∷ tells) are (AreTexts.next fresh is read rest)
     (IsFirstErrorOfEntries.unreadable fresh' error) =
@@ -61,7 +62,8 @@ pub texts_set : {definitions : Definitions} {earlier : List (List ℕ)} {said : 
     → (AllCanBeRead definitions e.fields → AllCanBeRead definitions changed.fields) → u.fields (codes "ids") ≡ t.fields (codes "ids")
     → AreTexts definitions earlier (slice_set said k changed) (slice_set texts k u)
 texts_set k e changed t u AreTexts.none here there key becomes read ids = cc
-texts_set {definitions} {earlier} zero e changed t u (AreTexts.next {said = s} {rest = rest} {texts = a} {more = more} fresh is can following)
+texts_set {definitions} {earlier} zero e changed t u
+    (AreTexts.next {said = s} {rest = rest} {texts = a} {more = more} fresh is can following)
     here there key becomes read ids =
     let same : s ≡ e = cc in
     let with_texts : a ≡ t = cc in
@@ -69,7 +71,8 @@ texts_set {definitions} {earlier} zero e changed t u (AreTexts.next {said = s} {
     subst (AreTextsOf definitions e) with_texts (subst (λ x. AreTextsOf definitions x a) same is) in
     let claimed : claims_by s.key.text a ≡ claims_by changed.key.text u =
     ap (λ k. claims_by k a) (ap (λ (x : EntryReading). x.key.text) same ∙ sym key)
-    ∙ ap (λ o. changed.key.text ∷ option_map_or comma_texts o []) (ap (λ (x : EntryTexts). x.fields (codes "ids")) with_texts ∙ sym ids) in
+    ∙ ap (λ o. changed.key.text ∷ option_map_or comma_texts o []) (ap (λ (x : EntryTexts). x.fields (codes "ids")) with_texts
+    ∙ sym ids) in
     AreTexts.next
     (ap (is_claimed earlier) (key ∙ ap (λ (x : EntryReading). x.key.text) (sym same)) ∙ fresh) (becomes entry)
     (read (subst (λ (x : EntryReading). AllCanBeRead definitions x.fields) same can))
@@ -101,7 +104,7 @@ dates_apart {own} {others} {k} {name} {text} differ apart a = by_index (eqb_tell
       day = ap (λ (z : EntryTexts). z.fields (codes "day")) is;
     }
 
-    here : HaveSameDate (texts_of_entry differ.entry) (with_field name text (texts_of_entry differ.entry))
+    here : HaveSameDate (texts_of_entry differ.entry) (with_field_text name text (texts_of_entry differ.entry))
     here = record {
       kind = refl;
       date = sym (other_field name text (texts_of_entry differ.entry) (codes "date") apart.date);
@@ -116,12 +119,13 @@ dates_apart {own} {others} {k} {name} {text} differ apart a = by_index (eqb_tell
         subst (λ i. HaveSameDate (at_index (texts_of_entries own) i) (at_index (texts_of_entries others) i)) (sym is.1)
         (subst (λ x. HaveSameDate x (at_index (texts_of_entries others) k)) (sym (at_texts own k differ.entry differ.here))
         (subst (HaveSameDate (texts_of_entry differ.entry)) (sym (differ_here differ apart)) here))
-    by_index (inr is) = equal (at_index (texts_of_entries own) a) (at_index (texts_of_entries others) a) (differ_apart differ apart a is.1)
+    by_index (inr is) = equal (at_index (texts_of_entries own) a) (at_index (texts_of_entries others) a)
+        (differ_apart differ apart a is.1)
 
 module _ {said tells : FileReading} {k : ℕ} {e changed : EntryReading} (replaced : IsReplaced said tells k e changed) (name : List ℕ)
     (text : Option (List Atom)) (apart : IsUnlinked name) (accepted : IsAccepted said)
     (becomes : (t : EntryTexts) → AreTextsOf (definition_in said.abbreviations) e t
-    → AreTextsOf (definition_in said.abbreviations) changed (with_field name text t))
+    → AreTextsOf (definition_in said.abbreviations) changed (with_field_text name text t))
     (read : AllCanBeRead (definition_in said.abbreviations) e.fields → AllCanBeRead (definition_in said.abbreviations) changed.fields)
     (differs : (others : List Entry) → AreOwn tells others → DifferInField accepted.own others k name text) where
   abbrev own : List Entry
@@ -157,7 +161,8 @@ module _ {said tells : FileReading} {k : ℕ} {e changed : EntryReading} (replac
       let at = own_at k e accepted.entries replaced.here in
       texts_faultless (definition_in said.abbreviations) (definition_in tells.abbreviations) [] (slice_set said.entries k changed)
       tells.entries (entries_alike replaced)
-      (texts_set k e changed (texts_of_entry at.0) (with_field name text (texts_of_entry at.0)) (texts_are accepted.entries) replaced.here
+      (texts_set k e changed (texts_of_entry at.0) (with_field_text name text (texts_of_entry at.0))
+      (texts_are accepted.entries) replaced.here
       (get_of_map texts_of_entry own k at.0 at.1) replaced.key (becomes (texts_of_entry at.0)) read
       (other_field name text (texts_of_entry at.0) (codes "ids") apart.ids)) error
   still_accepted (IsFirstErrorOf.cycle {own = others} {index = index} are first is) =
@@ -173,7 +178,8 @@ module _ {said tells : FileReading} {k : ℕ} {e changed : EntryReading} (replac
       subst (λ g. list_any (is_bad_date news) (refs_of g index) ≡ true) graph
       (found_any (is_bad_date news) (refs_of (graph_of others) index) is.reference is.first) in
       bad_apart (texts_of_entries own) (graph_of own) old.0 index
-      (looks_alike (at_index (texts_of_entries own) index) (at_index (texts_of_entries others) index) (dates_apart differ apart index) ∙ looks)
+      (looks_alike (at_index (texts_of_entries own) index) (at_index (texts_of_entries others) index)
+      (dates_apart differ apart index) ∙ looks)
       (any_same (is_bad_date old.0) (is_bad_date news) (refs_of (graph_of own) index)
       (λ a. bad_same (at_index old.0 a) (at_index news a) (same_dates others old.0 news are old.1 moved a)) ∙ bad)
       (accepted.dates old.0 old.1)

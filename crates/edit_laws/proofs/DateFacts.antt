@@ -1,19 +1,19 @@
 -- Entries with the same types and the same date fields have the same dates after inheriting.
-use Rattle.std.proofs.Common.{◌≡◌, ℕ, List, [], ◌∷◌, Bool, true, false, cond, map, refl, sym, ap, ◌∙◌, subst, Some, None, Option, is_some}
+use Rattle.std.proofs.Common.{◌≡◌, ℕ, List, [], ◌∷◌, Bool, true, false, cond, refl, sym, ap, ◌∙◌, Some, None, Option, is_some}
 use Rattle.std.specs.Prelude.{bytes_eq, codes, not, ◌&&◌, ◌||◌}
 use Rattle.std.specs.List.{AllZip}
 use Rattle.bib_chunks.specs.Styled.{Atom}
 use Rattle.bib_dates.specs.Readings.{readable_value}
 use Rattle.bib_dates.specs.ThreeFields.{three_fields_of}
 use Rattle.bib_inheritance.specs.EntryTexts.{EntryTexts, FieldTexts, first_some, has}
-use Rattle.bib_inheritance.specs.InheritableDate.{date_for, dated_text, inheritable_date, inheritable_date_by, is_unreadable, last_date, looks_for_date, of_three_fields}
-use Rattle.bib_inheritance.specs.Inherited.{book_titles, date_parts, field_by, first_offer, inherited_field, is_periodical, journal_titles, main_titles, offer, offer_names, offered_field, same_meaning, title_for, wants, with_inherited_fields}
+use Rattle.bib_inheritance.specs.InheritableDate.{date_for, dated_text, inheritable_date, inheritable_date_by, last_date, looks_for_date, of_three_fields}
+use Rattle.bib_inheritance.specs.Inherited.{book_titles, date_parts, field_by, first_offer, inherited_field, is_periodical, journal_titles, main_titles, offer, offer_names, offered_field, same_meaning, wants, with_inherited_fields}
 use Rattle.bib_inheritance.specs.References.{plain}
 use Rattle.bib_tables.specs.EntryType.{is_collection, is_multi_volume}
 use Rattle.bib_tables.specs.Requirements.{Names, inherits, is_container, is_one_of, rules_of}
 use Rattle.bib_tables.specs.declared.mechanics.EntryType.{EntryType}
 use Rattle.bib_text.specs.Enums.{value_named}
-use Rattle.std.specs.Prelude.{option_map, unwrap_or, if◌then◌else◌}
+use Rattle.std.specs.Prelude.{option_map, unwrap_or}
 
 -- two entries have the same type and the same fields of a date
 pub record HaveSameDate (one other : EntryTexts) : Type 0 where
@@ -30,8 +30,10 @@ date_by : (f g : FieldTexts) → f (codes "month") ≡ g (codes "month") → f (
 date_by f g month day (Some date) year = refl
 date_by f g month day None None = refl
 date_by f g month day None (Some year) =
-    ap (λ o. of_three_fields (readable_value (three_fields_of (plain year) (option_map plain o) (option_map plain (f (codes "day")))))) month
-    ∙ ap (λ o. of_three_fields (readable_value (three_fields_of (plain year) (option_map plain (g (codes "month"))) (option_map plain o)))) day
+    ap (λ o. of_three_fields (readable_value (three_fields_of (plain year) (option_map plain o) (option_map plain (f
+    (codes "day")))))) month
+    ∙ ap (λ o. of_three_fields (readable_value (three_fields_of (plain year) (option_map plain (g (codes "month")))
+    (option_map plain o)))) day
 
 pub date_same : (one other : EntryTexts) → HaveSameDate one other → inheritable_date one.fields ≡ inheritable_date other.fields
 date_same one other same =
@@ -93,7 +95,8 @@ offer_alone : (name : List ℕ) (texts : EntryTexts) → IsOfferedAlone name →
 offer_alone name texts alone = ap (first_offer texts.fields) (alone_names name texts.entry_type alone)
 
 inherited_date_field : (type : EntryType) (name : List ℕ) → IsOfferedAlone name → (xs ys : List EntryTexts)
-    → AllZip (λ (x : EntryTexts) (y : EntryTexts). x.fields name ≡ y.fields name) xs ys → inherited_field type name xs ≡ inherited_field type name ys
+    → AllZip (λ (x : EntryTexts) (y : EntryTexts). x.fields name ≡ y.fields name) xs ys
+    → inherited_field type name xs ≡ inherited_field type name ys
 inherited_date_field type name alone [] [] all = refl
 inherited_date_field type name alone [] (y ∷ ys) all = absurd all
 inherited_date_field type name alone (x ∷ xs) [] all = absurd all
@@ -101,7 +104,8 @@ inherited_date_field type name alone (x ∷ xs) (y ∷ ys) all =
     ap (λ o. first_some (cond (wants type x name) o None) (inherited_field type name xs)) (offer_alone name x alone)
     ∙ ap
     (λ o.
-    first_some (cond (inherits type name && (not (is_container type) || is_some o)) (first_some o None) None) (inherited_field type name xs))
+    first_some (cond (inherits type name && (not (is_container type) || is_some o)) (first_some o None) None)
+    (inherited_field type name xs))
     all.0
     ∙ ap (λ o. first_some (cond (wants type y name) o None) (inherited_field type name xs)) (sym (offer_alone name y alone))
     ∙ ap (first_some (offered_field type y name)) (inherited_date_field type name alone xs ys all.1)
@@ -118,7 +122,8 @@ each_same name same (x ∷ xs) (y ∷ ys) all = (same x y all.0, each_same name 
 module _ (one other : EntryTexts) (same : HaveSameDate one other) (xs ys : List EntryTexts) (all : AllZip HaveSameDate xs ys) where
   date_for_same : date_for one xs ≡ date_for other ys
   date_for_same =
-      ap (λ b. cond b (last_date xs) None) (looks_alike one other same) ∙ ap (λ o. cond (looks_for_date other) o None) (last_same xs ys all)
+      ap (λ b. cond b (last_date xs) None) (looks_alike one other same) ∙ ap (λ o. cond (looks_for_date other) o None)
+      (last_same xs ys all)
 
   field_same : (name : List ℕ) → IsOfferedAlone name → one.fields name ≡ other.fields name
       → ((x y : EntryTexts) → HaveSameDate x y → x.fields name ≡ y.fields name)
@@ -139,7 +144,8 @@ module _ (one other : EntryTexts) (same : HaveSameDate one other) (xs ys : List 
           ap
           (λ o.
           cond (bytes_eq name (codes "date")) (Some d)
-          (cond (is_one_of date_parts name) None (cond (bytes_eq name (codes "xdata")) None (first_some o (inherited_field one.entry_type name xs)))))
+          (cond (is_one_of date_parts name) None (cond (bytes_eq name (codes "xdata")) None (first_some o
+          (inherited_field one.entry_type name xs)))))
           is
           ∙ ap
           (λ o.
@@ -152,6 +158,7 @@ module _ (one other : EntryTexts) (same : HaveSameDate one other) (xs ys : List 
     kind = same.kind;
     date = field_same (codes "date") (record { journal = refl; book = refl; main = refl; meaning = refl }) same.date (λ x y s. s.date);
     year = field_same (codes "year") (record { journal = refl; book = refl; main = refl; meaning = refl }) same.year (λ x y s. s.year);
-    month = field_same (codes "month") (record { journal = refl; book = refl; main = refl; meaning = refl }) same.month (λ x y s. s.month);
+    month = field_same (codes "month") (record { journal = refl; book = refl; main = refl; meaning = refl }) same.month
+        (λ x y s. s.month);
     day = field_same (codes "day") (record { journal = refl; book = refl; main = refl; meaning = refl }) same.day (λ x y s. s.day);
   }

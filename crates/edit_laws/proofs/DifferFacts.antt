@@ -11,7 +11,7 @@ use Rattle.std.proofs.lemmas.Option.{slice_get_within}
 use Rattle.bib_chunks.specs.Lists.{comma_texts}
 use Rattle.bib_chunks.specs.Styled.{Atom}
 use Rattle.bib_collections.proofs.Walks.{below_from_edge, map_agree}
-use Rattle.bib_collections.specs.Graph.{Graph, HasNoCycle, IsInRange, Leads, one as one_edge, more as more_edges, refs_of}
+use Rattle.bib_collections.specs.Graph.{HasNoCycle, Leads, one as one_edge, more as more_edges, refs_of}
 use Rattle.bib_collections.specs.Sorted.{ByText}
 use Rattle.bib_entry.specs.declared.entry.Entry.{Entry}
 use Rattle.bib_file_entries.specs.Bibliography.{Bibliography}
@@ -24,13 +24,12 @@ use Rattle.bib_inheritance.specs.Resolving.{Inherits, at_index, rule_by, texts_o
 use Rattle.bib_syntax.specs.Reading.{FileReading}
 use Rattle.bib_tables.specs.Requirements.{is_one_of, rules_of}
 use Rattle.bib_tables.specs.declared.mechanics.EntryType.{EntryType}
-use Rattle.bib_text.proofs.ListFacts.{some_same}
 use Rattle.biblatex.proofs.ResolvedFacts.{all_texts_same, graph_same, keys_same, names_below, names_same}
 use Rattle.biblatex.specs.Resolved.{AreOwn, IsLoaded, graph_of, names_of}
-use Rattle.edit_laws.proofs.LiftFacts.{at_texts, solved_at}
+use Rattle.edit_laws.proofs.LiftFacts.{at_texts}
 use Rattle.edit_laws.proofs.SolutionFacts.{related}
 use Rattle.edit_laws.proofs.TextFacts.{all_claims, all_claims_are, claims_set, graph_by_texts, graph_texts, map_set_same, names_by_claims}
-use Rattle.edit_laws.specs.OneField.{AreAlikeExcept, DifferInField, linked_names, with_field}
+use Rattle.edit_laws.specs.OneField.{AreAlikeExcept, DifferInField, linked_names, with_field_text}
 
 -- ---- lists
 
@@ -108,7 +107,7 @@ unlinked name apart =
 
 -- another field is the same
 pub other_field : (name : List ℕ) (text : Option (List Atom)) (texts : EntryTexts) (other : List ℕ) → bytes_eq other name ≡ false
-    → (with_field name text texts).fields other ≡ texts.fields other
+    → (with_field_text name text texts).fields other ≡ texts.fields other
 other_field name text texts other apart = ap (λ b. cond b text (texts.fields other)) apart
 
 reference_names_by : (f g : FieldTexts) → f (codes "crossref") ≡ g (codes "crossref") → f (codes "xdata") ≡ g (codes "xdata")
@@ -119,11 +118,11 @@ reference_names_by f g crossref xdata =
 
 -- an entry with another value of an unlinked field has the same other fields after inheriting
 module _ {name : List ℕ} (apart : IsUnlinked name) (old : EntryTexts) (text : Option (List Atom)) where
-  pub looks_same : looks_for_date old ≡ looks_for_date (with_field name text old)
+  pub looks_same : looks_for_date old ≡ looks_for_date (with_field_text name text old)
   looks_same =
       ap (λ o. (rules_of old.entry_type).needs_date && not (is_some o || has old (codes "year")))
       (sym (other_field name text old (codes "date") apart.date))
-      ∙ ap (λ o. (rules_of old.entry_type).needs_date && not (has (with_field name text old) (codes "date") || is_some o))
+      ∙ ap (λ o. (rules_of old.entry_type).needs_date && not (has (with_field_text name text old) (codes "date") || is_some o))
       (sym (other_field name text old (codes "year") apart.year))
 
   field_by_same : (date : Option (List Atom)) (f g : FieldTexts) (offered : List ℕ → Option (List Atom)) (field : List ℕ)
@@ -137,11 +136,13 @@ module _ {name : List ℕ} (apart : IsUnlinked name) (old : EntryTexts) (text : 
       (cond (is_one_of date_parts field) None (cond (bytes_eq field (codes "xdata")) None (first_some o (offered field))))) same
 
   pub inherited_same : (references : List EntryTexts) (field : List ℕ) → bytes_eq field name ≡ false
-      → (with_inherited_fields old references).fields field ≡ (with_inherited_fields (with_field name text old) references).fields field
+      → (with_inherited_fields old references).fields field ≡ (with_inherited_fields
+      (with_field_text name text old) references).fields field
   inherited_same references field other =
       let offered : List ℕ → Option (List Atom) = λ n. inherited_field old.entry_type n references in
       ap (λ b. field_by (cond b (last_date references) None) old.fields offered field) looks_same
-      ∙ field_by_same (date_for (with_field name text old) references) old.fields (with_field name text old).fields offered field
+      ∙ field_by_same (date_for (with_field_text name text old) references) old.fields
+      (with_field_text name text old).fields offered field
       (sym (other_field name text old field other))
 
 module _ {own others : List Entry} {k : ℕ} {name : List ℕ} {text : Option (List Atom)} (differ : DifferInField own others k name text)
@@ -150,7 +151,7 @@ module _ {own others : List Entry} {k : ℕ} {name : List ℕ} {text : Option (L
   old = texts_of_entry differ.entry
 
   abbrev new : EntryTexts
-  new = with_field name text old
+  new = with_field_text name text old
 
   old_here : slice_get (texts_of_entries own) k ≡ Some old
   old_here = get_of_map texts_of_entry own k differ.entry differ.here
@@ -252,7 +253,8 @@ module _ {own others : List Entry} {k : ℕ} {name : List ℕ} {text : Option (L
             → (at_index (texts_of_entries own) a).entry_type ≡ (at_index (texts_of_entries others) a).entry_type
         by_index (inl t) =
             ap (λ i. (at_index (texts_of_entries own) i).entry_type) t.1
-            ∙ ap (λ (x : EntryTexts). x.entry_type) (at_texts own k differ.entry differ.here ) ∙ sym (ap (λ (x : EntryTexts). x.entry_type) differ_here)
+            ∙ ap (λ (x : EntryTexts). x.entry_type) (at_texts own k differ.entry differ.here) ∙ sym (ap (λ
+            (x : EntryTexts). x.entry_type) differ_here)
             ∙ ap (λ i. (at_index (texts_of_entries others) i).entry_type) (sym t.1)
         by_index (inr t) = ap (λ (x : EntryTexts). x.entry_type) (differ_apart a t.1)
 
@@ -340,7 +342,9 @@ module _ {says tells : FileReading} {one other : Bibliography} (first : IsLoaded
           → (Leads (graph_of own) at k → ⊥)
           → at_index (texts_of_entries one.entries) at ≡ at_index (texts_of_entries other.entries) at
       by_range at (inl below) not leads =
-          apart_same differ apart none (texts_of_entries one.entries) (texts_of_entries other.entries) solves second.inherits at below (not, leads)
+          apart_same differ apart none (texts_of_entries one.entries)
+          (texts_of_entries other.entries) solves second.inherits at below (not, leads)
       by_range at (inr above) not leads =
           past (texts_of_entries one.entries) at (omega (arith, above, rows, one_long, length-map one.entries texts_of_entry))
-          ∙ sym (past (texts_of_entries other.entries) at (omega (arith, above, rows, other_long, length-map other.entries texts_of_entry)))
+          ∙ sym (past (texts_of_entries other.entries) at (omega
+          (arith, above, rows, other_long, length-map other.entries texts_of_entry)))

@@ -1,5 +1,5 @@
 -- The last field with a name in an entry whose field is set or unset.
-use Rattle.std.proofs.Common.{◌≡◌, ℕ, List, [], ◌∷◌, ◌++◌, Bool, true, false, cond, map, reverse, refl, sym, ap, ◌∙◌, subst, Some, None, Option, option_map, append-nil}
+use Rattle.std.proofs.Common.{◌≡◌, ℕ, List, [], ◌∷◌, ◌++◌, Bool, true, false, cond, map, reverse, refl, sym, ap, ◌∙◌, subst, Some, None, Option, option_map}
 use Rattle.std.specs.Prelude.{bytes_eq, find, not, ◌&&◌, ◌||◌}
 use Rattle.std.specs.Cmp.Lexicographic.{nat_list_eq_equiv}
 use Rattle.std.specs.List.{AllByRecursion, filter, list_any}
@@ -10,7 +10,7 @@ use Rattle.std.proofs.lemmas.Slice.Eq.{bytes_eq-Decides}
 use Rattle.bib_abbreviations.specs.Abbreviations.{Definitions, IsReadable}
 use Rattle.bib_file_entries.specs.Loaded.{AllCanBeRead, field_in, name_of}
 use Rattle.bib_syntax.specs.Reading.{FieldReading, Part, Piece}
-use Rattle.bib_syntax.specs.Reading.Piece.{abbreviation, literal}
+use Rattle.bib_syntax.specs.Reading.Piece.{literal}
 use Rattle.bib_tables.specs.VerbatimFields.{is_verbatim_field}
 use Rattle.edit_entries.specs.Changes.{FieldChange, field_changed, field_reading, fields_changed}
 use Rattle.edit_entries.specs.Documents.{has_name}
@@ -45,7 +45,8 @@ absent_go test (f ∷ fs) none = by_test (test f) none (absent_go test fs)
     by_test true is rest = cc
     by_test false is rest = rest is
 
-present_go : (test : FieldReading → Bool) (fs : List FieldReading) → list_any test fs ≡ true → (f : FieldReading) × (find test fs ≡ Some f)
+present_go : (test : FieldReading → Bool) (fs : List FieldReading) → list_any test fs ≡ true → (f : FieldReading) ×
+    (find test fs ≡ Some f)
 present_go test [] any = cc
 present_go test (f ∷ fs) any = by_test (test f) any (present_go test fs)
   where
@@ -103,7 +104,8 @@ present name fs any =
 reverse_map : (g : FieldReading → FieldReading) (fs : List FieldReading) → reverse (map g fs) ≡ map g (reverse fs)
 reverse_map g [] = refl
 reverse_map g (f ∷ fs) =
-    reverse_more (g f) (map g fs) ∙ ap (λ l. l ++ g f ∷ []) (reverse_map g fs) ∙ sym (map_more (reverse fs)) ∙ ap (map g) (sym (reverse_more f fs))
+    reverse_more (g f) (map g fs) ∙ ap (λ l. l ++ g f ∷ []) (reverse_map g fs) ∙ sym (map_more (reverse fs)) ∙ ap (map g) (sym
+    (reverse_more f fs))
   where
     map_more : (hs : List FieldReading) → map g (hs ++ f ∷ []) ≡ map g hs ++ g f ∷ []
     map_more [] = refl
@@ -126,7 +128,8 @@ field_mapped g same fs name =
     ap (find (λ f. bytes_eq name (name_of f))) (reverse_map g fs)
     ∙ find_mapped (λ f. bytes_eq name (name_of f)) g (λ f. ap (bytes_eq name) (same f)) (reverse fs)
 
-all_append : (P : FieldReading → Type 0) (fs gs : List FieldReading) → AllByRecursion P fs → AllByRecursion P gs → AllByRecursion P (fs ++ gs)
+all_append : (P : FieldReading → Type 0) (fs gs : List FieldReading) → AllByRecursion P fs → AllByRecursion P gs
+    → AllByRecursion P (fs ++ gs)
 all_append P [] gs one other = other
 all_append P (f ∷ fs) gs one other = (one.0, all_append P fs gs one.1 other)
 

@@ -1,28 +1,28 @@
 -- Fields of entries after inheriting, in a bibliography.
-use Rattle.std.proofs.Common.{◌≡◌, ℕ, zero, suc, ◌<◌, List, [], ◌∷◌, Bool, true, false, cond, get_or, length, map, refl, sym, ap, ◌∙◌, subst, arith, Some, None, Option, option_map, is_some}
+use Rattle.std.proofs.Common.{◌≡◌, ℕ, zero, suc, ◌<◌, List, [], ◌∷◌, Bool, true, false, cond, get_or, length, map, refl, sym, ap, ◌∙◌, subst, Some, None, Option, option_map, is_some}
 use Rattle.std.specs.Prelude.{bytes_eq, codes, not, slice_get, ◌&&◌, ◌||◌}
 use Rattle.std.specs.Cmp.Lexicographic.{nat_list_eq_equiv}
 use Rattle.std.specs.FinMap as by_name
-use Rattle.std.proofs.lemmas.Bool.{both_ways, false≢true}
+use Rattle.std.proofs.lemmas.Bool.{both_ways}
 use Rattle.std.proofs.lemmas.List.{length-map}
-use Rattle.std.proofs.lemmas.Option.{get_or_from_slice_get, slice_get-get_or, slice_get_within}
+use Rattle.std.proofs.lemmas.Option.{slice_get-get_or, slice_get_within}
 use Rattle.std.proofs.lemmas.Slice.Eq.{bytes_eq-Decides}
 use Rattle.bib_chunks.specs.Styled.{Atom, styled}
 use Rattle.bib_chunks.specs.declared.chunk.Chunk.{Chunk}
-use Rattle.bib_collections.specs.Graph.{Graph, refs_of}
+use Rattle.bib_collections.specs.Graph.{refs_of}
 use Rattle.bib_entry.specs.declared.entry.Entry.{Entry}
 use Rattle.bib_file_entries.specs.Bibliography.{Bibliography}
-use Rattle.bib_inheritance.specs.EntryTexts.{EntryTexts, first_some, has, no_entry}
-use Rattle.bib_inheritance.specs.InheritableDate.{date_for, last_date, looks_for_date}
+use Rattle.bib_inheritance.specs.EntryTexts.{EntryTexts, first_some, has}
+use Rattle.bib_inheritance.specs.InheritableDate.{last_date, looks_for_date}
 use Rattle.bib_inheritance.specs.Inherited.{date_parts, field_by, inherited_field, plain_field, with_inherited_fields}
 use Rattle.bib_inheritance.specs.Resolving.{Inherits, at_index, texts_of_entries, texts_of_entry}
 use Rattle.bib_syntax.specs.Reading.{FileReading}
-use Rattle.bib_tables.specs.Requirements.{fields, is_one_of, rules_of}
+use Rattle.bib_tables.specs.Requirements.{is_one_of, rules_of}
 use Rattle.bib_text.proofs.ListFacts.{some_same}
 use Rattle.bib_text.specs.declared.spanned.Spanned.{Spanned}
 use Rattle.biblatex.proofs.ResolvedFacts.{all_texts_same, graph_same}
 use Rattle.biblatex.specs.Resolved.{AreOwn, IsLoaded, graph_of}
-use Rattle.edit_laws.specs.OneField.{replaced_names}
+use Rattle.edit_laws.specs.OneField.{lost_names}
 
 -- ---- one entry
 
@@ -57,7 +57,7 @@ module _ (own : EntryTexts) (name : List ℕ) (atoms : List Atom) (is : own.fiel
       by_case false apart = refl
 
   -- an own field is kept if it isn't one of the replaced ones
-  pub own_kept : (references : List EntryTexts) → is_one_of replaced_names name ≡ false
+  pub own_kept : (references : List EntryTexts) → is_one_of lost_names name ≡ false
       → (with_inherited_fields own references).fields name ≡ Some atoms
   own_kept references apart = by_looks (looks_for_date own) refl
     where
@@ -94,7 +94,8 @@ module _ (own : EntryTexts) (name : List ℕ) (atoms : List Atom) (is : own.fiel
 
 -- ---- a bibliography
 
-pub at_texts : (own : List Entry) (k : ℕ) (entry : Entry) → slice_get own k ≡ Some entry → at_index (texts_of_entries own) k ≡ texts_of_entry entry
+pub at_texts : (own : List Entry) (k : ℕ) (entry : Entry) → slice_get own k ≡ Some entry → at_index
+    (texts_of_entries own) k ≡ texts_of_entry entry
 at_texts [] k entry here = cc
 at_texts (e ∷ own) zero entry here = let same : e ≡ entry = cc in ap texts_of_entry same
 at_texts (e ∷ own) (suc k) entry here = at_texts own k entry here
@@ -135,13 +136,14 @@ module _ {says : FileReading} {bibliography : Bibliography} (loaded : IsLoaded s
   -- the texts at an index solve the inheritance equation
   pub solved_at : (k : ℕ) → k < length own
       → at_index (texts_of_entries bibliography.entries) k
-      ≡ with_inherited_fields (at_index (texts_of_entries own) k) (map (at_index (texts_of_entries bibliography.entries)) (refs_of (graph_of own) k))
+      ≡ with_inherited_fields (at_index (texts_of_entries own) k) (map (at_index (texts_of_entries bibliography.entries)) (refs_of
+      (graph_of own) k))
   solved_at k within =
       loaded.inherits.each k (subst (λ n. k < n) (sym (length-map own _)) within)
 
   -- a field that an entry has itself is in the bibliography, if it isn't one of the replaced ones
   pub field_at : (k : ℕ) (before : Entry) (name : List ℕ) (atoms : List Atom) → slice_get own k ≡ Some before
-      → (texts_of_entry before).fields name ≡ Some atoms → is_one_of replaced_names name ≡ false
+      → (texts_of_entry before).fields name ≡ Some atoms → is_one_of lost_names name ≡ false
       → HasFieldAt bibliography k before.key name atoms
   field_at k before name atoms here is apart =
       let within : k < length own = slice_get_within own k before here in

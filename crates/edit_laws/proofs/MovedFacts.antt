@@ -1,17 +1,17 @@
 -- Files with the same entries at other indices: each index of the new file has the entry of an old one.
-use Rattle.std.proofs.Common.{◌≡◌, ◌⊎◌, ℕ, zero, suc, ◌<◌, ◌≤◌, List, [], ◌∷◌, ◌++◌, Bool, true, false, cond, get_or, length, map, refl, sym, ap, ◌∙◌, subst, arith, inl, inr, Some, None, Option, option_map, filter_map}
+use Rattle.std.proofs.Common.{◌≡◌, ◌⊎◌, ℕ, zero, suc, ◌<◌, ◌≤◌, List, [], ◌∷◌, Bool, true, get_or, length, map, refl, sym, ap, ◌∙◌, subst, arith, inl, inr, Some, None, Option, option_map, filter_map}
 use Rattle.std.specs.Prelude.{slice_get, ◌&&◌, ◌||◌, MatchOption}
 use Rattle.std.specs.FinMap as by_name
-use Rattle.std.specs.List.{AllZip, Contains, cons_option, list_any}
+use Rattle.std.specs.List.{Contains, cons_option, list_any}
 use Rattle.std.proofs.lemmas.Bool.{both_ways}
 use Rattle.std.proofs.lemmas.List.{get_or-map, length-map}
-use Rattle.std.proofs.lemmas.Option.{get_or_from_slice_get, slice_get-get_or, slice_get_within}
+use Rattle.std.proofs.lemmas.Option.{slice_get-get_or, slice_get_within}
 use Rattle.bib_collections.proofs.Walks.{below_from_edge, one_solution}
 use Rattle.bib_collections.specs.Graph.{HasNoCycle, IsInRange, Leads, one as one_edge, more as more_edges, refs_of}
 use Rattle.bib_collections.specs.Sorted.{ByText}
 use Rattle.bib_entry.specs.declared.entry.Entry.{Entry}
-use Rattle.bib_file_entries.specs.Bibliography.{claims, empty_bibliography, index_of}
-use Rattle.bib_file_entries.specs.Loaded.{is_claimed, loaded_after}
+use Rattle.bib_file_entries.specs.Bibliography.{claims, index_of}
+use Rattle.bib_file_entries.specs.Loaded.{is_claimed}
 use Rattle.bib_inheritance.proofs.RangeFacts.{graph_in_range}
 use Rattle.bib_inheritance.specs.EntryTexts.{EntryTexts, fields_of, no_entry}
 use Rattle.bib_inheritance.specs.Inherited.{with_inherited_fields}
@@ -20,7 +20,7 @@ use Rattle.bib_inheritance.specs.References.{reference_names, references}
 use Rattle.bib_inheritance.specs.Resolving.{AreDatesRead, Inherits, at_index, has_bad_date, is_bad_date, rule_by, texts_of_entries, texts_of_entry}
 use Rattle.biblatex.proofs.IndexLaws.{points_loaded}
 use Rattle.biblatex.proofs.ResolvedFacts.{all_after, names_below}
-use Rattle.biblatex.specs.Places.{ClaimsAt, IsLastClaim, PointsToLastClaims}
+use Rattle.biblatex.specs.Places.{ClaimsAt, IsLastClaim}
 use Rattle.biblatex.specs.Resolved.{graph_of, names_of}
 use Rattle.core.proofs.str.Laws.{order}
 use Rattle.edit_laws.proofs.DifferFacts.{past, same_zip}
@@ -31,12 +31,14 @@ use Rattle.edit_laws.proofs.TextFacts.{claims_are, claims_by, graph_texts}
 -- each index of the new file has the key and the texts of an old index
 pub record AreMoved (own others : List Entry) (move : ℕ → ℕ) : Type 0 where
   pub within : (i : ℕ) → i < length others → move i < length own
-  pub keys : (i : ℕ) → i < length others → get_or (map (λ (e : Entry). e.key) own) (move i) [] ≡ get_or (map (λ (e : Entry). e.key) others) i []
+  pub keys : (i : ℕ) → i < length others → get_or (map (λ (e : Entry). e.key) own) (move i) [] ≡ get_or (map (λ
+      (e : Entry). e.key) others) i []
   pub texts : (i : ℕ) → i < length others → at_index (texts_of_entries own) (move i) ≡ at_index (texts_of_entries others) i
 
 -- ---- names
 
-points : (own : List Entry) (name : List ℕ)
+-- each name points to the last entry that claims it
+pub points : (own : List Entry) (name : List ℕ)
     → MatchOption (by_name.get (names_of own) name) ((index : ℕ) → ClaimsAt own index name → ⊥) (IsLastClaim own name)
 points own name =
     subst
@@ -127,15 +129,18 @@ found_moved names news move gone moved (n ∷ ns) none =
 
     by_first : (o p : Option ℕ) → ((o ≡ Some gone → ⊥) → o ≡ option_map move p)
         → (Contains (cons_option o (filter_map (by_name.get names) ns)) gone → ⊥)
-        → ((Contains (filter_map (by_name.get names) ns) gone → ⊥) → filter_map (by_name.get names) ns ≡ map move (filter_map (by_name.get news) ns))
+        → ((Contains (filter_map (by_name.get names) ns) gone → ⊥) → filter_map (by_name.get names) ns ≡ map move (filter_map
+        (by_name.get news) ns))
         → cons_option o (filter_map (by_name.get names) ns) ≡ map move (cons_option p (filter_map (by_name.get news) ns))
     by_first None None is none rest = rest none
     by_first None (Some j) is none rest = let no = is (λ e. cc) in cc
     by_first (Some at) None is none rest =
-        let no = is (λ e. let same : at ≡ gone = cc in none (subst (λ x. Contains (x ∷ filter_map (by_name.get names) ns) gone) (sym same) (Contains-first gone (filter_map (by_name.get names) ns)))) in cc
+        let no = is (λ e. let same : at ≡ gone = cc in none (subst (λ x. Contains (x ∷ filter_map (by_name.get names) ns) gone)
+        (sym same) (Contains-first gone (filter_map (by_name.get names) ns)))) in cc
     by_first (Some at) (Some j) is none rest =
         let same : Some at ≡ Some (move j) =
-        is (λ e. let same : at ≡ gone = cc in none (subst (λ x. Contains (x ∷ filter_map (by_name.get names) ns) gone) (sym same) (Contains-first gone (filter_map (by_name.get names) ns)))) in
+        is (λ e. let same : at ≡ gone = cc in none (subst (λ x. Contains (x ∷ filter_map (by_name.get names) ns) gone) (sym same)
+        (Contains-first gone (filter_map (by_name.get names) ns)))) in
         let head : at ≡ move j = cc in
         ap (λ x. x ∷ filter_map (by_name.get names) ns) head
         ∙ ap (λ l. move j ∷ l) (rest (λ at_rest. none (Contains-later at gone (filter_map (by_name.get names) ns) at_rest)))
@@ -229,7 +234,8 @@ module _ {own others : List Entry} {move : ℕ → ℕ} (are : AreMoved own othe
 
     -- an entry has a bad date if the old entry has one
     pub bad_moved : (i : ℕ) → i < length others
-        → has_bad_date (texts_of_entries others) (graph_of others) news i ≡ has_bad_date (texts_of_entries own) (graph_of own) values (move i)
+        → has_bad_date (texts_of_entries others) (graph_of others) news i ≡ has_bad_date (texts_of_entries own)
+        (graph_of own) values (move i)
     bad_moved i below =
         ap (λ b. b && list_any (is_bad_date news) (refs_of (graph_of others) i)) (ap looks_for_date (sym (are.texts i below)))
         ∙ ap (λ b. looks_for_date (at_index (texts_of_entries own) (move i)) && b)
@@ -259,11 +265,13 @@ module _ {own others : List Entry} {move : ℕ → ℕ} (are : AreMoved own othe
       by_range : (index < length others) ⊎ (length others ≤ index) → ⊥
       by_range (inl below) =
           let old =
-          one_solution (graph_of own) (graph_in_range (names_of own) own (names_below own)) none no_entry (rule_by (texts_of_entries own)) in
+          one_solution (graph_of own) (graph_in_range (names_of own) own (names_below own)) none no_entry (rule_by
+          (texts_of_entries own)) in
           let is_bad : has_bad_date (texts_of_entries others) (graph_of others) news index ≡ true =
           ap (λ b. b && list_any (is_bad_date news) (refs_of (graph_of others) index)) looks ∙ bad in
           both_ways _ (dates old.0 old.1 (move index))
-          (sym (bad_moved are gone names unreferenced (no_cycle_moved are gone names unreferenced none) old.0 news old.1 second index below)
+          (sym (bad_moved are gone names unreferenced
+          (no_cycle_moved are gone names unreferenced none) old.0 news old.1 second index below)
           ∙ is_bad)
       by_range (inr above) =
           no_date_required

@@ -1,13 +1,13 @@
 -- No abbreviation in a file has a number as its name.
-use Rattle.std.proofs.Common.{◌≡◌, ℕ, zero, suc, ◌<◌, ◌-◌, Bool, true, false, cond, List, [], ◌∷◌, ◌++◌, take, drop, refl, sym, ap, ◌∙◌, subst, arith}
-use Rattle.std.specs.Prelude.{◌&&◌, slice_get, Some, encode_utf8, ⊤}
+use Rattle.std.proofs.Common.{◌≡◌, ℕ, zero, suc, ◌<◌, ◌-◌, Bool, true, false, List, [], ◌∷◌, ◌++◌, take, drop, refl, sym, ap, ◌∙◌, subst, arith}
+use Rattle.std.specs.Prelude.{◌&&◌, slice_get, Some, ⊤}
 use Rattle.std.specs.Char.{is_ascii_digit}
 use Rattle.std.specs.List.{AllByRecursion, list_all}
 use Rattle.std.proofs.lemmas.Bool.Decides.{nat_tests}
 use Rattle.std.proofs.lemmas.Str.{encode_ascii}
-use Rattle.bib_text.specs.Places.{Place, place, between}
+use Rattle.bib_text.specs.Places.{Place, between}
 use Rattle.bib_text.proofs.PlaceFacts.{char_here}
-use Rattle.bib_syntax.specs.Grammar.{Block, BlockKind, Body, Element, Elements, Field, Fields, File, Identifier, IsRawReading, Mode, NoDigit, block_kind, longest}
+use Rattle.bib_syntax.specs.Grammar.{BlockKind, Body, Element, Elements, Fields, File, IsRawReading, NoDigit, longest}
 use Rattle.bib_syntax.specs.Reading.{EntryReading, FieldReading, FileReading, Part, Piece}
 use Rattle.bib_syntax.specs.Reading.Piece.{abbreviation, literal}
 use Rattle.edit_entries.specs.Setting.{is_bare_number}

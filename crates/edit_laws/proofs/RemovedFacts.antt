@@ -1,41 +1,40 @@
 -- The entries of a file without one of them.
-use Rattle.std.proofs.Common.{◌≡◌, ◌⊎◌, ℕ, zero, suc, ◌+◌, ◌-◌, ◌<◌, ◌≤◌, List, [], ◌∷◌, ◌++◌, Bool, true, false, cond, take, drop, get_or, length, map, refl, sym, ap, ◌∙◌, subst, arith, inl, inr, Some, None, Option, option_map, option_and_then}
+use Rattle.std.proofs.Common.{◌≡◌, ℕ, zero, suc, ◌+◌, ◌-◌, ◌<◌, ◌≤◌, List, [], ◌∷◌, ◌++◌, Bool, true, false, cond, get_or, length, map, refl, sym, ap, ◌∙◌, subst, arith, Some, None, Option, option_map, option_and_then}
 use Rattle.std.specs.Prelude.{bytes_eq, nat_lt, slice_get, ◌||◌, ◌==◌}
 use Rattle.std.specs.FinMap as by_name
-use Rattle.std.specs.List.{AllZip, Contains, list_any, remove}
-use Rattle.std.proofs.lemmas.Bool.{both_ways}
+use Rattle.std.specs.List.{AllZip, Contains, remove}
 use Rattle.std.proofs.lemmas.Bool.Decides.{nat_tests}
 use Rattle.std.proofs.lemmas.List.{ext_get_or, length-map}
 use Rattle.std.proofs.lemmas.List.Edits.{get_or-remove_above, get_or-remove_below, length-remove}
 use Rattle.std.proofs.lemmas.List.Folds.{list_any-append}
-use Rattle.std.proofs.lemmas.Option.{get_or_from_slice_get, slice_get-get_or, slice_get_within}
+use Rattle.std.proofs.lemmas.Option.{slice_get-get_or, slice_get_within}
 use Rattle.bib_abbreviations.specs.Abbreviations.{Definitions}
-use Rattle.bib_collections.specs.Graph.{Leads, refs_of}
+use Rattle.bib_collections.specs.Graph.{refs_of}
 use Rattle.bib_collections.specs.Names.{index_after_removal}
 use Rattle.bib_entry.specs.declared.entry.Entry.{Entry}
 use Rattle.bib_file_entries.specs.Bibliography.{Bibliography}
 use Rattle.bib_file_entries.specs.Loaded.{definition_in, is_claimed}
 use Rattle.bib_inheritance.specs.EntryTexts.{EntryTexts, no_entry}
-use Rattle.bib_inheritance.specs.Resolving.{Inherits, is_bad_date, at_index, texts_of_entries, texts_of_entry}
-use Rattle.bib_syntax.specs.Reading.{EntryReading, FieldReading, FileReading}
+use Rattle.bib_inheritance.specs.Resolving.{is_bad_date, texts_of_entries, texts_of_entry}
+use Rattle.bib_syntax.specs.Reading.{EntryReading, FileReading}
 use Rattle.bib_syntax.specs.declared.raw.ParseError.{ParseError}
-use Rattle.bib_text.proofs.ListFacts.{found_any, some_same}
-use Rattle.biblatex.proofs.ResolvedFacts.{all_texts_same, graph_same, keys_same, names_same}
+use Rattle.bib_text.proofs.ListFacts.{found_any}
+use Rattle.biblatex.proofs.ResolvedFacts.{graph_same, keys_same, names_same}
 use Rattle.biblatex.specs.Places.{ClaimsAt, IsLastClaim}
 use Rattle.biblatex.specs.Resolved.{AreOwn, IsAccepted, IsFirstErrorOf, IsLoaded, graph_of, names_of}
 use Rattle.edit_entries.proofs.PlacelessFacts.{file_placeless}
-use Rattle.edit_entries.specs.Documents.{Document, EntryRemoved, HasEntry}
-use Rattle.edit_entries.specs.Edits.{moved_entry, moved_field, moved_file, moved_place}
+use Rattle.edit_entries.specs.Documents.{Document, EntryRemoved}
+use Rattle.edit_entries.specs.Edits.{moved_entry, moved_field, moved_place}
 use Rattle.edit_laws.proofs.AcceptedFacts.{texts_faultless}
 use Rattle.edit_laws.proofs.AlikeFacts.{DefineAlike, definitions_alike}
-use Rattle.edit_laws.proofs.LiftFacts.{as_long, inherits_by, same_key}
+use Rattle.edit_laws.proofs.LiftFacts.{as_long, inherits_by}
 use Rattle.edit_laws.proofs.MovedFacts.{AreMoved, claim_there, names_moved, no_bad_date, no_cycle_moved, same_moved}
 use Rattle.edit_laws.proofs.ReadAlikeFacts.{AreAlikeEntries, abbreviations_alike}
 use Rattle.edit_laws.proofs.ReplacedFacts.{bare_entries_alike, bare_keys}
 use Rattle.edit_laws.proofs.SetFacts.{key_is}
 use Rattle.edit_laws.proofs.TextFacts.{AreTexts, AreTextsOf, claims_by, each_texts, keys_are, own_at, texts_are}
 use Rattle.edit_laws.proofs.TextFacts as texts
-use Rattle.edit_laws.specs.WithoutEntry.{AreWithout, IsUnreferenced, IsWithout}
+use Rattle.edit_laws.specs.WithoutEntry.{AreWithout, IsUnreferenced, IsBibliographyWithout}
 
 -- ---- lists
 
@@ -181,9 +180,11 @@ texts_removed (AreTexts.next fresh is can following) (suc k) = AreTexts.next fre
 module _ (said tells : FileReading) {key : List ℕ} (r : IsRemovedRead said tells key) where
   define_alike : DefineAlike (definition_in said.abbreviations) (definition_in tells.abbreviations)
   define_alike =
-      definitions_alike said.abbreviations tells.abbreviations (abbreviations_alike said.abbreviations tells.abbreviations r.abbreviations)
+      definitions_alike said.abbreviations tells.abbreviations
+      (abbreviations_alike said.abbreviations tells.abbreviations r.abbreviations)
 
-  entries_alike : AllZip (AreAlikeEntries (definition_in said.abbreviations) (definition_in tells.abbreviations)) (remove said.entries r.k)
+  entries_alike : AllZip (AreAlikeEntries (definition_in said.abbreviations) (definition_in tells.abbreviations))
+      (remove said.entries r.k)
       tells.entries
   entries_alike = bare_entries_alike define_alike (remove said.entries r.k) tells.entries r.entries
 
@@ -283,10 +284,16 @@ module _ {says tells : FileReading} {one other : Bibliography} (first : IsLoaded
   same_texts : texts_of_entries other.entries ≡ remove (texts_of_entries one.entries) index
   same_texts =
       ext_get_or no_entry (texts_of_entries other.entries) (remove (texts_of_entries one.entries) index)
-      (omega
-      (arith, length-map other.entries texts_of_entry, as_long second, shorter without, one_long, length-map one.entries texts_of_entry,
-      length-remove (texts_of_entries one.entries) index
-      (subst (λ n. index < n) (sym (length-map one.entries texts_of_entry)) inside)))
+      (omega (
+        arith,
+        length-map other.entries texts_of_entry,
+        as_long second,
+        shorter without,
+        one_long,
+        length-map one.entries texts_of_entry,
+        length-remove (texts_of_entries one.entries) index
+            (subst (λ n. index < n) (sym (length-map one.entries texts_of_entry)) inside),
+      ))
       (λ i below.
       sym
       (get_skip (texts_of_entries one.entries) index i no_entry
@@ -295,7 +302,7 @@ module _ {says tells : FileReading} {one other : Bibliography} (first : IsLoaded
       (texts_of_entries other.entries) (inherits_by says first own are) second.inherits i
       (subst (λ n. i < n) (length-map other.entries texts_of_entry ∙ as_long second) below)))
 
-  pub bibliography_without : IsWithout one other key
+  pub bibliography_without : IsBibliographyWithout one other key
   bibliography_without =
       let entry : Entry = get_or one.entries index without.entry in
       let here : slice_get one.entries index ≡ Some entry = slice_get-get_or one.entries index without.entry inside in
@@ -346,12 +353,22 @@ pub unreferenced_same : (says : FileReading) {own one : List Entry} {key : List 
 unreferenced_same says {own} {one} {key} first second unreferenced index entry here is at edge =
     unreferenced index (get_or own index entry)
     (slice_get-get_or own index entry
-    (omega (arith, slice_get_within one index entry here, length-map own (λ (e : Entry). e.key), length-map one (λ (e : Entry). e.key),
-    ap length (keys_same says first second))))
+    (omega (
+      arith,
+      slice_get_within one index entry here,
+      length-map own (λ (e : Entry). e.key),
+      length-map one (λ (e : Entry). e.key),
+      ap length (keys_same says first second),
+    )))
     (sym (key_of own index (get_or own index entry)
     (slice_get-get_or own index entry
-    (omega (arith, slice_get_within one index entry here, length-map own (λ (e : Entry). e.key), length-map one (λ (e : Entry). e.key),
-    ap length (keys_same says first second)))))
+    (omega (
+      arith,
+      slice_get_within one index entry here,
+      length-map own (λ (e : Entry). e.key),
+      length-map one (λ (e : Entry). e.key),
+      ap length (keys_same says first second),
+    ))))
     ∙ ap (λ keys. get_or keys index []) (keys_same says first second) ∙ key_of one index entry here ∙ is) at
     (subst (λ g. Contains (refs_of g at) index) (graph_same says second first) edge)
   where

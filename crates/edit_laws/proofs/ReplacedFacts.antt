@@ -1,5 +1,5 @@
 -- Readings in which the fields of one entry are replaced.
-use Rattle.std.proofs.Common.{◌≡◌, ℕ, List, [], ◌∷◌, ◌++◌, Bool, true, false, cond, map, reverse, refl, sym, ap, ◌∙◌, subst, Some, None, Option, append-nil}
+use Rattle.std.proofs.Common.{◌≡◌, ℕ, List, [], ◌∷◌, Bool, true, false, cond, map, reverse, refl, sym, ap, ◌∙◌, subst, Some, None, Option, append-nil}
 use Rattle.std.specs.Prelude.{bytes_eq, slice_get, slice_set}
 use Rattle.std.specs.List.{AllZip}
 use Rattle.std.specs.Str.{chars, str_to_ascii_lowercase}
@@ -9,10 +9,10 @@ use Rattle.bib_abbreviations.specs.Abbreviations.{Evaluates as evaluates}
 use Rattle.bib_chunks.specs.Styled.{Atom}
 use Rattle.bib_contents.specs.Contents.{IsContent}
 use Rattle.bib_entry.specs.declared.entry.Entry.{Entry}
-use Rattle.bib_file_entries.specs.Loaded.{AreEntries, IsEntry, definition_in, field_in, name_of}
+use Rattle.bib_file_entries.specs.Loaded.{IsEntry, definition_in, field_in, name_of}
 use Rattle.bib_inheritance.specs.EntryTexts.{EntryTexts}
 use Rattle.bib_inheritance.specs.Resolving.{texts_of_entries, texts_of_entry}
-use Rattle.bib_syntax.specs.Reading.{EntryReading, FieldReading, FileReading, Part, Piece}
+use Rattle.bib_syntax.specs.Reading.{EntryReading, FieldReading, FileReading, Part}
 use Rattle.bib_syntax.specs.Reading.Piece.{literal}
 use Rattle.bib_tables.specs.EntryType.{entry_type_of}
 use Rattle.bib_tables.specs.VerbatimFields.{is_verbatim_field}
@@ -23,7 +23,7 @@ use Rattle.edit_laws.proofs.AlikeFacts.{AreAlikeFields, DefineAlike, FoundAlike,
 use Rattle.edit_laws.proofs.FieldFacts.{IsText, found_passes}
 use Rattle.edit_laws.proofs.ReadAlikeFacts.{AreAlikeEntries, abbreviations_alike, cons_head, cons_tail, pieces_alike}
 use Rattle.edit_laws.proofs.TextFacts.{AllZip-set, AreTextsOf, HasText, all_texts_same, each_texts, keys_are, map_set_same, own_at, texts_are, texts_of_entry_are, zip_back_at}
-use Rattle.edit_laws.specs.OneField.{DifferInField, with_field}
+use Rattle.edit_laws.specs.OneField.{DifferInField, with_field_text}
 
 -- ---- readings without byte offsets
 
@@ -63,7 +63,8 @@ module _ {one other : Definitions} (both : DefineAlike one other) where
   bare_entries_alike (e ∷ es) [] is = cc
   bare_entries_alike (e ∷ es) (g ∷ gs) is = (bare_entry_alike e g (cons_head _ _ is), bare_entries_alike es gs (cons_tail is))
 
-pub bare_keys : (es : List EntryReading) → map (λ (e : EntryReading). e.key.text) (map bare_entry es) ≡ map (λ (e : EntryReading). e.key.text) es
+pub bare_keys : (es : List EntryReading) → map (λ (e : EntryReading). e.key.text) (map bare_entry es) ≡ map (λ
+    (e : EntryReading). e.key.text) es
 bare_keys [] = refl
 bare_keys (e ∷ es) = ap (λ l. e.key.text ∷ l) (bare_keys es)
 
@@ -80,7 +81,7 @@ pub record IsReplaced (said tells : FileReading) (k : ℕ) (e changed : EntryRea
 pub with_field_texts : (definitions : Definitions) (e changed : EntryReading) (texts : EntryTexts) (name : List ℕ)
     (text : Option (List Atom)) → AreTextsOf definitions e texts → changed.kind.text ≡ e.kind.text
     → ((other : List ℕ) → bytes_eq other name ≡ false → field_in changed.fields other ≡ field_in e.fields other)
-    → HasText definitions (field_in changed.fields name) text → AreTextsOf definitions changed (with_field name text texts)
+    → HasText definitions (field_in changed.fields name) text → AreTextsOf definitions changed (with_field_text name text texts)
 with_field_texts definitions e changed texts name text are kind others has = record {
   kind = are.kind ∙ ap entry_type_of (sym kind);
   fields = λ other. by_case other (bytes_eq other name) refl;
@@ -124,7 +125,8 @@ content_found one other texts name text f (FoundAlike.in_each {x = x} {y = y} ar
           (content_of (subst (λ ps. Evaluates one (is_verbatim_field name) ps has.0) says.are moved));
     }
 
-nothing_found : (one other : Definitions) {o p : Option FieldReading} {text : Option (List Atom)} → FoundAlike (AreAlikeFields other one) o p
+nothing_found : (one other : Definitions) {o p : Option FieldReading} {text : Option (List Atom)} → FoundAlike
+    (AreAlikeFields other one) o p
     → p ≡ None → HasText other o text → text ≡ None
 nothing_found one other FoundAlike.in_neither is has = has
 nothing_found one other (FoundAlike.in_each are) is has = cc
@@ -176,7 +178,8 @@ module _ {said tells : FileReading} {k : ℕ} {e changed : EntryReading} (is : I
       let at = replaced_at others second in
       let texts = texts_of_entry at.1 in
       content_found old_definitions new_definitions texts name text f
-      (subst (λ o. FoundAlike (AreAlikeFields new_definitions old_definitions) o (field_in changed.fields name)) (at.4.reordered.found name)
+      (subst (λ o. FoundAlike (AreAlikeFields new_definitions old_definitions) o (field_in changed.fields name))
+      (at.4.reordered.found name)
       (field_alike at.4.ordered changed.fields name at.4.fields)) here
       (sym ((bytes_eq-Decides name (name_of f)).0 (found_passes (λ g. bytes_eq name (name_of g)) (reverse changed.fields) f here))) says
       ((texts_of_entry_are at.1 at.3).fields name)
@@ -187,7 +190,8 @@ module _ {said tells : FileReading} {k : ℕ} {e changed : EntryReading} (is : I
   field_absent others second name none =
       let at = replaced_at others second in
       nothing_found old_definitions new_definitions
-      (subst (λ o. FoundAlike (AreAlikeFields new_definitions old_definitions) o (field_in changed.fields name)) (at.4.reordered.found name)
+      (subst (λ o. FoundAlike (AreAlikeFields new_definitions old_definitions) o (field_in changed.fields name))
+      (at.4.reordered.found name)
       (field_alike at.4.ordered changed.fields name at.4.fields)) none ((texts_of_entry_are at.1 at.3).fields name)
 
   -- the own entries of the new reading differ from those of the old one in this field
@@ -196,7 +200,7 @@ module _ {said tells : FileReading} {k : ℕ} {e changed : EntryReading} (is : I
       → HasText old_definitions (field_in changed.fields name) text → DifferInField own others k name text
   differ_at own others name text first second unchanged has =
       let at = own_at k e first is.here in
-      let texts = with_field name text (texts_of_entry at.0) in
+      let texts = with_field_text name text (texts_of_entry at.0) in
       record {
         entry = at.0;
         here = at.1;
@@ -206,7 +210,8 @@ module _ {said tells : FileReading} {k : ℕ} {e changed : EntryReading} (is : I
             (all_texts_same old_definitions new_definitions (slice_set said.entries k changed) tells.entries
             (slice_set (texts_of_entries own) k texts) (texts_of_entries others) entries_alike
             (AllZip-set (AreTextsOf old_definitions) said.entries (texts_of_entries own) k changed texts (each_texts (texts_are first))
-            (with_field_texts old_definitions e changed (texts_of_entry at.0) name text (texts_of_entry_are at.0 at.2) is.kind unchanged has))
+            (with_field_texts old_definitions e changed (texts_of_entry at.0) name text
+            (texts_of_entry_are at.0 at.2) is.kind unchanged has))
             (each_texts (texts_are second)));
       }
 

@@ -1,6 +1,6 @@
 -- The entries of a file in which a field is set or unset.
-use Rattle.std.proofs.Common.{◌≡◌, ◌⊎◌, ℕ, ◌<◌, List, [], ◌∷◌, Bool, true, false, cond, get_or, length, map, reverse, append-nil, arith, inl, inr, refl, sym, ap, ◌∙◌, subst, Some, None, Option}
-use Rattle.std.specs.Prelude.{bytes_eq, not, slice_get, slice_set, ◌&&◌, ◌||◌}
+use Rattle.std.proofs.Common.{Option, ◌≡◌, ℕ, ◌<◌, List, [], ◌∷◌, Bool, true, false, cond, get_or, length, map, reverse, append-nil, arith, inl, inr, refl, sym, ap, ◌∙◌, subst, Some, None, ◌≤◌}
+use Rattle.std.specs.Prelude.{bytes_eq, slice_get, ◌&&◌, ◌||◌, MatchOption}
 use Rattle.std.specs.List.{AllByRecursion, list_all, list_any}
 use Rattle.std.specs.Char.{is_ascii_digit, to_ascii_lowercase}
 use Rattle.std.specs.Str.{chars, str_to_ascii_lowercase}
@@ -24,22 +24,24 @@ use Rattle.bib_tables.specs.VerbatimFields.{is_verbatim_field}
 use Rattle.bib_syntax.specs.declared.raw.ParseError.{ParseError}
 use Rattle.bib_syntax.specs.Grammar.{is_word}
 use Rattle.bib_text.proofs.ListFacts.{some_same}
-use Rattle.biblatex.specs.Resolved.{AreOwn, IsAccepted, IsFirstErrorOf, IsLoaded}
+use Rattle.biblatex.specs.Resolved.{AreOwn, IsAccepted, IsFirstErrorOf, IsLoaded, names_of}
+use Rattle.biblatex.specs.Places.{ClaimsAt, IsLastClaim}
+use Rattle.std.specs.FinMap as by_name
+use Rattle.edit_laws.proofs.MovedFacts.{points}
 use Rattle.biblatex.proofs.IndexLaws.{keys_fresh}
 use Rattle.edit_entries.proofs.EntryChangeFacts.{fields_kept}
 use Rattle.edit_entries.proofs.RenamedFacts.{first_passes}
 use Rattle.edit_entries.specs.Changes.{entry_changed, field_reading, fields_changed}
 use Rattle.edit_entries.specs.Documents.{Document, HasEntry, IsDocument, has_name, is_keyed, is_value, text_at}
 use Rattle.edit_entries.specs.Setting.{FieldSet, SetValue, field_put, field_with_value, is_bare_number, is_same_value, new_value, values_set}
-use Rattle.edit_entries.specs.Unset.{FieldUnset, without_named}
-use Rattle.edit_laws.proofs.FieldFacts.{HasTextAlready, IsFieldSet, IsText, fields_set, found_passes, new_is_set, unset_absent, unset_others, values_are_set, values_readable}
+use Rattle.edit_laws.proofs.FieldFacts.{HasTextAlready, IsFieldSet, IsText, fields_set, found_passes, new_is_set, values_are_set, values_readable}
 use Rattle.edit_laws.proofs.ReplacedFacts.{HasContent, IsReplaced, content_at, differ_at, replaced_at, replaced_key, with_field_texts}
 use Rattle.edit_laws.proofs.AcceptedFacts.{still_accepted}
 use Rattle.edit_laws.proofs.DifferFacts.{IsUnlinked}
 use Rattle.edit_laws.proofs.NumberFacts.{HasNoNumber, IsNoNumber, no_number}
 use Rattle.edit_laws.proofs.LiftFacts.{as_long, field_at, same_key}
 use Rattle.edit_laws.proofs.TextFacts.{HasText, own_at}
-use Rattle.edit_laws.specs.OneField.{AreSet, HasContents, replaced_names, text_of_value}
+use Rattle.edit_laws.specs.OneField.{AreSet, HasFieldContents, lost_names, text_of_value}
 
 -- the entry with a key is replaced, and a field of it is set to a text
 pub record IsSetRead (d after : Document) (key name text : List ℕ) : Type 0 where
@@ -228,10 +230,12 @@ module _ {d after : Document} {key name text : List ℕ} (r : IsSetRead d after 
       let named : lower ≡ name_of r.set.field =
       (bytes_eq-Decides lower (name_of r.set.field)).0
       (found_passes (λ g. bytes_eq lower (name_of g)) (reverse r.changed.fields) r.set.field r.set.here) in
-      subst (λ o. HasText (definition_in d.says.abbreviations) o (Some atoms)) (sym r.set.here)
-      (atoms, refl,
-      subst (λ n. Evaluates (definition_in d.says.abbreviations) (is_verbatim_field n) r.set.field.value.pieces atoms) named
-      (text_evaluates r.set.says contents))
+      subst (λ o. HasText (definition_in d.says.abbreviations) o (Some atoms)) (sym r.set.here) (
+        atoms,
+        refl,
+        subst (λ n. Evaluates (definition_in d.says.abbreviations) (is_verbatim_field n) r.set.field.value.pieces atoms) named
+            (text_evaluates r.set.says contents),
+      )
 
   pub set_own : (own others : List Entry) → AreOwn d.says own → AreOwn after.says others → AreSet own others key lower text
   set_own own others first second =
@@ -281,10 +285,16 @@ module _ (says : FileReading) (own : List Entry) (are : AreOwn says own) where
         ]
       ]
 
+-- a claimed name points to the entry that claims it, or to a later one
+found_from : (own : List Entry) (k : ℕ) (name : List ℕ) (o : Option ℕ) → ClaimsAt own k name
+    → MatchOption o ((index : ℕ) → ClaimsAt own index name → ⊥) (IsLastClaim own name) → (at : ℕ) × (o ≡ Some at) × (k ≤ at)
+found_from own k name None claim none = absurd (none k claim)
+found_from own k name (Some at) claim last = (at, refl, last.last k claim)
+
 module _ {d after : Document} {key name text : List ℕ} (r : IsSetRead d after key name text) where
   pub set_contents : {bibliography : Bibliography} → IsLoaded after.says bibliography
-      → is_one_of replaced_names (str_to_ascii_lowercase name) ≡ false
-      → HasContents bibliography key (str_to_ascii_lowercase name) text
+      → is_one_of lost_names (str_to_ascii_lowercase name) ≡ false
+      → HasFieldContents bibliography key (str_to_ascii_lowercase name) text
   set_contents {bibliography} loaded apart =
       let own = loaded.accepted.own in
       let are = loaded.accepted.entries in
@@ -302,7 +312,17 @@ module _ {d after : Document} {key name text : List ℕ} (r : IsSetRead d after 
             subst (λ n. other < n) (as_long loaded) (slice_get_within bibliography.entries other e there) in
             let before : Entry = get_or own other at.1 in
             let found : slice_get own other ≡ Some before = slice_get-get_or own other at.1 within in
-            one_key after.says own are other r.k before at.1 found at.2 (sym (same_key loaded other before e found there) ∙ same ∙ sym is);
+            one_key after.says own are other r.k before at.1 found at.2 (sym (same_key loaded other before e found there) ∙ same
+            ∙ sym is);
+        found =
+            subst (λ names. (at : ℕ) × (by_name.get names key ≡ Some at) × (r.k ≤ at)) (sym loaded.names)
+            (found_from own r.k key (by_name.get (names_of own) key)
+            (record {
+              entry = at.1;
+              there = at.2;
+              claims = ap (λ b. b || is_claimed (aliases at.1) key) ((bytes_eq-Decides key at.1.key).1 (sym is));
+            })
+            (points own key));
         chunks = field.chunks;
         has = field.has;
         contents =

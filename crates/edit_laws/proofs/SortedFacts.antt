@@ -1,5 +1,5 @@
 -- The entries of a sorted file.
-use Rattle.std.proofs.Common.{◌≡◌, ◌⊎◌, ℕ, zero, suc, ◌+◌, ◌<◌, ◌≤◌, List, [], ◌∷◌, ◌++◌, Bool, true, false, cond, get_or, length, map, refl, sym, ap, ◌∙◌, subst, arith, inl, inr, Some, None, Option, option_map, option_and_then}
+use Rattle.std.proofs.Common.{◌≡◌, ◌⊎◌, ℕ, zero, suc, ◌+◌, ◌<◌, ◌≤◌, List, [], ◌∷◌, ◌++◌, Bool, true, false, get_or, length, map, refl, sym, ap, ◌∙◌, subst, arith, inl, inr, Some, None, Option, option_map, option_and_then}
 use Rattle.std.specs.Prelude.{bytes_eq, codes, slice_get, ◌||◌}
 use Rattle.std.specs.Option.{option_map_or}
 use Rattle.std.proofs.lemmas.List.Folds.{list_any-append}
@@ -7,20 +7,20 @@ use Rattle.bib_chunks.specs.Lists.{comma_texts}
 use Rattle.std.specs.FinMap as by_name
 use Rattle.std.specs.List.{AllByRecursion, AllZip, Contains, list_any}
 use Rattle.std.specs.List.Sorted.{IsPermutation, SwapsInRange, apply_swaps}
-use Rattle.std.proofs.lemmas.List.{ext_get_or, get_or-map, length-map}
+use Rattle.std.proofs.lemmas.List.{ext_get_or, length-map}
 use Rattle.std.proofs.lemmas.List.Sorted.{IsPermutation-map}
-use Rattle.std.proofs.lemmas.Option.{get_or_from_slice_get, slice_get-get_or, slice_get_within}
+use Rattle.std.proofs.lemmas.Option.{slice_get-get_or, slice_get_within}
 use Rattle.bib_abbreviations.specs.Abbreviations.{Definitions}
 use Rattle.bib_collections.proofs.Walks.{below_from_edge}
 use Rattle.bib_collections.specs.Graph.{refs_of}
 use Rattle.bib_entry.specs.declared.entry.Entry.{Entry}
-use Rattle.bib_file_entries.specs.Bibliography.{Bibliography, entry_of, index_of}
+use Rattle.bib_file_entries.specs.Bibliography.{Bibliography, entry_of}
 use Rattle.bib_file_entries.specs.Loaded.{AllCanBeRead, definition_in, is_claimed}
 use Rattle.bib_inheritance.proofs.RangeFacts.{graph_in_range}
 use Rattle.bib_inheritance.specs.EntryTexts.{EntryTexts, fields_of, no_entry}
 use Rattle.bib_inheritance.specs.References.{references}
-use Rattle.bib_inheritance.specs.Resolving.{Inherits, at_index, is_bad_date, texts_of_entries, texts_of_entry}
-use Rattle.bib_syntax.specs.Reading.{EntryReading, FieldReading, FileReading}
+use Rattle.bib_inheritance.specs.Resolving.{at_index, is_bad_date, texts_of_entries, texts_of_entry}
+use Rattle.bib_syntax.specs.Reading.{EntryReading, FileReading}
 use Rattle.bib_syntax.specs.declared.raw.ParseError.{ParseError}
 use Rattle.bib_text.proofs.ListFacts.{found_any, some_same}
 use Rattle.biblatex.proofs.ResolvedFacts.{all_texts_same, keys_same, names_below, names_same}
@@ -30,7 +30,7 @@ use Rattle.core.proofs.str.Laws.{order}
 use Rattle.edit_entries.specs.Documents.{Document}
 use Rattle.edit_entries.specs.Edits.{moved_entry, moved_field}
 use Rattle.edit_laws.proofs.AlikeFacts.{DefineAlike, definitions_alike}
-use Rattle.edit_laws.proofs.LiftFacts.{as_long, at_texts, inherits_by, same_key}
+use Rattle.edit_laws.proofs.LiftFacts.{as_long, at_texts, inherits_by}
 use Rattle.edit_laws.proofs.MovedFacts.{AreMoved, claim_there, names_moved, no_bad_date, no_cycle_moved, same_moved}
 use Rattle.edit_laws.proofs.ReadAlikeFacts.{AreAlikeEntries, abbreviations_alike}
 use Rattle.edit_laws.proofs.ReplacedFacts.{bare_entries_alike}
@@ -39,7 +39,7 @@ use Rattle.edit_laws.proofs.TextFacts.{AreTexts, AreTextsOf, claims_are, claims_
 use Rattle.edit_laws.proofs.AcceptedFacts.{texts_faultless}
 use Rattle.edit_laws.proofs.FieldFacts.{same_text}
 use Rattle.edit_laws.specs.SameEntries.{AreClaimsDistinct, HaveSameEntries, described}
-use Rattle.edit_sort.proofs.StepFacts.{items_are, listed}
+use Rattle.edit_sort.proofs.StepFacts.{items_are}
 use Rattle.edit_sort.specs.Sorted.{IsReadSorted, Item, items}
 use Rattle.edit_sort.specs.Steps.{items_from, run_after}
 use Rattle.edit_sort.specs.Sorted.{gap_before}
@@ -149,7 +149,8 @@ module _ (said tells : FileReading) (r : IsPermutedRead said tells) (own others 
 
   define_alike : DefineAlike (definition_in said.abbreviations) (definition_in tells.abbreviations)
   define_alike =
-      definitions_alike said.abbreviations tells.abbreviations (abbreviations_alike said.abbreviations tells.abbreviations r.abbreviations)
+      definitions_alike said.abbreviations tells.abbreviations
+      (abbreviations_alike said.abbreviations tells.abbreviations r.abbreviations)
 
   -- the entry at each new index is that at its old index
   pub entry_moved : (i : ℕ) → i < length others → (x : Entry) × (y : Entry) × (slice_get own (move i) ≡ Some x)
@@ -167,8 +168,7 @@ module _ (said tells : FileReading) (r : IsPermutedRead said tells) (own others 
       zip_at (AreAlikeEntries (definition_in said.abbreviations) (definition_in tells.abbreviations)) r.sorted tells.entries i raw
       (bare_entries_alike define_alike r.sorted tells.entries r.entries) sorted_here in
       let x = own_at (move i) raw first old_here in
-      let y = own_at i new.0 second new.1 in
-      (
+      let y = own_at i new.0 second new.1 in (
         x.0,
         y.0,
         x.1,
@@ -237,9 +237,11 @@ module _ (said tells : FileReading) (r : IsPermutedRead said tells) (own others 
 
         by_range : (at < length (graph_of own)) ⊎ (length (graph_of own) ≤ at) → ⊥
         by_range (inl below) =
-            omega
-            (arith, rows,
-            below_from_edge (graph_of own) at (length own) (graph_in_range (names_of own) own (names_below own)) below edge)
+            omega (
+              arith,
+              rows,
+              below_from_edge (graph_of own) at (length own) (graph_in_range (names_of own) own (names_below own)) below edge,
+            )
         by_range (inr above) = no_edge (subst (λ l. Contains l (length own)) (nothing (graph_of own) at above) edge)
 
 -- ---- bibliographies
@@ -307,7 +309,8 @@ module _ {says tells : FileReading} {one other : Bibliography} (first : IsLoaded
       by_index : (name : List ℕ) (o : Option ℕ) → by_name.get other.names name ≡ o
           → option_map described (entry_of one name) ≡ option_map described (entry_of other name)
       by_index name None is =
-          ap (λ p. option_map described (option_and_then (λ index. slice_get one.entries index) p)) (old_name name ∙ ap (option_map old_index) is)
+          ap (λ p. option_map described (option_and_then (λ index. slice_get one.entries index) p)) (old_name name ∙ ap
+          (option_map old_index) is)
           ∙ sym (ap (λ p. option_map described (option_and_then (λ index. slice_get other.entries index) p)) is)
       by_index name (Some i) is =
           let inside : i < length other.entries =
@@ -315,7 +318,8 @@ module _ {says tells : FileReading} {one other : Bibliography} (first : IsLoaded
           (names_below news name i (ap (λ names. by_name.get names name) (sym second.names) ∙ is)) in
           let x = found one.entries (old_index i) (old_within i inside) in
           let y = found other.entries i inside in
-          ap (λ p. option_map described (option_and_then (λ index. slice_get one.entries index) p)) (old_name name ∙ ap (option_map old_index) is)
+          ap (λ p. option_map described (option_and_then (λ index. slice_get one.entries index) p)) (old_name name ∙ ap
+          (option_map old_index) is)
           ∙ ap (option_map described) x.1 ∙ ap Some (described_same i x.0 y.0 x.1 y.1) ∙ sym (ap (option_map described) y.1)
           ∙ sym (ap (λ p. option_map described (option_and_then (λ index. slice_get other.entries index) p)) is)
 
@@ -388,7 +392,8 @@ texts_by [] (t ∷ ts) earlier all read free apart = absurd all
 texts_by (s ∷ es) [] earlier all read free apart = absurd all
 texts_by (s ∷ es) (t ∷ ts) earlier all read free apart =
     AreTexts.next free.0 all.0 read.0
-    (texts_by es ts (earlier ++ claims_by s.key.text t) all.1 read.1 (both_free earlier (claims_by s.key.text t) es free.1 apart.0) apart.1)
+    (texts_by es ts (earlier ++ claims_by s.key.text t) all.1 read.1 (both_free earlier
+    (claims_by s.key.text t) es free.1 apart.0) apart.1)
 
 each_read : {definitions : Definitions} {earlier : List (List ℕ)} {said : List EntryReading} {ts : List EntryTexts}
     → AreTexts definitions earlier said ts → AllByRecursion (λ (s : EntryReading). AllCanBeRead definitions s.fields) said
@@ -444,13 +449,17 @@ module _ (said tells : FileReading) (r : IsPermutedRead said tells) (own : List 
       }
 
   keys_apart : (i j : ℕ) → i < j → j < length r.sorted
-      → is_claimed (claims_by (get_or r.sorted i no_raw).key.text (get_or sorted_texts i no_entry)) (get_or r.sorted j no_raw).key.text ≡ false
+      → is_claimed (claims_by (get_or r.sorted i no_raw).key.text (get_or sorted_texts i no_entry))
+      (get_or r.sorted j no_raw).key.text ≡ false
   keys_apart i j less below =
-      ap (λ (s : EntryReading). is_claimed (claims_by s.key.text (get_or sorted_texts i no_entry)) (get_or r.sorted j no_raw).key.text) (raw_at i)
-      ∙ ap (λ t. is_claimed (claims_by (get_or raw (before_swaps swaps i) no_raw).key.text t) (get_or r.sorted j no_raw).key.text) (texts_at i)
+      ap (λ (s : EntryReading). is_claimed (claims_by s.key.text (get_or sorted_texts i no_entry))
+      (get_or r.sorted j no_raw).key.text) (raw_at i)
+      ∙ ap (λ t. is_claimed (claims_by (get_or raw (before_swaps swaps i) no_raw).key.text t) (get_or r.sorted j no_raw).key.text)
+      (texts_at i)
       ∙ ap
       (λ (s : EntryReading).
-      is_claimed (claims_by (get_or raw (before_swaps swaps i) no_raw).key.text (get_or all_texts (before_swaps swaps i) no_entry)) s.key.text)
+      is_claimed (claims_by (get_or raw (before_swaps swaps i) no_raw).key.text (get_or all_texts
+      (before_swaps swaps i) no_entry)) s.key.text)
       (raw_at j)
       ∙ by_case
       (is_claimed (claims_by (get_or raw (before_swaps swaps i) no_raw).key.text (get_or all_texts (before_swaps swaps i) no_entry))
@@ -464,7 +473,8 @@ module _ (said tells : FileReading) (r : IsPermutedRead said tells) (own : List 
       by_case true is =
           let same : before_swaps swaps i ≡ before_swaps swaps j =
           distinct (get_or raw (before_swaps swaps j) no_raw).key.text (before_swaps swaps i) (before_swaps swaps j)
-          (claims_there (before_swaps swaps i) (get_or raw (before_swaps swaps j) no_raw).key.text (inside i (omega (arith, less, below))) is)
+          (claims_there (before_swaps swaps i) (get_or raw (before_swaps swaps j) no_raw).key.text (inside i (omega
+          (arith, less, below))) is)
           (claims_there (before_swaps swaps j) (get_or raw (before_swaps swaps j) no_raw).key.text (inside j below)
           (ap (λ b. b || list_any (bytes_eq (get_or raw (before_swaps swaps j) no_raw).key.text)
           (option_map_or comma_texts ((get_or all_texts (before_swaps swaps j) no_entry).fields (codes "ids")) []))
@@ -496,7 +506,8 @@ pub sorted_accepted : (said tells : FileReading) (r : IsPermutedRead said tells)
 sorted_accepted said tells r accepted distinct (IsFirstErrorOf.entry error) =
     texts_faultless (definition_in said.abbreviations) (definition_in tells.abbreviations) [] r.sorted tells.entries
     (bare_entries_alike
-    (definitions_alike said.abbreviations tells.abbreviations (abbreviations_alike said.abbreviations tells.abbreviations r.abbreviations))
+    (definitions_alike said.abbreviations tells.abbreviations
+    (abbreviations_alike said.abbreviations tells.abbreviations r.abbreviations))
     r.sorted tells.entries r.entries) (sorted_are said tells r accepted.own accepted.entries distinct) error
 sorted_accepted said tells r accepted distinct (IsFirstErrorOf.cycle {own = others} {index = index} are first is) =
     no_cycle_moved (permuted_moved said tells r accepted.own others accepted.entries are) (length accepted.own)
@@ -518,9 +529,13 @@ distinct_same says {own} {one} first second distinct name i j at also =
     moved : (k : ℕ) → ClaimsAt one k name → ClaimsAt own k name
     moved k c =
         let within : k < length own =
-        omega
-        (arith, slice_get_within one k c.entry c.there, length-map own (λ (e : Entry). e.key), length-map one (λ (e : Entry). e.key),
-        ap length (keys_same says first second)) in
+        omega (
+          arith,
+          slice_get_within one k c.entry c.there,
+          length-map own (λ (e : Entry). e.key),
+          length-map one (λ (e : Entry). e.key),
+          ap length (keys_same says first second),
+        ) in
         let x = found own k within in
         record {
           entry = x.0;

@@ -1,5 +1,5 @@
 -- The index from which an element comes when lists are permuted by swaps.
-use Rattle.std.proofs.Common.{◌≡◌, ◌⊎◌, ℕ, zero, suc, ◌<◌, List, [], ◌∷◌, Bool, true, false, cond, eqb, set, get_or, length, length-set, get_or-set_other, get_or-set_same, refl, sym, ap, ◌∙◌, subst, arith, inl, inr}
+use Rattle.std.proofs.Common.{◌≡◌, ℕ, ◌<◌, List, [], ◌∷◌, cond, eqb, set, get_or, length, length-set, get_or-set_other, get_or-set_same, refl, sym, ap, ◌∙◌, subst, inl, inr}
 use Rattle.std.specs.List.{swap}
 use Rattle.std.specs.List.Sorted.{SwapsInRange, apply_swaps}
 use Rattle.std.proofs.lemmas.Bool.Decides.{eqb_tells}

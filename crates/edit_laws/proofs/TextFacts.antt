@@ -1,5 +1,5 @@
 -- The texts of the entries of a file, by its raw entries: they depend on neither spans nor the borders of chunks.
-use Rattle.std.proofs.Common.{◌≡◌, ℕ, zero, suc, ◌+◌, List, [], ◌∷◌, ◌++◌, Bool, true, false, cond, drop, length, length-append, map, get_or, refl, sym, ap, ◌∙◌, subst, Some, None, Option, option_map, MatchOption}
+use Rattle.std.proofs.Common.{◌≡◌, ℕ, zero, suc, ◌+◌, List, [], ◌∷◌, ◌++◌, false, drop, length, length-append, map, get_or, refl, sym, ap, ◌∙◌, subst, Some, None, Option, option_map, MatchOption}
 use Rattle.std.specs.Prelude.{codes, slice_get, slice_set}
 use Rattle.std.specs.FinMap as by_name
 use Rattle.std.specs.List.{AllZip}
@@ -12,7 +12,7 @@ use Rattle.bib_chunks.specs.declared.chunk.Chunk.{Chunk}
 use Rattle.bib_collections.specs.Names.{with_claims, claims_for}
 use Rattle.bib_collections.specs.Sorted.{ByText}
 use Rattle.bib_entry.specs.declared.entry.Entry.{Entry}
-use Rattle.bib_file_entries.specs.Bibliography.{Bibliography, aliases, claims, empty_bibliography, with_last_entry}
+use Rattle.bib_file_entries.specs.Bibliography.{Bibliography, claims, empty_bibliography, with_last_entry}
 use Rattle.bib_file_entries.specs.Loaded.{AllCanBeRead, AreEntries, FieldSays, IsEntry, field_in, is_claimed, loaded_after, name_of}
 use Rattle.bib_inheritance.specs.EntryTexts.{EntryTexts, fields_of}
 use Rattle.bib_inheritance.specs.References.{references}
@@ -21,7 +21,7 @@ use Rattle.bib_syntax.specs.Reading.{EntryReading, FieldReading}
 use Rattle.bib_tables.specs.EntryType.{entry_type_of}
 use Rattle.bib_tables.specs.VerbatimFields.{is_verbatim_field}
 use Rattle.bib_text.specs.declared.spanned.Spanned.{Spanned}
-use Rattle.biblatex.specs.Resolved.{graph_of, names_of}
+use Rattle.biblatex.specs.Resolved.{names_of}
 use Rattle.biblatex.proofs.ResolvedFacts.{entry_texts_same}
 use Rattle.edit_laws.proofs.AlikeFacts.{AreAlikeFields, FoundAlike, field_alike}
 use Rattle.edit_laws.proofs.ReadAlikeFacts.{AreAlikeEntries}

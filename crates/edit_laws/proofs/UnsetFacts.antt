@@ -1,16 +1,15 @@
 -- The entries of a file in which a field is unset.
-use Rattle.std.proofs.Common.{◌≡◌, ℕ, ◌<◌, List, [], ◌∷◌, Bool, true, false, cond, get_or, length, map, refl, sym, ap, ◌∙◌, subst, Some, None, Option}
-use Rattle.std.specs.Prelude.{bytes_eq, codes, slice_get, ◌||◌}
+use Rattle.std.proofs.Common.{◌≡◌, ℕ, ◌<◌, List, false, cond, length, map, refl, sym, ap, ◌∙◌, subst, Some, None, Option}
+use Rattle.std.specs.Prelude.{bytes_eq, codes, ◌||◌}
 use Rattle.std.specs.Cmp.Lexicographic.{nat_list_eq_equiv}
 use Rattle.std.specs.Str.{str_to_ascii_lowercase}
 use Rattle.std.proofs.lemmas.List.{length-map}
 use Rattle.std.proofs.lemmas.Option.{slice_get_within}
-use Rattle.bib_abbreviations.specs.Abbreviations.{Definitions}
 use Rattle.bib_chunks.specs.Styled.{Atom}
 use Rattle.bib_collections.specs.Graph.{refs_of}
 use Rattle.bib_entry.specs.declared.entry.Entry.{Entry}
 use Rattle.bib_file_entries.specs.Bibliography.{Bibliography}
-use Rattle.bib_file_entries.specs.Loaded.{AllCanBeRead, definition_in, field_in}
+use Rattle.bib_file_entries.specs.Loaded.{definition_in, field_in}
 use Rattle.bib_inheritance.specs.EntryTexts.{EntryTexts, fields_of, first_some}
 use Rattle.bib_inheritance.specs.References.{references}
 use Rattle.bib_inheritance.specs.InheritableDate.{date_for}
@@ -21,7 +20,7 @@ use Rattle.bib_syntax.specs.declared.raw.ParseError.{ParseError}
 use Rattle.bib_tables.specs.Requirements.{is_one_of}
 use Rattle.bib_text.proofs.ListFacts.{some_same}
 use Rattle.biblatex.specs.Resolved.{AreOwn, IsAccepted, IsFirstErrorOf, IsLoaded, graph_of, names_of}
-use Rattle.edit_entries.specs.Documents.{Document, HasEntry}
+use Rattle.edit_entries.specs.Documents.{Document}
 use Rattle.edit_entries.specs.Unset.{FieldUnset, without_named}
 use Rattle.edit_laws.proofs.AcceptedFacts.{still_accepted}
 use Rattle.edit_laws.proofs.DifferFacts.{IsUnlinked}
@@ -29,8 +28,8 @@ use Rattle.edit_laws.proofs.FieldFacts.{unset_absent, unset_others, unset_readab
 use Rattle.edit_laws.proofs.LiftFacts.{at_texts, inherits_by}
 use Rattle.edit_laws.proofs.ReplacedFacts.{IsReplaced, differ_at, field_absent, replaced_at, replaced_key, with_field_texts}
 use Rattle.edit_laws.proofs.SetFacts.{key_is}
-use Rattle.edit_laws.proofs.TextFacts.{AreTextsOf, HasText, own_at, texts_of_entry_are}
-use Rattle.edit_laws.specs.OneField.{AreUnset, IsInherited, with_field}
+use Rattle.edit_laws.proofs.TextFacts.{HasText, own_at}
+use Rattle.edit_laws.specs.OneField.{AreUnset, IsInherited}
 
 -- the entry with a key is replaced by itself without the fields with a name
 pub record IsUnsetRead (d after : Document) (key name : List ℕ) : Type 0 where

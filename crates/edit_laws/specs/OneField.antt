@@ -1,6 +1,6 @@
 -- Meaning: words of public contracts.
 -- Files that differ in one field of one entry: their entries before inheriting, and their bibliographies.
-use Rattle.std.specs.Prelude.{◌≡◌, ℕ, false, bytes_eq, List, [], ◌∷◌, codes, map, slice_get, slice_set, Option, Some, None, if◌then◌else◌}
+use Rattle.std.specs.Prelude.{◌≡◌, ℕ, ◌≤◌, false, bytes_eq, List, map, slice_get, slice_set, Option, Some, None, if◌then◌else◌}
 use Rattle.std.specs.FinMap as by_name
 use Rattle.std.specs.Str.{chars}
 use Rattle.bib_chunks.specs.Styled.{Atom, styled}
@@ -8,7 +8,7 @@ use Rattle.bib_chunks.specs.declared.chunk.Chunk.{Chunk}
 use Rattle.bib_collections.specs.Graph.{Leads, refs_of}
 use Rattle.bib_contents.specs.Contents.{IsContent}
 use Rattle.bib_entry.specs.declared.entry.Entry.{Entry}
-use Rattle.bib_file_entries.specs.Bibliography.{Bibliography}
+use Rattle.bib_file_entries.specs.Bibliography.{Bibliography, index_of}
 use Rattle.bib_inheritance.specs.EntryTexts.{EntryTexts}
 use Rattle.bib_inheritance.specs.Inherited.{inherited_field}
 use Rattle.bib_inheritance.specs.Resolving.{at_index, texts_of_entries, texts_of_entry}
@@ -25,11 +25,15 @@ abbrev pub text_of_value : SetValue → Option (List ℕ)
 text_of_value (SetValue.plain_text text) = Some text
 text_of_value (SetValue.bare_text text) = if is_bare_number text then Some text else None
 
+-- a text can be parsed as the contents of a field with this name
+abbrev pub CanBeFieldContents : List ℕ → List ℕ → Type 0
+CanBeFieldContents name text = (atoms : List Atom) × IsContent (is_verbatim_field name) (chars text) atoms
+
 -- ---- entries before inheriting
 
 -- the texts of an entry with this text as the field of a name, or without the field if there is no text
-abbrev pub with_field : List ℕ → Option (List Atom) → EntryTexts → EntryTexts
-with_field name text texts = record texts { fields = λ other. if bytes_eq other name then text else texts.fields other }
+abbrev pub with_field_text : List ℕ → Option (List Atom) → EntryTexts → EntryTexts
+with_field_text name text texts = record texts { fields = λ other. if bytes_eq other name then text else texts.fields other }
 
 -- the keys, types and own fields of entries are those of other entries, except for one field of the entry at an index, which has this text
 -- or is missing
@@ -37,7 +41,7 @@ pub record DifferInField (own others : List Entry) (index : ℕ) (name : List �
   pub entry : Entry
   pub here : slice_get own index ≡ Some entry
   pub keys : map (λ e. e.key) others ≡ map (λ e. e.key) own
-  pub texts : texts_of_entries others ≡ slice_set (texts_of_entries own) index (with_field name text (texts_of_entry entry))
+  pub texts : texts_of_entries others ≡ slice_set (texts_of_entries own) index (with_field_text name text (texts_of_entry entry))
 
 -- own entries are others, except that a field of the entry with a key has the contents of a text
 pub record AreSet (own others : List Entry) (key name text : List ℕ) : Type 0 where
@@ -57,16 +61,18 @@ pub record AreUnset (own others : List Entry) (key name : List ℕ) : Type 0 whe
 
 -- the fields that an entry may lack after inheriting although it has them itself: `xdata` is removed, and an inherited date replaces the
 -- month and the day of an entry without a year
-abbrev pub replaced_names : Names
-replaced_names = fields "xdata month day"
+abbrev pub lost_names : Names
+lost_names = fields "xdata month day"
 
--- a bibliography has exactly one entry with a key, and its field of this name has the contents of a text
-pub record HasContents (bibliography : Bibliography) (key name text : List ℕ) : Type 0 where
+-- a bibliography has exactly one entry with a key, and its field of this name has the contents of a text. The key points to this entry, or
+-- to a later one that has it as an alias in `ids`
+pub record HasFieldContents (bibliography : Bibliography) (key name text : List ℕ) : Type 0 where
   pub index : ℕ
   pub entry : Entry
   pub here : slice_get bibliography.entries index ≡ Some entry
   pub is : entry.key ≡ key
   pub one : (other : ℕ) (e : Entry) → slice_get bibliography.entries other ≡ Some e → e.key ≡ key → other ≡ index
+  pub found : (at : ℕ) × (index_of bibliography key ≡ Some at) × (index ≤ at)
   pub chunks : List (Spanned Chunk)
   pub has : by_name.get entry.fields name ≡ Some chunks
   pub contents : IsContent (is_verbatim_field name) (chars text) (styled chunks)

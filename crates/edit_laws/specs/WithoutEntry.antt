@@ -26,7 +26,7 @@ pub record AreWithout (own others : List Entry) (key : List ℕ) : Type 0 where
 
 -- a bibliography is another one without the entry with a key. A name that didn't point to this entry points to the entry that it pointed
 -- to. A name that did, as an alias in `ids` may, points to another entry that claims it, or to none.
-pub record IsWithout (one other : Bibliography) (key : List ℕ) : Type 0 where
+pub record IsBibliographyWithout (one other : Bibliography) (key : List ℕ) : Type 0 where
   pub index : ℕ
   pub entry : Entry
   pub here : slice_get one.entries index ≡ Some entry

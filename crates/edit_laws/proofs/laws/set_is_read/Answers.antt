@@ -23,10 +23,10 @@ returns-clause-rest c d after key name text value own one other reads reads' is 
     alike_except old new own are s.differ (unlinked _ apart) s.is
 
 pub returns-clause-accepted : goal.returns-clause-accepted
-returns-clause-accepted c d after key name text value atoms e reads reads' is set apart contents accepted (IsErrorOf.syntax reported unread) =
+returns-clause-accepted c d after key name text value e reads reads' is set apart can accepted (IsErrorOf.syntax reported unread) =
     unread (_, file_any reads')
-returns-clause-accepted c d after key name text value atoms e reads reads' is set apart contents accepted
+returns-clause-accepted c d after key name text value e reads reads' is set apart can accepted
     (IsErrorOf.first {says = tells} read error) =
-    set_accepted (value_set reads is set) atoms contents (unlinked _ apart)
+    set_accepted (value_set reads is set) can.0 can.1 (unlinked _ apart)
     (subst IsAccepted (file_same accepted.reading reads) accepted.accepted)
     (subst (λ s. IsFirstErrorOf s e) (file_same read reads') error)
