@@ -7,6 +7,7 @@ pub mod DateFacts
 pub mod DifferFacts
 pub mod FieldFacts
 pub mod FoundFacts
+pub mod KeyFacts
 pub mod LiftFacts
 pub mod MovedFacts
 pub mod NumberFacts

@@ -92,7 +92,7 @@ keys_are (AreEntries.next {said = s} {entry = a} {entries = own} fresh is follow
 -- ---- alike raw entries have the same texts
 
 module _ (one other : Definitions) where
-  found_text : {f g : Option FieldReading} (a b : Option (List Atom)) → FoundAlike (AreAlikeFields one other) f g → HasText one f a
+  pub found_text : {f g : Option FieldReading} (a b : Option (List Atom)) → FoundAlike (AreAlikeFields one other) f g → HasText one f a
       → HasText other g b → a ≡ b
   found_text a b FoundAlike.in_neither first second = first ∙ sym second
   found_text a b (FoundAlike.in_each {x = f} {y = g} are) first second =

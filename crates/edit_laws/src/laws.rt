@@ -1,6 +1,7 @@
 //! Laws of edited files. The functions have no code: their clauses are theorems about definitions.
 
-ghost use Rattle.std.specs.Prelude.{◌≡◌, false, List, Some, map, ℕ};
+ghost use Rattle.std.specs.Prelude.{◌≡◌, false, List, Option, Some, map, ℕ};
+ghost use Rattle.std.specs.List.{AllZip};
 ghost use Rattle.std.specs.List.Sorted.{IsPermutation};
 ghost use Rattle.std.specs.Str.{str_to_ascii_lowercase};
 ghost use Rattle.bib_entry.specs.declared.entry.Entry.{Entry};
@@ -14,11 +15,13 @@ ghost use Rattle.bib_syntax.specs.declared.raw.ParseError.{ParseError};
 ghost use Rattle.bib_tables.specs.Requirements.{is_one_of};
 ghost use Rattle.biblatex.specs.Headline.{IsAcceptedText, IsBibliographyOf, IsErrorOf};
 ghost use Rattle.biblatex.specs.Resolved.{AreOwn};
+ghost use Rattle.edit_entries.specs.References.{KeysRenamed};
 ghost use Rattle.edit_entries.specs.Setting.{FieldSet, SetValue};
 ghost use Rattle.edit_entries.specs.Unset.{FieldUnset};
 ghost use Rattle.edit_laws.specs.Alike.{AreAlike};
 ghost use Rattle.edit_laws.specs.DefinedAlike.{AreDefinedAlike};
 ghost use Rattle.edit_laws.specs.OneField.{AreAlikeExcept, AreSet, AreUnset, CanBeFieldContents, HasFieldContents, IsInherited, linked_names, lost_names, text_of_value};
+ghost use Rattle.edit_laws.specs.Renamed.{IsRenamed};
 ghost use Rattle.edit_laws.specs.SameEntries.{AreClaimsDistinct, HaveSameEntries, described};
 ghost use Rattle.edit_laws.specs.WithoutEntry.{AreWithout, IsUnreferenced, IsBibliographyWithout};
 ghost use Rattle.edit_sort.specs.Sorted.{IsReadSorted};
@@ -120,4 +123,11 @@ pub fn sorted_is_alike()
         → IsBibliographyOf new other → HaveSameEntries one other }
     ensures accepted { (d : Document) (places new : List ℕ) (own : List Entry) (e : ParseError) → IsDocument d
         → IsReadSorted d places new → AreOwn d.says own → AreClaimsDistinct own → IsAcceptedText d.text → IsErrorOf new e → ⊥ }
+{}
+
+/// After entries get new keys, each entry before inheriting has the same type and the same fields, except for reference fields. Its key is
+/// the old one or one of the new ones.
+pub fn renamed_keeps_fields()
+    ensures { (d after : Document) (keys : ℕ → Option (List ℕ)) (own others : List Entry) → KeysRenamed d keys after → AreOwn d.says own
+        → AreOwn after.says others → AllZip (IsRenamed keys) own others }
 {}
