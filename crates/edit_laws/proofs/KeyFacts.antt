@@ -29,7 +29,7 @@ use Rattle.edit_laws.proofs.DifferFacts.{get_of_map}
 use Rattle.edit_laws.proofs.FieldFacts.{found_passes}
 use Rattle.edit_laws.proofs.ReadAlikeFacts.{abbreviations_alike, pieces_alike}
 use Rattle.edit_laws.proofs.TextFacts.{found_text, texts_of_entry_are}
-use Rattle.edit_laws.specs.Renamed.{IsRenamed}
+use Rattle.edit_laws.specs.Renamed.{IsKeyRenamed}
 
 -- ---- lists
 
@@ -114,10 +114,12 @@ fine_fields keys names (f ∷ fs) =
     changes (Some new) is = (is, tt)
 
     by_name : (b : Bool) → is_reference_field f.name.text ≡ b
-        → AllByRecursion (IsFine keys) (value_change f (cond (is_reference_field f.name.text) (renamed_text (names f.name.text) f.value.pieces) None))
+        → AllByRecursion (IsFine keys)
+        (value_change f (cond (is_reference_field f.name.text) (renamed_text (names f.name.text) f.value.pieces) None))
     by_name true is = changes (cond (is_reference_field f.name.text) (renamed_text (names f.name.text) f.value.pieces) None) is
     by_name false is =
-        subst (λ b. AllByRecursion (IsFine keys) (value_change f (cond b (renamed_text (names f.name.text) f.value.pieces) None))) (sym is) tt
+        subst (λ b. AllByRecursion (IsFine keys) (value_change f (cond b (renamed_text (names f.name.text) f.value.pieces) None)))
+        (sym is) tt
 
 fine_key : (keys : ℕ → Option (List ℕ)) (e : EntryReading) (index : ℕ) (o : Option (List ℕ)) → keys index ≡ o
     → AllByRecursion (IsFine keys) (key_change o e)
@@ -211,7 +213,7 @@ module _ {one other : Definitions} (both : DefineAlike one other) (name : List �
 
 kept_own : (keys : ℕ → Option (List ℕ)) {one other : Definitions} (both : DefineAlike one other) (said tells : List EntryReading)
     (earlier before : List (List ℕ)) {own others : List Entry} → AllZip (IsEntryKept keys) said tells → AreEntries one earlier said own
-    → AreEntries other before tells others → AllZip (IsRenamed keys) own others
+    → AreEntries other before tells others → AllZip (IsKeyRenamed keys) own others
 kept_own keys both [] [] earlier before kept AreEntries.none AreEntries.none = tt
 kept_own keys both [] (t ∷ tells) earlier before kept first second = absurd kept
 kept_own keys both (s ∷ said) [] earlier before kept first second = absurd kept
@@ -240,7 +242,7 @@ kept_own keys {one} {other} both (s ∷ said) (t ∷ tells) earlier before kept
     key_of (inr new) = inr (new.0, new.1 ∙ ap Some (sym is'.key))
 
 pub renamed_own : {d after : Document} {keys : ℕ → Option (List ℕ)} (own others : List Entry) → KeysRenamed d keys after
-    → AreOwn d.says own → AreOwn after.says others → AllZip (IsRenamed keys) own others
+    → AreOwn d.says own → AreOwn after.says others → AllZip (IsKeyRenamed keys) own others
 renamed_own {d} {after} {keys} own others (KeysRenamed.renamed can changed) first second =
     let kept = changed_kept keys changed (fine_renaming keys (new_reference d.says.entries keys) 0 d.says.entries) in
     kept_own keys

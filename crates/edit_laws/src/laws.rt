@@ -21,7 +21,7 @@ ghost use Rattle.edit_entries.specs.Unset.{FieldUnset};
 ghost use Rattle.edit_laws.specs.Alike.{AreAlike};
 ghost use Rattle.edit_laws.specs.DefinedAlike.{AreDefinedAlike};
 ghost use Rattle.edit_laws.specs.OneField.{AreAlikeExcept, AreSet, AreUnset, CanBeFieldContents, HasFieldContents, IsInherited, linked_names, lost_names, text_of_value};
-ghost use Rattle.edit_laws.specs.Renamed.{IsRenamed};
+ghost use Rattle.edit_laws.specs.Renamed.{IsKeyRenamed};
 ghost use Rattle.edit_laws.specs.SameEntries.{AreClaimsDistinct, HaveSameEntries, described};
 ghost use Rattle.edit_laws.specs.WithoutEntry.{AreWithout, IsUnreferenced, IsBibliographyWithout};
 ghost use Rattle.edit_sort.specs.Sorted.{IsReadSorted};
@@ -129,5 +129,5 @@ pub fn sorted_is_alike()
 /// the old one or one of the new ones.
 pub fn renamed_keeps_fields()
     ensures { (d after : Document) (keys : ℕ → Option (List ℕ)) (own others : List Entry) → KeysRenamed d keys after → AreOwn d.says own
-        → AreOwn after.says others → AllZip (IsRenamed keys) own others }
+        → AreOwn after.says others → AllZip (IsKeyRenamed keys) own others }
 {}
