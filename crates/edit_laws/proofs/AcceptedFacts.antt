@@ -22,12 +22,11 @@ use Rattle.bib_inheritance.specs.InheritableDate.{inheritable_date, is_unreadabl
 use Rattle.bib_text.proofs.ListFacts.{found_any}
 use Rattle.biblatex.proofs.ResolvedFacts.{bad_apart, names_below}
 use Rattle.biblatex.specs.Resolved.{AreOwn, IsAccepted, IsFirstErrorOf, graph_of, names_of}
-use Rattle.core.proofs.str.Laws.{order}
 use Rattle.edit_laws.proofs.DateFacts.{HaveSameDate, date_same, dates_inherited, looks_alike}
 use Rattle.edit_laws.proofs.DifferFacts.{IsUnlinked, differ_apart, differ_graph, differ_here, get_of_map, other_field, past}
 use Rattle.edit_laws.proofs.LiftFacts.{at_texts}
 use Rattle.edit_laws.proofs.ReplacedFacts.{IsReplaced, entries_alike}
-use Rattle.edit_laws.proofs.SolutionFacts.{related}
+use Rattle.edit_laws.proofs.SolutionFacts.{order, related}
 use Rattle.edit_laws.specs.OneField.{DifferInField, with_field_text}
 use Rattle.edit_laws.proofs.ReadAlikeFacts.{AreAlikeEntries, fields_faultless}
 use Rattle.edit_laws.proofs.TextFacts.{AreTexts, AreTextsOf, claims_are, claims_by, own_at, texts_are, texts_of_entry_are, texts_same}

@@ -6,7 +6,6 @@ use Rattle.std.specs.Option.{option_map_or}
 use Rattle.std.specs.FinMap as by_name
 use Rattle.std.proofs.lemmas.List.{ext_get_or, get_or-map, length-map}
 use Rattle.std.proofs.lemmas.Bool.Decides.{eqb_tells}
-use Rattle.core.proofs.str.Laws.{order}
 use Rattle.std.proofs.lemmas.Option.{slice_get_within}
 use Rattle.bib_chunks.specs.Lists.{comma_texts}
 use Rattle.bib_chunks.specs.Styled.{Atom}
@@ -27,7 +26,7 @@ use Rattle.bib_tables.specs.declared.mechanics.EntryType.{EntryType}
 use Rattle.biblatex.proofs.ResolvedFacts.{all_texts_same, graph_same, keys_same, names_below, names_same}
 use Rattle.biblatex.specs.Resolved.{AreOwn, IsLoaded, graph_of, names_of}
 use Rattle.edit_laws.proofs.LiftFacts.{at_texts}
-use Rattle.edit_laws.proofs.SolutionFacts.{related}
+use Rattle.edit_laws.proofs.SolutionFacts.{order, related}
 use Rattle.edit_laws.proofs.TextFacts.{all_claims, all_claims_are, claims_set, graph_by_texts, graph_texts, map_set_same, names_by_claims}
 use Rattle.edit_laws.specs.OneField.{AreAlikeExcept, DifferInField, linked_names, with_field_text}
 

@@ -1,20 +1,17 @@
 -- The entries of a file with new keys: their own fields except references.
-use Rattle.std.proofs.Common.{◌≡◌, ◌⊎◌, ℕ, zero, suc, List, [], ◌∷◌, ◌++◌, Bool, true, false, cond, map, reverse, refl, sym, ap, ◌∙◌, subst, inl, inr, Some, None, Option, option_map}
+use Rattle.std.proofs.Common.{◌≡◌, ◌⊎◌, ℕ, zero, suc, List, [], ◌∷◌, ◌++◌, Bool, true, false, cond, map, reverse, refl, sym, ap, ◌∙◌, subst, inl, inr, Some, None, Option}
 use Rattle.std.specs.Prelude.{bytes_eq, codes, slice_get, slice_set, ◌||◌}
-use Rattle.std.specs.FinMap as by_name
-use Rattle.std.specs.List.{AllByRecursion, AllZip, flat_map}
+use Rattle.std.specs.List.{AllByRecursion, AllZip}
 use Rattle.std.specs.Str.{str_to_ascii_lowercase}
 use Rattle.std.proofs.lemmas.Bool.{both_ways}
 use Rattle.std.proofs.lemmas.Slice.Eq.{bytes_eq-Decides}
 use Rattle.bib_abbreviations.specs.Abbreviations.{Definitions}
-use Rattle.bib_chunks.specs.Styled.{Atom}
 use Rattle.bib_entry.specs.declared.entry.Entry.{Entry}
 use Rattle.bib_file_entries.proofs.LoadingFacts.{AllZip-reverse}
 use Rattle.bib_file_entries.specs.Bibliography.{claims}
-use Rattle.bib_file_entries.specs.Loaded.{AreEntries, definition_in, field_in, name_of}
+use Rattle.bib_file_entries.specs.Loaded.{AreEntries, name_of}
 use Rattle.bib_inheritance.specs.EntryTexts.{fields_of}
-use Rattle.bib_inheritance.specs.Resolving.{texts_of_entry}
-use Rattle.bib_syntax.specs.Reading.{EntryReading, FieldReading, FileReading, Part, Piece}
+use Rattle.bib_syntax.specs.Reading.{EntryReading, FieldReading, FileReading, Piece}
 use Rattle.bib_syntax.specs.Reading.Piece.{abbreviation, literal}
 use Rattle.bib_tables.specs.EntryType.{entry_type_of}
 use Rattle.bib_tables.specs.ReferenceFields.{is_reference_field}
@@ -22,7 +19,7 @@ use Rattle.biblatex.specs.Resolved.{AreOwn}
 use Rattle.edit_entries.proofs.PlacelessFacts.{file_placeless}
 use Rattle.edit_entries.specs.Documents.{Document, text_at, value_edit, with_value}
 use Rattle.edit_entries.specs.Edits.{moved_entry, moved_field, moved_piece, moved_place}
-use Rattle.edit_entries.specs.References.{Change, Changed, KeysRenamed, key_change, key_renaming, new_reference, reference_changes, renamed_text, renamed_value, renaming, value_change}
+use Rattle.edit_entries.specs.References.{Change, Changed, KeysRenamed, key_change, new_reference, reference_changes, renamed_text, renamed_value, renaming, value_change}
 use Rattle.edit_format.proofs.LowerFacts.{lower_lower}
 use Rattle.edit_laws.proofs.AlikeFacts.{AreAlikeFields, DefineAlike, FoundAlike, alike_mean, definitions_alike, find_alike}
 use Rattle.edit_laws.proofs.DifferFacts.{get_of_map}

@@ -22,10 +22,9 @@ use Rattle.biblatex.proofs.IndexLaws.{points_loaded}
 use Rattle.biblatex.proofs.ResolvedFacts.{all_after, names_below}
 use Rattle.biblatex.specs.Places.{ClaimsAt, IsLastClaim}
 use Rattle.biblatex.specs.Resolved.{graph_of, names_of}
-use Rattle.core.proofs.str.Laws.{order}
 use Rattle.edit_laws.proofs.DifferFacts.{past, same_zip}
 use Rattle.edit_laws.proofs.LiftFacts.{at_texts}
-use Rattle.edit_laws.proofs.SolutionFacts.{Contains-first, Contains-later, related}
+use Rattle.edit_laws.proofs.SolutionFacts.{order, Contains-first, Contains-later, related}
 use Rattle.edit_laws.proofs.TextFacts.{claims_are, claims_by, graph_texts}
 
 -- each index of the new file has the key and the texts of an old index

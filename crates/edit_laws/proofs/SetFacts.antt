@@ -6,7 +6,6 @@ use Rattle.std.specs.Char.{is_ascii_digit, to_ascii_lowercase}
 use Rattle.std.specs.Str.{chars, str_to_ascii_lowercase}
 use Rattle.std.proofs.lemmas.Bool.{both_ways}
 use Rattle.std.proofs.lemmas.Bool.Decides.{eqb_tells, nat_tests}
-use Rattle.core.proofs.str.Laws.{order}
 use Rattle.std.proofs.lemmas.Option.{slice_get-get_or, slice_get_within}
 use Rattle.std.proofs.lemmas.Slice.Eq.{bytes_eq-Decides}
 use Rattle.bib_abbreviations.specs.Abbreviations.{Definitions, Evaluates, IsReadable, Reaches}
@@ -41,6 +40,7 @@ use Rattle.edit_laws.proofs.DifferFacts.{IsUnlinked}
 use Rattle.edit_laws.proofs.NumberFacts.{HasNoNumber, IsNoNumber, no_number}
 use Rattle.edit_laws.proofs.LiftFacts.{as_long, field_at, same_key}
 use Rattle.edit_laws.proofs.TextFacts.{HasText, own_at}
+use Rattle.edit_laws.proofs.SolutionFacts.{order}
 use Rattle.edit_laws.specs.OneField.{AreSet, HasFieldContents, lost_names, text_of_value}
 
 -- the entry with a key is replaced, and a field of it is set to a text

@@ -26,7 +26,6 @@ use Rattle.bib_text.proofs.ListFacts.{found_any, some_same}
 use Rattle.biblatex.proofs.ResolvedFacts.{all_texts_same, keys_same, names_below, names_same}
 use Rattle.biblatex.specs.Places.{ClaimsAt, IsLastClaim}
 use Rattle.biblatex.specs.Resolved.{AreOwn, IsAccepted, IsFirstErrorOf, IsLoaded, graph_of, names_of}
-use Rattle.core.proofs.str.Laws.{order}
 use Rattle.edit_entries.specs.Documents.{Document}
 use Rattle.edit_entries.specs.Edits.{moved_entry, moved_field}
 use Rattle.edit_laws.proofs.AlikeFacts.{DefineAlike, definitions_alike}
@@ -38,6 +37,7 @@ use Rattle.edit_laws.proofs.SwapFacts.{after_before, after_swaps, after_within, 
 use Rattle.edit_laws.proofs.TextFacts.{AreTexts, AreTextsOf, claims_are, claims_by, each_texts, keys_are, own_at, texts_are, texts_of_entry_are, texts_same, zip_at}
 use Rattle.edit_laws.proofs.AcceptedFacts.{texts_faultless}
 use Rattle.edit_laws.proofs.FieldFacts.{same_text}
+use Rattle.edit_laws.proofs.SolutionFacts.{order}
 use Rattle.edit_laws.specs.SameEntries.{AreClaimsDistinct, HaveSameEntries, described}
 use Rattle.edit_sort.proofs.StepFacts.{items_are}
 use Rattle.edit_sort.specs.Sorted.{IsReadSorted, Item, items}
