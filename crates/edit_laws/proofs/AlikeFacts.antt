@@ -135,7 +135,8 @@ pub find_alike : {A : Type 0} (R : A → A → Type 0) (test : A → Bool) (xs y
 find_alike R test [] [] same all = FoundAlike.in_neither
 find_alike R test [] (y ∷ ys) same all = absurd all
 find_alike R test (x ∷ xs) [] same all = absurd all
-find_alike R test (x ∷ xs) (y ∷ ys) same all = found_first x y (test x) (test y) (same x y all.0) all.0 (find_alike R test xs ys same all.1)
+find_alike R test (x ∷ xs) (y ∷ ys) same all = found_first x y (test x) (test y) (same x y all.0) all.0
+    (find_alike R test xs ys same all.1)
 
 -- the fields with a name among alike fields are alike
 pub field_alike : {one other : Definitions} (fs gs : List FieldReading) (name : List ℕ) → AllZip (AreAlikeFields one other) fs gs

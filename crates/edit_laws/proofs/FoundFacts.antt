@@ -31,7 +31,7 @@ find_failing {A} test p all (x ∷ xs) = by_tests (p x) (test x) refl refl (find
     by_tests true true passes is rest = absurd (false≢true (sym (all x is) ∙ passes))
     by_tests true false passes is rest = ap (λ d. cond d (Some x) (find test (filter p xs))) is ∙ rest
 
-reverse_more : {A : Type 0} (x : A) (xs : List A) → reverse (x ∷ xs) ≡ reverse xs ++ x ∷ []
+pub reverse_more : {A : Type 0} (x : A) (xs : List A) → reverse (x ∷ xs) ≡ reverse xs ++ x ∷ []
 reverse_more x xs = reverse-append (x ∷ []) xs
 
 pub reverse_filter : {A : Type 0} (p : A → Bool) (xs : List A) → reverse (filter p xs) ≡ filter p (reverse xs)

@@ -212,7 +212,7 @@ module _ (one other : Definitions) where
       )
 
   -- fields that are alike to readable ones have no error
-  fields_faultless : (fs gs : List FieldReading) {e : ParseError} → AllZip (AreAlikeFields one other) fs gs → AllCanBeRead one fs
+  pub fields_faultless : (fs gs : List FieldReading) {e : ParseError} → AllZip (AreAlikeFields one other) fs gs → AllCanBeRead one fs
       → IsFirstErrorOfFields other gs e → ⊥
   fields_faultless [] [] are read error = elim error [ ]
   fields_faultless [] (g ∷ gs) are read error = absurd are
@@ -255,7 +255,8 @@ keys_zip [] (b ∷ bs) all = absurd all
 keys_zip (a ∷ as') [] all = absurd all
 keys_zip (a ∷ as') (b ∷ bs) all = ap (λ x. x ∷ map (λ (e : Entry). e.key) as') all.0.key ∙ ap (λ xs. b.key ∷ xs) (keys_zip as' bs all.1)
 
-names_zip : (l m : Bibliography) (as' bs : List Entry) → length l.entries ≡ length m.entries → l.names ≡ m.names → AllZip AreAlikeOwn as' bs
+names_zip : (l m : Bibliography) (as' bs : List Entry) → length l.entries ≡ length m.entries → l.names ≡ m.names
+    → AllZip AreAlikeOwn as' bs
     → (loaded_after l as').names ≡ (loaded_after m bs).names
 names_zip l m [] [] count names all = names
 names_zip l m [] (b ∷ bs) count names all = absurd all

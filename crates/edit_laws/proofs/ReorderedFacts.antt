@@ -23,11 +23,12 @@ pub record IsReordered (fs gs : List FieldReading) : Type 0 where
   pub readable : (definitions : Definitions) → AllCanBeRead definitions fs → AllCanBeRead definitions gs
 
 -- a field with a name has a second name exactly if this is the first in lowercase
-named_alike : (n name : List ℕ) (f : FieldReading) → bytes_eq name (name_of f) ≡ true
+pub named_alike : (n name : List ℕ) (f : FieldReading) → bytes_eq name (name_of f) ≡ true
     → has_name n f ≡ bytes_eq name (str_to_ascii_lowercase n)
 named_alike n name f is = ap (λ t. bytes_eq t (str_to_ascii_lowercase n)) (sym ((bytes_eq-Decides name (name_of f)).0 is))
 
-field_append : (fs gs : List FieldReading) (name : List ℕ) → field_in (fs ++ gs) name ≡ option_or (field_in gs name) (field_in fs name)
+pub field_append : (fs gs : List FieldReading) (name : List ℕ) → field_in (fs ++ gs) name ≡ option_or (field_in gs name)
+    (field_in fs name)
 field_append fs gs name =
     ap (find (λ f. bytes_eq name (name_of f))) (reverse-append fs gs)
     ∙ find-append (λ f. bytes_eq name (name_of f)) (reverse gs) (reverse fs)

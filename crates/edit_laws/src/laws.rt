@@ -1,16 +1,30 @@
 //! Laws of edited files. The functions have no code: their clauses are theorems about definitions.
 
-ghost use Rattle.std.specs.Prelude.{List, ℕ};
+ghost use Rattle.std.specs.Prelude.{◌≡◌, false, List, Option, Some, map, ℕ};
+ghost use Rattle.std.specs.List.{AllZip};
+ghost use Rattle.std.specs.List.Sorted.{IsPermutation};
+ghost use Rattle.std.specs.Str.{str_to_ascii_lowercase};
+ghost use Rattle.bib_entry.specs.declared.entry.Entry.{Entry};
 ghost use Rattle.bib_file_entries.specs.Bibliography.{Bibliography};
-ghost use Rattle.edit_entries.specs.Documents.{Document, IsDocument};
+ghost use Rattle.edit_entries.specs.Documents.{Document, EntryRemoved, IsDocument};
 ghost use Rattle.edit_format.specs.Formatted.{IsReadAlike, says_in_order};
 ghost use Rattle.edit_format.specs.declared.style.Style.{Style};
 ghost use Rattle.bib_syntax.specs.Grammar.{IsRawReading};
 ghost use Rattle.bib_syntax.specs.Reading.{FileReading};
 ghost use Rattle.bib_syntax.specs.declared.raw.ParseError.{ParseError};
+ghost use Rattle.bib_tables.specs.Requirements.{is_one_of};
 ghost use Rattle.biblatex.specs.Headline.{IsAcceptedText, IsBibliographyOf, IsErrorOf};
+ghost use Rattle.biblatex.specs.Resolved.{AreOwn};
+ghost use Rattle.edit_entries.specs.References.{KeysRenamed};
+ghost use Rattle.edit_entries.specs.Setting.{FieldSet, SetValue};
+ghost use Rattle.edit_entries.specs.Unset.{FieldUnset};
 ghost use Rattle.edit_laws.specs.Alike.{AreAlike};
 ghost use Rattle.edit_laws.specs.DefinedAlike.{AreDefinedAlike};
+ghost use Rattle.edit_laws.specs.OneField.{AreAlikeExcept, AreSet, AreUnset, CanBeFieldContents, HasFieldContents, IsInherited, linked_names, lost_names, text_of_value};
+ghost use Rattle.edit_laws.specs.Renamed.{IsKeyRenamed};
+ghost use Rattle.edit_laws.specs.SameEntries.{AreClaimsDistinct, HaveSameEntries, described};
+ghost use Rattle.edit_laws.specs.WithoutEntry.{AreWithout, IsUnreferenced, IsBibliographyWithout};
+ghost use Rattle.edit_sort.specs.Sorted.{IsReadSorted};
 ghost use Rattle.edit_strings.specs.Collected.{AreMadeAbbreviations};
 ghost use Rattle.edit_strings.specs.Expanded.{IsExpanded};
 
@@ -41,4 +55,79 @@ pub fn collected_is_alike()
         → AreMadeAbbreviations d fields least text → IsAcceptedText d.text → IsErrorOf text e → ⊥ }
     ensures alike { (d : Document) (fields : List (List ℕ)) (least : ℕ) (text : List ℕ) (one other : Bibliography) → IsDocument d
         → AreMadeAbbreviations d fields least text → IsBibliographyOf d.text one → IsBibliographyOf text other → AreAlike one other }
+{}
+
+/// After a field is set to a text or a number, the entry with the key has the contents of the text in this field. Each bibliography of the
+/// new text has one such entry. Its field has these contents after inheriting too, with three exceptions: `xdata` is removed, and an
+/// inherited date replaces `month` and `day`.
+///
+/// Before inheriting, all other fields of the file are as they were. After inheriting, they are too, if the field isn't `ids`, a reference
+/// or a part of a date. Entries that can inherit from this one are excluded. The new text is then accepted if the old one is, and if the
+/// contents of the text can be parsed.
+pub fn set_is_read()
+    ensures own { (d after : Document) (key name text : List ℕ) (value : SetValue) (own others : List Entry) → IsDocument d
+        → text_of_value value ≡ Some text → FieldSet d key name value after → AreOwn d.says own → AreOwn after.says others
+        → AreSet own others key (str_to_ascii_lowercase name) text }
+    ensures contents { (d after : Document) (key name text : List ℕ) (value : SetValue) (bibliography : Bibliography) → IsDocument d
+        → IsDocument after → text_of_value value ≡ Some text → FieldSet d key name value after
+        → is_one_of lost_names (str_to_ascii_lowercase name) ≡ false → IsBibliographyOf after.text bibliography
+        → HasFieldContents bibliography key (str_to_ascii_lowercase name) text }
+    ensures rest { (d after : Document) (key name text : List ℕ) (value : SetValue) (own : List Entry) (one other : Bibliography)
+        → IsDocument d → IsDocument after → text_of_value value ≡ Some text → FieldSet d key name value after
+        → is_one_of linked_names (str_to_ascii_lowercase name) ≡ false → AreOwn d.says own → IsBibliographyOf d.text one
+        → IsBibliographyOf after.text other → AreAlikeExcept own one other key (str_to_ascii_lowercase name) }
+    ensures accepted { (d after : Document) (key name text : List ℕ) (value : SetValue) (e : ParseError) → IsDocument d → IsDocument after
+        → text_of_value value ≡ Some text → FieldSet d key name value after → is_one_of linked_names (str_to_ascii_lowercase name) ≡ false
+        → CanBeFieldContents (str_to_ascii_lowercase name) text → IsAcceptedText d.text → IsErrorOf after.text e → ⊥ }
+{}
+
+/// After a field is unset, the entry with the key lacks this field before inheriting, and all other fields of the file are as they were.
+///
+/// If the field isn't `ids`, a reference or a part of a date, the entry of a bibliography has it exactly if it inherits it. All other fields
+/// of the bibliography are then as they were, except in entries that can inherit from this one. The new text is then accepted if the old
+/// one is.
+pub fn unset_is_read()
+    ensures own { (d after : Document) (key name : List ℕ) (own others : List Entry) → FieldUnset d key name after → AreOwn d.says own
+        → AreOwn after.says others → AreUnset own others key (str_to_ascii_lowercase name) }
+    ensures inherited { (d after : Document) (key name : List ℕ) (own : List Entry) (bibliography : Bibliography) → IsDocument after
+        → FieldUnset d key name after → is_one_of linked_names (str_to_ascii_lowercase name) ≡ false → AreOwn after.says own
+        → IsBibliographyOf after.text bibliography → IsInherited own bibliography key (str_to_ascii_lowercase name) }
+    ensures rest { (d after : Document) (key name : List ℕ) (own : List Entry) (one other : Bibliography) → IsDocument d → IsDocument after
+        → FieldUnset d key name after → is_one_of linked_names (str_to_ascii_lowercase name) ≡ false → AreOwn d.says own
+        → IsBibliographyOf d.text one → IsBibliographyOf after.text other
+        → AreAlikeExcept own one other key (str_to_ascii_lowercase name) }
+    ensures accepted { (d after : Document) (key name : List ℕ) (e : ParseError) → IsDocument d → IsDocument after
+        → FieldUnset d key name after → is_one_of linked_names (str_to_ascii_lowercase name) ≡ false → IsAcceptedText d.text
+        → IsErrorOf after.text e → ⊥ }
+{}
+
+/// After an entry is removed, the other entries are as they were before inheriting. If no entry refers to the removed one by `crossref` or
+/// `xdata`, the bibliography of the new text is that of the old one without this entry. The new text is then accepted if the old one is.
+pub fn removal_is_read()
+    ensures own { (d after : Document) (key : List ℕ) (own others : List Entry) → EntryRemoved d key after → AreOwn d.says own
+        → AreOwn after.says others → AreWithout own others key }
+    ensures rest { (d after : Document) (key : List ℕ) (own : List Entry) (one other : Bibliography) → IsDocument d → IsDocument after
+        → EntryRemoved d key after → AreOwn d.says own → IsUnreferenced own key → IsBibliographyOf d.text one
+        → IsBibliographyOf after.text other → IsBibliographyWithout one other key }
+    ensures accepted { (d after : Document) (key : List ℕ) (own : List Entry) (e : ParseError) → IsDocument d → IsDocument after
+        → EntryRemoved d key after → AreOwn d.says own → IsUnreferenced own key → IsAcceptedText d.text → IsErrorOf after.text e → ⊥ }
+{}
+
+/// After the entries of a file are sorted, they are the same before inheriting, in another order. If no two entries of the file claim one
+/// name, the bibliography has the same entries, and each name points to the same entry. The new text is then accepted if the old one is.
+pub fn sorted_is_alike()
+    ensures own { (d : Document) (places new : List ℕ) (says : FileReading) (own others : List Entry) → IsReadSorted d places new
+        → AreOwn d.says own → IsRawReading new says → AreOwn says others → IsPermutation (map described own) (map described others) }
+    ensures rest { (d : Document) (places new : List ℕ) (own : List Entry) (one other : Bibliography) → IsDocument d
+        → IsReadSorted d places new → AreOwn d.says own → AreClaimsDistinct own → IsBibliographyOf d.text one
+        → IsBibliographyOf new other → HaveSameEntries one other }
+    ensures accepted { (d : Document) (places new : List ℕ) (own : List Entry) (e : ParseError) → IsDocument d
+        → IsReadSorted d places new → AreOwn d.says own → AreClaimsDistinct own → IsAcceptedText d.text → IsErrorOf new e → ⊥ }
+{}
+
+/// After entries get new keys, each entry before inheriting has the same type and the same fields, except for reference fields. Its key is
+/// the old one or one of the new ones.
+pub fn renamed_keeps_fields()
+    ensures { (d after : Document) (keys : ℕ → Option (List ℕ)) (own others : List Entry) → KeysRenamed d keys after → AreOwn d.says own
+        → AreOwn after.says others → AllZip (IsKeyRenamed keys) own others }
 {}

@@ -1,4 +1,4 @@
-//! Laws: a file that is laid out, or whose abbreviations are expanded or collected, is the same bibliography as before.
+//! Laws: what formatting, sorting, expanding, collecting, and edits of entries do to the bibliography of a file.
 //!
 //! The file grammar gives the same reading for a formatted text as for the old text, except for spans, the case of entry types
 //! and field names, and the order of fields (`edit_format`). A bibliography depends only on this reading, and on neither spans
@@ -6,6 +6,11 @@
 //! side. Of two fields with one name, the last counts, and it is the last in both orders (`ReorderedFacts`).
 //!
 //! A value whose abbreviations are expanded or collected has the same styled text (`ExpandedFacts`, `CollectedFacts`).
+//!
+//! Setting, unsetting and removing change the reading of one entry. The texts of the entries before inheriting follow from the readings
+//! (`TextFacts`, `ReplacedFacts`). The inheritance equation has one solution, and an entry depends only on those that it leads to
+//! (`SolutionFacts`, `DifferFacts`). If an entry is removed or moved, each index of the new file has the entry of an old index
+//! (`MovedFacts`, `RemovedFacts`, `SortedFacts`).
 #![tactic(auto)]
 
 pub mod laws;

@@ -1,0 +1,552 @@
+-- The entries of a sorted file.
+use Rattle.std.proofs.Common.{◌≡◌, ◌⊎◌, ℕ, zero, suc, ◌+◌, ◌<◌, ◌≤◌, List, [], ◌∷◌, ◌++◌, Bool, true, false, get_or, length, map, refl, sym, ap, ◌∙◌, subst, arith, inl, inr, Some, None, Option, option_map, option_and_then}
+use Rattle.std.specs.Prelude.{bytes_eq, codes, slice_get, ◌||◌}
+use Rattle.std.specs.Option.{option_map_or}
+use Rattle.std.proofs.lemmas.List.Folds.{list_any-append}
+use Rattle.bib_chunks.specs.Lists.{comma_texts}
+use Rattle.std.specs.FinMap as by_name
+use Rattle.std.specs.List.{AllByRecursion, AllZip, Contains, list_any}
+use Rattle.std.specs.List.Sorted.{IsPermutation, SwapsInRange, apply_swaps}
+use Rattle.std.proofs.lemmas.List.{ext_get_or, length-map}
+use Rattle.std.proofs.lemmas.List.Sorted.{IsPermutation-map}
+use Rattle.std.proofs.lemmas.Option.{slice_get-get_or, slice_get_within}
+use Rattle.bib_abbreviations.specs.Abbreviations.{Definitions}
+use Rattle.bib_collections.proofs.Walks.{below_from_edge}
+use Rattle.bib_collections.specs.Graph.{refs_of}
+use Rattle.bib_entry.specs.declared.entry.Entry.{Entry}
+use Rattle.bib_file_entries.specs.Bibliography.{Bibliography, entry_of}
+use Rattle.bib_file_entries.specs.Loaded.{AllCanBeRead, definition_in, is_claimed}
+use Rattle.bib_inheritance.proofs.RangeFacts.{graph_in_range}
+use Rattle.bib_inheritance.specs.EntryTexts.{EntryTexts, fields_of, no_entry}
+use Rattle.bib_inheritance.specs.References.{references}
+use Rattle.bib_inheritance.specs.Resolving.{at_index, is_bad_date, texts_of_entries, texts_of_entry}
+use Rattle.bib_syntax.specs.Reading.{EntryReading, FileReading}
+use Rattle.bib_syntax.specs.declared.raw.ParseError.{ParseError}
+use Rattle.bib_text.proofs.ListFacts.{found_any, some_same}
+use Rattle.biblatex.proofs.ResolvedFacts.{all_texts_same, keys_same, names_below, names_same}
+use Rattle.biblatex.specs.Places.{ClaimsAt, IsLastClaim}
+use Rattle.biblatex.specs.Resolved.{AreOwn, IsAccepted, IsFirstErrorOf, IsLoaded, graph_of, names_of}
+use Rattle.edit_entries.specs.Documents.{Document}
+use Rattle.edit_entries.specs.Edits.{moved_entry, moved_field}
+use Rattle.edit_laws.proofs.AlikeFacts.{DefineAlike, definitions_alike}
+use Rattle.edit_laws.proofs.LiftFacts.{as_long, at_texts, inherits_by}
+use Rattle.edit_laws.proofs.MovedFacts.{AreMoved, claim_there, names_moved, no_bad_date, no_cycle_moved, same_moved}
+use Rattle.edit_laws.proofs.ReadAlikeFacts.{AreAlikeEntries, abbreviations_alike}
+use Rattle.edit_laws.proofs.ReplacedFacts.{bare_entries_alike}
+use Rattle.edit_laws.proofs.SwapFacts.{after_before, after_swaps, after_within, before_after, before_swaps, before_within, get_swaps, length_swaps}
+use Rattle.edit_laws.proofs.TextFacts.{AreTexts, AreTextsOf, claims_are, claims_by, each_texts, keys_are, own_at, texts_are, texts_of_entry_are, texts_same, zip_at}
+use Rattle.edit_laws.proofs.AcceptedFacts.{texts_faultless}
+use Rattle.edit_laws.proofs.FieldFacts.{same_text}
+use Rattle.edit_laws.proofs.SolutionFacts.{order}
+use Rattle.edit_laws.specs.SameEntries.{AreClaimsDistinct, HaveSameEntries, described}
+use Rattle.edit_sort.proofs.StepFacts.{items_are}
+use Rattle.edit_sort.specs.Sorted.{IsReadSorted, Item, items}
+use Rattle.edit_sort.specs.Steps.{items_from, run_after}
+use Rattle.edit_sort.specs.Sorted.{gap_before}
+
+-- ---- the reading
+
+-- a reading has the entries of another one in another order, except for byte offsets
+pub record IsPermutedRead (said tells : FileReading) : Type 0 where
+  pub sorted : List EntryReading
+  pub permutation : IsPermutation said.entries sorted
+  pub entries : map (moved_entry (λ at. 0)) sorted ≡ map (moved_entry (λ at. 0)) tells.entries
+  pub abbreviations : map (moved_field (λ at. 0)) said.abbreviations ≡ map (moved_field (λ at. 0)) tells.abbreviations
+
+entries_are : (all : List EntryReading) (text places : List ℕ) (index at run : ℕ) (es : List EntryReading)
+    → map (λ (i : Item). i.entry) (items_from all text places index at run es) ≡ es
+entries_are all text places index at run [] = refl
+entries_are all text places index at run (e ∷ es) =
+    ap (λ l. e ∷ l) (entries_are all text places (index + 1) (e.end + 1) (run_after run (gap_before text at e)) es)
+
+pub sorted_read : (d : Document) (places new : List ℕ) (s : IsReadSorted d places new) → IsPermutedRead d.says s.tells
+sorted_read d places new s = record {
+  sorted = map (λ (i : Item). i.entry) s.order;
+  permutation =
+      subst (λ es. IsPermutation es (map (λ (i : Item). i.entry) s.order))
+      (ap (map (λ (i : Item). i.entry)) (items_are d places) ∙ entries_are d.says.entries d.text places 0 0 0 d.says.entries)
+      (IsPermutation-map (λ (i : Item). i.entry) (items d places) s.order s.in_order.permutation);
+  entries = sym (ap (λ (r : FileReading). r.entries) s.alike);
+  abbreviations = sym (ap (λ (r : FileReading). r.abbreviations) s.alike);
+}
+
+key_at : (xs : List Entry) (k : ℕ) (x : Entry) → slice_get xs k ≡ Some x → get_or (map (λ (e : Entry). e.key) xs) k [] ≡ x.key
+key_at [] k x here = cc
+key_at (e ∷ xs) zero x here = let same : e ≡ x = cc in ap (λ (y : Entry). y.key) same
+key_at (e ∷ xs) (suc k) x here = key_at xs k x here
+
+described_at : (xs : List Entry) (i : ℕ) (x : Entry) → slice_get xs i ≡ Some x → get_or (map described xs) i ([], no_entry) ≡ described x
+described_at [] i x here = cc
+described_at (e ∷ xs) zero x here = let same : e ≡ x = cc in ap described same
+described_at (e ∷ xs) (suc i) x here = described_at xs i x here
+
+found : (xs : List Entry) (i : ℕ) → i < length xs → (x : Entry) × (slice_get xs i ≡ Some x)
+found [] i below = absurd (omega (arith, below))
+found (e ∷ xs) zero below = (e, refl)
+found (e ∷ xs) (suc i) below = found xs i (omega (arith, below))
+
+-- lists with the same keys and texts at corresponding indices are permuted
+permuted_lists : (moves : List (ℕ × ℕ)) (xs ys : List Entry) → SwapsInRange (length xs) moves → length ys ≡ length xs
+    → ((i : ℕ) (x y : Entry) → slice_get xs (before_swaps moves i) ≡ Some x → slice_get ys i ≡ Some y → described x ≡ described y)
+    → IsPermutation (map described xs) (map described ys)
+permuted_lists moves xs ys below long same =
+    let in_range : SwapsInRange (length (map described xs)) moves =
+    subst (λ n. SwapsInRange n moves) (sym (length-map xs described)) below in
+    record {
+      moves = moves;
+      below = in_range;
+      is =
+          ext_get_or ([], no_entry) (map described ys) (apply_swaps (map described xs) moves)
+          (length-map ys described ∙ long ∙ sym (length-map xs described) ∙ sym (length_swaps (map described xs) moves))
+          (λ i less.
+          let inside : i < length ys = subst (λ n. i < n) (length-map ys described) less in
+          let x =
+          found xs (before_swaps moves i) (before_within moves i (length xs) below (subst (λ n. i < n) long inside)) in
+          let y = found ys i inside in
+          described_at ys i y.0 y.1 ∙ sym (same i x.0 y.0 x.1 y.1) ∙ sym (described_at xs (before_swaps moves i) x.0 x.1)
+          ∙ sym (get_swaps (map described xs) moves i ([], no_entry) in_range));
+    }
+
+-- ---- the own entries
+
+no_raw : EntryReading
+no_raw = record {
+  key = record { text = []; start = 0; end = 0 };
+  kind = record { text = []; start = 0; end = 0 };
+  fields = [];
+  start = 0;
+  end = 0;
+}
+
+module _ (said tells : FileReading) (r : IsPermutedRead said tells) (own others : List Entry) (first : AreOwn said own)
+    (second : AreOwn tells others) where
+  abbrev moves : List (ℕ × ℕ)
+  moves = r.permutation.moves
+
+  abbrev move : ℕ → ℕ
+  move = before_swaps moves
+
+  own_count : length own ≡ length said.entries
+  own_count =
+      sym (length-map own (λ (e : Entry). e.key)) ∙ ap length (keys_are first)
+      ∙ length-map said.entries (λ (s : EntryReading). s.key.text)
+
+  other_count : length others ≡ length tells.entries
+  other_count =
+      sym (length-map others (λ (e : Entry). e.key)) ∙ ap length (keys_are second)
+      ∙ length-map tells.entries (λ (s : EntryReading). s.key.text)
+
+  sorted_count : length r.sorted ≡ length said.entries
+  sorted_count = ap length r.permutation.is ∙ length_swaps said.entries moves
+
+  tells_count : length tells.entries ≡ length r.sorted
+  tells_count =
+      sym (length-map tells.entries (moved_entry (λ at. 0))) ∙ ap length (sym r.entries)
+      ∙ length-map r.sorted (moved_entry (λ at. 0))
+
+  pub same_count : length others ≡ length own
+  same_count = other_count ∙ tells_count ∙ sorted_count ∙ sym own_count
+
+  define_alike : DefineAlike (definition_in said.abbreviations) (definition_in tells.abbreviations)
+  define_alike =
+      definitions_alike said.abbreviations tells.abbreviations
+      (abbreviations_alike said.abbreviations tells.abbreviations r.abbreviations)
+
+  -- the entry at each new index is that at its old index
+  pub entry_moved : (i : ℕ) → i < length others → (x : Entry) × (y : Entry) × (slice_get own (move i) ≡ Some x)
+      × (slice_get others i ≡ Some y) × (y.key ≡ x.key) × (texts_of_entry x ≡ texts_of_entry y)
+  entry_moved i below =
+      let inside : i < length said.entries = omega (arith, below, same_count, own_count) in
+      let at : move i < length said.entries = before_within moves i (length said.entries) r.permutation.below inside in
+      let raw : EntryReading = get_or said.entries (move i) no_raw in
+      let old_here : slice_get said.entries (move i) ≡ Some raw = slice_get-get_or said.entries (move i) no_raw at in
+      let sorted_here : slice_get r.sorted i ≡ Some raw =
+      slice_get-get_or r.sorted i no_raw (subst (λ n. i < n) (sym sorted_count) inside)
+      ∙ ap Some
+      (ap (λ l. get_or l i no_raw) r.permutation.is ∙ get_swaps said.entries moves i no_raw r.permutation.below) in
+      let new =
+      zip_at (AreAlikeEntries (definition_in said.abbreviations) (definition_in tells.abbreviations)) r.sorted tells.entries i raw
+      (bare_entries_alike define_alike r.sorted tells.entries r.entries) sorted_here in
+      let x = own_at (move i) raw first old_here in
+      let y = own_at i new.0 second new.1 in (
+        x.0,
+        y.0,
+        x.1,
+        y.1,
+        y.2.key ∙ sym new.2.key ∙ sym x.2.key,
+        texts_same (definition_in said.abbreviations) (definition_in tells.abbreviations) (texts_of_entry x.0) (texts_of_entry y.0) new.2
+            (texts_of_entry_are x.0 x.2) (texts_of_entry_are y.0 y.2),
+      )
+
+  pub permuted_own : IsPermutation (map described own) (map described others)
+  permuted_own =
+      permuted_lists moves own others (subst (λ n. SwapsInRange n moves) (sym own_count) r.permutation.below) same_count
+      (λ i x y here there.
+      let at = entry_moved i (slice_get_within others i y there) in
+      let old : at.0 ≡ x = some_same (sym at.2 ∙ here) in
+      let new : at.1 ≡ y = some_same (sym at.3 ∙ there) in
+      ap described (sym old) ∙ ap (λ key. (key, texts_of_entry at.0)) (sym at.4) ∙ ap (λ t. (at.1.key, t)) at.5 ∙ ap described new)
+
+  pub permuted_moved : AreMoved own others move
+  permuted_moved = record {
+    within = λ i below.
+        subst (λ n. move i < n) (sym own_count)
+        (before_within moves i (length said.entries) r.permutation.below (omega (arith, below, same_count, own_count)));
+    keys = λ i below.
+        let at = entry_moved i below in
+        key_at own (move i) at.0 at.2 ∙ sym at.4 ∙ sym (key_at others i at.1 at.3);
+    texts = λ i below.
+        let at = entry_moved i below in
+        at_texts own (move i) at.0 at.2 ∙ at.5 ∙ sym (at_texts others i at.1 at.3);
+  }
+
+  back : (at : ℕ) → at < length own → (at ≡ length own → ⊥) → (i : ℕ) × (i < length others) × (move i ≡ at)
+  back at below apart = (
+    after_swaps moves at,
+    subst (λ n. after_swaps moves at < n) (sym (same_count ∙ own_count))
+        (after_within moves at (length said.entries) r.permutation.below (subst (λ n. at < n) own_count below)),
+    before_after moves at,
+  )
+
+  module _ (distinct : AreClaimsDistinct own) where
+    last_claim : (name : List ℕ) (at i j : ℕ) → move i ≡ at → ClaimsAt others i name → IsLastClaim own name at
+        → IsLastClaim others name j → move j ≡ at
+    last_claim name at i j is claim one_last other_last =
+        distinct name (move j) at (claim_there permuted_moved j name other_last.here) one_last.here
+
+    no_index : (name : List ℕ) → by_name.get (names_of own) name ≡ Some (length own) → ⊥
+    no_index name is = omega (arith, names_below own name (length own) is)
+
+    pub names_permuted : (name : List ℕ) → (by_name.get (names_of own) name ≡ Some (length own) → ⊥)
+        → by_name.get (names_of own) name ≡ option_map move (by_name.get (names_of others) name)
+    names_permuted = names_moved permuted_moved (length own) back last_claim
+
+    pub unreferenced : (at : ℕ) → Contains (refs_of (graph_of own) at) (length own) → ⊥
+    unreferenced at edge = by_range (order at (length (graph_of own)))
+      where
+        rows : length (graph_of own) ≡ length own
+        rows = length-map own (λ (e : Entry). references (names_of own) (fields_of e.fields))
+
+        nothing : (g : List (List ℕ)) (i : ℕ) → length g ≤ i → refs_of g i ≡ []
+        nothing [] i above = refl
+        nothing (x ∷ g) zero above = absurd (omega (arith, above))
+        nothing (x ∷ g) (suc i) above = nothing g i (omega (arith, above))
+
+        no_edge : {x : ℕ} → Contains [] x → ⊥
+        no_edge c = omega (arith, c.1)
+
+        by_range : (at < length (graph_of own)) ⊎ (length (graph_of own) ≤ at) → ⊥
+        by_range (inl below) =
+            omega (
+              arith,
+              rows,
+              below_from_edge (graph_of own) at (length own) (graph_in_range (names_of own) own (names_below own)) below edge,
+            )
+        by_range (inr above) = no_edge (subst (λ l. Contains l (length own)) (nothing (graph_of own) at above) edge)
+
+-- ---- bibliographies
+
+module _ {says tells : FileReading} {one other : Bibliography} (first : IsLoaded says one) (second : IsLoaded tells other)
+    (own : List Entry) (are : AreOwn says own) (r : IsPermutedRead says tells) (distinct : AreClaimsDistinct own) where
+  abbrev news : List Entry
+  news = second.accepted.own
+
+  abbrev old_index : ℕ → ℕ
+  old_index = before_swaps r.permutation.moves
+
+  one_keys : map (λ (e : Entry). e.key) one.entries ≡ map (λ (e : Entry). e.key) own
+  one_keys = first.keys ∙ keys_same says first.accepted.entries are
+
+  one_long : length one.entries ≡ length own
+  one_long =
+      sym (length-map one.entries (λ (e : Entry). e.key)) ∙ ap length one_keys ∙ length-map own (λ (e : Entry). e.key)
+
+  long : length other.entries ≡ length one.entries
+  long = as_long second ∙ same_count says tells r own news are second.accepted.entries ∙ sym one_long
+
+  -- the entries at corresponding indices have the same key and texts
+  described_same : (i : ℕ) (x y : Entry) → slice_get one.entries (old_index i) ≡ Some x → slice_get other.entries i ≡ Some y
+      → described x ≡ described y
+  described_same i x y here there =
+      let below : i < length news =
+      subst (λ n. i < n) (as_long second) (slice_get_within other.entries i y there) in
+      let keys : x.key ≡ y.key =
+      sym (key_at one.entries (old_index i) x here) ∙ ap (λ l. get_or l (old_index i) []) one_keys
+      ∙ (permuted_moved says tells r own news are second.accepted.entries).keys i below
+      ∙ ap (λ l. get_or l i []) (sym second.keys) ∙ key_at other.entries i y there in
+      let texts : texts_of_entry x ≡ texts_of_entry y =
+      sym (at_texts one.entries (old_index i) x here)
+      ∙ same_moved (permuted_moved says tells r own news are second.accepted.entries) (length own)
+      (names_permuted says tells r own news are second.accepted.entries distinct)
+      (unreferenced says tells r own news are second.accepted.entries distinct) second.accepted.no_cycle (texts_of_entries one.entries)
+      (texts_of_entries other.entries) (inherits_by says first own are) second.inherits i below
+      ∙ at_texts other.entries i y there in
+      ap (λ key. (key, texts_of_entry x)) keys ∙ ap (λ t. (y.key, t)) texts
+
+  -- the old index of an index is in range
+  old_within : (i : ℕ) → i < length other.entries → old_index i < length one.entries
+  old_within i below =
+      subst (λ n. old_index i < n) (sym one_long)
+      ((permuted_moved says tells r own news are second.accepted.entries).within i (subst (λ n. i < n) (as_long second) below))
+
+  old_name : (name : List ℕ) → by_name.get one.names name ≡ option_map old_index (by_name.get other.names name)
+  old_name name =
+      ap (λ names. by_name.get names name) (first.names ∙ names_same says first.accepted.entries are)
+      ∙ names_permuted says tells r own news are second.accepted.entries distinct name
+      (λ is. omega (arith, names_below own name (length own) is))
+      ∙ ap (λ names. option_map old_index (by_name.get names name)) (sym second.names)
+
+  pub same_entries : HaveSameEntries one other
+  same_entries = record {
+    entries =
+        permuted_lists r.permutation.moves one.entries other.entries
+        (subst (λ n. SwapsInRange n r.permutation.moves)
+        (sym (own_count says tells r own news are second.accepted.entries) ∙ sym one_long) r.permutation.below)
+        long described_same;
+    names = λ name. by_index name (by_name.get other.names name) refl;
+  }
+    where
+      by_index : (name : List ℕ) (o : Option ℕ) → by_name.get other.names name ≡ o
+          → option_map described (entry_of one name) ≡ option_map described (entry_of other name)
+      by_index name None is =
+          ap (λ p. option_map described (option_and_then (λ index. slice_get one.entries index) p)) (old_name name ∙ ap
+          (option_map old_index) is)
+          ∙ sym (ap (λ p. option_map described (option_and_then (λ index. slice_get other.entries index) p)) is)
+      by_index name (Some i) is =
+          let inside : i < length other.entries =
+          subst (λ n. i < n) (sym (as_long second))
+          (names_below news name i (ap (λ names. by_name.get names name) (sym second.names) ∙ is)) in
+          let x = found one.entries (old_index i) (old_within i inside) in
+          let y = found other.entries i inside in
+          ap (λ p. option_map described (option_and_then (λ index. slice_get one.entries index) p)) (old_name name ∙ ap
+          (option_map old_index) is)
+          ∙ ap (option_map described) x.1 ∙ ap Some (described_same i x.0 y.0 x.1 y.1) ∙ sym (ap (option_map described) y.1)
+          ∙ sym (ap (λ p. option_map described (option_and_then (λ index. slice_get other.entries index) p)) is)
+
+-- ---- errors
+
+zip_by : {A B : Type 0} (R : A → B → Type 0) (d : A) (e : B) (xs : List A) (ys : List B) → length xs ≡ length ys
+    → ((i : ℕ) → i < length xs → R (get_or xs i d) (get_or ys i e)) → AllZip R xs ys
+zip_by R d e [] [] long each = tt
+zip_by R d e [] (y ∷ ys) long each = absurd (omega (arith, long))
+zip_by R d e (x ∷ xs) [] long each = absurd (omega (arith, long))
+zip_by R d e (x ∷ xs) (y ∷ ys) long each =
+    (each 0 (omega arith), zip_by R d e xs ys (omega (arith, long)) (λ i below. each (suc i) (omega (arith, below))))
+
+zip_get : {A B : Type 0} (R : A → B → Type 0) (d : A) (e : B) (xs : List A) (ys : List B) (i : ℕ) → AllZip R xs ys → i < length xs
+    → R (get_or xs i d) (get_or ys i e)
+zip_get R d e [] ys i all below = absurd (omega (arith, below))
+zip_get R d e (x ∷ xs) [] i all below = absurd all
+zip_get R d e (x ∷ xs) (y ∷ ys) zero all below = all.0
+zip_get R d e (x ∷ xs) (y ∷ ys) (suc i) all below = zip_get R d e xs ys i all.1 (omega (arith, below))
+
+zip_long : {A B : Type 0} (R : A → B → Type 0) (xs : List A) (ys : List B) → AllZip R xs ys → length xs ≡ length ys
+zip_long R [] [] all = refl
+zip_long R [] (y ∷ ys) all = absurd all
+zip_long R (x ∷ xs) [] all = absurd all
+zip_long R (x ∷ xs) (y ∷ ys) all = ap suc (zip_long R xs ys all.1)
+
+all_by : {A : Type 0} (P : A → Type 0) (d : A) (xs : List A) → ((i : ℕ) → i < length xs → P (get_or xs i d)) → AllByRecursion P xs
+all_by P d [] each = tt
+all_by P d (x ∷ xs) each = (each 0 (omega arith), all_by P d xs (λ i below. each (suc i) (omega (arith, below))))
+
+all_get : {A : Type 0} (P : A → Type 0) (d : A) (xs : List A) (i : ℕ) → AllByRecursion P xs → i < length xs → P (get_or xs i d)
+all_get P d [] i all below = absurd (omega (arith, below))
+all_get P d (x ∷ xs) zero all below = all.0
+all_get P d (x ∷ xs) (suc i) all below = all_get P d xs i all.1 (omega (arith, below))
+
+-- no entry claims the key of a later one
+abbrev AreApart : List EntryReading → List EntryTexts → Type 0
+AreApart [] ts = Unit {0}
+AreApart (s ∷ es) [] = Unit {0}
+AreApart (s ∷ es) (t ∷ ts) =
+    AllByRecursion (λ (later : EntryReading). is_claimed (claims_by s.key.text t) later.key.text ≡ false) es × AreApart es ts
+
+apart_by : (es : List EntryReading) (ts : List EntryTexts)
+    → ((i j : ℕ) → i < j → j < length es
+    → is_claimed (claims_by (get_or es i no_raw).key.text (get_or ts i no_entry)) (get_or es j no_raw).key.text ≡ false) → AreApart es ts
+apart_by [] ts each = tt
+apart_by (s ∷ es) [] each = tt
+apart_by (s ∷ es) (t ∷ ts) each = (
+  all_by (λ (later : EntryReading). is_claimed (claims_by s.key.text t) later.key.text ≡ false) no_raw es
+      (λ j below. each 0 (suc j) (omega arith) (omega (arith, below))),
+  apart_by es ts (λ i j less below. each (suc i) (suc j) (omega (arith, less)) (omega (arith, below))),
+)
+
+both_free : (earlier more : List (List ℕ)) (es : List EntryReading)
+    → AllByRecursion (λ (s : EntryReading). is_claimed earlier s.key.text ≡ false) es
+    → AllByRecursion (λ (s : EntryReading). is_claimed more s.key.text ≡ false) es
+    → AllByRecursion (λ (s : EntryReading). is_claimed (earlier ++ more) s.key.text ≡ false) es
+both_free earlier more [] first second = tt
+both_free earlier more (s ∷ es) first second = (
+  list_any-append (bytes_eq s.key.text) earlier more ∙ ap (λ b. b || is_claimed more s.key.text) first.0 ∙ second.0,
+  both_free earlier more es first.1 second.1,
+)
+
+texts_by : {definitions : Definitions} (es : List EntryReading) (ts : List EntryTexts) (earlier : List (List ℕ))
+    → AllZip (AreTextsOf definitions) es ts → AllByRecursion (λ (s : EntryReading). AllCanBeRead definitions s.fields) es
+    → AllByRecursion (λ (s : EntryReading). is_claimed earlier s.key.text ≡ false) es → AreApart es ts
+    → AreTexts definitions earlier es ts
+texts_by [] [] earlier all read free apart = AreTexts.none
+texts_by [] (t ∷ ts) earlier all read free apart = absurd all
+texts_by (s ∷ es) [] earlier all read free apart = absurd all
+texts_by (s ∷ es) (t ∷ ts) earlier all read free apart =
+    AreTexts.next free.0 all.0 read.0
+    (texts_by es ts (earlier ++ claims_by s.key.text t) all.1 read.1 (both_free earlier
+    (claims_by s.key.text t) es free.1 apart.0) apart.1)
+
+each_read : {definitions : Definitions} {earlier : List (List ℕ)} {said : List EntryReading} {ts : List EntryTexts}
+    → AreTexts definitions earlier said ts → AllByRecursion (λ (s : EntryReading). AllCanBeRead definitions s.fields) said
+each_read AreTexts.none = tt
+each_read (AreTexts.next fresh is can following) = (can, each_read following)
+
+nothing_claimed : (es : List EntryReading) → AllByRecursion (λ (s : EntryReading). is_claimed [] s.key.text ≡ false) es
+nothing_claimed [] = tt
+nothing_claimed (s ∷ es) = (refl, nothing_claimed es)
+
+module _ (said tells : FileReading) (r : IsPermutedRead said tells) (own : List Entry) (are : AreOwn said own)
+    (distinct : AreClaimsDistinct own) where
+  abbrev swaps : List (ℕ × ℕ)
+  swaps = r.permutation.moves
+
+  abbrev raw : List EntryReading
+  raw = said.entries
+
+  abbrev all_texts : List EntryTexts
+  all_texts = texts_of_entries own
+
+  raw_long : length raw ≡ length all_texts
+  raw_long = zip_long (AreTextsOf (definition_in said.abbreviations)) raw all_texts (each_texts (texts_are are))
+
+  abbrev sorted_texts : List EntryTexts
+  sorted_texts = apply_swaps all_texts swaps
+
+  raw_at : (i : ℕ) → get_or r.sorted i no_raw ≡ get_or raw (before_swaps swaps i) no_raw
+  raw_at i = ap (λ l. get_or l i no_raw) r.permutation.is ∙ get_swaps raw swaps i no_raw r.permutation.below
+
+  texts_at : (i : ℕ) → get_or sorted_texts i no_entry ≡ get_or all_texts (before_swaps swaps i) no_entry
+  texts_at i = get_swaps all_texts swaps i no_entry (subst (λ n. SwapsInRange n swaps) raw_long r.permutation.below)
+
+  sorted_long : length r.sorted ≡ length raw
+  sorted_long = ap length r.permutation.is ∙ length_swaps raw swaps
+
+  inside : (i : ℕ) → i < length r.sorted → before_swaps swaps i < length raw
+  inside i below = before_within swaps i (length raw) r.permutation.below (subst (λ n. i < n) sorted_long below)
+
+  -- the entry at an old index claims these names
+  claims_there : (n : ℕ) (name : List ℕ) → n < length raw
+      → is_claimed (claims_by (get_or raw n no_raw).key.text (get_or all_texts n no_entry)) name ≡ true → ClaimsAt own n name
+  claims_there n name below claimed =
+      let at = own_at n (get_or raw n no_raw) are (slice_get-get_or raw n no_raw below) in
+      record {
+        entry = at.0;
+        there = at.1;
+        claims =
+            ap (λ c. is_claimed c name)
+            (claims_are at.0 ∙ ap (λ key. claims_by key (texts_of_entry at.0)) at.2.key
+            ∙ ap (claims_by (get_or raw n no_raw).key.text) (sym (at_texts own n at.0 at.1)))
+            ∙ claimed;
+      }
+
+  keys_apart : (i j : ℕ) → i < j → j < length r.sorted
+      → is_claimed (claims_by (get_or r.sorted i no_raw).key.text (get_or sorted_texts i no_entry))
+      (get_or r.sorted j no_raw).key.text ≡ false
+  keys_apart i j less below =
+      ap (λ (s : EntryReading). is_claimed (claims_by s.key.text (get_or sorted_texts i no_entry))
+      (get_or r.sorted j no_raw).key.text) (raw_at i)
+      ∙ ap (λ t. is_claimed (claims_by (get_or raw (before_swaps swaps i) no_raw).key.text t) (get_or r.sorted j no_raw).key.text)
+      (texts_at i)
+      ∙ ap
+      (λ (s : EntryReading).
+      is_claimed (claims_by (get_or raw (before_swaps swaps i) no_raw).key.text (get_or all_texts
+      (before_swaps swaps i) no_entry)) s.key.text)
+      (raw_at j)
+      ∙ by_case
+      (is_claimed (claims_by (get_or raw (before_swaps swaps i) no_raw).key.text (get_or all_texts (before_swaps swaps i) no_entry))
+      (get_or raw (before_swaps swaps j) no_raw).key.text) refl
+    where
+      by_case : (b : Bool)
+          → is_claimed (claims_by (get_or raw (before_swaps swaps i) no_raw).key.text (get_or all_texts (before_swaps swaps i) no_entry))
+          (get_or raw (before_swaps swaps j) no_raw).key.text
+          ≡ b → b ≡ false
+      by_case false is = refl
+      by_case true is =
+          let same : before_swaps swaps i ≡ before_swaps swaps j =
+          distinct (get_or raw (before_swaps swaps j) no_raw).key.text (before_swaps swaps i) (before_swaps swaps j)
+          (claims_there (before_swaps swaps i) (get_or raw (before_swaps swaps j) no_raw).key.text (inside i (omega
+          (arith, less, below))) is)
+          (claims_there (before_swaps swaps j) (get_or raw (before_swaps swaps j) no_raw).key.text (inside j below)
+          (ap (λ b. b || list_any (bytes_eq (get_or raw (before_swaps swaps j) no_raw).key.text)
+          (option_map_or comma_texts ((get_or all_texts (before_swaps swaps j) no_entry).fields (codes "ids")) []))
+          (same_text (get_or raw (before_swaps swaps j) no_raw).key.text))) in
+          let equal : i ≡ j = sym (after_before swaps i) ∙ ap (after_swaps swaps) same ∙ after_before swaps j in
+          absurd (omega (arith, less, equal))
+
+  -- the texts of the sorted entries
+  pub sorted_are : AreTexts (definition_in said.abbreviations) [] r.sorted sorted_texts
+  sorted_are =
+      texts_by r.sorted sorted_texts []
+      (zip_by (AreTextsOf (definition_in said.abbreviations)) no_raw no_entry r.sorted sorted_texts
+      (sorted_long ∙ raw_long ∙ sym (length_swaps all_texts swaps))
+      (λ i below.
+      subst (λ s. AreTextsOf (definition_in said.abbreviations) s (get_or sorted_texts i no_entry)) (sym (raw_at i))
+      (subst (AreTextsOf (definition_in said.abbreviations) (get_or raw (before_swaps swaps i) no_raw)) (sym (texts_at i))
+      (zip_get (AreTextsOf (definition_in said.abbreviations)) no_raw no_entry raw all_texts (before_swaps swaps i)
+      (each_texts (texts_are are)) (inside i below)))))
+      (all_by (λ (s : EntryReading). AllCanBeRead (definition_in said.abbreviations) s.fields) no_raw r.sorted
+      (λ i below.
+      subst (λ (s : EntryReading). AllCanBeRead (definition_in said.abbreviations) s.fields) (sym (raw_at i))
+      (all_get (λ (s : EntryReading). AllCanBeRead (definition_in said.abbreviations) s.fields) no_raw raw (before_swaps swaps i)
+      (each_read (texts_are are)) (inside i below))))
+      (nothing_claimed r.sorted) (apart_by r.sorted sorted_texts keys_apart)
+
+-- a sorted file has no error if the old one is accepted
+pub sorted_accepted : (said tells : FileReading) (r : IsPermutedRead said tells) (accepted : IsAccepted said) {error : ParseError}
+    → AreClaimsDistinct accepted.own → IsFirstErrorOf tells error → ⊥
+sorted_accepted said tells r accepted distinct (IsFirstErrorOf.entry error) =
+    texts_faultless (definition_in said.abbreviations) (definition_in tells.abbreviations) [] r.sorted tells.entries
+    (bare_entries_alike
+    (definitions_alike said.abbreviations tells.abbreviations
+    (abbreviations_alike said.abbreviations tells.abbreviations r.abbreviations))
+    r.sorted tells.entries r.entries) (sorted_are said tells r accepted.own accepted.entries distinct) error
+sorted_accepted said tells r accepted distinct (IsFirstErrorOf.cycle {own = others} {index = index} are first is) =
+    no_cycle_moved (permuted_moved said tells r accepted.own others accepted.entries are) (length accepted.own)
+    (names_permuted said tells r accepted.own others accepted.entries are distinct)
+    (unreferenced said tells r accepted.own others accepted.entries are distinct) accepted.no_cycle index first.within first.cycle
+sorted_accepted said tells r accepted distinct
+    (IsFirstErrorOf.date {own = others} {values = values} {index = index} are none solves looks earlier is) =
+    no_bad_date (permuted_moved said tells r accepted.own others accepted.entries are) (length accepted.own)
+    (names_permuted said tells r accepted.own others accepted.entries are distinct)
+    (unreferenced said tells r accepted.own others accepted.entries are distinct) accepted.no_cycle accepted.dates values solves index looks
+    (found_any (is_bad_date values) (refs_of (graph_of others) index) is.reference is.first)
+
+-- entries of one file claim the same names
+pub distinct_same : (says : FileReading) {own one : List Entry} → AreOwn says own → AreOwn says one → AreClaimsDistinct own
+    → AreClaimsDistinct one
+distinct_same says {own} {one} first second distinct name i j at also =
+    distinct name i j (moved i at) (moved j also)
+  where
+    moved : (k : ℕ) → ClaimsAt one k name → ClaimsAt own k name
+    moved k c =
+        let within : k < length own =
+        omega (
+          arith,
+          slice_get_within one k c.entry c.there,
+          length-map own (λ (e : Entry). e.key),
+          length-map one (λ (e : Entry). e.key),
+          ap length (keys_same says first second),
+        ) in
+        let x = found own k within in
+        record {
+          entry = x.0;
+          there = x.1;
+          claims =
+              ap (λ l. is_claimed l name)
+              (claims_are x.0
+              ∙ ap (λ key. claims_by key (texts_of_entry x.0))
+              (sym (key_at own k x.0 x.1) ∙ ap (λ l. get_or l k []) (keys_same says first second) ∙ key_at one k c.entry c.there)
+              ∙ ap (claims_by c.entry.key)
+              (sym (at_texts own k x.0 x.1) ∙ ap (λ l. at_index l k) (all_texts_same says first second) ∙ at_texts one k c.entry c.there)
+              ∙ sym (claims_are c.entry))
+              ∙ c.claims;
+        }
