@@ -6,7 +6,7 @@ use Rattle.biblatex_c.proofs.editing.unset_in.Goals as goal
 
 pub returns-in_err-document-clause-fails : goal.returns-in_err-document-clause-fails
 returns-in_err-document-clause-fails c =
-    let p = err_from_is_err_and c.from_residual-in_err-document.result c.from_residual-in_err-document.ensures.1 in
+    let p = err_from_is_err_and c.from_residual.result c.from_residual.ensures.1 in
     rw (p.1, p.2)
     (no_edit_fails (λ d why. UnsetIsRefused d c.args.key.now c.args.name.now why) c.args.text.now
     (c.args.key.now ∷ c.args.name.now ∷ []) c.in_err-document.field-0.0 c.in_err-document.ensures.fails)
