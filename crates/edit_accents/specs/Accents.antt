@@ -158,13 +158,12 @@ composed_with mark (Some c) = composed mark c
 
 -- ---- what commands become
 
--- what a sign becomes before other signs is a reduction: another sign, and the number of these that it takes with it
-
--- a sign that stays
+-- the reduction of a sign that stays; a reduction is what a sign becomes before other signs: a sign, and the number of these that it takes
+-- with it
 abbrev pub stays : Sign → Reduction
 stays s = record { sign = s; taken = 0 }
 
--- a sign that becomes a character and takes a number of signs with it, or stays if there is no character
+-- the reduction of a sign that becomes a character and takes a number of signs with it; without a character it stays
 abbrev pub reduced_to : Option ℕ → ℕ → Sign → Reduction
 reduced_to None count s = stays s
 reduced_to (Some c) count s = record { sign = Composed c; taken = count }

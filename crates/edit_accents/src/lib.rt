@@ -5,8 +5,8 @@
 //! a character that an inner command became, without recursion, and each sign is looked at a bounded number of times. At last the signs
 //! are written (`writing`): the braces around a character are kept only where a command may take them as its argument.
 //!
-//! Each changed value is one edit of the text (`recoding`). The new text isn't parsed again. `close` in specs/Balance.antt counts the
-//! braces of signs; each step keeps what it counts, so that the new literals can be written with their delimiters.
+//! Each changed value is one edit of the text (`recoding`). The new text isn't parsed again. `fit` in specs/Balance.antt tests the
+//! braces and quotes of signs. Each step keeps what it says, so the new literals can be written with their delimiters.
 #![tactic(auto)]
 
 mod commands;
