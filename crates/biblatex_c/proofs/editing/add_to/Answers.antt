@@ -13,7 +13,7 @@ pub returns-in_err-more-clause-fails : goal.returns-in_err-more-clause-fails
 returns-in_err-more-clause-fails c =
     let p = err_from_is_err_and c.from_residual-in_err-more.result c.from_residual-in_err-more.ensures.1 in
     let same =
-    c.deref.ensures ∙ c.in_ok-added.ensures ∙ ap (λ t. with_line_ends_of t c.in_ok-text_of.field-0.now) c.in_ok-document.ensures.same
+    c.deref.ensures ∙ c.in_ok-added.ensures ∙ ap (λ t. with_line_ends_of t c.in_ok-text_of.field-0.now) (c.text.ensures ∙ c.in_ok-document.ensures.same)
     ∙ ap (with_line_ends_of c.args.text.now) c.in_ok-text_of.ensures.text in
     rw (p.1, p.2)
     (added_fails c.args.text.now c.args.added.now c.deref.result.now c.in_err-more.field-0.0 same c.in_err-more.ensures.refused)
@@ -23,7 +23,7 @@ returns-in_err-add_entries-clause-fails c =
     let p = err_from_is_err_and c.from_residual-in_err-add_entries.result c.from_residual-in_err-add_entries.ensures.1 in
     let same =
     c.in_ok-more.ensures.same ∙ c.deref.ensures ∙ c.in_ok-added.ensures
-    ∙ ap (λ t. with_line_ends_of t c.in_ok-text_of.field-0.now) c.in_ok-document.ensures.same
+    ∙ ap (λ t. with_line_ends_of t c.in_ok-text_of.field-0.now) (c.text.ensures ∙ c.in_ok-document.ensures.same)
     ∙ ap (with_line_ends_of c.args.text.now) c.in_ok-text_of.ensures.text in
     rw (p.1, p.2) (add_fails c.args.text.now c.args.added.now c.in_ok-document.document c.in_ok-more.more c.in_err-add_entries.field-0.0
     c.in_ok-document.ensures.same c.in_ok-document.ensures.read same c.in_ok-more.ensures.read c.in_err-add_entries.ensures.refused)
@@ -33,6 +33,7 @@ returns-clause-made c =
     let added = c.in_ok-add_entries.ensures.added in
     let same =
     c.in_ok-more.ensures.same ∙ c.deref.ensures ∙ c.in_ok-added.ensures
+    ∙ ap (λ t. with_line_ends_of t c.in_ok-text_of.field-0.now) c.text.ensures
     ∙ ap (with_line_ends_of c.in_ok-document.document.text) c.in_ok-text_of.ensures.text in
     record {
       document = c.in_ok-document.document;
