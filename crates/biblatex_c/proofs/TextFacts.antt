@@ -1,17 +1,10 @@
 -- Facts about the bibliography recovered from bytes, for UTF-8 and for other bytes.
-use Rattle.std.proofs.Common.{◌≡◌, ℕ, Bool, true, false, cond, List, [], ◌∷◌, ◌++◌, take, drop, refl, ap, ap₂, ◌∙◌, subst, Some}
-use lib.Utf8.{encode}
-use Rattle.std.specs.Prelude.{nat_eq, ◌&&◌}
-use Rattle.std.specs.Cmp.Lexicographic.{pointwise}
-use Rattle.std.specs.List.{starts_with}
-use Rattle.std.proofs.lemmas.Bool.{eqb-true, and_parts}
+use Rattle.std.proofs.Common.{◌≡◌, ℕ, List, subst, Some}
 use Rattle.std.specs.Str.{IsUtf8}
-use Rattle.std.proofs.lemmas.List.{take-append-drop}
-use Rattle.std.proofs.lemmas.Str.{IsUtf8-append}
 use Rattle.biblatex_c.specs.Recovered.{IsRecoveredIn, IsRecoveredText, format_numbered}
 use Rattle.biblatex_c.specs.Recovered.IsTextOf.{utf8, windows}
 use Rattle.biblatex_c.specs.declared.recovering.ExportFormat.{ExportFormat}
-use Rattle.bib_source.specs.Encoding.{byte_order_mark, without_byte_order_mark, windows_1252_text}
+use Rattle.bib_source.specs.Encoding.{without_byte_order_mark, windows_1252_text}
 use Rattle.bib_source.proofs.MarkFacts.{whole_utf8}
 
 -- a bibliography recovered from the text of UTF-8 bytes is recovered from the bytes

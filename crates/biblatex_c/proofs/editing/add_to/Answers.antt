@@ -13,7 +13,8 @@ pub returns-in_err-more-clause-fails : goal.returns-in_err-more-clause-fails
 returns-in_err-more-clause-fails c =
     let p = err_from_is_err_and c.from_residual-in_err-more.result c.from_residual-in_err-more.ensures.1 in
     let same =
-    c.deref.ensures ∙ c.in_ok-added.ensures ∙ ap (λ t. with_line_ends_of t c.in_ok-text_of.field-0.now) (c.text.ensures ∙ c.in_ok-document.ensures.same)
+    c.deref.ensures ∙ c.in_ok-added.ensures
+    ∙ ap (λ t. with_line_ends_of t c.in_ok-text_of.field-0.now) (c.text.ensures ∙ c.in_ok-document.ensures.same)
     ∙ ap (with_line_ends_of c.args.text.now) c.in_ok-text_of.ensures.text in
     rw (p.1, p.2)
     (added_fails c.args.text.now c.args.added.now c.deref.result.now c.in_err-more.field-0.0 same c.in_err-more.ensures.refused)

@@ -1,4 +1,3 @@
-use Rattle.std.proofs.Common.{◌∙◌}
 use Rattle.std.proofs.lemmas.Result.{err_from_is_err_and}
 use Rattle.biblatex_c.proofs.FailureFacts.{document_fails}
 use Rattle.biblatex_c.proofs.editing.document_of.Goals as goal

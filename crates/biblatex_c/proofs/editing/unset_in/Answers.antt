@@ -1,4 +1,4 @@
-use Rattle.std.proofs.Common.{◌∙◌, [], ◌∷◌, sym}
+use Rattle.std.proofs.Common.{[], ◌∷◌, sym}
 use Rattle.std.proofs.lemmas.Result.{err_from_is_err_and}
 use Rattle.edit_entries.specs.Documents.{UnsetIsRefused}
 use Rattle.biblatex_c.proofs.FailureFacts.{edit_fails, no_edit_fails}
