@@ -107,7 +107,7 @@ uint32_t biblatex_rename(const uint8_t *text, size_t length, const uint8_t *old_
 uint32_t biblatex_remove(const uint8_t *text, size_t length, const uint8_t *key, size_t key_length, uint8_t
     *out, size_t capacity, size_t *size);
 
-/* Writes the text, and `added` after it on a new line, with the line ends of the text: \r\n if its first line ends so, otherwise \n.
+/* Writes the text, and `added` after it on a new line. If the first line of the text ends with \r\n, so do the added lines.
    Returns BIBLATEX_KEY_IS_THERE if an entry of `added` has the key of another entry, or a name in its field `ids`, in any ASCII case,
    BIBLATEX_NOT_A_KEY if BibTeX, Biber or bibtool wouldn't read the key of an added entry, and BIBLATEX_DEFINITION_IS_THERE if `added`
    defines an abbreviation of the text with another value. */

@@ -65,7 +65,7 @@ _bibkit() {
             mapfile -t COMPREPLY < <(compgen -P "$before" -W "$fields" -- "${current##*,}")
             return
             ;;
-        --width | --at-least | --where | --pattern)
+        --width | --at-least | --where | --pattern | --unset)
             COMPREPLY=()
             return
             ;;
@@ -80,9 +80,10 @@ _bibkit() {
     esac
     if [[ $current == -* ]]; then
         local options='--help'
-        [[ $command =~ ^(set|unset|rename|remove|add)$ ]] && options='--file --write --diff --help'
+        [[ $command =~ ^(set|unset|rename|add)$ ]] && options='--file --write --diff --help'
+        [ "$command" = remove ] && options='--where --file --write --diff --help'
         [ "$command" = rekey ] && options='--pattern --map --check --file --write --diff --help'
-        [ "$command" = edit ] && options='--where --rename --set --add --file --write --diff --help'
+        [ "$command" = edit ] && options='--where --rename --set --add --unset --file --write --diff --help'
         [ "$command" = select ] && options='--where --complete --keys --help'
         [ "$command" = strings ] && options='--expand --collect --fields --at-least --file --write --diff --help'
         [ "$command" = fmt ] && options='--indent --align --no-align --trailing-comma --no-trailing-comma --blank-lines --delimiters --order

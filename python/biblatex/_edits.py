@@ -126,7 +126,7 @@ def _why_not_added(status: Status, text: bytes, added: bytes) -> str:
 
 
 def add_entries(text: Text, added: Text) -> Text:
-    """Returns the text, and the text `added` after it on a new line, with the line ends of the text.
+    """Returns the text, and the text `added` after it on a new line. If the first line of the text ends with CR LF, so do the added lines.
 
     Raises an `EditError` if an added entry has the key of another entry, or a name in its field `ids`, in any ASCII case, if
     BibTeX, Biber or bibtool wouldn't read its key, if its key is `*`, if `added` defines an abbreviation of the text with another
