@@ -1373,7 +1373,7 @@ run 'accents as characters' 0 '@string{m = {M{\"u}ller}}
 @article{a4, title = "Die Öber, öb", url = {\"o}, DOI = {\'"'"'e}, author = m # " and É"}
 @article{b1, title = {$\"o$ \url{http://a.b/\~n} \href{\~n}{xö} \\"o \{é\} \S 5}}
 @article{b2, title = {íí í ìx Øre Straße łódź}}
-@article{b3, title = {ệ ế \it ö \emph{ß} \"{ß} \o{x} ç}}
+@article{b3, title = {ệ ế \it{ö} \emph{ß} \"{ß} \o{x} ç}}
 @article{b4, title = {Costs $5 and \"o}}
 ' recode --accents characters -f accents.bib
 cp accents.bib plain.bib

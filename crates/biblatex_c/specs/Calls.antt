@@ -155,13 +155,13 @@ abbrev pub value_with : Bool → List ℕ → SetValue
 value_with false text = SetValue.plain_text text
 value_with true text = SetValue.bare_text text
 
--- the second document is the first with a line end, that of its first line, and the document of the text `added` after it, with line ends
--- of the same kind
+-- the second document is the first with a line end, that of its first line, and the document of the text `added` after it, whose lines end
+-- with CR LF if the first line does
 abbrev pub WithEntriesOf : List ℕ → Document → Document → Type 0
 WithEntriesOf added document new =
     (more : Document) × (more.text ≡ with_line_ends_of document.text added) × IsDocument more × EntriesAdded document more new
 
--- adding the document of the text `added`, with the line ends of `text`, to that of `text` may be refused with the error `why`
+-- adding the document of the text `added` to that of `text` may be refused with the error `why`
 pub record IsAddingRefused (text added : List ℕ) (why : EditError) : Type 0 where
   pub document : Document
   pub more : Document

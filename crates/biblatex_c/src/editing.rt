@@ -208,7 +208,7 @@ pub extern "C" fn biblatex_remove(
     end(remove_in(alloc, text, key), out, size).number()
 }
 
-// Returns the text, a line end, and the text `added` with the line ends of the text.
+// Returns the text, a line end, and the text `added`, whose lines end with `\r\n` if the first line of the text does.
 fn add_to(alloc: Global, text: &[u8], added: &[u8]) -> Result<String, Status>
     ensures made { IfOk result (λ edited. IsEditedText (WithEntriesOf added.now) text.now (string_bytes edited)) }
     ensures fails { IfErr result (AddFails text.now added.now) }
@@ -219,8 +219,8 @@ fn add_to(alloc: Global, text: &[u8], added: &[u8]) -> Result<String, Status>
     Ok(document.add_entries(alloc, &more)?)
 }
 
-/// Writes the text, a line end like that of its first line, and the text `added` with line ends of that kind. Returns `KeyIsThere` if an
-/// entry of `added` has a name of another entry, in any ASCII case. Returns `NotAKey` if BibTeX, Biber or bibtool wouldn't read the key of an
+/// Writes the text, a line end like that of its first line, and the text `added`, whose lines end with `\r\n` if that line does. Returns
+/// `KeyIsThere` if an entry of `added` has a name of another entry, in any ASCII case. Returns `NotAKey` if BibTeX, Biber or bibtool wouldn't read the key of an
 /// entry of `added`. Returns `DefinitionIsThere` if `added` defines an abbreviation that the text defines with another value, in any
 /// ASCII case of the name.
 #[unsafe(no_mangle)]

@@ -159,19 +159,19 @@ plain_fits q d c cs no_slash neutral is =
     quote_free true free on = cc
     quote_free false free on = on
 
+-- a character in braces
+braced_fits : (q : Bool) (d c : ℕ) (cs : List ℕ) → is_beyond_ascii c ≡ true → text_fits q false d cs ≡ true
+    → text_fits q false d (123 ∷ c ∷ 125 ∷ cs) ≡ true
+braced_fits q d c cs beyond is = over_dull q (depth_opened q d) c (125 ∷ cs) (is_dull c beyond) ∙ closes_again q d cs is
+
 -- a composed character
 composed_fits : (q : Bool) (d c : ℕ) (cs : List ℕ) (spot : Spot) → is_beyond_ascii c ≡ true → text_fits q false d cs ≡ true
     → text_fits q false d (written_sign spot (Composed c) ++ cs) ≡ true
 composed_fits q d c cs Free beyond is = over_dull q d c cs (is_dull c beyond) ∙ is
 composed_fits q d c cs Begun beyond is = over_dull q d c cs (is_dull c beyond) ∙ is
-composed_fits q d c cs Word beyond is = over_dull q d c cs (is_dull c beyond) ∙ is
-composed_fits q d c cs Waits beyond is = over_dull q d c cs (is_dull c beyond) ∙ is
+composed_fits q d c cs Word beyond is = braced_fits q d c cs beyond is
+composed_fits q d c cs Waits beyond is = braced_fits q d c cs beyond is
 composed_fits q d c cs Closed beyond is = over_dull q d c cs (is_dull c beyond) ∙ is
-
--- a character in braces
-braced_fits : (q : Bool) (d c : ℕ) (cs : List ℕ) → is_beyond_ascii c ≡ true → text_fits q false d cs ≡ true
-    → text_fits q false d (123 ∷ c ∷ 125 ∷ cs) ≡ true
-braced_fits q d c cs beyond is = over_dull q (depth_opened q d) c (125 ∷ cs) (is_dull c beyond) ∙ closes_again q d cs is
 
 grouped_fits : (q : Bool) (d c : ℕ) (cs : List ℕ) (spot : Spot) → is_beyond_ascii c ≡ true → text_fits q false d cs ≡ true
     → text_fits q false d (written_sign spot (Grouped c) ++ cs) ≡ true
@@ -214,7 +214,8 @@ written_fits q false d spot (Plain c ∷ ss) is =
     (written_fits q false d (spot_after spot (Plain c)) ss) is
 written_fits q false d spot (Composed c ∷ ss) is =
     let parts = and_parts (is_beyond_ascii c) (fit q false d ss) is in
-    composed_fits q d c (written Free ss) spot parts.0 (written_fits q false d Free ss parts.1)
+    composed_fits q d c (written (spot_after spot (Composed c)) ss) spot parts.0
+    (written_fits q false d (spot_after spot (Composed c)) ss parts.1)
 written_fits q false d spot (Grouped c ∷ ss) is =
     let parts = and_parts (is_beyond_ascii c) (fit q false d ss) is in
     grouped_fits q d c (written (spot_after spot (Grouped c)) ss) spot parts.0

@@ -147,7 +147,7 @@ abbrev pub only_beyond_ascii : Option ℕ → Option ℕ
 only_beyond_ascii None = None
 only_beyond_ascii (Some c) = character_if (is_beyond_ascii c) c
 
--- a character and a mark as one character beyond ASCII, if NFC has one; a dotless i has its dot under a mark
+-- a character and a mark as one character beyond ASCII, if NFC has one; a mark on a dotless i is put on the letter i
 abbrev pub composed : ℕ → ℕ → Option ℕ
 composed mark c = only_beyond_ascii (only_character (nfc (letter c ∷ mark ∷ [])))
 
@@ -235,29 +235,39 @@ decoded (s ∷ ss) = with_reduction (reduced s (decoded ss)) (decoded ss)
 
 -- ---- the text of signs
 
--- the characters that are the name of an accent and no letters
+-- whether a character is the name of an accent
 abbrev pub is_accent_sign : ℕ → Bool
 is_accent_sign c = is_some (value_named accents (c ∷ []))
+
+-- the spot after a character beside the names of commands: an argument may come after a star and after an optional argument
+abbrev pub spot_beside_names : ℕ → Spot
+spot_beside_names c = if list_any (λ d. c == d) (codes "*]") then Closed else Free
 
 -- the spot after a character in the name of a command, whose first one it is if the flag says so
 abbrev pub spot_in_name : Bool → ℕ → Spot
 spot_in_name is_first c =
     if is_ascii_alphabetic c then Word
     else if (if is_first then is_accent_sign c else is_whitespace c) then Waits
-    else Free
+    else spot_beside_names c
 
 -- the spot after a plain character
 abbrev pub spot_after_plain : Spot → ℕ → Spot
-spot_after_plain Free c = Free
+spot_after_plain Free c = spot_beside_names c
 spot_after_plain Begun c = spot_in_name true c
 spot_after_plain Word c = spot_in_name false c
-spot_after_plain Waits c = if is_whitespace c then Waits else Free
-spot_after_plain Closed c = Free
+spot_after_plain Waits c = if is_whitespace c then Waits else spot_beside_names c
+spot_after_plain Closed c = spot_beside_names c
 
 -- whether braces around a character have no meaning at a spot: no command before them takes an argument
 abbrev pub is_free : Spot → Bool
 is_free Free = true
 is_free s = false
+
+-- whether a command before a spot may take the next character as its argument
+abbrev pub awaits_character : Spot → Bool
+awaits_character Word = true
+awaits_character Waits = true
+awaits_character s = false
 
 -- the spot after a sign
 abbrev pub spot_after : Spot → Sign → Spot
@@ -265,13 +275,13 @@ spot_after spot Command = Begun
 spot_after spot Opening = Free
 spot_after spot Closing = Closed
 spot_after spot (Plain c) = spot_after_plain spot c
-spot_after spot (Composed c) = Free
+spot_after spot (Composed c) = if awaits_character spot then Closed else Free
 spot_after spot (Grouped c) = if is_free spot then Free else Closed
 
--- the text of a composed character: after the name of a command a space keeps them apart
+-- the text of a composed character: in braces where a command may take it as its argument, since pdfLaTeX takes the first byte of a
+-- character as an argument, and since the name of a command must end before a letter
 abbrev pub composed_text : Spot → ℕ → List ℕ
-composed_text Word c = char.space ∷ c ∷ []
-composed_text spot c = c ∷ []
+composed_text spot c = if awaits_character spot then char.open_brace ∷ c ∷ char.close_brace ∷ [] else c ∷ []
 
 -- the text of a sign. The braces of a grouped character are kept where a command may take them as its argument.
 abbrev pub written_sign : Spot → Sign → List ℕ

@@ -35,7 +35,7 @@ fn mark_of(c: char) -> Option<char>
     }
 }
 
-/// Returns whether a character is the name of an accent and no letter.
+/// Returns whether a character is the name of an accent.
 pub(crate) fn is_accent_sign(c: char) -> bool
     ensures { result ≡ spec.is_accent_sign c }
 {
@@ -93,7 +93,7 @@ fn letter_of_two(first: char, second: char) -> Option<char>
     }
 }
 
-// Returns the letter that a mark is put on: the dotless i and j get their dots.
+// Returns the letter that a mark is put on: i and j for the dotless ones.
 fn letter(c: char) -> char
     ensures { result ≡ commands.letter c }
 {

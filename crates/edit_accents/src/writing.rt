@@ -23,8 +23,19 @@ pub enum Spot {
     Word,
     /// It is after the name of an accent, or after white space after the name of a command.
     Waits,
-    /// It is after a closing brace.
+    /// It is after a closing brace, a star or a closing bracket, after which a command may have an argument.
     Closed,
+}
+
+// Returns the spot after a character beside the names of commands.
+fn spot_beside_names(c: char) -> Spot
+    ensures { result ≡ spec.spot_beside_names c }
+{
+    if c == '*' || c == ']' {
+        Spot::Closed
+    } else {
+        Spot::Free
+    }
 }
 
 // Returns the spot after a character in the name of a command.
@@ -39,7 +50,11 @@ fn spot_in_name(is_first: bool, c: char) -> Spot
     } else {
         c.is_whitespace()
     };
-    if waits { Spot::Waits } else { Spot::Free }
+    if waits {
+        Spot::Waits
+    } else {
+        spot_beside_names(c)
+    }
 }
 
 // Returns the spot after a plain character.
@@ -50,8 +65,15 @@ fn spot_after_plain(spot: Spot, c: char) -> Spot
         Spot::Begun => spot_in_name(true, c),
         Spot::Word => spot_in_name(false, c),
         Spot::Waits if c.is_whitespace() => Spot::Waits,
-        _ => Spot::Free,
+        _ => spot_beside_names(c),
     }
+}
+
+// Returns whether a command before a spot may take the next character as its argument.
+fn awaits_character(spot: Spot) -> bool
+    ensures { result ≡ spec.awaits_character spot }
+{
+    matches!(spot, Spot::Word | Spot::Waits)
 }
 
 // Returns the spot after a sign.
@@ -60,7 +82,12 @@ fn spot_after(spot: Spot, sign: Sign) -> Spot
 {
     match sign {
         Sign::Command => Spot::Begun,
-        Sign::Opening | Sign::Composed(_) => Spot::Free,
+        Sign::Opening => Spot::Free,
+        Sign::Composed(_) => if awaits_character(spot) {
+            Spot::Closed
+        } else {
+            Spot::Free
+        },
         Sign::Closing => Spot::Closed,
         Sign::Plain(c) => spot_after_plain(spot, c),
         Sign::Grouped(_) => if spot == Spot::Free {
@@ -85,8 +112,8 @@ fn push_grouped(text: &mut String, c: char) -> Result<(), AllocError>
 fn push_composed(text: &mut String, spot: Spot, c: char) -> Result<(), AllocError>
     ensures { OnOk result (Writes text.old text.new (spec.composed_text spot c)) }
 {
-    if spot == Spot::Word {
-        text.push(' ')?;
+    if awaits_character(spot) {
+        return push_grouped(text, c);
     }
     text.push(c)?;
     Ok(())

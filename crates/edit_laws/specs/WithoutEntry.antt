@@ -25,7 +25,7 @@ pub record AreWithout (own others : List Entry) (key : List ℕ) : Type 0 where
   pub texts : texts_of_entries others ≡ remove (texts_of_entries own) index
 
 -- a bibliography is another one without the entry with a key. A name that didn't point to this entry points to the entry that it pointed
--- to. A name that did, as an alias in `ids` may, points to another entry that claims it, or to none.
+-- to.
 pub record IsBibliographyWithout (one other : Bibliography) (key : List ℕ) : Type 0 where
   pub index : ℕ
   pub entry : Entry
