@@ -156,6 +156,15 @@ fn texts_of<'e>(edit: &FieldEdit<'e>) -> (&'e str, &'e str) {
     }
 }
 
+// Returns the texts of an edit of the selected entries: two of an edit of a field, or the name of a field that is removed.
+fn texts_of_change<'e>(change: &SelectedEdit<'e>) -> (&'e str, &'e str) {
+    match change {
+        SelectedEdit::Field(edit) => texts_of(edit),
+        SelectedEdit::Unset(name) => (*name, ""),
+        SelectedEdit::Remove => ("", ""),
+    }
+}
+
 // Returns a value with this text, which is written in braces as `value` is.
 fn with_text<'e>(value: &FieldValue<'_>, text: &'e str) -> FieldValue<'e> {
     match value {
@@ -190,6 +199,22 @@ fn push_edit<'e>(
     Ok(())
 }
 
+// Adds an edit of the entries with these keys, which has these texts.
+fn push_change<'e>(
+    edits: &mut Vec<Edit<'e>>,
+    keys: &'e [&'e str],
+    change: &SelectedEdit<'_>,
+    first: &'e str,
+    second: &'e str,
+) -> Result<(), AllocError> {
+    match change {
+        SelectedEdit::Field(edit) => push_edit(edits, keys, edit, first, second)?,
+        SelectedEdit::Unset(_) => edits.push(Edit::UnsetAll { keys, name: first })?,
+        SelectedEdit::Remove => edits.push(Edit::RemoveAll { keys })?,
+    }
+    Ok(())
+}
+
 // Edits the entries of a file's text that meet all conditions.
 fn edit_text(
     rt: &HostRuntime,
@@ -203,17 +228,8 @@ fn edit_text(
     let keys = selected_keys(rt.alloc(), selections, &found.bibliography)?;
     let mut edits = Vec::new(rt.alloc());
     'changes: for change in changes {
-        match change {
-            SelectedEdit::Field(edit) => {
-                let (first, second) = texts_of(edit);
-                push_edit(&mut edits, &keys, edit, first, second)?;
-            }
-            SelectedEdit::Unset(name) => edits.push(Edit::UnsetAll {
-                keys: &keys,
-                name: *name,
-            })?,
-            SelectedEdit::Remove => edits.push(Edit::RemoveAll { keys: &keys })?,
-        }
+        let (first, second) = texts_of_change(change);
+        push_change(&mut edits, &keys, change, first, second)?;
     }
     apply(rt, editing, bytes, &edits)
 }
