@@ -177,8 +177,9 @@ static void check_buffers(void)
     static const char *const said[] = {"done", "the buffer is too short", "not UTF-8", "refused", "out of memory", "no entry has the key",
         "an entry has the name already, as its key or in its field `ids`", "the text can't be a new key", "the text can't be the name of a field",
         "the value can't be written in braces", "an abbreviation is defined already with another text",
-        "the entry would have no field left", "the value is neither a number nor an abbreviation that is defined before the entry", "no status"};
-    for (uint32_t status = 0; status < 14; status++) {
+        "the entry would have no field left", "the value is neither a number nor an abbreviation that is defined before the entry",
+        "the braces of a text in quotes aren't balanced", "no status"};
+    for (uint32_t status = 0; status < 15; status++) {
         check(biblatex_message(status, words, sizeof words, &size) == BIBLATEX_DONE && size == strlen(said[status])
                   && memcmp(words, said[status], size) == 0, "the words of each status");
     }

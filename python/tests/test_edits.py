@@ -101,7 +101,7 @@ class Refusals(unittest.TestCase):
         self.refuses(biblatex.rename_key, BOTH, "a", "*", why="'*' can't be a key")
         self.refuses(biblatex.rename_key, BOTH, "a", "B", why="an entry has the name 'B' already")
         text = '@misc{a, related="a,{"}'
-        self.refuses(biblatex.rename_key, text, "a", "c", why="'c' can't stand in a reference")
+        self.refuses(biblatex.rename_key, text, "a", "c", why="the braces of a text in quotes aren't balanced, so BibTeX and Biber end it elsewhere")
         self.refuses(biblatex.rename_key, "@misc{,}", "", "a", why="'' can't be a key")
         self.refuses(biblatex.add_entries, BOTH, "@misc{c,}@misc{b,}", why="an entry has the name 'b' already")
         self.refuses(biblatex.add_entries, BOTH, "@misc{c,}@misc{d{,}", why="'d{' can't be a key")
