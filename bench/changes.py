@@ -175,11 +175,13 @@ def edits(source, references, strings, chance):
 
 
 def field_edits(free, chance):
-    """Commands that edit an entry that neither refers to another one nor is referred to."""
+    """Commands that edit an entry that neither refers to another one nor is referred to. Biber makes one date of several fields, so none of
+    these is set where it is there twice."""
     key, _, fields = chance.choice(free)
     names = [name for name, _ in fields]
     name = next(it for it in ("usera", "userb", "userc", "verba") if it not in names)
-    doubled = [(it.key, name) for it in free for name, count in collections.Counter(name for name, _ in it.fields).items() if count > 1]
+    counted = [(it.key, collections.Counter(name for name, _ in it.fields if name not in DATE_PARTS)) for it in free]
+    doubled = [(key, name) for key, counts in counted for name, count in counts.items() if count > 1]
     found = {"set-new": setting(key, name, "A {N}ew one"), "set-old": setting(key, chance.choice(names), "Changed {V}alue"),
              "unset": unsetting(key, [chance.choice(names)]), "unset-last": unsetting(key, [names[-1]]),
              "unset-all": unsetting(key, sorted(set(names))), "remove": removing(key)}
@@ -336,11 +338,18 @@ def differences(command, program, before, after, source, said):
     return found + edit_differences(command, before, after)
 
 
+def reprinted(command, before):
+    """The keys of the entries whose fields an edit changes, so that their print may change."""
+    wanted = numbered(command.wanted(before.entries))
+    return {key for (key, number), entry in numbered(before.entries).items() if wanted.get((key, number), entry).fields != entry.fields}
+
+
 def edit_differences(command, before, after):
-    """What an edit changed in the messages and prints of all entries except its own."""
+    """What an edit changed in the messages, and in the prints of all entries except those whose fields it changes."""
     old, new = command.words[1:3] if command.rule == "renamed" else ("", "")
     message = lambda it: re.sub(rf"([\"']){re.escape(old)}\1", lambda found: found[1] + new + found[1], it) if old else it
     printed = {new if key == old else key: it.replace(f"{{{old}}}", f"{{{new}}}") if old else it for key, it in before.printed.items()}
     found = message_differences([message(it) for it in before.messages if is_grave(it)], [it for it in after.messages if is_grave(it)])
-    others = {key for key in set(printed) & set(after.printed) if key.lower() != command.key.lower()}
+    changed = {command.key.lower(), *(it.lower() for it in (reprinted(command, before) if command.rule == "edited" else []))}
+    others = {key for key in set(printed) & set(after.printed) if key.lower() not in changed}
     return [it for it in found if it.kind == "message new"] + printed_differences(printed, after.printed, others)

@@ -36,7 +36,7 @@ _bibkit() {
             return
             ;;
         --accents)
-            mapfile -t COMPREPLY < <(compgen -W 'characters' -- "$current")
+            mapfile -t COMPREPLY < <(compgen -W 'characters commands' -- "$current")
             return
             ;;
         --line-ends)

@@ -71,7 +71,7 @@ complete -c bibkit -n '__fish_seen_subcommand_from strings' -x -l at-least -d 'M
 complete -c bibkit -n '__fish_seen_subcommand_from recode' -x -l from -a 'utf-8 utf-16 utf-16le utf-16be windows-1252 latin1' -d 'The encoding of the file'
 complete -c bibkit -n '__fish_seen_subcommand_from recode' -x -l line-ends -a 'lf crlf' -d 'Write line ends of this kind'
 complete -c bibkit -n '__fish_seen_subcommand_from recode' -l bom -d 'Write a byte order mark'
-complete -c bibkit -n '__fish_seen_subcommand_from recode' -x -l accents -a characters -d 'Write LaTeX commands for accents and letters as characters'
+complete -c bibkit -n '__fish_seen_subcommand_from recode' -x -l accents -a 'characters commands' -d 'Write accents and letters as characters, or as LaTeX commands'
 complete -c bibkit -n '__fish_seen_subcommand_from recode' -r -s f -l file -d 'The file to recode'
 complete -c bibkit -n '__fish_seen_subcommand_from recode' -l write -d 'Write the new text to the file'
 complete -c bibkit -n "__fish_seen_subcommand_from $edits" -r -s f -l file -d 'The file to edit'

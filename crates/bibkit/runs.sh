@@ -434,6 +434,8 @@ cp two.bib input
 refuses 'a file with an error' 1 $'broken.bib:3:1: error: expected comma [syntax]\n' set a title=B -f broken.bib
 cp broken.bib input
 refuses 'added entries with an error' 1 $'-:3:1: error: expected comma [syntax]\n' add -f one.bib
+printf '@misc{c, title = "The {"}Big{"} one"}\n' >input
+refuses 'added texts in quotes with an open brace' 1 $'-:1:19: error: the braces of this text in quotes don\'t balance, so BibTeX and Biber end it elsewhere; write it in braces first\n' add -f one.bib
 : >input
 refuses 'bytes that are not UTF-8 are not edited' 2 $'latin.bib:1:17: error: not UTF-8 from here on, so the file can\'t be edited [unread-bytes]\n' set a title=B -f latin.bib
 refuses 'an edit of a file that is not there' 2 $'bibkit: no.bib: there is no such file\n' remove a -f no.bib
@@ -1284,7 +1286,7 @@ run 'keys and a condition' 2 '' remove a --where 'key = b' -f two.bib
 printf '@misc{a, title = "The {"}Big{"} one"}\n@misc{b, note={x}, doi={10/y}}\n' >quotes.bib
 unbalanced=$'quotes.bib:1:19: error: the braces of this text in quotes don\'t balance, so BibTeX and Biber end it elsewhere; write it in braces first\n'
 for edit in 'set b note=y -f' 'unset b note -f' 'rename b c -f' 'remove b -f' 'edit --set note=y -f' 'edit --unset note -f' 'remove --where key=b -f' \
-    'rekey -f' 'recode --accents characters -f' 'strings --expand -f' 'strings --collect -f' resolve 'fmt --sort key' 'convert --to biblatex' 'convert --to bibtex'; do
+    'rekey -f' 'recode --accents characters -f' 'recode --accents commands -f' 'strings --expand -f' 'strings --collect -f' resolve 'fmt --sort key' 'convert --to biblatex' 'convert --to bibtex'; do
     refuses "an edit that could cut a text in quotes: $edit" 1 "$unbalanced" $edit quotes.bib
 done
 run 'a format keeps such a text' 0 $'@misc{a, title = "The {"}Big{"} one"}\n@misc{b,\n  note = {x},\n  doi = {10/y},\n}\n' fmt quotes.bib
@@ -1385,6 +1387,40 @@ run 'accents of a file in Windows-1252' 0 $'@misc{k, title = {na\303\257ve \303\
 refuses 'accents of a file with an error' 1 $'broken.bib:3:1: error: expected comma [syntax]\n' recode --accents characters -f broken.bib
 run 'a form of accents that is none' 2 '' recode --accents tex -f accents.bib
 
+# recode --accents commands: what LaTeX prints, and Biber and pandoc read, as these characters; DECISIONS.md lists what stays
+cat >letters.bib <<'END'
+@string{m = {Müller}}
+@article{a1, title = {Müller Škoda Ç İ ą ñ ő ṣ Straße Åberg Łódź}}
+@article{a2, title = "Müller {École} \emph{é}", author = m # " and Éric"}
+@article{a3, title = {í ì î ï ị į ǿ ǽ ø Ø æ Æ œ Œ å ł ı}}
+@article{b1, title = {ĩ ǐ ĵ ệ ấ þ ð đ ŋ ẞ α я – “é”}}
+@article{b2, url = {ü}, crossref = {große}, Keywords = {économie}, IDS = {é}, note = {é}}
+@article{b3, title = {$ü$ \url{http://a/ü} \cite{müller} \é}}
+END
+cat >wanted.bib <<'END'
+@string{m = {Müller}}
+@article{a1, title = {M{\"u}ller {\v{S}}koda {\c{C}} {\.I} {\k{a}} {\~n} {\H{o}} {\d{s}} Stra{\ss}e {\AA}berg {\L}{\'o}d{\'z}}}
+@article{a2, title = "M{\"u}ller {{\'E}cole} \emph{{\'e}}", author = m # " and {\'E}ric"}
+@article{a3, title = {{\'i} {\`i} {\^i} {\"i} {\d{i}} {\k{i}} {\'{\o}} {\'{\ae}} {\o} {\O} {\ae} {\AE} {\oe} {\OE} {\aa} {\l} {\i}}}
+@article{b1, title = {ĩ ǐ ĵ ệ ấ þ ð đ ŋ ẞ α я – “{\'e}”}}
+@article{b2, url = {ü}, crossref = {große}, Keywords = {économie}, IDS = {é}, note = {{\'e}}}
+@article{b3, title = {$ü$ \url{http://a/ü} \cite{müller} \é}}
+END
+run 'accents as commands' 0 "$(cat wanted.bib)"$'\n' recode --accents commands -f letters.bib
+run 'commands as characters again' 0 "$(cat letters.bib)"$'\n' recode --accents characters -f wanted.bib
+run 'commands stay' 0 "$(cat wanted.bib)"$'\n' recode --accents commands -f wanted.bib
+printf '@misc{k, title = {\\textbf \303\251 \342\204\253}}\n' >marks.bib
+run 'an argument without braces, and the sign for the unit' 0 '@misc{k, title = {\textbf {\'"'"'e} {\r{A}}}}
+' recode --accents commands -f marks.bib
+cat >marks.bib <<'END'
+@misc{k, title = {\d{ê} \'{ø} \v é {\'e}é ệ \verb é, \'e é}}
+END
+run 'the argument of an accent, and a character before a combining one' 0 "$(cat <<'END'
+@misc{k, title = {\d{ê} \'{ø} \v é {\'e}{\'e} ệ \verb {\'e}, \'e {\'e}}}
+END
+)"$'\n' recode --accents commands -f marks.bib
+refuses 'commands for a file with an error' 1 $'broken.bib:3:1: error: expected comma [syntax]\n' recode --accents commands -f broken.bib
+
 # completions, in the shells that are there: each row is a line, and what its last word can be
 completed() {
     if printf %s "$3" | cmp -s - output; then
@@ -1453,7 +1489,7 @@ in_bash 'bibkit fmt --wi' $'--width\n'
 in_bash 'bibkit fmt --sort ' $'keep\nkey\nyear\nauthor\ntitle\ntype\n'
 in_bash 'bibkit rec' $'recode\n'
 in_bash 'bibkit recode --from win' $'windows-1252\n'
-in_bash 'bibkit recode --accents ' $'characters\n'
+in_bash 'bibkit recode --accents ' $'characters\ncommands\n'
 in_bash 'bibkit convert --from b' $'bib\n'
 in_bash 'bibkit convert --wh' $'--where\n'
 in_bash 'bibkit fmt --delimiters ' $'keep\nbraces\nquotes\n'

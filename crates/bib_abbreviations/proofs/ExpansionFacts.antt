@@ -694,7 +694,7 @@ less_closed l new old left below frames waiting name now waits names =
     met_noted {name = name} {now = now} new old met (noted_cases name q now (progress new) (progress old) names) in
     omega (arith, ap weight waits, unmet_falls (met_in old) (met_in new) keeps (entries_of l))
 
--- the error of a piece, or out of memory, is the error of the first name
+-- the first error of the next piece is that of the first name, unless the error is out of memory
 pub expanding_refused : {definitions : Definitions} {is_verbatim : Bool} {base : List (Spanned Chunk)} {first : List ℕ}
     {memo : Memo} {frame : Frame} {frames : List Frame}
     {whole : List Piece} (e : ParseError) (piece : Spanned RawChunk) (rest : List (Spanned RawChunk))

@@ -184,7 +184,7 @@ pub date_ordered : (d : ItemDate) → begin_object ∷ (date_tokens d ++ end_obj
 unfolding date_tokens dates_tokens date_members with_parts
 date_ordered d = chosen_ordered d.circa (length d.parts == 0) (array (items_of (map date_parts_json d.parts))) d.literal d.season
 
--- what stands between an opening and a closing bracket
+-- an opening bracket, the tokens inside and a closing bracket, appended in turn, are appended as a whole
 pub framed : {T E : Type 0} (r : Result T E) (open_ close_ : Token) (old opened inside last inner whole : List Token)
     → opened ≡ old ++ open_ ∷ [] → inside ≡ opened ++ inner → OnOk r (last ≡ inside ++ close_ ∷ [])
     → open_ ∷ (inner ++ close_ ∷ []) ≡ whole → OnOk r (last ≡ old ++ whole)

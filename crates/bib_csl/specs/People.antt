@@ -41,7 +41,7 @@ is_literal chunks = list_all (λ c. is_braced c.v) chunks || bytes_eq (text chun
 abbrev pub untied_name : List ℕ → List ℕ
 untied_name text = untied (chars text)
 
--- the parts of a person's name, whose prefix counts as part of the family name or not
+-- the parts of a person's name; the flag says whether the prefix is part of the family name (a non-dropping particle)
 unfoldable pub parts_with : Bool → Person → NameParts
 parts_with true p = record {
   family = untied_name p.name;

@@ -42,7 +42,7 @@ fn from_one(number: Option<u8>) -> Option<u16>
     }
 }
 
-// Year, month and day of a date.
+// Returns the year, the month and the day of a date as CSL counts them.
 #[tactic(auto, unfolding(crate::specs::Dates::parts_of_date))]
 fn parts_of_date(date: &Datetime) -> DateParts
     ensures { result ≡ spec.parts_of_date date.now }
@@ -225,7 +225,7 @@ pub fn read_or_unread(
     unread(alloc, text)
 }
 
-/// The date that chunks are read as, if they are. The only error is out of memory.
+/// Returns the date that `chunks` contain, or `None` if they can't be parsed as one. The only error is out of memory.
 pub fn read_date(alloc: Global, chunks: ChunksRef<'_>) -> Result<Option<Date>, AllocError>
     ensures { IfOk result (λ date. date ≡ date_read chunks.now) }
 {

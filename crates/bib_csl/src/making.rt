@@ -30,7 +30,7 @@ fn type_of_entry(alloc: Global, entry: &Entry) -> Result<ItemType, AllocError>
     Ok(item_type_of(&entry.entry_type, subtype.as_str()))
 }
 
-// Appends what an item is called, what it is a part of, and who published it.
+// Appends the variables for the titles, the container, the event, the publication and the genre of an item.
 #[tactic(auto, unfolding(crate::specs::Items::work_fields))]
 fn add_work(
     alloc: Global,

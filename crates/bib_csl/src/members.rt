@@ -9,7 +9,7 @@ use crate::item::{Content, Item};
 use std::alloc::{AllocError, Global};
 use std::collections::BTreeMap;
 
-/// What a member of an item's object holds.
+/// The value of a member of an item's JSON object.
 #[derive(Clone, Copy)]
 pub(crate) enum Held<'i> {
     /// The key of the item or the name of its type.

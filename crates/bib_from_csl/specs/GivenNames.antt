@@ -32,7 +32,7 @@ literal_or_parts (Some text) person = Literal text
 unfoldable pub given_name : Json → Name
 given_name person = literal_or_parts (string_under (codes "literal") person) person
 
--- one where a text stands under a name
+-- 1 if an object has a text as its member of this name, and 0 otherwise
 abbrev pub count : List ℕ → Json → ℕ
 count name person = one_if (is_some (string_under name person))
 

@@ -79,7 +79,7 @@ none_reported fails reports (suc n) never =
     subst (λ k. EachReported fails reports k []) (add-one n)
     (passed (none_reported fails reports n (λ index below. never index (omega arith))) (never n (omega arith)))
 
--- the errors stay valid if the condition is replaced by an equivalent one
+-- the errors stay valid if `fails` is replaced by an equivalent condition and `reports` by a weaker one
 pub each_same : (fails fails' : ℕ → Type 0) (reports reports' : ℕ → ParseError → Type 0) (n : ℕ)
     (errors : List ParseError) → ((index : ℕ) → fails index → fails' index)
     → ((index : ℕ) → fails' index → fails index) → ((index : ℕ) (e : ParseError) → reports index e → reports' index e)

@@ -391,7 +391,7 @@ pub copied_some : {A : Type 0} (o : Option (Bor A)) → is_some (option_copied o
 copied_some None = refl
 copied_some (Some x) = refl
 
--- no collected field remains
+-- after the last collected field, all collected fields that the entry lacks are copied
 pub copied_all : (own : ByText Value) (all left : List Loan) (copies : List (List ℕ × Value)) → left ≡ []
     → AreCopied own all left copies → (q : List ℕ) → option_map styled (first_named copies q) ≡ copied_text own all q
 copied_all own all left copies none h q =

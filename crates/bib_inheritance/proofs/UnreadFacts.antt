@@ -37,7 +37,7 @@ find_here test (x ∷ xs) (suc i) d within none here =
       following true c none rest here = absurd (false≢true (sym none))
       following false c none rest here = rest none here
 
--- the next entry has a date that can't be parsed, or has not
+-- the next entry: either its date can't be parsed, or its date can be parsed or is missing
 module _ (entries : List Entry) (dates : Dates) (indices : List ℕ) (i : ℕ) (within : i < length indices)
     (are : AreDates entries dates) (none : list_any (is_bad_date (texts_of_entries entries)) (take i indices) ≡ false)
   where

@@ -53,7 +53,7 @@ fn gather_offers<'a>(
     Ok(())
 }
 
-// Inserts the fields that `reference` offers for the names in `groups`.
+// Inserts the fields that `reference` offers for the names in `groups`, except for names that are never inherited.
 fn gather_groups<'a>(
     reference: &Reference<'a>,
     groups: &[&'static [&'static str]],

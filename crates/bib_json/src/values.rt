@@ -52,7 +52,7 @@ fn number(alloc: Global, chunks: ChunksRef<'_>) -> Result<Option<Value>, AllocEr
     Ok(read_number(alloc, chunks)?.map(Value::from))
 }
 
-// Ranges of pages.
+// Returns the page ranges in a comma list as a JSON array, or `None` if a part of the list is no range.
 fn pages(alloc: Global, chunks: ChunksRef<'_>) -> Result<Option<Value>, AllocError>
     ensures { IfOk result (λ value. option_map view value ≡ typed_json type.Pages chunks.now) }
 {

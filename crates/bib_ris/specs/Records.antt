@@ -88,7 +88,7 @@ abbrev pub three_fields_read : Option Value → Option Value → Option Value �
 three_fields_read None month day = None
 three_fields_read (Some year) month day = readable_value (three_fields_reading year month day)
 
--- the date that the field of a date is read as, or else three fields
+-- the result of parsing the field `date`, or the date in three fields if the entry has no field `date`
 abbrev pub date_or_three : Option Value → Option Date → Option Date
 date_or_three None three = three
 date_or_three (Some chunks) three = date_read chunks

@@ -142,7 +142,7 @@ quoted_outcome left = elim (sign 34 left) [
 abbrev BraceClosed : ℕ → Place → Place → Type 0
 BraceClosed depth u y = (x : Place) × ClosesOpen depth u x × CharAt x 125 y
 
--- no closing brace is after text from `u` that closes `depth` open braces
+-- no text from `u` that closes `depth` open braces is followed by another closing brace
 abbrev NoBrace : ℕ → Place → Type 0
 NoBrace depth u = (x y : Place) → ClosesOpen depth u x → CharAt x 125 y → ⊥
 

@@ -10,6 +10,7 @@ use bib_recode::line_ends::LineEnds;
 use bib_tables::months::Month;
 use bibkit_edits::edit::Edit;
 use clap::ArgMatches;
+use edit_accents::recoding::Form;
 use edit_entries::field_edits::FieldEdit;
 use edit_entries::field_value::FieldValue;
 use std::alloc::{AllocError, Global};
@@ -158,13 +159,22 @@ fn rekeying<'a>(matches: &ArgMatches<'a>) -> Edits<'a> {
     })
 }
 
+// Returns the form of accents with a name.
+fn accents_form(name: &str) -> Option<Form> {
+    match name {
+        "characters" => Some(Form::Characters),
+        "commands" => Some(Form::Commands),
+        _ => None,
+    }
+}
+
 // Returns the edits of `recode`.
 fn recoding<'a>(matches: &ArgMatches<'a>) -> Edits<'a> {
     Edits::Recode(Recoding {
         from: matches.get_str("from").and_then(Encoding::from_name),
         line_ends: matches.get_str("line-ends").and_then(LineEnds::from_name),
         has_mark: matches.get_flag("bom"),
-        has_characters: matches.get_str("accents").is_some(),
+        accents: matches.get_str("accents").and_then(accents_form),
     })
 }
 

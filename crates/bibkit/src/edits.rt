@@ -1,7 +1,7 @@
 //! Runs the commands that edit a file.
 
 use crate::recoding::{Recoding, recode};
-use crate::refusals::printing_stop;
+use crate::refusals::{printing_stop, unbalanced_quotes_line};
 use crate::rekeying::{Rekeying, rekey};
 use crate::replacing::replace;
 use crate::selecting::{SelectedEdit, edit_selected};
@@ -12,6 +12,7 @@ use bibkit_edits::edit::Edit;
 use bibkit_edits::editing::edit_file;
 use bibkit_edits::printing::{Unprinted, print_difference, print_edited};
 use biblatex::Output;
+use edit_entries::document::RawDocument;
 use std::alloc::{AllocError, Global};
 use std::io;
 use std::io::ErrorKind;
@@ -263,10 +264,24 @@ fn edit(rt: &HostRuntime, editing: &Editing<'_>, edits: &[Edit<'_>]) -> Result<(
     apply(rt, editing, &bytes, edits)
 }
 
+// Fails with a message and status 1 if the text of standard input contains a text in quotes whose braces don't balance. A syntax error
+// is left to the edit.
+fn check_added(alloc: Global, text: &str) -> Result<(), Stop> {
+    match RawDocument::parse(alloc, text) {
+        Ok(document) if document.has_unbalanced_quotes() => {
+            let line = unbalanced_quotes_line(alloc, "-", text.as_bytes())?;
+            Err(Stop::Said(line, 1))
+        }
+        Ok(_) => Ok(()),
+        Err(error) => Ok(error.unless_out_of_memory()?),
+    }
+}
+
 // Decodes standard input, and adds its entries to a file.
 fn add_input(rt: &HostRuntime, editing: &Editing<'_>) -> Result<(), Stop> {
     let bytes = bytes_of(rt, "-")?;
     let input = decode(rt.alloc(), &bytes)?;
+    check_added(rt.alloc(), &input.text)?;
     edit(rt, editing, &[Edit::Add { text: &input.text }])
 }
 

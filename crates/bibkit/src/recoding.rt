@@ -8,7 +8,7 @@ use bib_recode::encoding::{Encoding, detect, marked_as};
 use bib_recode::line_ends::{LineEnds, with_line_ends};
 use bib_syntax::raw::ParseError;
 use biblatex::{Output, Sink};
-use edit_accents::recoding::recode as accents;
+use edit_accents::recoding::{Form, recode as with_form};
 use edit_entries::document::RawDocument;
 use std::alloc::{AllocError, Global};
 use std::io;
@@ -22,8 +22,8 @@ pub struct Recoding {
     pub line_ends: Option<LineEnds>,
     /// Whether the new text begins with a byte order mark.
     pub has_mark: bool,
-    /// Whether LaTeX commands for accents and letters become characters.
-    pub has_characters: bool,
+    /// The form of accents and letters beyond ASCII, or `None` to keep them as they are.
+    pub accents: Option<Form>,
 }
 
 // Returns the encoding of a file: that of its byte order mark, or else the given one. Fails with a message and status 2 if neither is
@@ -93,15 +93,15 @@ fn syntax_stop(
     Ok(Stop::Said(line, 1))
 }
 
-// Returns a text with its LaTeX commands for accents and letters as characters. Fails with a message and status 1 if it can't be parsed, or
-// if the edit could break a text in quotes.
-fn with_characters(alloc: Global, name: &str, text: &str) -> Result<String, Stop> {
+// Returns a text with its accents and letters in a form. Fails with a message and status 1 if it can't be parsed, or if the edit could
+// break a text in quotes.
+fn with_accents(alloc: Global, name: &str, text: &str, form: Form) -> Result<String, Stop> {
     match RawDocument::parse(alloc, text) {
         Ok(document) if document.has_unbalanced_quotes() => {
             let line = unbalanced_quotes_line(alloc, name, text.as_bytes())?;
             Err(Stop::Said(line, 1))
         }
-        Ok(document) => Ok(accents(alloc, &document)?),
+        Ok(document) => Ok(with_form(alloc, &document, form)?),
         Err(error) => {
             error.unless_out_of_memory()?;
             Err(syntax_stop(alloc, name, text, &error)?)
@@ -109,12 +109,11 @@ fn with_characters(alloc: Global, name: &str, text: &str) -> Result<String, Stop
     }
 }
 
-// Returns a text with its LaTeX commands as characters, if `recoding` says so.
+// Returns a text with its accents and letters in the form of `recoding`, or as it is if `recoding` has none.
 fn exchanged(alloc: Global, name: &str, recoding: &Recoding, text: String) -> Result<String, Stop> {
-    if recoding.has_characters {
-        with_characters(alloc, name, &text)
-    } else {
-        Ok(text)
+    match recoding.accents {
+        Some(form) => with_accents(alloc, name, &text, form),
+        None => Ok(text),
     }
 }
 

@@ -18,7 +18,7 @@ pub struct Tally {
 }
 
 impl Tally {
-    /// Returns the counts of no findings.
+    /// Returns the counts for no findings: both are 0.
     pub fn none() -> Self
         ensures errors { result.errors ≡ 0 }
         ensures warnings { result.warnings ≡ 0 }

@@ -134,7 +134,7 @@ pub enum Refusal {
         entry: usize,
     },
     /// Any edit but [`Edit::Format`] is refused: the text has a text in quotes whose braces aren't balanced, as `"The {"}Big{"} one"`.
-    /// BibTeX, Biber and bibtool read such a text and what follows it in another way.
+    /// BibTeX and Biber read such a text and what follows it in another way.
     UnbalancedQuotes {
         /// The index of the edit, from 0.
         index: usize,

@@ -68,7 +68,7 @@ differ one two other =
 -- The fields and entries of the output
 
 module _ (definitions : Definitions) where
-  -- a literal alone reaches no abbreviation
+  -- a value that is one literal reaches no abbreviation
   no_names : {p : Part} {name : List ℕ} → Reaches definitions (literal p ∷ []) name → ⊥
   no_names (Reaches.held held) = held
   no_names (Reaches.through before defined holds) = no_names before

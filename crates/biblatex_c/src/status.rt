@@ -38,8 +38,8 @@ pub enum Status {
     NoFieldLeft,
     /// The value is neither a number nor an abbreviation that is defined before the entry.
     NotBare,
-    /// The text to edit has a text in quotes whose braces aren't balanced, as `"The {"}Big{"} one"`: BibTeX, Biber and bibtool read it and
-    /// what follows it in another way.
+    /// The text to edit has a text in quotes whose braces aren't balanced, as `"The {"}Big{"} one"`: BibTeX and Biber read it and what
+    /// follows it in another way.
     UnbalancedQuotes,
 }
 

@@ -1,5 +1,5 @@
 -- The signs of a text have its braces and quotes, and so has the text of signs.
-use Rattle.std.proofs.Common.{◌≡◌, inl, inr, ℕ, suc, ◌-◌, ◌<◌, Bool, true, false, cond, List, [], ◌∷◌, ◌++◌, refl, sym, ap, ◌∙◌, subst, arith}
+use Rattle.std.proofs.Common.{◌≡◌, inl, inr, ℕ, suc, ◌<◌, Bool, true, false, cond, List, [], ◌∷◌, ◌++◌, refl, sym, ap, ◌∙◌, subst, arith}
 use Rattle.std.specs.Prelude.{◌==◌, ◌&&◌, not}
 use Rattle.std.proofs.lemmas.Bool.{and_from, and_parts, cases_eq, lt-ltb, ne_eqb}
 use Rattle.bib_text.proofs.PlaceFacts.{test_clash}
@@ -8,7 +8,7 @@ use Rattle.edit_accents.specs.Balance.{can_close, depth_closed, fit, text_fits, 
 use Rattle.edit_accents.specs.declared.signs.Sign.{Sign}
 use Rattle.edit_accents.specs.declared.signs.Sign.TheVariants.{Command, Opening, Closing, Plain, Composed, Grouped}
 use Rattle.edit_accents.specs.declared.signs.Stretch.{Stretch}
-use Rattle.edit_accents.specs.declared.signs.Stretch.TheVariants.{Text, Math, Address}
+use Rattle.edit_accents.specs.declared.signs.Stretch.TheVariants.{Text, Accent, Math, Address}
 use Rattle.edit_accents.specs.declared.writing.Spot.{Spot}
 use Rattle.edit_accents.specs.declared.writing.Spot.TheVariants.{Free, Begun, Word, Waits, Closed}
 
@@ -53,6 +53,7 @@ slash_fit : (q : Bool) (d : ℕ) (stretch : Stretch) (ss : List Sign) → fit q 
     → fit q false d (sign_of stretch 92 ∷ ss) ≡ true
 slash_fit q d Text ss is = is
 slash_fit q d Math ss is = is
+slash_fit q d Accent ss is = is
 slash_fit q d (Address depth) ss is = is
 
 dull_sign : (c : ℕ) (stretch : Stretch) → IsDull c → sign_of stretch c ≡ Plain c

@@ -1,4 +1,6 @@
 pub mod ElementFacts
+pub mod EncodedFacts
+pub mod EncodedSteps
 pub mod FitFacts
 pub mod GrammarFacts
 pub mod NameFacts

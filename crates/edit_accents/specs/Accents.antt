@@ -12,22 +12,38 @@ use Rattle.edit_accents.specs.declared.decoding.Reduction.{Reduction}
 use Rattle.edit_accents.specs.declared.signs.Sign.{Sign}
 use Rattle.edit_accents.specs.declared.signs.Sign.TheVariants.{Command, Opening, Closing, Plain, Composed, Grouped}
 use Rattle.edit_accents.specs.declared.signs.Stretch.{Stretch}
-use Rattle.edit_accents.specs.declared.signs.Stretch.TheVariants.{Text, Math, Address}
+use Rattle.edit_accents.specs.declared.signs.Stretch.TheVariants.{Text, Accent, Math, Address}
 use Rattle.edit_accents.specs.declared.writing.Spot.{Spot}
 use Rattle.edit_accents.specs.declared.writing.Spot.TheVariants.{Free, Begun, Word, Waits, Closed}
 use Rattle.unicode_normalization.specs.Forms.{nfc}
 
 -- ---- the signs of a text
 
--- whether a text begins with a command whose first argument is an address, without its backslash
+-- whether the text after a backslash begins with the name of a command whose first argument is an address or a key
 abbrev pub begins_address : List ℕ → Bool
 begins_address text =
     starts_with eqb text (codes "url{") || starts_with eqb text (codes "href{") || starts_with eqb text (codes "path{")
-    || starts_with eqb text (codes "nolinkurl{")
+    || starts_with eqb text (codes "nolinkurl{") || starts_with eqb text (codes "cite{") || starts_with eqb text (codes "citep{")
+    || starts_with eqb text (codes "citet{") || starts_with eqb text (codes "ref{") || starts_with eqb text (codes "label{")
 
--- whether commands become characters in a stretch of a text: neither in math nor in addresses
+-- whether a character is the name of an accent
+abbrev pub is_accent_sign : ℕ → Bool
+is_accent_sign c = is_some (value_named accents (c ∷ []))
+
+-- whether a text begins with a letter
+abbrev pub begins_letter : List ℕ → Bool
+begins_letter [] = false
+begins_letter (c ∷ cs) = is_ascii_alphabetic c
+
+-- whether the text after a backslash begins with the name of an accent, as TeX reads it
+abbrev pub begins_accent : List ℕ → Bool
+begins_accent [] = false
+begins_accent (c ∷ cs) = is_accent_sign c && not (is_ascii_alphabetic c && begins_letter cs)
+
+-- whether a backslash begins a command in a stretch of a text: neither in math, nor in an address or a key
 abbrev pub reads_commands : Stretch → Bool
 reads_commands Text = true
+reads_commands Accent = true
 reads_commands Math = false
 reads_commands (Address depth) = false
 
@@ -39,17 +55,23 @@ sign_of stretch c =
     else if c == char.backslash && reads_commands stretch then Command
     else Plain c
 
--- the stretch after a closing brace in an address with so many open braces
+-- the stretch after a closing brace in an address or a key with `depth` open braces
 abbrev pub address_closed : ℕ → Stretch
 address_closed depth = if nat_lt 1 depth then Address (depth - 1) else Text
 
--- the stretch after a character that no backslash escapes, which the rest of the text follows. A dollar sign begins and ends math. An
--- address ends with the brace that closes the argument.
-abbrev pub stretch_after : Stretch → ℕ → List ℕ → Stretch
-stretch_after Text c rest =
+-- the stretch after a character of text that no backslash escapes, which the rest of the text follows
+abbrev pub stretch_after_text : ℕ → List ℕ → Stretch
+stretch_after_text c rest =
     if c == char.dollar then Math
     else if c == char.backslash && begins_address rest then Address 0
+    else if c == char.backslash && begins_accent rest then Accent
     else Text
+
+-- the stretch after a character that no backslash escapes, which the rest of the text follows. A dollar sign begins and ends math. The
+-- argument of an accent may come after white space and braces. An address or a key ends with the brace that closes the argument.
+abbrev pub stretch_after : Stretch → ℕ → List ℕ → Stretch
+stretch_after Text c rest = stretch_after_text c rest
+stretch_after Accent c rest = if c == char.open_brace || is_whitespace c then Accent else stretch_after_text c rest
 stretch_after Math c rest = if c == char.dollar then Text else Math
 stretch_after (Address depth) c rest =
     if c == char.open_brace then Address (suc depth)
@@ -187,7 +209,7 @@ accented_letter (Command ∷ rest) = None
 abbrev pub accented_count : List Sign → ℕ
 accented_count ss = if first_sign_passes is_opening ss then 3 else 1
 
--- an accent whose name has so many characters, before the signs after its name: it is put on a character after white space
+-- an accent before the signs after its name, whose length is `size`: it is put on a character after white space
 abbrev pub accent_reduced : ℕ → ℕ → List Sign → Reduction
 accent_reduced mark size rest =
     let white : ℕ = white_count rest in
@@ -202,7 +224,7 @@ begins_empty ss = first_sign_passes is_opening ss && first_sign_passes is_closin
 abbrev pub end_count : List Sign → ℕ
 end_count rest = if begins_empty rest then 2 else white_count rest
 
--- a command for a letter whose name has so many characters, before the signs after its name: before an argument that isn't empty it stays
+-- a command for a letter before the signs after its name, whose length is `size`: before an argument that isn't empty it stays
 abbrev pub letter_reduced : Option ℕ → ℕ → List Sign → Reduction
 letter_reduced found size rest =
     if first_sign_passes is_group rest && not (begins_empty rest) then stays Command else reduced_to found (size + end_count rest) Command
@@ -234,10 +256,6 @@ decoded [] = []
 decoded (s ∷ ss) = with_reduction (reduced s (decoded ss)) (decoded ss)
 
 -- ---- the text of signs
-
--- whether a character is the name of an accent
-abbrev pub is_accent_sign : ℕ → Bool
-is_accent_sign c = is_some (value_named accents (c ∷ []))
 
 -- the spot after a character beside the names of commands: an argument may come after a star and after an optional argument
 abbrev pub spot_beside_names : ℕ → Spot

@@ -7,11 +7,12 @@ use Rattle.edit_accents.specs.Accents.{is_beyond_ascii}
 use Rattle.edit_accents.specs.declared.signs.Sign.{Sign}
 use Rattle.edit_accents.specs.declared.signs.Sign.TheVariants.{Command, Opening, Closing, Plain, Composed, Grouped}
 use Rattle.edit_accents.specs.declared.signs.Stretch.{Stretch}
-use Rattle.edit_accents.specs.declared.signs.Stretch.TheVariants.{Text, Math, Address}
+use Rattle.edit_accents.specs.declared.signs.Stretch.TheVariants.{Text, Accent, Math, Address}
 
--- the number of open braces in an address
+-- the number of open braces in an address or a key
 abbrev pub open_count : Stretch → ℕ
 open_count Text = 0
+open_count Accent = 0
 open_count Math = 0
 open_count (Address depth) = depth
 

@@ -1,4 +1,5 @@
 pub mod Accents
 pub mod Balance
+pub mod Encoded
 pub mod Pieces
 pub mod Recoded

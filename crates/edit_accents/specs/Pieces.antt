@@ -4,6 +4,7 @@ use Rattle.std.specs.Prelude.{ℕ, List, map}
 use Rattle.bib_syntax.specs.Reading.{Piece}
 use Rattle.bib_syntax.specs.Reading.Piece.{literal, abbreviation}
 use Rattle.edit_accents.specs.Recoded.{piece_recoded}
+use Rattle.edit_accents.specs.declared.recoding.Form.{Form}
 
 -- the text of a piece
 abbrev pub text_of_piece : Piece → List ℕ
@@ -16,5 +17,5 @@ piece_with_text (literal p) text = literal (record p { text = text })
 piece_with_text (abbreviation p) text = abbreviation (record p { text = text })
 
 -- the texts of pieces, whose literals are recoded
-abbrev pub new_texts : List Piece → List (List ℕ)
-new_texts pieces = map (λ p. text_of_piece (piece_recoded p)) pieces
+abbrev pub new_texts : Form → List Piece → List (List ℕ)
+new_texts form pieces = map (λ p. text_of_piece (piece_recoded form p)) pieces

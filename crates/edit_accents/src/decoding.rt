@@ -146,7 +146,7 @@ fn reduced_to(found: Option<char>, count: usize, sign: Sign) -> Reduction
     }
 }
 
-// Returns the reduction of an accent whose name has so many characters, before the signs after its name.
+// Returns the reduction of an accent before the signs after its name; `size` is the length of the name.
 fn accent_reduced(
     alloc: Global,
     mark: char,
@@ -193,7 +193,7 @@ fn end_count(rest: &[Sign]) -> usize
     }
 }
 
-// Returns the reduction of a command for a letter whose name has so many characters, before the signs after its name.
+// Returns the reduction of a command for a letter before the signs after its name; `size` is the length of the name.
 fn letter_reduced(found: Option<char>, size: usize, rest: &[Sign]) -> Reduction
     requires { size + length rest.now < 2 ^ 63 }
     ensures reduced { result ≡ spec.letter_reduced found size rest.now }

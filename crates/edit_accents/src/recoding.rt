@@ -14,12 +14,14 @@ ghost use Rattle.edit_accents.specs.Accents.{with_characters};
 ghost use Rattle.edit_accents.specs.Pieces.{new_texts, text_of_piece, piece_with_text};
 ghost use Rattle.edit_accents.specs.Recoded as spec;
 ghost use Rattle.edit_accents.specs.Recoded.{IsRecoded};
+ghost use Rattle.edit_accents.specs.declared.recoding.Form.{Form};
 
 use crate::decoding::decoded;
+use crate::encoding::with_commands;
 use crate::signs::signs;
 use crate::writing::written;
 use bib_syntax::raw::{Pair, RawChunk, RawEntry};
-use bib_tables::fields::is_verbatim_field;
+use bib_tables::fields::{is_reference_field, is_verbatim_field};
 use bib_text::spanned::Spanned;
 use edit_entries::document::RawDocument;
 use edit_entries::editing::{Edit, edited_all};
@@ -27,12 +29,31 @@ use edit_entries::values::value_end;
 use edit_strings::elements::laid_out;
 use std::alloc::{AllocError, Global};
 
-// Returns whether a text contains a backslash.
-fn has_command(text: &str) -> bool
-    ensures { result ≡ spec.has_command text.now }
+/// The form of accents and of letters beyond ASCII.
+#[derive(Debug, Clone, Copy, PartialEq, Eq)]
+pub enum Form {
+    /// Characters: a command becomes the character that NFC has for it.
+    Characters,
+    /// LaTeX commands: a character becomes the command that gives it.
+    Commands,
+}
+
+// Returns whether a byte shows that a text may change: the backslash of a command, or a byte of a character beyond ASCII.
+fn is_other_form(form: Form, byte: u8) -> bool
+    ensures { result ≡ spec.is_other_form form byte }
+{
+    match form {
+        Form::Characters => byte == b'\\',
+        Form::Commands => !byte.is_ascii(),
+    }
+}
+
+// Returns whether a text contains a byte that shows that it may change.
+fn has_other_form(form: Form, text: &str) -> bool
+    ensures { result ≡ spec.has_other_form form text.now }
 {
     'bytes: for byte in text.as_bytes() {
-        if *byte == b'\\' {
+        if is_other_form(form, *byte) {
             return true;
         }
     }
@@ -48,34 +69,48 @@ fn with_characters(alloc: Global, text: &str) -> Result<String, AllocError>
     written(alloc, &made)
 }
 
-// Returns the text of a literal with its commands for accents and letters as characters.
-fn text_recoded(alloc: Global, text: &str) -> Result<String, AllocError>
-    ensures { IfOk result (λ new. string_bytes new ≡ spec.text_recoded text.now) }
+// Returns a text with its accents and letters in a form.
+fn with_form(alloc: Global, form: Form, text: &str) -> Result<String, AllocError>
+    ensures { IfOk result (λ new. string_bytes new ≡ encode_utf8_all (spec.with_form form (chars text.now))) }
 {
-    if has_command(text) {
-        with_characters(alloc, text)
+    match form {
+        Form::Characters => with_characters(alloc, text),
+        Form::Commands => with_commands(alloc, text),
+    }
+}
+
+// Returns the text of a literal with its accents and letters in a form.
+fn text_recoded(alloc: Global, form: Form, text: &str) -> Result<String, AllocError>
+    ensures { IfOk result (λ new. string_bytes new ≡ spec.text_recoded form text.now) }
+{
+    if has_other_form(form, text) {
+        with_form(alloc, form, text)
     } else {
         String::from_str(alloc, text)
     }
 }
 
 // Returns the new text of a piece.
-fn new_text(alloc: Global, piece: &Spanned<RawChunk<'_>>) -> Result<String, AllocError>
-    ensures { IfOk result (λ new. string_bytes new ≡ text_of_piece (spec.piece_recoded (piece_of piece.now))) }
+fn new_text(alloc: Global, form: Form, piece: &Spanned<RawChunk<'_>>) -> Result<String, AllocError>
+    ensures { IfOk result (λ new. string_bytes new ≡ text_of_piece (spec.piece_recoded form (piece_of piece.now))) }
 {
     match piece.v {
-        RawChunk::Normal(text) => text_recoded(alloc, text),
+        RawChunk::Normal(text) => text_recoded(alloc, form, text),
         RawChunk::Abbreviation(name) => String::from_str(alloc, name),
     }
 }
 
 // Returns the new texts of pieces.
-fn new_texts(alloc: Global, pieces: &[Spanned<RawChunk<'_>>]) -> Result<Vec<String>, AllocError>
-    ensures { IfOk result (λ texts. map string_bytes texts.items ≡ new_texts (map piece_of pieces.now)) }
+fn new_texts(
+    alloc: Global,
+    form: Form,
+    pieces: &[Spanned<RawChunk<'_>>],
+) -> Result<Vec<String>, AllocError>
+    ensures { IfOk result (λ texts. map string_bytes texts.items ≡ new_texts form (map piece_of pieces.now)) }
 {
     let mut texts = Vec::with_capacity(alloc, pieces.len())?;
     'pieces: for piece in pieces {
-        texts.push(new_text(alloc, piece)?)?;
+        texts.push(new_text(alloc, form, piece)?)?;
     }
     Ok(texts)
 }
@@ -94,16 +129,6 @@ fn with_text<'n>(piece: &Spanned<RawChunk<'_>>, text: &'n str) -> Spanned<RawChu
     }
 }
 
-// Returns whether a piece has another text than this.
-fn differs(piece: &Spanned<RawChunk<'_>>, text: &str) -> bool
-    ensures { text.now ≡ text_of_piece (spec.piece_recoded (piece_of piece.now)) → result ≡ spec.changes_piece (piece_of piece.now) }
-{
-    match piece.v {
-        RawChunk::Normal(old) => old != text,
-        RawChunk::Abbreviation(_) => false,
-    }
-}
-
 // Returns the piece at an index.
 fn piece_at<'p, 's>(pieces: &'p [Spanned<RawChunk<'s>>], at: usize) -> &'p Spanned<RawChunk<'s>>
     requires { at < length pieces.now }
@@ -112,20 +137,33 @@ fn piece_at<'p, 's>(pieces: &'p [Spanned<RawChunk<'s>>], at: usize) -> &'p Spann
     &pieces[at]
 }
 
-// Returns whether a piece has another text than the new one.
-fn any_differs(pieces: &[Spanned<RawChunk<'_>>], texts: &[String]) -> bool
-    requires { map string_bytes texts.now ≡ new_texts (map piece_of pieces.now) }
-    ensures { result ≡ list_any spec.changes_piece (map piece_of pieces.now) }
+// Returns whether the text of a piece changes.
+fn changes(alloc: Global, form: Form, piece: &Spanned<RawChunk<'_>>) -> Result<bool, AllocError>
+    ensures { IfOk result (λ b. b ≡ spec.changes_piece form (piece_of piece.now)) }
 {
-    let mut at = 0usize;
-    'pieces: while at < pieces.len() {
-        let piece = piece_at(pieces, at);
-        if differs(piece, &texts[at]) {
-            return true;
+    match piece.v {
+        RawChunk::Normal(old) => {
+            let new = text_recoded(alloc, form, old)?;
+            Ok(new.as_str() != old)
         }
-        at += 1;
+        RawChunk::Abbreviation(_) => Ok(false),
     }
-    false
+}
+
+// Returns whether the text of any of the pieces changes.
+fn any_changes(
+    alloc: Global,
+    form: Form,
+    pieces: &[Spanned<RawChunk<'_>>],
+) -> Result<bool, AllocError>
+    ensures { IfOk result (λ b. b ≡ list_any (spec.changes_piece form) (map piece_of pieces.now)) }
+{
+    'pieces: for piece in pieces {
+        if changes(alloc, form, piece)? {
+            return Ok(true);
+        }
+    }
+    Ok(false)
 }
 
 // Returns pieces with new texts.
@@ -134,8 +172,9 @@ fn new_pieces<'n>(
     pieces: &[Spanned<RawChunk<'_>>],
     texts: &'n [String],
 ) -> Result<Vec<Spanned<RawChunk<'n>>>, AllocError>
-    requires { map string_bytes texts.now ≡ new_texts (map piece_of pieces.now) }
-    ensures { IfOk result (λ new. map piece_of new.items ≡ map spec.piece_recoded (map piece_of pieces.now)) }
+    requires { length texts.now ≡ length pieces.now }
+    ensures { IfOk result (λ new. (form : Form) → map string_bytes texts.now ≡ new_texts form (map piece_of pieces.now) →
+        map piece_of new.items ≡ map (spec.piece_recoded form) (map piece_of pieces.now)) }
 {
     let mut new = Vec::with_capacity(alloc, pieces.len())?;
     let mut at = 0usize;
@@ -161,58 +200,71 @@ fn lent<'p, 's>(
     Ok(lent)
 }
 
-// Returns whether the value of a field may change: whether the field isn't verbatim.
+// Returns whether the value of a field with a name lists keys: of entries, or of subjects.
+fn lists_keys(name: &str) -> bool
+    ensures { result ≡ spec.lists_keys name.now }
+{
+    is_reference_field(name)
+        || name.eq_ignore_ascii_case("ids")
+        || name.eq_ignore_ascii_case("keywords")
+}
+
+// Returns whether the value of a field may change: verbatim fields and fields with keys stay.
 fn is_recodable(alloc: Global, field: &Pair<'_>) -> Result<bool, AllocError>
     ensures { IfOk result (λ b. b ≡ spec.is_recodable_field (field_of field.now)) }
 {
     let name = field.key.v.to_ascii_lowercase(alloc)?;
-    Ok(!is_verbatim_field(&name))
+    Ok(!is_verbatim_field(&name) && !lists_keys(field.key.v))
 }
 
 // Returns the new bytes of a value with these pieces.
 fn value_text(
     alloc: Global,
+    form: Form,
     text: &str,
     pieces: &[Spanned<RawChunk<'_>>],
-    texts: &[String],
 ) -> Result<String, AllocError>
-    requires cut { AllByRecursion (IsPieceCut text.now) (map piece_of pieces.now) }
-    requires texts { map string_bytes texts.now ≡ new_texts (map piece_of pieces.now) }
-    ensures { IfOk result (λ new. string_bytes new ≡ laid_out text.now (map spec.piece_recoded (map piece_of pieces.now))) }
+    requires { AllByRecursion (IsPieceCut text.now) (map piece_of pieces.now) }
+    ensures { IfOk result (λ new. string_bytes new ≡ laid_out text.now (map (spec.piece_recoded form) (map piece_of pieces.now))) }
 {
-    let new = new_pieces(alloc, pieces, texts)?;
+    let texts = new_texts(alloc, form, pieces)?;
+    let new = new_pieces(alloc, pieces, &texts)?;
     let lent = lent(alloc, &new)?;
     laid_out(alloc, text, &lent)
 }
 
 // Returns the new bytes of a value, if they change.
-fn new_value(alloc: Global, text: &str, field: &Pair<'_>) -> Result<Option<String>, AllocError>
+fn new_value(
+    alloc: Global,
+    form: Form,
+    text: &str,
+    field: &Pair<'_>,
+) -> Result<Option<String>, AllocError>
     requires { AllByRecursion (IsPieceCut text.now) (elements (field_of field.now)) }
-    ensures { IfOk result (λ new. option_map string_bytes new ≡ option_map (λ n. n.bytes) (spec.recoding text.now (field_of field.now))) }
+    ensures { IfOk result (λ new. option_map string_bytes new ≡
+        option_map (λ n. n.bytes) (spec.recoding form text.now (field_of field.now))) }
 {
-    if !is_recodable(alloc, field)? {
-        return Ok(None);
-    }
     let pieces = &field.value.v;
-    let texts = new_texts(alloc, pieces)?;
-    if !any_differs(pieces, &texts) {
-        return Ok(None);
+    if is_recodable(alloc, field)? && any_changes(alloc, form, pieces)? {
+        Ok(Some(value_text(alloc, form, text, pieces)?))
+    } else {
+        Ok(None)
     }
-    Ok(Some(value_text(alloc, text, pieces, &texts)?))
 }
 
 // Appends the edit of a field, if its value changes.
 fn push_edit(
     edits: &mut Vec<Edit>,
     alloc: Global,
+    form: Form,
     text: &str,
     field: &Pair<'_>,
 ) -> Result<(), AllocError>
     requires { IsFieldCut text.now (field_of field.now) }
     ensures { OnOk result (map edit_of edits.new.items ≡ map edit_of edits.old.items ++
-        value_edits text.now (field_of field.now) (spec.recoding text.now (field_of field.now))) }
+        value_edits text.now (field_of field.now) (spec.recoding form text.now (field_of field.now))) }
 {
-    let Some(new) = new_value(alloc, text, field)? else {
+    let Some(new) = new_value(alloc, form, text, field)? else {
         return Ok(());
     };
     edits.push(Edit {
@@ -227,15 +279,16 @@ fn push_edit(
 fn push_edits(
     edits: &mut Vec<Edit>,
     alloc: Global,
+    form: Form,
     text: &str,
     fields: &[Pair<'_>],
 ) -> Result<(), AllocError>
     requires { AllByRecursion (IsFieldCut text.now) (map field_of fields.now) }
     ensures { OnOk result (map edit_of edits.new.items ≡ map edit_of edits.old.items ++
-        field_edits (spec.recoding text.now) text.now (map field_of fields.now)) }
+        field_edits (spec.recoding form text.now) text.now (map field_of fields.now)) }
 {
     'fields: for field in fields {
-        push_edit(edits, alloc, text, field)?;
+        push_edit(edits, alloc, form, text, field)?;
     }
     Ok(())
 }
@@ -243,24 +296,26 @@ fn push_edits(
 // Returns the edits of entries.
 fn edits(
     alloc: Global,
+    form: Form,
     text: &str,
     entries: &[Spanned<RawEntry<'_>>],
 ) -> Result<Vec<Edit>, AllocError>
     requires { AreAllFieldsCut text.now (map entry_reading_of entries.now) }
-    ensures { IfOk result (λ edits. map edit_of edits.items ≡ entry_edits (spec.recoding text.now) text.now (map entry_reading_of entries.now)) }
+    ensures { IfOk result (λ edits. map edit_of edits.items ≡
+        entry_edits (spec.recoding form text.now) text.now (map entry_reading_of entries.now)) }
 {
     let mut edits = Vec::new(alloc);
     'entries: for entry in entries {
-        push_edits(&mut edits, alloc, text, &entry.v.fields)?;
+        push_edits(&mut edits, alloc, form, text, &entry.v.fields)?;
     }
     Ok(edits)
 }
 
-/// Returns the text of `document` with the LaTeX commands for accents and letters in the values of its entries as characters. The only
-/// error is out of memory.
-pub fn recode(alloc: Global, document: &RawDocument<'_>) -> Result<String, AllocError>
-    ensures { IfOk result (λ new. IsRecoded document.now (string_bytes new)) }
+/// Returns the text of `document`, in whose entries accents and letters beyond ASCII are written in the form `form`: LaTeX commands become
+/// characters, or characters become LaTeX commands. The only error is out of memory.
+pub fn recode(alloc: Global, document: &RawDocument<'_>, form: Form) -> Result<String, AllocError>
+    ensures { IfOk result (λ new. IsRecoded form document.now (string_bytes new)) }
 {
-    let edits = edits(alloc, document.text(), &document.raw().entries)?;
+    let edits = edits(alloc, form, document.text(), &document.raw().entries)?;
     edited_all(alloc, document.text(), &edits)
 }

@@ -4,8 +4,9 @@ ghost use Rattle.std.specs.Prelude.{◌≡◌, ◌+◌, ◌<◌, ◌≤◌, ◌^
 ghost use Rattle.std.specs.Str.{chars};
 ghost use Rattle.edit_accents.specs.Accents as spec;
 ghost use Rattle.edit_accents.specs.Balance.{open_count};
-ghost use Rattle.edit_accents.specs.declared.signs.Stretch.TheVariants.{Text, Address};
+ghost use Rattle.edit_accents.specs.declared.signs.Stretch.TheVariants.{Text, Accent, Address};
 
+use crate::commands::is_accent_sign;
 use std::alloc::{AllocError, Global};
 
 /// A sign of a text.
@@ -28,15 +29,17 @@ pub enum Sign {
 /// A stretch of a text.
 #[derive(Debug, Clone, Copy, PartialEq, Eq)]
 pub enum Stretch {
-    /// Commands become characters.
+    /// Text.
     Text,
+    /// Text after the name of an accent, before its argument.
+    Accent,
     /// Math.
     Math,
-    /// The address that is an argument of a command, with the number of open braces.
+    /// The address or the key that is an argument of a command, with the number of open braces.
     Address(usize),
 }
 
-// Returns whether a text begins with a command whose first argument is an address, without its backslash.
+// Returns whether the text after a backslash begins with the name of a command whose first argument is an address or a key.
 fn begins_address(text: &[char]) -> bool
     ensures { result ≡ spec.begins_address text.now }
 {
@@ -44,6 +47,11 @@ fn begins_address(text: &[char]) -> bool
         || text.starts_with(&['h', 'r', 'e', 'f', '{'])
         || text.starts_with(&['p', 'a', 't', 'h', '{'])
         || text.starts_with(&['n', 'o', 'l', 'i', 'n', 'k', 'u', 'r', 'l', '{'])
+        || text.starts_with(&['c', 'i', 't', 'e', '{'])
+        || text.starts_with(&['c', 'i', 't', 'e', 'p', '{'])
+        || text.starts_with(&['c', 'i', 't', 'e', 't', '{'])
+        || text.starts_with(&['r', 'e', 'f', '{'])
+        || text.starts_with(&['l', 'a', 'b', 'e', 'l', '{'])
 }
 
 // Returns the sign of a character that no backslash escapes.
@@ -56,13 +64,30 @@ fn sign_of(stretch: Stretch, c: char) -> Sign
     if c == '}' {
         return Sign::Closing;
     }
-    if c == '\\' && matches!(stretch, Stretch::Text) {
+    if c == '\\' && matches!(stretch, Stretch::Text | Stretch::Accent) {
         return Sign::Command;
     }
     Sign::Plain(c)
 }
 
-// Returns the stretch after a closing brace in an address with so many open braces.
+// Returns whether a text begins with a letter.
+fn begins_letter(text: &[char]) -> bool
+    ensures { result ≡ spec.begins_letter text.now }
+{
+    matches!(text, [c, ..] if c.is_ascii_alphabetic())
+}
+
+// Returns whether the text after a backslash begins with the name of an accent.
+fn begins_accent(text: &[char]) -> bool
+    ensures { result ≡ spec.begins_accent text.now }
+{
+    match text {
+        [c, ..] => is_accent_sign(*c) && !(c.is_ascii_alphabetic() && begins_letter(&text[1..])),
+        [] => false,
+    }
+}
+
+// Returns the stretch after a closing brace in an address or a key with `depth` open braces.
 fn address_closed(depth: usize) -> Stretch
     ensures closed { result ≡ spec.address_closed depth }
     ensures count { open_count result ≤ depth }
@@ -75,8 +100,8 @@ fn address_closed(depth: usize) -> Stretch
 }
 
 // Returns the stretch after a character of text.
-fn after_text(c: char, rest: &[char]) -> Stretch
-    ensures after { result ≡ spec.stretch_after Text c rest.now }
+fn stretch_after_text(c: char, rest: &[char]) -> Stretch
+    ensures after { result ≡ spec.stretch_after_text c rest.now }
     ensures count { open_count result ≡ 0 }
 {
     if c == '$' {
@@ -85,10 +110,25 @@ fn after_text(c: char, rest: &[char]) -> Stretch
     if c == '\\' && begins_address(rest) {
         return Stretch::Address(0);
     }
+    if c == '\\' && begins_accent(rest) {
+        return Stretch::Accent;
+    }
     Stretch::Text
 }
 
-// Returns the stretch after a character of an address with so many open braces.
+// Returns the stretch after a character between the name of an accent and its argument, or after the argument.
+fn stretch_after_accent(c: char, rest: &[char]) -> Stretch
+    ensures after { result ≡ spec.stretch_after Accent c rest.now }
+    ensures count { open_count result ≡ 0 }
+{
+    if c == '{' || c.is_whitespace() {
+        Stretch::Accent
+    } else {
+        stretch_after_text(c, rest)
+    }
+}
+
+// Returns the stretch after a character of an address or a key with `depth` open braces.
 fn after_address(depth: usize, c: char) -> Stretch
     requires { depth < 2 ^ 63 }
     ensures after { (rest : List ℕ) → result ≡ spec.stretch_after (Address depth) c rest }
@@ -103,22 +143,23 @@ fn after_address(depth: usize, c: char) -> Stretch
     Stretch::Address(depth)
 }
 
-// Returns the stretch after a character that no backslash escapes.
-fn stretch_after(stretch: Stretch, c: char, rest: &[char]) -> Stretch
+/// Returns the stretch after a character that no backslash escapes.
+pub(crate) fn stretch_after(stretch: Stretch, c: char, rest: &[char]) -> Stretch
     requires { open_count stretch < 2 ^ 63 }
     ensures after { result ≡ spec.stretch_after stretch c rest.now }
     ensures count { open_count result ≤ open_count stretch + 1 }
 {
     match stretch {
-        Stretch::Text => after_text(c, rest),
+        Stretch::Text => stretch_after_text(c, rest),
+        Stretch::Accent => stretch_after_accent(c, rest),
         Stretch::Math if c == '$' => Stretch::Text,
         Stretch::Math => Stretch::Math,
         Stretch::Address(depth) => after_address(depth, c),
     }
 }
 
-// Returns the characters of a text.
-fn characters(alloc: Global, text: &str) -> Result<Vec<char>, AllocError>
+/// Returns the characters of a text. The only error is out of memory.
+pub(crate) fn characters(alloc: Global, text: &str) -> Result<Vec<char>, AllocError>
     ensures { IfOk result (λ cs. cs.items ≡ chars text.now) }
 {
     let mut cs = Vec::with_capacity(alloc, text.len())?;

@@ -87,8 +87,8 @@ impl<'s> RawDocument<'s> {
     }
 
     /// Returns whether a field of an entry or the definition of an abbreviation contains a text in quotes whose braces aren't balanced, as
-    /// in `"The {"}Big{"} one"`. BibTeX, Biber and bibtool end such a text at the first quote outside of braces, this library at the
-    /// first quote. So they read it and what follows it in another way, and an edit can break it.
+    /// in `"The {"}Big{"} one"`. BibTeX and Biber end such a text at the first quote outside of braces; this library and bibtool end it
+    /// at the first quote that no backslash escapes. So the text, and what follows it, depend on the program, and an edit can break it.
     pub fn has_unbalanced_quotes(&self) -> bool
         ensures { result ≡ quotes.has_unbalanced_quotes self.now }
     {

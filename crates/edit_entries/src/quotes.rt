@@ -1,4 +1,4 @@
-//! Texts in quotes whose braces aren't balanced: BibTeX, Biber and bibtool end them elsewhere.
+//! Texts in quotes whose braces aren't balanced: BibTeX and Biber end them elsewhere than this library.
 
 ghost use Rattle.std.specs.Prelude.{◌≡◌, map};
 ghost use Rattle.std.specs.List.{list_any};
@@ -10,8 +10,8 @@ use crate::removing::has_byte;
 use bib_syntax::raw::{Pair, RawChunk, RawEntry};
 use bib_text::spanned::Spanned;
 
-/// Returns whether a piece of a text is in quotes, and its braces aren't balanced: BibTeX, Biber and bibtool, which end a text in quotes at
-/// the first quote outside of braces, end it elsewhere.
+/// Returns whether a piece of a text is in quotes, and its braces aren't balanced: BibTeX and Biber, which end a text in quotes at the first
+/// quote outside of braces, end it elsewhere.
 pub fn is_unbalanced_quote(text: &str, piece: &Spanned<RawChunk<'_>>) -> bool
     ensures { result ≡ spec.is_unbalanced_quote text.now (piece_of piece.now) }
 {

@@ -112,7 +112,7 @@ static ENCODINGS: [&str; 6] = [
 static LINE_ENDS: [&str; 2] = ["lf", "crlf"];
 
 // The values of `--accents`.
-static ACCENTS: [&str; 1] = ["characters"];
+static ACCENTS: [&str; 2] = ["characters", "commands"];
 
 // The values of `--indent`.
 static INDENTS: [&str; 9] = ["0", "1", "2", "3", "4", "5", "6", "7", "8"];

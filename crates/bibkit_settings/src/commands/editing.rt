@@ -175,7 +175,7 @@ const RECODE: [Argument; 6] = [
     Argument {
         name: "accents",
         takes: Takes::Accents,
-        help: "Write LaTeX commands for accents and letters as characters [default: keep them]",
+        help: "Write accents and letters as characters, or as LaTeX commands [default: keep them]",
     },
     FILE,
     WRITE,
@@ -239,6 +239,7 @@ A file that isn't UTF-8 and has no byte order mark requires --from. utf-16 is li
 Examples:
   bibkit recode --from windows-1252 --line-ends lf --file refs.bib --write
   bibkit recode --accents characters --file refs.bib
+  bibkit recode --accents commands --file refs.bib >ascii.bib
 
 Status: 0 done, 1 the file isn't in this encoding or --accents finds an error in it, 2 no encoding or wrong usage, or a file or the output failed, 3 out of memory";
 

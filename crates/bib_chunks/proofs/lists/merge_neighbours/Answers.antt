@@ -1,4 +1,5 @@
-use Rattle.std.proofs.Common.{◌++◌, ◌∙◌, sym, ap, take}
+use Rattle.std.proofs.lemmas.Grind.{common_steps}
+use Rattle.std.proofs.Common.{◌++◌, ◌∙◌, sym, ap, take, arith}
 use Rattle.bib_chunks.specs.Styled.{styled, atoms_of}
 use Rattle.bib_chunks.proofs.ListFacts.{joined_more, joined_shown, joined_hidden}
 use Rattle.bib_chunks.proofs.lists.merge_neighbours.Goals as goal
@@ -19,3 +20,6 @@ chunks-preserved c =
           (w.all-is ∙ c.chunks.invariant
           ∙ joined_hidden so_far c.chunk-item.result.v (sym c.is_shown.ensures.value ∙ w.if-is_shown.false))
     ]
+
+pub returns : goal.returns
+returns c = grind (arith, common_steps)

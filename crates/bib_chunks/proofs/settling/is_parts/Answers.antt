@@ -1,3 +1,4 @@
+use Rattle.std.proofs.lemmas.Grind.{common_steps}
 use Rattle.std.proofs.Common.{◌∙◌, refl, arith, subst, length}
 use Rattle.bib_chunks.proofs.BraceFacts.{closes_plain, closes_hidden, closes_slash_end, closes_open, closes_close, closes_close_none, closes_end, end_is, is_plain_from, iff_trans, iff_cases, Closes}
 use Rattle.bib_text.proofs.TextFacts.{less_after}
@@ -61,3 +62,15 @@ returns c =
     iff_cases _ c.parts.invariant.2
     (closes_end c.parts.depth _ c.in_default.ensures.0
     (end_is c.args.text.now c.parts.invariant.0 c.in_default.ensures.0))
+
+pub parts-smaller-in-Some-eat-2 : goal.parts-smaller-in-Some-eat-2
+parts-smaller-in-Some-eat-2 c = grind (arith, common_steps)
+
+pub parts-smaller-then-c-eq123 : goal.parts-smaller-then-c-eq123
+parts-smaller-then-c-eq123 c = grind (arith, common_steps)
+
+pub parts-smaller-then-c-eq125 : goal.parts-smaller-then-c-eq125
+parts-smaller-then-c-eq125 c = grind (arith, common_steps)
+
+pub overflow_add-depth : goal.overflow_add-depth
+overflow_add-depth c = grind (arith, common_steps)

@@ -1,3 +1,4 @@
+use Rattle.std.proofs.lemmas.Grind.{common_steps}
 use Rattle.std.proofs.Common.{◌≡◌, false, length, replicate, sym, ap, ◌∙◌, subst, rules, arith, ⊎_elim}
 use Rattle.std.proofs.lemmas.Bool.{false≢true}
 use Rattle.std.proofs.lemmas.List.{with_items_is, get_or_default}
@@ -28,3 +29,6 @@ returns c =
           (spread.only start (at ∙ yes)),
       λ leads. sym at ∙ marked_on_cycle (rows refs) start (replicate (length refs) false) c.spread.new.marks spread leads,
     )
+
+pub spread-requires-clause-closed : goal.spread-requires-clause-closed
+spread-requires-clause-closed c = grind (arith, common_steps)

@@ -1,3 +1,4 @@
+use Rattle.std.proofs.lemmas.Grind.{common_steps}
 use Rattle.std.proofs.Common.{◌≡◌, ℕ, List, Bool, Some, length, ap, ◌∙◌, sym, subst, arith}
 use Rattle.std.proofs.lemmas.List.{with_items_is}
 use Rattle.bib_collections.specs.Graph.{Graph}
@@ -33,3 +34,12 @@ loop-index-preserved c =
           })
       | else-eq w ↦ rw (ap (λ v. v.items) w.marks-is) c.loop-index.invariant
     ]
+
+pub loop-index-init : goal.loop-index-init
+loop-index-init c = grind (arith, common_steps)
+
+pub spread-requires-clause-start : goal.spread-requires-clause-start
+spread-requires-clause-start c = grind (arith, common_steps)
+
+pub spread-requires-clause-marks : goal.spread-requires-clause-marks
+spread-requires-clause-marks c = grind (arith, common_steps)

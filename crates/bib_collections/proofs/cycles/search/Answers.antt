@@ -1,3 +1,4 @@
+use Rattle.std.proofs.lemmas.Grind.{common_steps}
 use Rattle.std.proofs.Common.{◌≡◌, ◌<◌, ◌⊎◌, ℕ, true, false, length, set, sym, ap, ◌∙◌, subst, arith, Some, length-set}
 use Rattle.std.specs.List.{All, Contains}
 use Rattle.std.proofs.lemmas.List.{with_items_is, get_or_default}
@@ -69,3 +70,9 @@ loop-root-preserved c =
           roots_set (rows refs) root c.in_ok-reached.reached.items c.loop-root.roots.items roots
           c.in_ok-reached.ensures.reached sets c.loop-root.invariant.roots;
     })
+
+pub loop-root-init : goal.loop-root-init
+loop-root-init c = grind (arith, common_steps)
+
+pub loop-root-preserved-then-index : goal.loop-root-preserved-then-index
+loop-root-preserved-then-index c = grind (arith, common_steps)

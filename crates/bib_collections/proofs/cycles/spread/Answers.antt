@@ -1,3 +1,4 @@
+use Rattle.std.proofs.lemmas.Grind.{common_steps}
 use Rattle.std.proofs.Common.{◌≡◌, ◌<◌, ℕ, true, length, get_or, sym, ap, ◌∙◌, subst, arith, rules, Some}
 use Rattle.std.specs.List.{All}
 use Rattle.std.proofs.lemmas.List.Elements.{All-pop, All-push, All-from_get_or}
@@ -124,3 +125,6 @@ loop-r-preserved c =
         reached = rw (ap (λ v. v.items) w.reached-is) c.loop-r.invariant.reached;
       }
     ]
+
+pub loop-index-init : goal.loop-index-init
+loop-index-init c = grind (arith, common_steps)

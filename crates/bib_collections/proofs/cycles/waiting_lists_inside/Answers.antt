@@ -1,3 +1,4 @@
+use Rattle.std.proofs.lemmas.Grind.{common_steps}
 use Rattle.std.proofs.Common.{ℕ, List, ◌≡◌, ◌<◌, [], get_or, length, arith, ap, sym, ◌∙◌, subst, rules}
 use Rattle.std.proofs.lemmas.List.{map-set, length-replicate}
 use Rattle.std.specs.declared.alloc.Global.{Global}
@@ -81,3 +82,6 @@ loop-entry-init c =
 
 pub returns : goal.returns
 returns c = inside_all (rows c.args.refs.now) c.args.roots.now (rows c.loop-entry.inside.items) c.loop-entry.invariant
+
+pub loop-index-preserved : goal.loop-index-preserved
+loop-index-preserved c = grind (arith, common_steps)

@@ -1,3 +1,4 @@
+use Rattle.std.proofs.lemmas.Grind.{common_steps}
 use Rattle.std.proofs.Common.{ap, sym, ◌∙◌, arith}
 use Rattle.std.specs.Prelude.{bytes_eq}
 use Rattle.bib_collections.proofs.LookingFacts.{found, passed}
@@ -15,3 +16,6 @@ pairs-preserved g c =
     c.pairs.invariant
     ∙ passed _ c.args.pairs.now c.pairs.pair-index _ (omega arith) c.pair-item.is
     (ap (bytes_eq c.args.name.now) (sym c.as_str.ensures) ∙ sym c.eq.ensures ∙ c.if-eq.false)
+
+pub returns : goal.returns
+returns c = grind (arith, common_steps)

@@ -1,3 +1,4 @@
+use Rattle.std.proofs.lemmas.Grind.{common_steps}
 use Rattle.std.proofs.Common.{◌≡◌, ◌≢◌, ◌<◌, ◌-◌, ℕ, get_or, length, arith, inl, inr, ap, ◌∙◌, List, [], ◌∷◌, ◌++◌, ◌⊎◌, get_or-set_same}
 use Rattle.std.proofs.lemmas.List.{get_or_default}
 use Rattle.std.proofs.lemmas.List.Elements.{All-get_or}
@@ -46,3 +47,6 @@ loop-w-preserved c =
           let h = w1.if-missing-w-eq0.false in
           rw same (step c.if-missing-w-eq0.ready.items (inr (λ e. h (omega (arith, e, after, same)), ap (λ v. v.items) w1.ready-is)))
     ]
+
+pub returns-clause-missing : goal.returns-clause-missing
+returns-clause-missing c = grind (arith, common_steps)

@@ -1,3 +1,4 @@
+use Rattle.std.proofs.lemmas.Grind.{common_steps}
 use Rattle.std.proofs.Common.{ℕ, ◌≡◌, ◌<◌, ◌++◌, ◌∷◌, [], cond, eqb, length, arith, ap, sym, ◌∙◌, subst}
 use Rattle.std.proofs.lemmas.List.{nil_from_length, get_or_default, with_items_is}
 use Rattle.bib_collections.specs.Graph.{refs_of}
@@ -111,3 +112,12 @@ returns-clause-no_cycle c =
     (whole_order (rows refs) c.loop-index.order.items c.loop-index.missing.items
     (subst (IsWork (rows refs) c.loop-index.order.items c.loop-index.missing.items) empty c.loop-index.invariant)
     (λ p h. c.loop-index-2.invariant p (omega (arith, h, length-rows refs))))
+
+pub loop-index-2-preserved : goal.loop-index-2-preserved
+loop-index-2-preserved c = grind (arith, common_steps)
+
+pub loop-index-smaller : goal.loop-index-smaller
+loop-index-smaller c = grind (arith, common_steps)
+
+pub first_on_cycle-requires-clause-as_long : goal.first_on_cycle-requires-clause-as_long
+first_on_cycle-requires-clause-as_long c = grind (arith, common_steps)

@@ -1,4 +1,5 @@
-use Rattle.std.proofs.Common.{◌≡◌, ◌∙◌, ◌++◌, ◌+◌, ◌∷◌, [], ap, rules, subst, sym, take}
+use Rattle.std.proofs.lemmas.Grind.{common_steps}
+use Rattle.std.proofs.Common.{◌≡◌, ◌∙◌, ◌++◌, ◌+◌, ◌∷◌, [], ap, rules, subst, sym, take, arith}
 use Rattle.std.specs.Prelude.{string_bytes}
 use Rattle.std.specs.BTreeMap.{get_by_text}
 use Rattle.bib_keys.specs.Keys.{AreKeys}
@@ -31,3 +32,6 @@ entries-preserved c =
           c.entries.invariant.keys c.entries-test.true c.entry-item.is c.in_ok-text.ensures
           (is_first old new keys text key c.entries.invariant.taken c.in_ok-take_key.ensures));
     }
+
+pub returns : goal.returns
+returns c = grind (arith, common_steps)

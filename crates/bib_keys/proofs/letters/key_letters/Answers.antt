@@ -1,4 +1,5 @@
-use Rattle.std.proofs.Common.{ap, sym, ◌∙◌}
+use Rattle.std.proofs.lemmas.Grind.{common_steps}
+use Rattle.std.proofs.Common.{ap, sym, ◌∙◌, arith}
 use Rattle.std.specs.Prelude.{chars}
 use Rattle.std.specs.List.{flat_map}
 use Rattle.std.proofs.lemmas.List.{map-id}
@@ -20,3 +21,6 @@ returns c =
     ∙ ap (flat_map key_letter)
     (sym (map-id c.chars.yielded) ∙ all.0
     ∙ encodes_same (chars decomposed) form (encodes-chars decomposed c.deref.utf8 ∙ c.deref.ensures ∙ c.in_ok-decomposed.ensures))
+
+pub chars-preserved : goal.chars-preserved
+chars-preserved c = grind (arith, common_steps)

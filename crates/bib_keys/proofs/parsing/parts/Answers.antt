@@ -1,4 +1,5 @@
-use Rattle.std.proofs.Common.{◌∙◌, length, rules, subst, sym}
+use Rattle.std.proofs.lemmas.Grind.{common_steps}
+use Rattle.std.proofs.Common.{◌∙◌, length, rules, subst, sym, arith}
 use Rattle.bib_keys.specs.Patterns.{IsPatternError}
 use Rattle.bib_keys.proofs.PatternFacts.{IsReadTo, not_empty, read_more, read_no_more, read_none}
 use Rattle.bib_keys.proofs.parsing.parts.Goals as goal
@@ -21,3 +22,12 @@ parts-preserved c =
           split
           (not_empty (length c.parts.rest.now) (sym c.is_empty.ensures ∙ c.parts-test.true))),
     )
+
+pub returns-clause-found : goal.returns-clause-found
+returns-clause-found c = grind (arith, common_steps)
+
+pub parts-smaller : goal.parts-smaller
+parts-smaller c = grind (arith, common_steps)
+
+pub overflow_sub-text : goal.overflow_sub-text
+overflow_sub-text c = grind (arith, common_steps)

@@ -1,4 +1,5 @@
-use Rattle.std.proofs.Common.{◌∙◌, ap, lit<, take, sym}
+use Rattle.std.proofs.lemmas.Grind.{common_steps}
+use Rattle.std.proofs.Common.{◌∙◌, ap, lit<, take, sym, arith}
 use Rattle.std.specs.Prelude.{◌==◌}
 use Rattle.std.specs.List.{filter, slice_split}
 use Rattle.std.proofs.lemmas.Iterator.Consumers.{YieldsList-end}
@@ -26,3 +27,6 @@ returns c =
     (c.words.invariant
     ∙ ap (filter is_significant)
     (all.0 ∙ ap (slice_split (λ b. b == 32)) (c.deref.ensures ∙ c.in_ok-letters.ensures ∙ ap key_letters title)))
+
+pub words-preserved-in_ok-push : goal.words-preserved-in_ok-push
+words-preserved-in_ok-push c = grind (arith, common_steps)

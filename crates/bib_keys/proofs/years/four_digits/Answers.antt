@@ -1,4 +1,5 @@
-use Rattle.std.proofs.Common.{◌≡◌, ◌∙◌, ◌<◌, ap, drop, sym, subst, take, true, length}
+use Rattle.std.proofs.lemmas.Grind.{common_steps}
+use Rattle.std.proofs.Common.{◌≡◌, ◌∙◌, ◌<◌, ap, drop, sym, subst, take, true, length, arith}
 use Rattle.std.specs.Prelude.{IsAscii}
 use Rattle.bib_keys.specs.Years.{begins_with_year}
 use Rattle.bib_keys.proofs.YearFacts.{begins_there, four_more, year_ascii, year_ends, year_found, year_skipped}
@@ -33,3 +34,9 @@ starts-preserved c =
     ∙ year_skipped text c.starts.start (subst (λ l. c.starts.start < length l) c.as_bytes-bytes.ensures.value c.starts-test.true)
     (begins_there c.as_bytes-bytes.result.now c.args.text.now c.starts.start _ _ c.as_bytes-bytes.ensures.value
     c.begins_with_year.ensures c.if-begins_with_year.false)
+
+pub returns-clause-digits : goal.returns-clause-digits
+returns-clause-digits c = grind (arith, common_steps)
+
+pub range-requires-clause-start_boundary : goal.range-requires-clause-start_boundary
+range-requires-clause-start_boundary c = grind (arith, common_steps)

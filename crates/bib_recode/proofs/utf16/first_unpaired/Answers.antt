@@ -1,3 +1,4 @@
+use Rattle.std.proofs.lemmas.Grind.{common_steps}
 use Rattle.std.proofs.Common.{◌≡◌, ◌+◌, ◌∙◌, ap, sym, arith, drop, subst, length, false, ◌≤◌, ◌-◌, take, length-drop}
 use Rattle.std.proofs.lemmas.List.{take_all}
 use Rattle.std.specs.Char.Utf16.{has_unpaired_surrogate}
@@ -23,3 +24,9 @@ units-preserved c =
       before = subst (λ k. has_unpaired_surrogate (take (at + k) units) ≡ false) (sym next)
           (next_complete units at c.units-test.true c.units.invariant.before plain);
     }
+
+pub returns : goal.returns
+returns c = grind (arith, common_steps)
+
+pub returns-then-begins_unpaired : goal.returns-then-begins_unpaired
+returns-then-begins_unpaired c = grind (arith, common_steps)

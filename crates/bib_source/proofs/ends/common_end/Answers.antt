@@ -1,3 +1,4 @@
+use Rattle.std.proofs.lemmas.Grind.{common_steps}
 use Rattle.std.proofs.Common.{◌≡◌, ◌∷◌, ◌-◌, ◌+◌, length, drop, take, get_or, sym, ◌∙◌, ap, ap₂, subst, arith}
 use Rattle.bib_source.specs.Comparison.{EndDifferently, line_texts}
 use Rattle.bib_source.proofs.ComparisonFacts.{no_line}
@@ -31,3 +32,9 @@ lines-preserved c =
     ∙ ap₂ (λ l ls. l ∷ ls) same
     (ap (λ n. line_texts (drop n old)) i-next ∙ c.lines.invariant ∙ ap (λ n. line_texts (drop n new)) (sym j-next))
     ∙ sym (texts_from new j (omega arith)) ∙ ap (λ n. line_texts (drop n new)) (sym j-is)
+
+pub returns-clause-longest : goal.returns-clause-longest
+returns-clause-longest c = grind (arith, common_steps)
+
+pub lines-init : goal.lines-init
+lines-init c = grind (arith, common_steps)

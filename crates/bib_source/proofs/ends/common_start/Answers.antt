@@ -1,3 +1,4 @@
+use Rattle.std.proofs.lemmas.Grind.{common_steps}
 use Rattle.std.proofs.Common.{◌≡◌, ◌++◌, ◌∷◌, [], get_or, sym, ◌∙◌, ap₂, arith}
 use Rattle.bib_source.proofs.ComparisonFacts.{no_line, texts_more}
 use Rattle.bib_source.proofs.EndFacts.{begin_differently, lines_differ, lines_same}
@@ -16,3 +17,6 @@ lines-preserved c =
     lines_same _ _ c.ne.result c.ne.ensures c.if-ne.false in
     texts_more old c.lines.index (omega arith)
     ∙ ap₂ (λ ls l. ls ++ l ∷ []) c.lines.invariant same ∙ sym (texts_more new c.lines.index (omega arith))
+
+pub returns-clause-longest : goal.returns-clause-longest
+returns-clause-longest c = grind (arith, common_steps)

@@ -1,4 +1,5 @@
-use Rattle.std.proofs.Common.{◌++◌, [], codes, cond, sym, ap, ◌∙◌, append_assoc}
+use Rattle.std.proofs.lemmas.Grind.{common_steps}
+use Rattle.std.proofs.Common.{◌++◌, [], codes, cond, sym, ap, ◌∙◌, append_assoc, arith}
 use Rattle.std.specs.String.{string_bytes}
 use Rattle.std.proofs.lemmas.Str.Pattern.{ends_text}
 use Rattle.bib_source.proofs.unified.push_line_after.Goals as goal
@@ -14,3 +15,6 @@ returns-in_ok-push_str-3 c =
     ∙ append_assoc (old ++ sign) line note ∙ append_assoc old sign (line ++ note)
     ∙ ap (λ b. old ++ (sign ++ (line ++ cond b [] note)))
     (sym (sym (ends_text c.ends_with.result (codes "\n") line c.ends_with.ensures.cases) ∙ c.if-not-ends_with.true))
+
+pub returns-else-not-ends_with : goal.returns-else-not-ends_with
+returns-else-not-ends_with c = grind (arith, common_steps)

@@ -5,4 +5,4 @@ use Rattle.edit_accents.specs.Pieces.{new_texts}
 use Rattle.edit_accents.proofs.recoding.new_texts.Given as goal
 
 abbrev pub invariant-pieces : goal.invariant-pieces
-invariant-pieces l = map string_bytes l.texts.items ≡ new_texts (map piece_of (take l.piece-index l.pieces))
+invariant-pieces l = map string_bytes l.texts.items ≡ new_texts l.form (map piece_of (take l.piece-index l.pieces))

@@ -25,23 +25,23 @@ edited_all-requires c =
     let d : Document = c.args.document.now in
     let entries : map entry_reading_of c.deref.result.now ≡ d.says.entries =
     ap (map entry_reading_of) c.deref.ensures.value ∙ ap (λ f. f.entries) c.raw.ensures.says in
-    let edits : map edit_of c.deref-2.result.now ≡ entry_edits (recoding d.text) d.text d.says.entries =
+    let edits : map edit_of c.deref-2.result.now ≡ entry_edits (recoding c.args.form d.text) d.text d.says.entries =
     ap (map edit_of) c.deref-2.ensures.value ∙ c.in_ok-edits.ensures
-    ∙ ap (λ t. entry_edits (recoding t) t (map entry_reading_of c.deref.result.now)) c.text.ensures
-    ∙ ap (entry_edits (recoding d.text) d.text) entries in
+    ∙ ap (λ t. entry_edits (recoding c.args.form t) t (map entry_reading_of c.deref.result.now)) c.text.ensures
+    ∙ ap (entry_edits (recoding c.args.form d.text) d.text) entries in
     subst (λ t. AreEditsInOrder t 0 (map edit_of c.deref-2.result.now)) (sym c.text-2.ensures)
-    (subst (AreEditsInOrder d.text 0) (sym edits) (in_order d c.raw.ensures.read (subst IsUtf8 c.text.ensures c.text.utf8)))
+    (subst (AreEditsInOrder d.text 0) (sym edits) (in_order c.args.form d c.raw.ensures.read (subst IsUtf8 c.text.ensures c.text.utf8)))
 
 pub returns : goal.returns
 returns c =
     let d : Document = c.args.document.now in
     let entries : map entry_reading_of c.deref.result.now ≡ d.says.entries =
     ap (map entry_reading_of) c.deref.ensures.value ∙ ap (λ f. f.entries) c.raw.ensures.says in
-    let edits : map edit_of c.deref-2.result.now ≡ entry_edits (recoding d.text) d.text d.says.entries =
+    let edits : map edit_of c.deref-2.result.now ≡ entry_edits (recoding c.args.form d.text) d.text d.says.entries =
     ap (map edit_of) c.deref-2.ensures.value ∙ c.in_ok-edits.ensures
-    ∙ ap (λ t. entry_edits (recoding t) t (map entry_reading_of c.deref.result.now)) c.text.ensures
-    ∙ ap (entry_edits (recoding d.text) d.text) entries in
-    recoded_answer string_bytes c.edited_all.result d c.raw.ensures.read (subst IsUtf8 c.text.ensures c.text.utf8)
+    ∙ ap (λ t. entry_edits (recoding c.args.form t) t (map entry_reading_of c.deref.result.now)) c.text.ensures
+    ∙ ap (entry_edits (recoding c.args.form d.text) d.text) entries in
+    recoded_answer c.args.form string_bytes c.edited_all.result d c.raw.ensures.read (subst IsUtf8 c.text.ensures c.text.utf8)
     (subst (λ es. IfOk c.edited_all.result (λ new. string_bytes new ≡ edited_all es d.text)) edits
     (subst (λ t. IfOk c.edited_all.result (λ new. string_bytes new ≡ edited_all (map edit_of c.deref-2.result.now) t))
     c.text-2.ensures c.edited_all.ensures))

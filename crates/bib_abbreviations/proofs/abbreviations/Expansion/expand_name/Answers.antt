@@ -1,4 +1,5 @@
-use Rattle.std.proofs.Common.{rules, [], ◌∷◌, ◌++◌, ◌≡◌, ◌∙◌, ap, length}
+use Rattle.std.proofs.lemmas.Grind.{common_steps}
+use Rattle.std.proofs.Common.{rules, [], ◌∷◌, ◌++◌, ◌≡◌, ◌∙◌, ap, length, arith}
 use Rattle.std.proofs.lemmas.Result.{err_from_is_err_and}
 use Rattle.bib_chunks.specs.Styled.{styled}
 use Rattle.bib_abbreviations.specs.Expanding.{known_to, chunks_between, Expands}
@@ -25,3 +26,27 @@ returns-clause-said c =
     let following : chunks_between c.len-start.result (length c.deref-2.result.now) c.deref-2.result.now ≡ x.more =
     said_after x c.len-start.result c.deref-2.result.now at c.deref-2.ensures.value in
     (styled x.more, x.says, c.in_ok-append_copies-2.ensures.styled ∙ ap (λ cs. styled c.args.out.now ++ styled cs) following)
+
+pub returns-in_default-clause-said : goal.returns-in_default-clause-said
+returns-in_default-clause-said c = grind (arith, common_steps)
+
+pub returns-in_default-clause-sound : goal.returns-in_default-clause-sound
+returns-in_default-clause-sound c = grind (arith, common_steps)
+
+pub offset_bounds-deref-start : goal.offset_bounds-deref-start
+offset_bounds-deref-start c = grind (arith, common_steps)
+
+pub offset_bounds-deref-start-2 : goal.offset_bounds-deref-start-2
+offset_bounds-deref-start-2 c = grind (arith, common_steps)
+
+pub slice_bounds-append_copies-count : goal.slice_bounds-append_copies-count
+slice_bounds-append_copies-count c = grind (arith, common_steps)
+
+pub slice_bounds-append_copies-start : goal.slice_bounds-append_copies-start
+slice_bounds-append_copies-start c = grind (arith, common_steps)
+
+pub slice_bounds-append_copies-count-2 : goal.slice_bounds-append_copies-count-2
+slice_bounds-append_copies-count-2 c = grind (arith, common_steps)
+
+pub slice_bounds-append_copies-start-2 : goal.slice_bounds-append_copies-start-2
+slice_bounds-append_copies-start-2 c = grind (arith, common_steps)

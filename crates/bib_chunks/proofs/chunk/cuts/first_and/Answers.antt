@@ -1,3 +1,4 @@
+use Rattle.std.proofs.lemmas.Grind.{common_steps}
 use Rattle.std.proofs.Common.{◌∙◌, ◌+◌, ◌≡◌, false, sym, arith, drop}
 use native.Mathlib.Numerals.{unary_clauses}
 use Rattle.std.proofs.lemmas.List.{drop_all}
@@ -37,3 +38,6 @@ text-preserved c =
 
 pub returns : goal.returns
 returns c = searched_all c.args.text.now c.text.at c.text.space c.text.invariant (drop_all c.text.at c.args.text.now (omega arith))
+
+pub range-requires-clause-end_boundary : goal.range-requires-clause-end_boundary
+range-requires-clause-end_boundary c = grind (arith, common_steps)

@@ -1,4 +1,5 @@
-use Rattle.std.proofs.Common.{◌∙◌, sym}
+use Rattle.std.proofs.lemmas.Grind.{common_steps}
+use Rattle.std.proofs.Common.{◌∙◌, sym, arith}
 use Rattle.bib_chunks.proofs.StyledFacts.{shown_part, hidden_part}
 use Rattle.bib_chunks.proofs.chunk.formatting.format_styled.Goals as goal
 use Rattle.bib_chunks.proofs.chunk.formatting.format_styled.Goals.{then-is_shown+in_ok-space, else-is_shown}
@@ -16,3 +17,6 @@ chunks-preserved c =
           c.chunk-item.result _ _ c.chunks-test.true c.chunk-item.is
           (sym c.is_shown.ensures.value ∙ w.if-is_shown.false) c.chunks.invariant)
     ]
+
+pub returns : goal.returns
+returns c = grind (arith, common_steps)

@@ -1,4 +1,5 @@
-use Rattle.std.proofs.Common.{◌∙◌, refl}
+use Rattle.std.proofs.lemmas.Grind.{common_steps}
+use Rattle.std.proofs.Common.{◌∙◌, refl, arith}
 use Rattle.std.specs.Prelude.{string_bytes}
 use Rattle.bib_text.proofs.TextFacts.{less_after}
 use Rattle.bib_chunks.proofs.FormattedFacts.{sentence_skip, sentence_step, sentence_end}
@@ -31,3 +32,6 @@ text-preserved c =
     c.in-Some-char_on_line.is c.char_on_line.ensures
     c.in_ok-write_cased.ensures c.is_whitespace-after.ensures c.text.invariant.2 c.text.invariant.3 in
     (step.0 ∙ c.text.invariant.0, step.1, step.2, step.3)
+
+pub text-smaller-in_default-char_on_line : goal.text-smaller-in_default-char_on_line
+text-smaller-in_default-char_on_line c = grind (arith, common_steps)

@@ -1,4 +1,5 @@
-use Rattle.std.proofs.Common.{[], ◌∷◌, ◌++◌, length, take, sym, ap, ◌∙◌, append_assoc}
+use Rattle.std.proofs.lemmas.Grind.{common_steps}
+use Rattle.std.proofs.Common.{[], ◌∷◌, ◌++◌, length, take, sym, ap, ◌∙◌, append_assoc, arith}
 use Rattle.std.proofs.Math.Seq.{take-append_seam}
 use Rattle.std.proofs.lemmas.Result.{err_from_is_err_and}
 use Rattle.std.specs.FinMap.{insert}
@@ -33,3 +34,6 @@ returns-in_err-claim-clause-refused c =
           (sym (take-append_seam so_far.0 (into_iter_items c.names.name-iterator))
           ∙ ap (λ l. take (length so_far.0) l) (sym so_far.1)),
     )
+
+pub returns-clause-claimed : goal.returns-clause-claimed
+returns-clause-claimed c = grind (arith, common_steps)

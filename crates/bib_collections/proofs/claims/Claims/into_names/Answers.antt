@@ -1,4 +1,5 @@
-use Rattle.std.proofs.Common.{[], ◌≡◌, ◌++◌, sym, ap, ◌∙◌, append-nil}
+use Rattle.std.proofs.lemmas.Grind.{common_steps}
+use Rattle.std.proofs.Common.{[], ◌≡◌, ◌++◌, sym, ap, ◌∙◌, append-nil, arith}
 use Rattle.bib_collections.specs.Claims.{text_pairs}
 use Rattle.bib_collections.specs.Sorted.{map_of}
 use Rattle.bib_collections.proofs.ClaimsFacts.{sorted_texts, map_of_texts}
@@ -20,3 +21,6 @@ returns c =
     ∙ ap text_pairs c.into_iter-name-iterator.ensures.into_iter_gives.0 in
     c.from_sorted.ensures ∙ ap map_of all
     ∙ map_of_texts c.self.inside.indices c.into_iter-name-iterator.ensures.into_iter_gives.5 ∙ c.self.view_is
+
+pub indices-preserved : goal.indices-preserved
+indices-preserved c = grind (arith, common_steps)

@@ -1,3 +1,4 @@
+use Rattle.std.proofs.lemmas.Grind.{common_steps}
 use Rattle.std.proofs.Common.{◌≡◌, ◌≤◌, ◌-◌, ◌+◌, ◌++◌, ℕ, List, take, drop, sym, ap, ◌∙◌, arith}
 use Rattle.std.proofs.Math.Seq.{take-add}
 use Rattle.std.proofs.lemmas.List.{take_min}
@@ -29,3 +30,9 @@ returns-clause-found c =
     (joined c.self.inside.bytes.now known.result.0 end known.ensures.before
     ∙ ap (λ n. take n c.self.inside.bytes.now) c.min-end.ensures
     ∙ take_min c.args.at c.self.inside.bytes.now))
+
+pub advance_all-position-requires-clause-line : goal.advance_all-position-requires-clause-line
+advance_all-position-requires-clause-line c = grind (arith, common_steps)
+
+pub advance_all-position-requires-clause-column : goal.advance_all-position-requires-clause-column
+advance_all-position-requires-clause-column c = grind (arith, common_steps)

@@ -1,3 +1,4 @@
+use Rattle.std.proofs.lemmas.Grind.{common_steps}
 use Rattle.std.proofs.Common.{rules, ap, ◌∙◌, arith, subst, sym}
 use Rattle.std.specs.Prelude.{◌==◌}
 use Rattle.std.proofs.lemmas.List.Elements.{All-push}
@@ -31,3 +32,6 @@ lines-preserved c = (
 
 pub returns-then-not-eat_if : goal.returns-then-not-eat_if
 returns-then-not-eat_if c = more (goal.at.returns-then-not-eat_if c).In_ok-push
+
+pub lines-smaller : goal.lines-smaller
+lines-smaller c = grind (arith, common_steps)

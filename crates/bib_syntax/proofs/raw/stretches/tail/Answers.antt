@@ -1,4 +1,5 @@
-use Rattle.std.proofs.Common.{rules, length, ap, ◌∙◌}
+use Rattle.std.proofs.lemmas.Grind.{common_steps}
+use Rattle.std.proofs.Common.{rules, length, ap, ◌∙◌, arith}
 use Rattle.std.specs.Prelude.{◌==◌}
 use Rattle.bib_text.proofs.PlaceFacts.{end_map}
 use Rattle.bib_syntax.proofs.ErrorFacts.{comment_at_end}
@@ -15,3 +16,6 @@ returns-then-not-eat_if c =
           c.cursor-end.ensures.place longest stopped c.cursor-end.ensures.boundary,
       c.cursor-end.ensures.place ∙ end ∙ ap length same,
     )
+
+pub braces-smaller : goal.braces-smaller
+braces-smaller c = grind (arith, common_steps)

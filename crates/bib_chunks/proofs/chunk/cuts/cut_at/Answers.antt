@@ -1,0 +1,12 @@
+use Rattle.std.proofs.Common.{arith}
+use Rattle.std.proofs.lemmas.Grind.{common_steps}
+use Rattle.bib_chunks.proofs.chunk.cuts.cut_at.Goals as goal
+
+pub returns : goal.returns
+returns c = grind (arith, common_steps)
+
+pub returns-in-Some : goal.returns-in-Some
+returns-in-Some c = grind (arith, common_steps)
+
+pub chunks-preserved : goal.chunks-preserved
+chunks-preserved c = grind (arith, common_steps)

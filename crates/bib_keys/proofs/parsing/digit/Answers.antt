@@ -1,0 +1,6 @@
+use Rattle.std.proofs.Common.{arith}
+use Rattle.std.proofs.lemmas.Grind.{common_steps}
+use Rattle.bib_keys.proofs.parsing.digit.Goals as goal
+
+pub returns-in-49-to-57 : goal.returns-in-49-to-57
+returns-in-49-to-57 c = grind (arith, common_steps)
