@@ -109,8 +109,8 @@ uint32_t biblatex_remove(const uint8_t *text, size_t length, const uint8_t *key,
 
 /* Writes the text, and `added` after it on a new line. If the first line of the text ends with \r\n, so do the added lines.
    Returns BIBLATEX_KEY_IS_THERE if an entry of `added` has the key of another entry, or a name in its field `ids`, in any ASCII case,
-   BIBLATEX_NOT_A_KEY if BibTeX, Biber or bibtool wouldn't read the key of an added entry, and BIBLATEX_DEFINITION_IS_THERE if `added`
-   defines an abbreviation of the text with another value. */
+   BIBLATEX_NOT_A_KEY if BibTeX, Biber or bibtool wouldn't read the key of an added entry, BIBLATEX_DEFINITION_IS_THERE if `added`
+   defines an abbreviation of the text with another value, and BIBLATEX_UNBALANCED_QUOTES also for a text in quotes of `added`. */
 uint32_t biblatex_add(const uint8_t *text, size_t length, const uint8_t *added, size_t added_length, uint8_t *out, size_t capacity,
     size_t *size);
 

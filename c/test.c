@@ -125,6 +125,8 @@ static void check_addition(void)
     text = "@misc{a, title = \"The {\"}Big{\"} one\"}";
     check(biblatex_remove(bytes(text), strlen(text), bytes("a"), 1, out, sizeof out, &size) == BIBLATEX_UNBALANCED_QUOTES && size == 77,
           "an edit beside a text in quotes with unbalanced braces is refused");
+    check(biblatex_add(bytes("@misc{b, note={N}}"), 18, bytes(text), strlen(text), out, sizeof out, &size) == BIBLATEX_UNBALANCED_QUOTES && size == 77,
+          "an addition of a text in quotes with unbalanced braces is refused");
 }
 
 /* Whether this is what can be read of a text with an error in the second of its three entries. */

@@ -1396,6 +1396,7 @@ cat >letters.bib <<'END'
 @article{b1, title = {ĩ ǐ ĵ ệ ấ þ ð đ ŋ ẞ α я – “é”}}
 @article{b2, url = {ü}, crossref = {große}, Keywords = {économie}, IDS = {é}, note = {é}}
 @article{b3, title = {$ü$ \url{http://a/ü} \cite{müller} \é}}
+@article{b4, note = {\parencite[vgl.][5]{größe} \autoref {ü} \Citet*{é}{é} \foo{é}}, Groups = {Größe}, local-url = {é}}
 END
 cat >wanted.bib <<'END'
 @string{m = {Müller}}
@@ -1405,6 +1406,7 @@ cat >wanted.bib <<'END'
 @article{b1, title = {ĩ ǐ ĵ ệ ấ þ ð đ ŋ ẞ α я – “{\'e}”}}
 @article{b2, url = {ü}, crossref = {große}, Keywords = {économie}, IDS = {é}, note = {{\'e}}}
 @article{b3, title = {$ü$ \url{http://a/ü} \cite{müller} \é}}
+@article{b4, note = {\parencite[vgl.][5]{größe} \autoref {ü} \Citet*{é}{{\'e}} \foo{{\'e}}}, Groups = {Größe}, local-url = {é}}
 END
 run 'accents as commands' 0 "$(cat wanted.bib)"$'\n' recode --accents commands -f letters.bib
 run 'commands as characters again' 0 "$(cat letters.bib)"$'\n' recode --accents characters -f wanted.bib

@@ -130,7 +130,7 @@ def add_entries(text: Text, added: Text) -> Text:
 
     Raises an `EditError` if an added entry has the key of another entry, or a name in its field `ids`, in any ASCII case, if
     BibTeX, Biber or bibtool wouldn't read its key, if its key is `*`, if `added` defines an abbreviation of the text with another
-    value, or if `added` has a syntax error or isn't UTF-8.
+    value, if the braces of a text in quotes aren't balanced in one of the texts, or if `added` has a syntax error or isn't UTF-8.
     """
     data, more = as_bytes(text), as_bytes(added)
     try:

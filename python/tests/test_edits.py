@@ -120,6 +120,7 @@ class Refusals(unittest.TestCase):
         why = "the braces of a text in quotes aren't balanced, so BibTeX and Biber end it elsewhere"
         self.refuses(biblatex.remove_entry, quoted, "a", why=why)
         self.refuses(biblatex.add_entries, quoted, "@misc{b,}", why=why)
+        self.refuses(biblatex.add_entries, "@misc{b,}", quoted, why=why)
 
     def test_a_text_with_a_syntax_error(self) -> None:
         text = "@misc{a, title={T}}\n@misc{b title={T}}"

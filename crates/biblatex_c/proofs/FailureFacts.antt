@@ -1,5 +1,6 @@
 -- The status of each error is one with which the call may fail.
-use Rattle.std.proofs.Common.{◌≡◌, ◌⊎◌, inl, inr, ℕ, List, sym, subst}
+use Rattle.std.proofs.Common.{◌≡◌, ◌⊎◌, inl, inr, ℕ, List, sym, subst, Result, Ok, Err}
+use Rattle.std.specs.Prelude.{IfErr}
 use Rattle.biblatex.specs.Headline.{IsAcceptedText, IsErrorOf}
 use Rattle.bib_syntax.specs.Errors.{Refuses, out_of_memory}
 use Rattle.bib_syntax.specs.Grammar.{IsFile}
@@ -10,7 +11,7 @@ use Rattle.edit_entries.specs.Documents.{Document, EntriesAreRefused, IsDocument
 use Rattle.edit_entries.specs.LineEnds.{with_line_ends_of}
 use Rattle.edit_entries.specs.declared.errors.EditError.{EditError}
 use Rattle.edit_entries.specs.declared.errors.EditError.TheVariants as edit_error
-use Rattle.biblatex_c.specs.Calls.{AddFails, DocumentFails, EditFails, IsNoBibliography, IsNoFile, TextFails}
+use Rattle.biblatex_c.specs.Calls.{AddFails, DocumentFails, EditFails, HasUnbalancedQuotes, IsNoBibliography, IsNoFile, ReadingFails, TextFails}
 use Rattle.biblatex_c.specs.Statuses.{status_of_edit, status_of_error, status_of_kind}
 use Rattle.biblatex_c.specs.declared.status.Status.{Status}
 use Rattle.biblatex_c.specs.declared.status.Status.TheVariants.{Done, TooShort, NotUtf8, Refused, OutOfMemory, UnknownKey, KeyIsThere, NotAKey, NotAName, NotInBraces, DefinitionIsThere, NoFieldLeft, NotBare, UnbalancedQuotes}
@@ -46,10 +47,32 @@ pub bibliography_fails : (bytes text : List ℕ) (e : ParseError) → text ≡ b
 bibliography_fails bytes text e same refuses =
     error_fails (TextFails (IsNoBibliography bytes) bytes) e refuses tt (λ unread. subst IsNoBibliography same unread)
 
--- if a text isn't a file of the grammar, no edit of it is made, with the status of the error of that text
-pub document_fails : (bytes text : List ℕ) (e : ParseError) → text ≡ bytes → Refuses text e (IsFile text → ⊥)
-    → DocumentFails bytes (status_of_error e)
-document_fails bytes text e same refuses = error_fails (DocumentFails bytes) e refuses tt (λ unread. subst IsNoFile same unread)
+-- if a text isn't a file of the grammar, it isn't read, with the status of its error
+pub reading_fails : (text : List ℕ) (e : ParseError) → Refuses text e (IsFile text → ⊥) → ReadingFails text (status_of_error e)
+reading_fails text e refuses = error_fails (ReadingFails text) e refuses tt (λ unread. unread)
+
+-- if a text isn't read, no edit of it is made, with the same status
+pub document_fails : (text : List ℕ) (why : Status) → ReadingFails text why → DocumentFails text why
+document_fails text Done fails = fails
+document_fails text TooShort fails = fails
+document_fails text NotUtf8 fails = absurd fails
+document_fails text Refused fails = fails
+document_fails text OutOfMemory fails = fails
+document_fails text UnknownKey fails = fails
+document_fails text KeyIsThere fails = fails
+document_fails text NotAKey fails = fails
+document_fails text NotAName fails = fails
+document_fails text NotInBraces fails = fails
+document_fails text DefinitionIsThere fails = fails
+document_fails text NoFieldLeft fails = fails
+document_fails text NotBare fails = fails
+document_fails text UnbalancedQuotes fails = fails
+
+-- the same of an answer
+pub document_answer : {A : Type 0} (answer : Result A Status) (bytes text : List ℕ) → text ≡ bytes → IfErr answer (ReadingFails text)
+    → IfErr answer (DocumentFails bytes)
+document_answer (Ok document) bytes text same fails = fails
+document_answer (Err why) bytes text same fails = document_fails bytes why (subst (λ t. ReadingFails t why) same fails)
 
 -- if no edit is made of a text, the call may fail with the same status
 pub no_edit_fails : (Refuses' : Document → EditError → Type 0) (bytes : List ℕ) (others : List (List ℕ)) (why : Status)
@@ -138,12 +161,25 @@ no_adding_fails bytes added NotInBraces fails = fails
 no_adding_fails bytes added DefinitionIsThere fails = absurd fails
 no_adding_fails bytes added NoFieldLeft fails = fails
 no_adding_fails bytes added NotBare fails = fails
-no_adding_fails bytes added UnbalancedQuotes fails = fails
+no_adding_fails bytes added UnbalancedQuotes fails = inl fails
 
--- if the grammar rejects the added text, adding may fail with the status of its error
-pub added_fails : (bytes added text : List ℕ) (e : ParseError) → text ≡ with_line_ends_of bytes added → Refuses text e (IsFile text → ⊥)
-    → AddFails bytes added (status_of_error e)
-added_fails bytes added text e same refuses = error_fails (AddFails bytes added) e refuses tt (λ unread. inr (subst IsNoFile same unread))
+-- if the added text isn't read, adding may fail with the same status
+pub added_fails : (bytes added text : List ℕ) (why : Status) → text ≡ with_line_ends_of bytes added → ReadingFails text why
+    → AddFails bytes added why
+added_fails bytes added text Done same fails = fails
+added_fails bytes added text TooShort same fails = fails
+added_fails bytes added text NotUtf8 same fails = absurd fails
+added_fails bytes added text Refused same fails = inr (subst IsNoFile same fails)
+added_fails bytes added text OutOfMemory same fails = tt
+added_fails bytes added text UnknownKey same fails = fails
+added_fails bytes added text KeyIsThere same fails = absurd fails
+added_fails bytes added text NotAKey same fails = absurd fails
+added_fails bytes added text NotAName same fails = fails
+added_fails bytes added text NotInBraces same fails = fails
+added_fails bytes added text DefinitionIsThere same fails = absurd fails
+added_fails bytes added text NoFieldLeft same fails = fails
+added_fails bytes added text NotBare same fails = fails
+added_fails bytes added text UnbalancedQuotes same fails = inr (subst HasUnbalancedQuotes same fails)
 
 -- if adding a document is refused with an error, the call may fail with the status of that error
 pub add_fails : (bytes added : List ℕ) (d more : Document) (why : EditError) → d.text ≡ bytes → IsDocument d

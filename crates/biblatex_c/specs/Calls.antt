@@ -106,14 +106,18 @@ pub record HasUnbalancedQuotes (text : List ℕ) : Type 0 where
   pub read : IsDocument document
   pub unbalanced : has_unbalanced_quotes document ≡ true
 
--- no edit is made of `text`, with this status: `NotUtf8` only if it isn't UTF-8, `Refused` only if it isn't a file of the grammar,
--- `UnbalancedQuotes` only if it has a text in quotes whose braces aren't balanced, `OutOfMemory` always, and no other status
+-- `text` isn't read as a document to edit, with this status: `Refused` only if it isn't a file of the grammar, `UnbalancedQuotes` only if it
+-- has a text in quotes whose braces aren't balanced, `OutOfMemory` always, and no other status
+abbrev pub ReadingFails : List ℕ → Status → Type 0
+ReadingFails text Refused = IsNoFile text
+ReadingFails text UnbalancedQuotes = HasUnbalancedQuotes text
+ReadingFails text OutOfMemory = ⊤
+ReadingFails text _ = ⊥
+
+-- no edit is made of `text`, with this status: `NotUtf8` only if it isn't UTF-8, or else one with which it isn't read
 abbrev pub DocumentFails : List ℕ → Status → Type 0
 DocumentFails text NotUtf8 = IsUtf8 text → ⊥
-DocumentFails text Refused = IsNoFile text
-DocumentFails text UnbalancedQuotes = HasUnbalancedQuotes text
-DocumentFails text OutOfMemory = ⊤
-DocumentFails text _ = ⊥
+DocumentFails text why = ReadingFails text why
 
 -- `answer` is the text after an edit of the document whose text is `text`; `Outcome` relates the documents before and after it. No text in
 -- quotes of the document has unbalanced braces.
@@ -156,10 +160,11 @@ value_with false text = SetValue.plain_text text
 value_with true text = SetValue.bare_text text
 
 -- the second document is the first with a line end, that of its first line, and the document of the text `added` after it, whose lines end
--- with CR LF if the first line does
+-- with CR LF if the first line does. No text in quotes of the added document has unbalanced braces.
 abbrev pub WithEntriesOf : List ℕ → Document → Document → Type 0
 WithEntriesOf added document new =
-    (more : Document) × (more.text ≡ with_line_ends_of document.text added) × IsDocument more × EntriesAdded document more new
+    (more : Document) × (more.text ≡ with_line_ends_of document.text added) × IsDocument more × (has_unbalanced_quotes more ≡ false)
+    × EntriesAdded document more new
 
 -- adding the document of the text `added` to that of `text` may be refused with the error `why`
 pub record IsAddingRefused (text added : List ℕ) (why : EditError) : Type 0 where
@@ -172,12 +177,12 @@ pub record IsAddingRefused (text added : List ℕ) (why : EditError) : Type 0 wh
   pub refused : EntriesAreRefused document more why
 
 -- adding the second text to the first may fail with this status: `NotUtf8` only if one of them isn't UTF-8, `Refused` only if one of them
--- isn't a file of the grammar, `UnbalancedQuotes` only if the first one has a text in quotes whose braces aren't balanced, `OutOfMemory`
+-- isn't a file of the grammar, `UnbalancedQuotes` only if one of them has a text in quotes whose braces aren't balanced, `OutOfMemory`
 -- always, `KeyIsThere`, `NotAKey` and `DefinitionIsThere` only if adding is refused with that error, and no other status
 abbrev pub AddFails : List ℕ → List ℕ → Status → Type 0
 AddFails text added NotUtf8 = AllByRecursion IsUtf8 (text ∷ added ∷ []) → ⊥
 AddFails text added Refused = IsNoFile text ⊎ IsNoFile (with_line_ends_of text added)
-AddFails text added UnbalancedQuotes = HasUnbalancedQuotes text
+AddFails text added UnbalancedQuotes = HasUnbalancedQuotes text ⊎ HasUnbalancedQuotes (with_line_ends_of text added)
 AddFails text added OutOfMemory = ⊤
 AddFails text added KeyIsThere = IsAddingRefused text added edit_error.KeyIsThere
 AddFails text added NotAKey = IsAddingRefused text added edit_error.NotAKey

@@ -8,7 +8,7 @@ ghost use Rattle.edit_entries.specs.Setting.{FieldSet, SetIsRefused, value_of};
 ghost use Rattle.edit_entries.specs.Unset.{FieldUnset};
 ghost use Rattle.edit_entries.specs.References.{KeyRenamed, RenameIsRefused};
 ghost use Rattle.biblatex_c.specs.Calls as spec;
-ghost use Rattle.biblatex_c.specs.Calls.{AddFails, DocumentFails, EditFails, IsEditedText, IsLaidOut, IsNoFile, IsNumberedEnd, TextFails, WithEntriesOf};
+ghost use Rattle.biblatex_c.specs.Calls.{AddFails, DocumentFails, EditFails, IsEditedText, IsLaidOut, IsNoFile, IsNumberedEnd, ReadingFails, TextFails, WithEntriesOf};
 
 use crate::buffers::end;
 use crate::reading::text_of;
@@ -38,18 +38,28 @@ pub extern "C" fn biblatex_fmt(alloc: Global, text: &[u8], out: &mut [u8], size:
     end(format_text(alloc, text), out, size).number()
 }
 
-// Returns the document of a text to edit. Fails with `UnbalancedQuotes` if an edit could break a text in quotes.
+// Returns the document of a text to edit or to add. Fails with `UnbalancedQuotes` if an edit could break a text in quotes.
+fn read<'t>(alloc: Global, text: &'t str) -> Result<RawDocument<'t>, Status>
+    ensures same { IfOk result (λ d. d.text ≡ text.now) }
+    ensures read { IfOk result (λ d. IsDocument d) }
+    ensures balanced { IfOk result (λ d. has_unbalanced_quotes d ≡ false) }
+    ensures fails { IfErr result (ReadingFails text.now) }
+{
+    let document = RawDocument::parse(alloc, text)?;
+    if document.has_unbalanced_quotes() {
+        return Err(Status::UnbalancedQuotes);
+    }
+    Ok(document)
+}
+
+// Returns the document of the bytes of a text to edit.
 fn document_of<'t>(alloc: Global, text: &'t [u8]) -> Result<RawDocument<'t>, Status>
     ensures same { IfOk result (λ d. d.text ≡ text.now) }
     ensures read { IfOk result (λ d. IsDocument d) }
     ensures balanced { IfOk result (λ d. has_unbalanced_quotes d ≡ false) }
     ensures fails { IfErr result (DocumentFails text.now) }
 {
-    let document = RawDocument::parse(alloc, text_of(text)?)?;
-    if document.has_unbalanced_quotes() {
-        return Err(Status::UnbalancedQuotes);
-    }
-    Ok(document)
+    read(alloc, text_of(text)?)
 }
 
 // Returns the value with a text: without braces if `is_bare`.
@@ -215,14 +225,14 @@ fn add_to(alloc: Global, text: &[u8], added: &[u8]) -> Result<String, Status>
 {
     let document = document_of(alloc, text)?;
     let added = with_line_ends_of(alloc, document.text(), text_of(added)?)?;
-    let more = RawDocument::parse(alloc, &added)?;
+    let more = read(alloc, &added)?;
     Ok(document.add_entries(alloc, &more)?)
 }
 
 /// Writes the text, a line end like that of its first line, and the text `added`, whose lines end with `\r\n` if that line does. Returns
-/// `KeyIsThere` if an entry of `added` has a name of another entry, in any ASCII case. Returns `NotAKey` if BibTeX, Biber or bibtool wouldn't read the key of an
-/// entry of `added`. Returns `DefinitionIsThere` if `added` defines an abbreviation that the text defines with another value, in any
-/// ASCII case of the name.
+/// `KeyIsThere` if an entry of `added` has a name of another entry, in any ASCII case. Returns `NotAKey` if BibTeX, Biber or bibtool
+/// wouldn't read the key of an entry of `added`. Returns `DefinitionIsThere` if `added` defines an abbreviation that the text defines with
+/// another value, in any ASCII case of the name. Returns `UnbalancedQuotes` if the braces of a text in quotes of one of them don't balance.
 #[unsafe(no_mangle)]
 pub extern "C" fn biblatex_add(
     alloc: Global,

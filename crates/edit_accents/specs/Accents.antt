@@ -19,12 +19,20 @@ use Rattle.unicode_normalization.specs.Forms.{nfc}
 
 -- ---- the signs of a text
 
--- whether the text after a backslash begins with the name of a command whose first argument is an address or a key
+-- the words in the names of commands whose first argument in braces is an address or a key, such as `\nolinkurl`, `\href`, `\parencite`
+-- and `\autoref`
+abbrev pub address_words : List (List ℕ)
+address_words =
+    codes "url" ∷ codes "path" ∷ codes "label" ∷ codes "ref" ∷ codes "Ref" ∷ codes "cite" ∷ codes "Cite" ∷ []
+
+-- whether a text begins with one of these words
+abbrev pub begins_address_word : List ℕ → Bool
+begins_address_word text = list_any (starts_with eqb text) address_words
+
+-- whether the letters at the start of the text after a backslash, the name of a command, contain one of these words
 abbrev pub begins_address : List ℕ → Bool
-begins_address text =
-    starts_with eqb text (codes "url{") || starts_with eqb text (codes "href{") || starts_with eqb text (codes "path{")
-    || starts_with eqb text (codes "nolinkurl{") || starts_with eqb text (codes "cite{") || starts_with eqb text (codes "citep{")
-    || starts_with eqb text (codes "citet{") || starts_with eqb text (codes "ref{") || starts_with eqb text (codes "label{")
+begins_address [] = false
+begins_address (c ∷ cs) = is_ascii_alphabetic c && (begins_address_word (c ∷ cs) || begins_address cs)
 
 -- whether a character is the name of an accent
 abbrev pub is_accent_sign : ℕ → Bool
@@ -68,7 +76,8 @@ stretch_after_text c rest =
     else Text
 
 -- the stretch after a character that no backslash escapes, which the rest of the text follows. A dollar sign begins and ends math. The
--- argument of an accent may come after white space and braces. An address or a key ends with the brace that closes the argument.
+-- argument of an accent may come after white space and braces. An address or a key begins with the name of its command, and ends with the
+-- first closing brace for which no brace is open.
 abbrev pub stretch_after : Stretch → ℕ → List ℕ → Stretch
 stretch_after Text c rest = stretch_after_text c rest
 stretch_after Accent c rest = if c == char.open_brace || is_whitespace c then Accent else stretch_after_text c rest

@@ -39,7 +39,7 @@ abbrev pub name_among : List (List ℕ) → ℕ → Option (List ℕ)
 name_among [] c = None
 name_among (name ∷ names) c = if is_letter (named_letter name) c then Some name else name_among names c
 
--- the commands for letters that BibTeX knows
+-- the commands for letters that BibTeX knows, except for that of the dotless j
 abbrev pub common_names : List (List ℕ)
 common_names =
     codes "aa" ∷ codes "AA" ∷ codes "ae" ∷ codes "AE" ∷ codes "oe" ∷ codes "OE" ∷ codes "o" ∷ codes "O" ∷ codes "l" ∷ codes "L"

@@ -1,9 +1,9 @@
 //! Replaces LaTeX commands for accents and letters by characters in the values of entries, and such characters by commands.
 //!
-//! For characters, a text is cut into *signs* (`signs`): backslashes that begin commands, braces, and plain characters. The signs are reduced from the
-//! last to the first (`decoding`), in place: a command that becomes a character takes the signs after it with it. So an accent is put on
-//! a character that an inner command became, without recursion, and each sign is looked at a bounded number of times. At last the signs
-//! are written (`writing`): the braces around a character are kept only where a command may take them as its argument.
+//! For characters, a text is cut into *signs* (`signs`): backslashes that begin commands, braces, and plain characters. The signs are
+//! reduced from the last to the first (`decoding`), in place: a command that becomes a character takes the signs after it with it. So an
+//! accent is put on a character that an inner command became, without recursion, and each sign is looked at a bounded number of times. At
+//! last the signs are written (`writing`): the braces around a character are kept only where a command may take them as its argument.
 //!
 //! For commands, each character is examined by itself (`encoding`): whether a letter has a command, or is by its canonical decomposition
 //! another letter with the mark of one accent.

@@ -3,7 +3,7 @@
 ghost use Rattle.std.specs.Prelude.{◌≡◌, ◌++◌, ◌<◌, IfOk, OnOk, encode_utf8_all, length, map, slice_index_or};
 ghost use Rattle.std.specs.List.{AllByRecursion, list_any};
 ghost use Rattle.std.specs.Option.{option_map};
-ghost use Rattle.std.specs.Str.{chars};
+ghost use Rattle.std.specs.Str.{chars, str_eq_ignore_ascii_case};
 ghost use Rattle.std.specs.String.{string_bytes};
 ghost use Rattle.bib_syntax.specs.Views.{entry_reading_of, field_of, piece_of};
 ghost use Rattle.edit_entries.specs.Cuts.{IsPieceCut};
@@ -200,13 +200,24 @@ fn lent<'p, 's>(
     Ok(lent)
 }
 
-// Returns whether the value of a field with a name lists keys: of entries, or of subjects.
+// Returns whether a field with a name has names or addresses for another program.
+fn is_program_field(name: &str) -> bool
+    ensures { result ≡ list_any (str_eq_ignore_ascii_case name.now) spec.program_fields }
+{
+    name.eq_ignore_ascii_case("groups")
+        || name.eq_ignore_ascii_case("mendeley-groups")
+        || name.eq_ignore_ascii_case("mendeley-tags")
+        || name.eq_ignore_ascii_case("local-url")
+}
+
+// Returns whether the value of a field with a name lists keys: of entries, of subjects, or those of other programs.
 fn lists_keys(name: &str) -> bool
     ensures { result ≡ spec.lists_keys name.now }
 {
     is_reference_field(name)
         || name.eq_ignore_ascii_case("ids")
         || name.eq_ignore_ascii_case("keywords")
+        || is_program_field(name)
 }
 
 // Returns whether the value of a field may change: verbatim fields and fields with keys stay.

@@ -35,23 +35,36 @@ pub enum Stretch {
     Accent,
     /// Math.
     Math,
-    /// The address or the key that is an argument of a command, with the number of open braces.
+    /// The name of a command, and the address or the key that is its argument, with the number of open braces.
     Address(usize),
 }
 
-// Returns whether the text after a backslash begins with the name of a command whose first argument is an address or a key.
+// Returns whether a text begins with a word in the names of commands whose first argument in braces is an address or a key.
+fn begins_address_word(text: &[char]) -> bool
+    ensures { result ≡ spec.begins_address_word text.now }
+{
+    text.starts_with(&['u', 'r', 'l'])
+        || text.starts_with(&['p', 'a', 't', 'h'])
+        || text.starts_with(&['l', 'a', 'b', 'e', 'l'])
+        || text.starts_with(&['r', 'e', 'f'])
+        || text.starts_with(&['R', 'e', 'f'])
+        || text.starts_with(&['c', 'i', 't', 'e'])
+        || text.starts_with(&['C', 'i', 't', 'e'])
+}
+
+// Returns whether the text after a backslash begins with the name of a command whose first argument in braces is an address or a key.
 fn begins_address(text: &[char]) -> bool
     ensures { result ≡ spec.begins_address text.now }
 {
-    text.starts_with(&['u', 'r', 'l', '{'])
-        || text.starts_with(&['h', 'r', 'e', 'f', '{'])
-        || text.starts_with(&['p', 'a', 't', 'h', '{'])
-        || text.starts_with(&['n', 'o', 'l', 'i', 'n', 'k', 'u', 'r', 'l', '{'])
-        || text.starts_with(&['c', 'i', 't', 'e', '{'])
-        || text.starts_with(&['c', 'i', 't', 'e', 'p', '{'])
-        || text.starts_with(&['c', 'i', 't', 'e', 't', '{'])
-        || text.starts_with(&['r', 'e', 'f', '{'])
-        || text.starts_with(&['l', 'a', 'b', 'e', 'l', '{'])
+    'letters: for (at, c) in text.iter().enumerate() {
+        if !c.is_ascii_alphabetic() {
+            return false;
+        }
+        if begins_address_word(&text[at..]) {
+            return true;
+        }
+    }
+    false
 }
 
 // Returns the sign of a character that no backslash escapes.

@@ -17,7 +17,7 @@ returns-in_err-more-clause-fails c =
     ∙ ap (λ t. with_line_ends_of t c.in_ok-text_of.field-0.now) (c.text.ensures ∙ c.in_ok-document.ensures.same)
     ∙ ap (with_line_ends_of c.args.text.now) c.in_ok-text_of.ensures.text in
     rw (p.1, p.2)
-    (added_fails c.args.text.now c.args.added.now c.deref.result.now c.in_err-more.field-0.0 same c.in_err-more.ensures.refused)
+    (added_fails c.args.text.now c.args.added.now c.deref.result.now c.in_err-more.field-0.0 same c.in_err-more.ensures.fails)
 
 pub returns-in_err-add_entries-clause-fails : goal.returns-in_err-add_entries-clause-fails
 returns-in_err-add_entries-clause-fails c =
@@ -43,7 +43,7 @@ returns-clause-made c =
       balanced = c.in_ok-document.ensures.balanced;
       edited = record {
         document = added.document;
-        outcome = (c.in_ok-more.more, same, c.in_ok-more.ensures.read, added.outcome);
+        outcome = (c.in_ok-more.more, same, c.in_ok-more.ensures.read, c.in_ok-more.ensures.balanced, added.outcome);
         is = added.is;
         read = added.read;
       };
