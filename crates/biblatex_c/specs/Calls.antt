@@ -106,8 +106,8 @@ pub record HasUnbalancedQuotes (text : List ℕ) : Type 0 where
   pub read : IsDocument document
   pub unbalanced : has_unbalanced_quotes document ≡ true
 
--- `text` isn't read as a document to edit, with this status: `Refused` only if it isn't a file of the grammar, `UnbalancedQuotes` only if it
--- has a text in quotes whose braces aren't balanced, `OutOfMemory` always, and no other status
+-- `text` isn't read as a document to edit, with this status: `Refused` only if it isn't a file of the grammar, `UnbalancedQuotes` only if
+-- it has a text in quotes whose braces aren't balanced, `OutOfMemory` always, and no other status
 abbrev pub ReadingFails : List ℕ → Status → Type 0
 ReadingFails text Refused = IsNoFile text
 ReadingFails text UnbalancedQuotes = HasUnbalancedQuotes text
