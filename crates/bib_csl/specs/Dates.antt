@@ -24,11 +24,11 @@ use Rattle.bib_csl.specs.declared.variables.Variable.TheVariants.{Issued, Access
 use Rattle.bib_csl.specs.Fields.{given_date}
 use Rattle.bib_csl.specs.Texts.{field, shown_field, joined}
 
--- a year as CSL counts it: the one before 1 is -1
+-- a year as CSL counts it: the year before 1 is -1
 unfoldable pub csl_year : ℤ → ℤ
 csl_year year = if is_lt (int_cmp year (pos 1)) then year -ℤ pos 1 else year
 
--- a number that counts from 0, from 1
+-- a number that counts from 0, as a number that counts from 1
 abbrev pub from_one : ℕ → ℕ
 from_one n = n + 1
 
@@ -36,47 +36,47 @@ from_one n = n + 1
 unfoldable pub parts_of_date : Datetime → DateParts
 parts_of_date d = record { year = csl_year d.year; month = option_map from_one d.month; day = option_map from_one d.day }
 
--- the dates of a date or a range, those that there are
+-- the dates of a date or a range: one, or two for a range with a start and an end
 unfoldable pub parts_of_value : DateValue → List DateParts
 parts_of_value (At d) = parts_of_date d ∷ []
 parts_of_value (After d) = parts_of_date d ∷ []
 parts_of_value (Before d) = parts_of_date d ∷ []
 parts_of_value (Between a b) = parts_of_date a ∷ parts_of_date b ∷ []
 
--- the text of a range with one open side, after the Extended Date/Time Format
+-- the text of a range with an open side (ISO 8601-2), such as `2020/..`
 unfoldable pub open_text : DateValue → Option (List ℕ)
 open_text (At d) = None
 open_text (After d) = Some (datetime_text d ++ codes "/..")
 open_text (Before d) = Some (codes "../" ++ datetime_text d)
 open_text (Between a b) = None
 
--- a date that is read
+-- the date of an item for a parsed date
 unfoldable pub date_item : Date → ItemDate
 date_item d = record { parts = parts_of_value d.value; season = None; circa = d.uncertain || d.approximate; literal = open_text d.value }
 
--- a date that isn't read, by its text
+-- the date of an item for a text that can't be parsed as a date
 unfoldable pub literal_item : List ℕ → ItemDate
 literal_item text = record { parts = []; season = None; circa = false; literal = Some text }
 
--- the number that a byte of a text is as a digit
+-- the value of a digit at an index of a text: 0 for a byte below `0`, and above 9 for a byte above `9`
 unfoldable pub digit : List ℕ → ℕ → ℕ
 digit text i = slice_index text i - char.zero
 
--- the year that the first four digits of a text spell
+-- the year that the first four digits of a text write
 unfoldable pub first_year : List ℕ → ℕ
 first_year text = 1000 * digit text 0 + 100 * digit text 1 + 10 * digit text 2 + digit text 3
 
--- whether a text is four digits of a year, a hyphen, and one of the numbers from 20 on that the Extended Date/Time Format has for seasons
+-- whether a text is four digits, `-2` and one more byte: ISO 8601-2 has the seasons 21 to 24 there
 unfoldable pub is_season_text : List ℕ → Bool
 is_season_text text =
     (length text == 7) && (list_all is_ascii_digit (take 4 text) && ((slice_index text 4 == char.hyphen) && (digit text 5 == 2)))
 
--- the season with this number after 20
+-- the season with the number 20 + n in ISO 8601-2
 abbrev pub season_numbered : ℕ → Option Season
 season_numbered n =
     if n == 1 then Some Spring else if n == 2 then Some Summer else if n == 3 then Some Autumn else if n == 4 then Some Winter else None
 
--- a season of a year
+-- the date of an item for a season of a year
 unfoldable pub season_item : ℕ → Season → ItemDate
 season_item year season =
     record {
@@ -86,34 +86,34 @@ season_item year season =
       literal = None;
     }
 
--- the season of a year that a text names
+-- the date of an item for a text such as `2020-21`, which is a season of a year
 unfoldable pub season_of : List ℕ → Option ItemDate
 season_of text = if is_season_text text then option_map (season_item (first_year text)) (season_numbered (digit text 6)) else None
 
--- what a text says that isn't read: a season, or else the text, unless it is empty
+-- the date of an item for a text that isn't parsed: a season, or else the text itself, unless it is empty
 unfoldable pub unread : List ℕ → Option ItemDate
 unread text = if length text == 0 then None else Some (unwrap_or (season_of text) (literal_item text))
 
--- what is read, or else what its text says
+-- the date of an item: the parsed date, or else what the text is, a season or an unparsed text
 unfoldable pub read_or_unread : Option Date → List ℕ → Option ItemDate
 read_or_unread (Some date) text = Some (date_item date)
 read_or_unread None text = unread text
 
--- the text of a month and a year that aren't read
+-- the text of a month and a year that can't be parsed
 abbrev pub month_and_year : Option Value → Value → List ℕ
 month_and_year month year = joined (codes " ") (shown_field month) (text year)
 
--- the date of a year and of the month and day beside it, if there is one
+-- the date of an item for a year, and the month and the day if they are given
 unfoldable pub three_fields_item : Option Value → Option Value → Option Value → Option ItemDate
 three_fields_item None month day = None
 three_fields_item (Some year) month day = read_or_unread (readable_value (three_fields_reading year month day)) (month_and_year month year)
 
--- the date of a field, else that of the three
+-- the date of an item for the date field, or else for the three fields
 abbrev pub date_or_fields : Option Value → Option Value → Option Value → Option Value → Option ItemDate
 date_or_fields (Some date) year month day = read_or_unread (date_read date) (text date)
 date_or_fields None year month day = three_fields_item year month day
 
--- the date of the field of the first name, else of those of the other three
+-- the date of an item for the field `date`, or else for the fields `year`, `month` and `day`
 unfoldable pub date_in : Entry → List ℕ → List ℕ → List ℕ → List ℕ → Option ItemDate
 date_in entry date year month day = date_or_fields (field entry date) (field entry year) (field entry month) (field entry day)
 

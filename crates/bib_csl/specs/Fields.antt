@@ -1,5 +1,5 @@
 -- Meaning: words of public contracts.
--- Variables that an item has where they hold something.
+-- Variables of an item, unless they are empty.
 use Rattle.std.specs.Prelude.{ℕ, ◌==◌, if◌then◌else◌, List, [], ◌∷◌, length, Option, Some, None}
 use Rattle.bib_csl.specs.declared.item.Content.TheVariants as content
 use Rattle.bib_csl.specs.declared.item.Field.{Field}

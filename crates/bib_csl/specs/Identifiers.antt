@@ -1,5 +1,5 @@
 -- Meaning: words of public contracts.
--- What identifies an item, and where it is kept.
+-- Identifiers, addresses and archives of an item.
 use Rattle.std.specs.Prelude.{ℕ, ◌==◌, if◌then◌else◌, List, [], ◌++◌, length, codes, bytes_eq, Option, Some, None}
 use Rattle.bib_chunks.specs.Values.{Value, lowercase_text}
 use Rattle.bib_entry.specs.declared.entry.Entry.{Entry}
@@ -9,7 +9,7 @@ use Rattle.bib_csl.specs.declared.variables.Variable.TheVariants.{Doi, Url, Pmid
 use Rattle.bib_csl.specs.Fields.{given}
 use Rattle.bib_csl.specs.Texts.{field, shown_field, either}
 
--- the archive of the electronic version, in lowercase letters
+-- the name of an archive in a field, with ASCII letters in lowercase
 unfoldable pub archive_name : Option Value → List ℕ
 archive_name None = []
 archive_name (Some chunks) = lowercase_text chunks
@@ -18,15 +18,15 @@ archive_name (Some chunks) = lowercase_text chunks
 abbrev pub archive_field : Entry → Option Value
 archive_field entry = field_or entry (codes "eprinttype") (codes "archiveprefix")
 
--- the archive that has the electronic version of an entry
+-- the archive of the electronic version of an entry, in lowercase
 unfoldable pub archive_of : Entry → List ℕ
 archive_of entry = archive_name (archive_field entry)
 
--- the name of the electronic version there
+-- the identifier in that archive
 unfoldable pub eprint_of : Entry → List ℕ
 eprint_of entry = shown_field (field entry (codes "eprint"))
 
--- what an address in one of the archives begins with, or nothing for any other archive
+-- the start of the addresses in an archive, or nothing for an archive without a known address
 unfoldable pub archive_address : List ℕ → List ℕ
 archive_address archive =
     if bytes_eq archive (codes "arxiv") then codes "https://arxiv.org/abs/"
@@ -35,34 +35,34 @@ archive_address archive =
     else if bytes_eq archive (codes "hdl") then codes "https://hdl.handle.net/"
     else []
 
--- the address of what has this name in an archive
+-- the address of `eprint` in an archive, or nothing if the archive has no known address or `eprint` is empty
 unfoldable pub address_in : List ℕ → List ℕ → List ℕ
 address_in archive eprint =
     if length (archive_address archive) == 0 then []
     else if length eprint == 0 then []
     else archive_address archive ++ eprint
 
--- a text that stands for an archive without such addresses
+-- a text, or nothing for an archive with a known address
 unfoldable pub unaddressed : List ℕ → List ℕ → List ℕ
 unaddressed archive text = if length (archive_address archive) == 0 then text else []
 
--- the address: by the field `url`, else in the archive
+-- the field `url`, or else the address in the archive
 unfoldable pub url_of : Entry → List ℕ
 url_of entry = either (shown_field (field entry (codes "url"))) (address_in (archive_of entry) (eprint_of entry))
 
--- the number in PubMed
+-- the identifier in PubMed, or nothing for another archive
 unfoldable pub pubmed_number : Entry → List ℕ
 pubmed_number entry = if bytes_eq (archive_of entry) (codes "pubmed") then eprint_of entry else []
 
--- the name of an archive without such addresses
+-- the name of the archive, or nothing for an archive with a known address
 unfoldable pub archive_text : Entry → List ℕ
 archive_text entry = unaddressed (archive_of entry) (shown_field (archive_field entry))
 
--- the place in such an archive
+-- the identifier in the archive, or nothing for an archive with a known address
 unfoldable pub archive_location : Entry → List ℕ
 archive_location entry = unaddressed (archive_of entry) (eprint_of entry)
 
--- what identifies an item
+-- the DOI, the address, the PubMed number, the ISBN and the ISSN
 unfoldable pub identifier_fields : Entry → List Field
 identifier_fields entry =
     given Doi (shown_field (field entry (codes "doi"))) ++
@@ -71,7 +71,7 @@ identifier_fields entry =
     (given Isbn (shown_field (field entry (codes "isbn"))) ++
     given Issn (shown_field (field entry (codes "issn"))))))
 
--- where an item is kept
+-- the archive, the location in it, and the call number of a library
 unfoldable pub archive_fields : Entry → List Field
 archive_fields entry =
     given Archive (archive_text entry) ++

@@ -1,5 +1,5 @@
 -- Meaning: words of public contracts.
--- The item that an entry becomes.
+-- The item of an entry.
 use Rattle.std.specs.Prelude.{List, ◌++◌, codes}
 use Rattle.bib_entry.specs.declared.entry.Entry.{Entry}
 use Rattle.bib_csl.specs.declared.item.Field.{Field}
@@ -15,24 +15,24 @@ use Rattle.bib_csl.specs.Texts.{field, shown_field}
 use Rattle.bib_csl.specs.Titles.{title_fields, container_fields, event_fields}
 use Rattle.bib_csl.specs.Types.{item_type_of}
 
--- the type of the item that an entry becomes
+-- the type of the item of an entry
 unfoldable pub type_of_entry : Entry → ItemType
 type_of_entry entry = item_type_of entry.entry_type (shown_field (field entry (codes "entrysubtype")))
 
--- what an item is called, what it is a part of, and who published it
+-- the titles, the container, the event, the publishers and the genre of an item
 unfoldable pub work_fields : ItemType → Entry → List Field
 work_fields kind entry =
     title_fields kind entry ++ (container_fields kind entry ++ (event_fields entry ++ publishing_fields entry))
 
--- the other variables that hold texts
+-- the numbers, the pages, the identifiers, the archive and the notes of an item
 unfoldable pub detail_fields : ItemType → Entry → List Field
 detail_fields kind entry =
     volume_fields kind entry ++ (page_fields entry ++ (identifier_fields entry ++ (archive_fields entry ++ note_fields entry)))
 
--- the variables of an item of this type that an entry becomes
+-- the variables of the item of an entry, given its type
 unfoldable pub item_fields : ItemType → Entry → List Field
 item_fields kind entry = work_fields kind entry ++ (detail_fields kind entry ++ (people_fields kind entry ++ date_fields entry))
 
--- the item that an entry becomes
+-- the item of an entry
 unfoldable pub item_of_entry : Entry → Item
 item_of_entry entry = record { id = entry.key; kind = type_of_entry entry; fields = item_fields (type_of_entry entry) entry }

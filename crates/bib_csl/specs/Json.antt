@@ -1,5 +1,5 @@
 -- Meaning: words of public contracts.
--- Items as JSON, by the schema of CSL. The members of an object stand in the order of their names.
+-- Items as JSON, by the schema of CSL. The members of an object are in the order of their names.
 use Rattle.std.specs.Prelude.{ℕ, Bool, true, false, ◌==◌, if◌then◌else◌, List, [], ◌∷◌, length, map, codes, Option, Some, None}
 use Rattle.serde_json.specs.Data.{Data, number, string, array, object, boolean, unsigned, Items, no_items, item, Members, no_members, put}
 use Rattle.serde_json.specs.Find.{of_integer}
@@ -17,7 +17,7 @@ use Rattle.bib_csl.specs.declared.item.Season.{Season}
 use Rattle.bib_csl.specs.declared.item.Season.TheVariants.{Spring, Summer, Autumn, Winter}
 use Rattle.bib_csl.specs.Names.{item_type_name, variable_name}
 
--- members, with a text of this name unless it is empty
+-- members, with one more for a text, unless the text is empty
 unfoldable pub with_string : List ℕ → List ℕ → Members → Members
 with_string name text members = if length text == 0 then members else put name (string text) members
 
@@ -36,12 +36,12 @@ name_members (Parts p) = parts_members p
 unfoldable pub name_json : Name → Data
 name_json name = object (name_members name)
 
--- a day of a month, if there is one
+-- a day of a month, if it is given
 abbrev pub day_items : Option ℕ → Items
 day_items None = no_items
 day_items (Some day) = item (number (unsigned day)) no_items
 
--- a month and its day, if there is one; there is no day without a month
+-- a month, and its day if it is given; nothing without a month
 abbrev pub month_items : Option ℕ → Option ℕ → Items
 month_items None day = no_items
 month_items (Some month) day = item (number (unsigned month)) (day_items day)
@@ -67,7 +67,7 @@ unfoldable pub with_season : Option Season → Members → Members
 with_season None members = members
 with_season (Some season) members = put (codes "season") (number (unsigned (season_number season))) members
 
--- members, with the word that a date isn't exact, where it isn't
+-- members, with `circa` if the date is uncertain or approximate
 unfoldable pub with_circa : Bool → Members → Members
 with_circa true members = put (codes "circa") (boolean true) members
 with_circa false members = members
@@ -81,7 +81,7 @@ with_literal (Some text) members = put (codes "literal") (string text) members
 unfoldable pub date_members : ItemDate → Members
 date_members d = with_literal d.literal (with_circa d.circa (with_season d.season (with_parts d.parts no_members)))
 
--- what a variable holds
+-- the content of a variable
 unfoldable pub content_json : Content → Data
 content_json (content.Text text) = string text
 content_json (content.Names names) = array (items_of (map name_json names))
@@ -96,7 +96,7 @@ abbrev pub with_variables : List Field → Members → Members
 with_variables [] members = members
 with_variables (field ∷ fields) members = with_variables fields (with_variable field members)
 
--- what an item is called and its type
+-- the members `id` and `type` of an item
 unfoldable pub head_members : Item → Members
 head_members work = put (codes "type") (string (item_type_name work.kind)) (put (codes "id") (string work.id) no_members)
 

@@ -1,20 +1,19 @@
 -- Meaning: words of public contracts.
--- Texts as HTML writes them, with tags for the commands of LaTeX that the reader leaves in them. A text is given by its characters, and
--- what is written of it by bytes.
+-- Texts with HTML tags for the LaTeX commands that the parser leaves in them. A text is given by its characters, and the output by bytes.
 use Rattle.std.specs.Prelude.{ℕ, Bool, false, ◌==◌, if◌then◌else◌, List, [], ◌∷◌, ◌++◌, codes, encode_utf8, encode_utf8_all, Option, Some, None, bytes_eq}
 use Rattle.std.specs.Char.{is_ascii_alphabetic}
 use Rattle.std.specs.Option.{unwrap_or}
 use Rattle.bib_text.specs.Characters as char
 
--- the space at which no line breaks
+-- the no-break space
 abbrev pub no_break_space : ℕ
 no_break_space = 160
 
--- a character as it is shown: a tilde ties words in TeX, as that space does
+-- the output for a character: a no-break space for a tilde, as in TeX, otherwise the character itself
 unfoldable pub untie : ℕ → List ℕ
 untie c = if c == char.tilde then encode_utf8 no_break_space else encode_utf8 c
 
--- what stands before the text of a command with this name; of two commands nothing does, and of others there is none
+-- the output for a command with this name and its opening brace: a tag, a quotation mark, a hyphen, or nothing; `None` for other commands
 unfoldable pub opening_tag : List ℕ → Option (List ℕ)
 opening_tag name =
     if bytes_eq name (codes "emph") then Some (codes "<i>")
@@ -31,7 +30,7 @@ opening_tag name =
     else if bytes_eq name (codes "hyphen") then Some (codes "-")
     else None
 
--- what stands after it
+-- the output for the closing brace of a command with this name; `None` for other commands
 unfoldable pub closing_tag : List ℕ → Option (List ℕ)
 closing_tag name =
     if bytes_eq name (codes "emph") then Some (codes "</i>")
@@ -48,32 +47,33 @@ closing_tag name =
     else if bytes_eq name (codes "hyphen") then Some []
     else None
 
--- a command that stays as it is: its backslash and its name
+-- a command as it is: its backslash and its name
 unfoldable pub as_command : List ℕ → List ℕ
 as_command name = codes "\\" ++ name
 
--- a command and the brace after it
+-- the output for a command and the opening brace after it, given its tag if it has one
 abbrev pub begun_by : Option (List ℕ) → List ℕ → List ℕ
 begun_by None name = as_command name ++ codes "{"
 begun_by (Some tag) name = tag
 
+-- the output for a command and the opening brace after it
 unfoldable pub begun : List ℕ → List ℕ
 begun name = begun_by (opening_tag name) name
 
--- What is open where a character stands: of each open brace the name of its command, the innermost first, where a brace without a command
--- has no name; and of a command that is being read the name so far.
+-- The state before a character: the name of the command of each open brace, the innermost first, empty for a brace without a command; and
+-- the start of the name of a command, if one is being read.
 
--- what ends a brace that has this tag
+-- the output for a closing brace, given its tag if it has one
 abbrev pub ended_by : Option (List ℕ) → List ℕ
 ended_by None = codes "}"
 ended_by (Some tag) = tag
 
--- what ends the innermost brace
+-- the output for the closing brace of the innermost open brace
 unfoldable pub ended : List (List ℕ) → List ℕ
 ended [] = codes "}"
 ended (name ∷ names) = ended_by (closing_tag name)
 
--- the braces round it
+-- the braces around the innermost one
 abbrev pub around : List (List ℕ) → List (List ℕ)
 around [] = []
 around (name ∷ names) = names
@@ -83,35 +83,35 @@ unfoldable pub is_address : List (List ℕ) → Bool
 is_address [] = false
 is_address (name ∷ names) = bytes_eq name (codes "url")
 
--- a character as it is shown there
+-- the output for a character: a tilde is a no-break space outside of `\url`
 unfoldable pub shown_in : List (List ℕ) → ℕ → List ℕ
 shown_in names c = if is_address names then encode_utf8 c else untie c
 
--- what is written of a character outside names
+-- the output for a character outside of the names of commands
 unfoldable pub said_plainly : List (List ℕ) → ℕ → List ℕ
 said_plainly names c = if c == char.backslash then [] else if c == char.close_brace then ended names else shown_in names c
 
--- the braces that are open after it
+-- the open braces after a character outside of the names of commands
 unfoldable pub open_plainly : List (List ℕ) → ℕ → List (List ℕ)
 open_plainly names c = if c == char.open_brace then [] ∷ names else if c == char.close_brace then around names else names
 
--- whether a command is a sign: BibLaTeX's hyphen
+-- whether a command is BibLaTeX's `\hyphen`
 unfoldable pub is_hyphen_command : List ℕ → Bool
 is_hyphen_command name = bytes_eq name (codes "hyphen")
 
--- what is written of a character after a sign, which ends at the space that the reader puts after it
+-- the output for a character after a command that is a sign: nothing for the space that ends the command
 unfoldable pub after_sign : List (List ℕ) → ℕ → List ℕ
 after_sign names c = if c == char.space then [] else said_plainly names c
 
--- what is written of a character after a command without a brace
+-- the output for a command without a brace and the character after it
 unfoldable pub said_after : List (List ℕ) → List ℕ → ℕ → List ℕ
 said_after names name c = if is_hyphen_command name then codes "-" ++ after_sign names c else as_command name ++ said_plainly names c
 
--- the name that begins with it
+-- the empty name after a backslash, which begins a command
 unfoldable pub begins_name : ℕ → Option (List ℕ)
 begins_name c = if c == char.backslash then Some [] else None
 
--- what is written of a character
+-- the output for a character, and for the command before it if the character ends its name
 unfoldable pub said : List (List ℕ) → Option (List ℕ) → ℕ → List ℕ
 said names None c = said_plainly names c
 said names (Some name) c =
@@ -119,7 +119,7 @@ said names (Some name) c =
     else if c == char.open_brace then begun name
     else said_after names name c
 
--- the braces that are open after it
+-- the open braces after a character
 unfoldable pub open_after : List (List ℕ) → Option (List ℕ) → ℕ → List (List ℕ)
 open_after names None c = open_plainly names c
 open_after names (Some name) c =
@@ -127,7 +127,7 @@ open_after names (Some name) c =
     else if c == char.open_brace then name ∷ names
     else open_plainly names c
 
--- the name that is being read after it
+-- the start of the name of a command that is being read after a character
 unfoldable pub name_after : Option (List ℕ) → ℕ → Option (List ℕ)
 name_after None c = begins_name c
 name_after (Some name) c =
@@ -135,26 +135,26 @@ name_after (Some name) c =
     else if c == char.open_brace then None
     else begins_name c
 
--- the tags of all that is open where the text ends
+-- the closing tags of all open braces
 abbrev pub all_ended : List (List ℕ) → List ℕ
 all_ended [] = []
 all_ended (name ∷ names) = unwrap_or (closing_tag name) [] ++ all_ended names
 
--- what is written where the text ends
+-- the output at the end: the command that is being read, and the closing tags of all open braces
 unfoldable pub said_last : List (List ℕ) → Option (List ℕ) → List ℕ
 said_last names None = all_ended names
 said_last names (Some name) = as_command name ++ all_ended names
 
--- a text from a place on
+-- the output for the rest of a text
 abbrev pub marked_from : List (List ℕ) → Option (List ℕ) → List ℕ → List ℕ
 marked_from names name [] = said_last names name
 marked_from names name (c ∷ cs) = said names name c ++ marked_from (open_after names name c) (name_after name c) cs
 
--- a text with HTML's tags
+-- a text with HTML tags
 unfoldable pub marked_text : List ℕ → List ℕ
 marked_text text = marked_from [] None text
 
--- a text whose words are tied by spaces
+-- a text with no-break spaces for tildes
 abbrev pub untied : List ℕ → List ℕ
 untied [] = []
 untied (c ∷ cs) = untie c ++ untied cs

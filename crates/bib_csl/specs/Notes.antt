@@ -1,5 +1,5 @@
 -- Meaning: words of public contracts.
--- What is said of an item in words.
+-- The abstract, the notes, the keywords and the language of an item.
 use Rattle.std.specs.Prelude.{ℕ, if◌then◌else◌, List, [], ◌++◌, codes, bytes_eq, Option, Some, None}
 use Rattle.bib_chunks.specs.Values.{Value, text}
 use Rattle.bib_entry.specs.declared.entry.Entry.{Entry}
@@ -13,12 +13,12 @@ use Rattle.bib_csl.specs.declared.variables.Variable.TheVariants as variable
 use Rattle.bib_csl.specs.Fields.{given}
 use Rattle.bib_csl.specs.Texts.{field, shown_field, rich_text, rich_text_or, either, joined}
 
--- the tag of a language, after BCP 47
+-- the tag of a language (BCP 47)
 unfoldable pub tag_of : Language → List ℕ
 tag_of EnglishUK = codes "en-GB"
 tag_of language = (language_row language).tag
 
--- the tag of a language by a name that BibLaTeX has for it beside those of the table of languages, or nothing
+-- the tag of a language by a name that BibLaTeX has, but not the table of languages; nothing for other names
 unfoldable pub tag_named : List ℕ → List ℕ
 tag_named name =
     if bytes_eq name (codes "acadian") then codes "fr-CA"
@@ -34,7 +34,7 @@ tag_named name =
     else if bytes_eq name (codes "usenglish") then codes "en-US"
     else []
 
--- the tag of the language that a text is read as or names, or the text
+-- the tag of the language that a text is parsed as or names, or else the text
 abbrev pub language_or_text : Option Language → List ℕ → List ℕ
 language_or_text None whole = either (tag_named whole) whole
 language_or_text (Some language) whole = tag_of language
@@ -44,13 +44,13 @@ unfoldable pub language_of : Option Value → List ℕ
 language_of None = []
 language_of (Some chunks) = language_or_text (language_read chunks) (text chunks)
 
--- a note, and what else is said of the work or of how it was published
+-- the fields `note`, `addendum` and `howpublished`, with `. ` between them
 unfoldable pub note_of : Entry → List ℕ
 note_of entry =
     joined (codes ". ") (joined (codes ". ") (rich_text entry (codes "note")) (rich_text entry (codes "addendum")))
     (rich_text entry (codes "howpublished"))
 
--- what is said of an item in words
+-- the abstract, the annotation, the note, the publication status, the keywords and the language
 unfoldable pub note_fields : Entry → List Field
 note_fields entry =
     given variable.Abstract (rich_text entry (codes "abstract")) ++

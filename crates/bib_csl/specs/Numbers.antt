@@ -14,15 +14,15 @@ use Rattle.bib_csl.specs.Fields.{given}
 use Rattle.bib_csl.specs.Texts.{field, shown_field, joined}
 use Rattle.bib_csl.specs.Types.{counts_issues, counts_series}
 
--- the issue: where the field `number` counts issues, it and `issue`
+-- the issue: the fields `number` and `issue` if `number` counts issues, otherwise `issue`
 unfoldable pub issue_of : ItemType → List ℕ → List ℕ → List ℕ
 issue_of kind number issue = if counts_issues kind then joined (codes ", ") number issue else issue
 
--- the number of the item itself, where `number` counts nothing else
+-- the number of the item itself: `number`, unless it counts issues or the works of a series
 unfoldable pub own_number : ItemType → List ℕ → List ℕ
 own_number kind number = if counts_issues kind then [] else if counts_series kind then [] else number
 
--- the number in the series
+-- the number in the series, if `number` counts the works of a series
 unfoldable pub collection_number : ItemType → List ℕ → List ℕ
 collection_number kind number = if counts_series kind then number else []
 
@@ -37,7 +37,7 @@ unfoldable pub pages_after : List ℕ → List (Range ℕ) → List ℕ
 pages_after before [] = before
 pages_after before (range ∷ ranges) = pages_after (joined (codes ", ") before (pages_of range)) ranges
 
--- the pages of the ranges that chunks are read as, or the text of chunks that aren't
+-- the parsed ranges of pages, or the text if it can't be parsed
 abbrev pub pages_text : Option (List (Range ℕ)) → List ℕ → List ℕ
 pages_text None whole = whole
 pages_text (Some ranges) whole = pages_after [] ranges
@@ -47,7 +47,7 @@ unfoldable pub pages : Option Value → List ℕ
 pages None = []
 pages (Some chunks) = pages_text (ranges_read chunks) (text chunks)
 
--- the volume, the issue, and where the item stands in a series
+-- the volume, the number of volumes, the part, the issue, the number, and the number in the series
 unfoldable pub volume_fields : ItemType → Entry → List Field
 volume_fields kind entry =
     let number = shown_field (field entry (codes "number")) in
@@ -58,7 +58,7 @@ volume_fields kind entry =
     (given Number (own_number kind number) ++
     given CollectionNumber (collection_number kind number)))))
 
--- the edition and the pages
+-- the edition, the chapter, the pages, the number of pages, and the version
 unfoldable pub page_fields : Entry → List Field
 page_fields entry =
     given Edition (shown_field (field entry (codes "edition"))) ++

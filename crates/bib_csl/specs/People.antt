@@ -27,17 +27,17 @@ use Rattle.bib_csl.specs.Markup.{untied}
 use Rattle.bib_csl.specs.Names.{variable_name}
 use Rattle.bib_csl.specs.Texts.{field}
 
--- whether a chunk has no character outside braces
+-- whether a chunk is in braces or empty
 abbrev pub is_braced : Chunk → Bool
 is_braced (Normal chars) = length chars == 0
 is_braced (Verbatim chars) = true
 is_braced (Math chars) = false
 
--- whether a name isn't taken apart: it stands in braces, or says that there are others
+-- whether a name has no parts: it is in braces, or is the word `others`
 unfoldable pub is_literal : Value → Bool
 is_literal chunks = list_all (λ c. is_braced c.v) chunks || bytes_eq (text chunks) (codes "others")
 
--- a text of a name, whose words are tied by spaces
+-- a part of a name, with no-break spaces for tildes
 abbrev pub untied_name : List ℕ → List ℕ
 untied_name text = untied (chars text)
 
@@ -58,20 +58,20 @@ parts_with false p = record {
   non_dropping_particle = [];
 }
 
--- the name that chunks spell; the person's own word on the prefix goes before that of the entry
+-- the name in chunks; the flag says whether a prefix is part of the family name, unless the name itself says so
 unfoldable pub name_said : Bool → Value → Name
 name_said uses_prefix chunks =
     if is_literal chunks then Literal (untied_name (text chunks))
     else Parts (parts_with (unwrap_or (person_of chunks).use_prefix uses_prefix) (person_of chunks))
 
--- whether a name says nothing
+-- whether a name is empty
 unfoldable pub says_nothing : Name → Bool
 says_nothing (Literal text) = length text == 0
 says_nothing (Parts p) =
     (length p.family == 0) && ((length p.given == 0) && ((length p.suffix == 0)
     && ((length p.dropping_particle == 0) && (length p.non_dropping_particle == 0))))
 
--- a name, unless it says nothing
+-- a name, unless it is empty
 unfoldable pub unless_empty : Name → List Name
 unless_empty name = if says_nothing name then [] else name ∷ []
 
@@ -84,36 +84,36 @@ unfoldable pub names_said : Bool → Option Value → List Name
 names_said uses_prefix None = []
 names_said uses_prefix (Some chunks) = names_listed uses_prefix chunks
 
--- whether an option of an entry says that prefixes count as parts of family names
+-- whether an option of an entry says that prefixes are part of family names
 unfoldable pub is_prefix_option : List ℕ → Bool
 is_prefix_option option = bytes_eq option (codes "useprefix=true") || bytes_eq option (codes "useprefix")
 
--- whether one of the options does
+-- whether one of the options says that prefixes are part of family names
 abbrev pub uses_prefix_in : Option Value → Bool
 uses_prefix_in None = false
 uses_prefix_in (Some options) = list_any (λ option. is_prefix_option (text option)) (comma_list options)
 
--- whether prefixes count as parts of family names in an entry
+-- whether prefixes are part of family names in an entry
 unfoldable pub uses_prefix : Entry → Bool
 uses_prefix entry = uses_prefix_in (field entry (codes "options"))
 
--- the variable of those who did this; CSL has no other roles of editors
+-- the variable of editors with this role: `editor` for a role that CSL doesn't have
 abbrev pub variable_of_role : EditorType → Variable
 variable_of_role role.Compiler = Compiler
 variable_of_role role.Director = Director
 variable_of_role role.Organizer = Organizer
 variable_of_role other = Editor
 
--- whether editors in this role stand under the variable
+-- whether editors with this role are in the variable
 unfoldable pub is_under : Variable → EditorType → Bool
 is_under variable role = bytes_eq (variable_name (variable_of_role role)) (variable_name variable)
 
--- the people that the field of the first name holds, where their role, which the field of the second names, stands under the variable
+-- the people in the field `people`, if the role in the field `role` belongs to the variable
 unfoldable pub editors_listed : Variable → Entry → List ℕ → List ℕ → List Name
 editors_listed variable entry people role =
     if is_under variable (role_of (field entry role)) then names_said (uses_prefix entry) (field entry people) else []
 
--- the editors of an entry that stand under the variable
+-- the editors of an entry whose role belongs to the variable
 unfoldable pub editors_under : Variable → Entry → List Name
 editors_under variable entry =
     editors_listed variable entry (codes "editor") (codes "editortype") ++
@@ -121,7 +121,7 @@ editors_under variable entry =
     (editors_listed variable entry (codes "editorb") (codes "editorbtype") ++
     editors_listed variable entry (codes "editorc") (codes "editorctype")))
 
--- the editors, each under the variable of the role
+-- the editors, each in the variable of the role
 unfoldable pub editor_fields : Entry → List Field
 editor_fields entry =
     given_people Editor (editors_under Editor entry) ++
@@ -129,7 +129,7 @@ editor_fields entry =
     (given_people Director (editors_under Director entry) ++
     given_people Organizer (editors_under Organizer entry)))
 
--- the people of the field of this name
+-- the people in the field of this name
 unfoldable pub people : Entry → List ℕ → List Name
 people entry name = names_said (uses_prefix entry) (field entry name)
 
@@ -138,13 +138,13 @@ abbrev pub is_patent : ItemType → Bool
 is_patent item_type.Patent = true
 is_patent other = false
 
--- the authors; of a patent without any its holders
+-- the authors, or the holders of a patent without authors
 unfoldable pub authors_of : ItemType → Entry → List Name
 authors_of kind entry =
     if is_patent kind && (length (people entry (codes "author")) == 0) then people entry (codes "holder")
     else people entry (codes "author")
 
--- the people of an item
+-- the authors, the editors by role, the translators and the authors of the container
 unfoldable pub people_fields : ItemType → Entry → List Field
 people_fields kind entry =
     given_people Author (authors_of kind entry) ++

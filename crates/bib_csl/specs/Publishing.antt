@@ -1,5 +1,5 @@
 -- Meaning: words of public contracts.
--- Who published an item and where, and what kind of work it is.
+-- The publishers of an item and of its original, and its genre.
 use Rattle.std.specs.Prelude.{ℕ, if◌then◌else◌, List, [], ◌++◌, codes, bytes_eq}
 use Rattle.bib_entry.specs.Fields.{field_or}
 use Rattle.bib_entry.specs.declared.entry.Entry.{Entry}
@@ -10,13 +10,13 @@ use Rattle.bib_csl.specs.declared.variables.Variable.TheVariants.{Publisher, Pub
 use Rattle.bib_csl.specs.Fields.{given}
 use Rattle.bib_csl.specs.Texts.{either, field, listed_field, rich_text}
 
--- the publisher, else the institution or school, else the organization
+-- the publisher, or else the institution or school, or else the organization
 unfoldable pub publisher_of : Entry → List ℕ
 publisher_of entry =
     either (listed_field (field entry (codes "publisher")))
     (either (listed_field (field_or entry (codes "institution") (codes "school"))) (listed_field (field entry (codes "organization"))))
 
--- the kind of a thesis, a report or another work by BibLaTeX's key for it, or nothing for any other text
+-- the genre of a thesis, a report or another work by BibLaTeX's key for it, or nothing for any other text
 unfoldable pub work_named : List ℕ → List ℕ
 work_named text =
     if bytes_eq text (codes "bathesis") then codes "Bachelor's thesis"
@@ -30,7 +30,7 @@ work_named text =
     else if bytes_eq text (codes "audiocd") then codes "audio CD"
     else []
 
--- the kind of a patent by BibLaTeX's key for it
+-- the genre of a patent by BibLaTeX's key for it, or nothing for any other text
 unfoldable pub patent_named : List ℕ → List ℕ
 patent_named text =
     if bytes_eq text (codes "patent") then codes "patent"
@@ -41,7 +41,7 @@ patent_named text =
     else if bytes_eq text (codes "patentus") then codes "U.S. patent"
     else []
 
--- the kind of a request for a patent by BibLaTeX's key for it
+-- the genre of a patent request by BibLaTeX's key for it, or nothing for any other text
 unfoldable pub request_named : List ℕ → List ℕ
 request_named text =
     if bytes_eq text (codes "patreq") then codes "patent request"
@@ -52,33 +52,33 @@ request_named text =
     else if bytes_eq text (codes "patrequs") then codes "U.S. patent request"
     else []
 
--- what the keys of BibLaTeX's field `type` stand for; any other text stays
+-- the genre by BibLaTeX's key for it in the field `type`, or the text itself if it is no such key
 unfoldable pub genre_named : List ℕ → List ℕ
 genre_named text = either (work_named text) (either (patent_named text) (either (request_named text) text))
 
--- what the type of an entry says of the kind of work
+-- the genre that the entry type implies
 unfoldable pub genre_of_type : EntryType → List ℕ
 genre_of_type MastersThesis = codes "Master's thesis"
 genre_of_type PhdThesis = codes "PhD thesis"
 genre_of_type TechReport = codes "technical report"
 genre_of_type other = []
 
--- the kind of work, in words: by the field `type`, else by the type of the entry
+-- the genre: by the field `type`, or else by the entry type
 unfoldable pub genre_of : Entry → List ℕ
 genre_of entry = either (genre_named (rich_text entry (codes "type"))) (genre_of_type entry.entry_type)
 
--- who published an item and where
+-- the publisher and its place
 unfoldable pub publisher_fields : Entry → List Field
 publisher_fields entry =
     given Publisher (publisher_of entry) ++
     given PublisherPlace (listed_field (field_or entry (codes "location") (codes "address")))
 
--- who published the original and where
+-- the publisher of the original and its place
 unfoldable pub original_fields : Entry → List Field
 original_fields entry =
     given OriginalPublisher (listed_field (field entry (codes "origpublisher"))) ++
     given OriginalPublisherPlace (listed_field (field entry (codes "origlocation")))
 
--- who published an item and the original, and what kind of work it is
+-- the publishers of an item and of its original, and its genre
 unfoldable pub publishing_fields : Entry → List Field
 publishing_fields entry = publisher_fields entry ++ (original_fields entry ++ given Genre (genre_of entry))

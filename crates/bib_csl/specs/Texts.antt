@@ -1,5 +1,5 @@
 -- Meaning: words of public contracts.
--- The texts of fields, plain or with HTML's tags, as CSL-JSON has them. A text is given by its bytes.
+-- The texts of fields, plain or with HTML tags, as in CSL-JSON. A text is given by its bytes.
 use Rattle.std.specs.Prelude.{ℕ, Bool, true, false, ◌==◌, if◌then◌else◌, List, [], ◌∷◌, ◌++◌, length, codes, Option, Some, None}
 use Rattle.std.specs.FinMap as by_name
 use Rattle.std.specs.List.{flat_map}
@@ -17,69 +17,69 @@ use Rattle.bib_csl.specs.Markup.{marked_text}
 abbrev pub field : Entry → List ℕ → Option Value
 field entry name = by_name.get entry.fields name
 
--- the plain text of a field: its formatted text, or nothing where it isn't there
+-- the plain text of a field: its formatted text, or nothing if it is missing
 unfoldable pub shown_field : Option Value → List ℕ
 shown_field None = []
 shown_field (Some chunks) = text chunks
 
--- a text whose case no style changes
+-- a text in a tag that keeps its case in every style
 unfoldable pub keeping_case : List ℕ → List ℕ
 keeping_case text = if length text == 0 then [] else codes "<span class=\"nocase\">" ++ (text ++ codes "</span>")
 
--- the text of a chunk as HTML writes it: commands have tags, but in math
+-- the text of a chunk with HTML tags for commands; math is unchanged
 unfoldable pub tagged : Chunk → List ℕ → List ℕ
 tagged (Normal whole) text = marked_text (chars text)
 tagged (Verbatim whole) text = marked_text (chars text)
 tagged (Math whole) text = text
 
--- the same in a title, where verbatim text keeps its case
+-- the text of a chunk, in a tag that keeps its case if the chunk is verbatim and in a title
 unfoldable pub keeping_its_case : Bool → Chunk → List ℕ → List ℕ
 keeping_its_case is_title (Normal whole) text = text
 keeping_its_case is_title (Verbatim whole) text = if is_title then keeping_case text else text
 keeping_its_case is_title (Math whole) text = text
 
--- a chunk with HTML's tags, formatted by itself
+-- the text of a chunk with HTML tags; the chunk is formatted by itself
 unfoldable pub marked_chunk : Bool → Spanned Chunk → List ℕ
 marked_chunk is_title c = keeping_its_case is_title c.v (tagged c.v (text (c ∷ [])))
 
--- chunks with HTML's tags
+-- the text of chunks with HTML tags
 unfoldable pub marked_chunks : Bool → Value → List ℕ
 marked_chunks is_title chunks = flat_map (marked_chunk is_title) chunks
 
--- the text of a field with HTML's tags, or nothing where the field isn't there
+-- the text of a field with HTML tags, or nothing if the field is missing
 unfoldable pub marked_field : Bool → Option Value → List ℕ
 marked_field is_title None = []
 marked_field is_title (Some chunks) = marked_chunks is_title chunks
 
--- the text of a title
+-- the text of a field that is a title, with HTML tags
 unfoldable pub title_text : Entry → List ℕ → List ℕ
 title_text entry name = marked_field true (field entry name)
 
--- the text of another field with HTML's tags
+-- the text of a field that is no title, with HTML tags
 unfoldable pub rich_text : Entry → List ℕ → List ℕ
 rich_text entry name = marked_field false (field entry name)
 
--- the same of the field of this name, or else of the other
+-- the text of the field `name`, or else of the field `other`, with HTML tags
 unfoldable pub rich_text_or : Entry → List ℕ → List ℕ → List ℕ
 rich_text_or entry name other = marked_field false (field_or entry name other)
 
--- the first text that isn't empty
+-- the first text, or the other one if the first is empty
 unfoldable pub either : List ℕ → List ℕ → List ℕ
 either first other = if length first == 0 then other else first
 
--- two texts with what separates them between them, where neither is empty
+-- two texts with the separator between them, or only one of them if the other is empty
 unfoldable pub joined : List ℕ → List ℕ → List ℕ → List ℕ
 joined separator first next =
     if length next == 0 then first
     else if length first == 0 then next
     else first ++ (separator ++ next)
 
--- the texts of a list after some text, with semicolons between them
+-- the texts of a list after another text, with semicolons between them
 abbrev pub listed_after : List ℕ → List Value → List ℕ
 listed_after before [] = before
 listed_after before (part ∷ parts) = listed_after (joined (codes "; ") before (marked_chunks false part)) parts
 
--- the texts of a field that is a list, or nothing where the field isn't there
+-- the texts of a field that is a list, or nothing if the field is missing
 unfoldable pub listed_field : Option Value → List ℕ
 listed_field None = []
 listed_field (Some chunks) = listed_after [] (and_list chunks)

@@ -1,5 +1,5 @@
 -- Meaning: words of public contracts.
--- The titles of an item, and of what it is a part of.
+-- The titles of an item, of its container and of its event.
 use Rattle.std.specs.Prelude.{ℕ, true, ◌==◌, if◌then◌else◌, List, [], ◌++◌, length, codes, bytes_eq}
 use Rattle.bib_entry.specs.declared.entry.Entry.{Entry}
 use Rattle.bib_entry.specs.Fields.{field_or}
@@ -10,7 +10,7 @@ use Rattle.bib_csl.specs.Fields.{given}
 use Rattle.bib_csl.specs.Texts.{marked_field, title_text, rich_text, either, joined}
 use Rattle.bib_csl.specs.Types.{is_article, is_in_book, is_volume}
 
--- a title with its subtitle and what is added to it, in fields of these names
+-- a title with its subtitle and its addition, which are in the fields `subtitle` and `addon`
 unfoldable pub with_subtitle : Entry → List ℕ → List ℕ → List ℕ → List ℕ
 with_subtitle entry title subtitle addon =
     joined (codes ". ") (joined (codes ": ") title (title_text entry subtitle)) (title_text entry addon)
@@ -23,7 +23,7 @@ own_title entry = with_subtitle entry (title_text entry (codes "title")) (codes 
 unfoldable pub title_of_work : Entry → List ℕ
 title_of_work entry = with_subtitle entry (title_text entry (codes "maintitle")) (codes "mainsubtitle") (codes "maintitleaddon")
 
--- the title of the book that the work is a part of
+-- the title of the book that contains the work
 unfoldable pub title_of_book : Entry → List ℕ
 title_of_book entry = with_subtitle entry (title_text entry (codes "booktitle")) (codes "booksubtitle") (codes "booktitleaddon")
 
@@ -33,11 +33,11 @@ journal_title entry =
     with_subtitle entry (marked_field true (field_or entry (codes "journaltitle") (codes "journal")))
     (codes "journalsubtitle") (codes "journaltitleaddon")
 
--- the title of the item: of a volume of a work, that of the work
+-- the title of the item; for a book or a periodical that is a volume of a work, this is the title of the work
 unfoldable pub item_title : ItemType → Entry → List ℕ
 item_title kind entry = if is_volume kind then either (title_of_work entry) (own_title entry) else own_title entry
 
--- the title of the one volume, in a work of several with a title of its own
+-- the title of the volume, if the work of several volumes has a title of its own
 unfoldable pub volume_title : ItemType → Entry → List ℕ
 volume_title kind entry =
     if length (title_of_work entry) == 0 then []
@@ -45,18 +45,18 @@ volume_title kind entry =
     else if is_in_book kind then title_of_book entry
     else []
 
--- the title of what the item is a part of
+-- the title of the container: the work of several volumes, the book or the journal
 unfoldable pub container_title : ItemType → Entry → List ℕ
 container_title kind entry =
     if is_in_book kind then either (title_of_work entry) (title_of_book entry)
     else if is_article kind then journal_title entry
     else either (journal_title entry) (title_of_book entry)
 
--- the name of the conference
+-- the name of the event, such as a conference
 unfoldable pub event_title : Entry → List ℕ
 event_title entry = joined (codes ". ") (title_text entry (codes "eventtitle")) (title_text entry (codes "eventtitleaddon"))
 
--- the titles of an item
+-- the title, the short title, the title of the volume and the title of the original
 unfoldable pub title_fields : ItemType → Entry → List Field
 title_fields kind entry =
     given Title (item_title kind entry) ++
@@ -64,7 +64,7 @@ title_fields kind entry =
     (given VolumeTitle (volume_title kind entry) ++
     given OriginalTitle (title_text entry (codes "origtitle"))))
 
--- what BibLaTeX's keys of a series stand for; any other text stays
+-- the text for BibLaTeX's keys in the field `series`, or any other text as it is
 unfoldable pub series_named : List ℕ → List ℕ
 series_named text =
     if bytes_eq text (codes "newseries") then codes "new series"
@@ -75,13 +75,13 @@ series_named text =
 unfoldable pub series_title : Entry → List ℕ
 series_title entry = series_named (title_text entry (codes "series"))
 
--- what an item is a part of
+-- the title of the container, its short form and the title of the series
 unfoldable pub container_fields : ItemType → Entry → List Field
 container_fields kind entry =
     given ContainerTitle (container_title kind entry) ++
     (given ContainerTitleShort (title_text entry (codes "shortjournal")) ++
     given CollectionTitle (series_title entry))
 
--- the conference that an item comes from
+-- the title and the place of the event, such as a conference
 unfoldable pub event_fields : Entry → List Field
 event_fields entry = given EventTitle (event_title entry) ++ given EventPlace (rich_text entry (codes "venue"))

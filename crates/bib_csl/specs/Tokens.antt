@@ -1,5 +1,5 @@
 -- Machinery: words of private contracts.
--- The tokens by which the JSON of an item is written. The members of an object come in the order of their names.
+-- The tokens of the JSON of an item. The members of an object are in the order of their names.
 use Rattle.std.specs.Prelude.{ℕ, Bool, true, false, ◌==◌, if◌then◌else◌, List, [], ◌∷◌, ◌++◌, length, map, codes, decimal, Option, Some, None}
 use Rattle.json.specs.Token.{Token, key, string, number, boolean}
 use Rattle.json.specs.Tree.{json_tokens}
@@ -22,7 +22,7 @@ use denote.Ref.{Bor}
 abbrev pub tokens_of : Data → List Token
 tokens_of d = json_tokens (outline d)
 
--- what a member holds
+-- the value of a member
 abbrev pub held_json : Held → Data
 held_json (Word word) = json.string word.now
 held_json (Whole content) = content_json content.now
@@ -54,32 +54,32 @@ unfoldable pub name_tokens : Name → List Token
 name_tokens (Literal text) = key (codes "literal") ∷ string text ∷ []
 name_tokens (Parts p) = parts_tokens p
 
--- a day of a month, if there is one
+-- a day of a month, if it is given
 abbrev pub day_tokens : Option ℕ → List Token
 day_tokens None = []
 day_tokens (Some day) = number (decimal day) ∷ []
 
--- a month and its day, if there is one; there is no day without a month
+-- a month, and its day if it is given; nothing without a month
 abbrev pub month_tokens : Option ℕ → Option ℕ → List Token
 month_tokens None day = []
 month_tokens (Some month) day = number (decimal month) ∷ day_tokens day
 
--- the word that a date isn't exact, where it isn't
+-- the member `circa`, if the date is uncertain or approximate
 abbrev pub circa_tokens : Bool → List Token
 circa_tokens true = key (codes "circa") ∷ boolean true ∷ []
 circa_tokens false = []
 
--- the dates, unless there are none
+-- the member `date-parts`, unless there are no dates
 unfoldable pub dates_tokens : List DateParts → List Token
 dates_tokens parts =
     if length parts == 0 then [] else key (codes "date-parts") ∷ tokens_of (json.array (items_of (map date_parts_json parts)))
 
--- the text of a date, if there is one
+-- the member `literal` with the text of a date, if there is one
 abbrev pub literal_tokens : Option (List ℕ) → List Token
 literal_tokens None = []
 literal_tokens (Some text) = key (codes "literal") ∷ string text ∷ []
 
--- the season, if there is one
+-- the member `season`, if there is one
 abbrev pub season_tokens : Option Season → List Token
 season_tokens None = []
 season_tokens (Some season) = key (codes "season") ∷ number (decimal (season_number season)) ∷ []

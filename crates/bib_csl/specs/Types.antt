@@ -1,5 +1,5 @@
 -- Meaning: words of public contracts.
--- Which type of item an entry becomes, and which items are alike.
+-- The type of the item of an entry, and groups of these types.
 use Rattle.std.specs.Prelude.{ℕ, Bool, true, false, List, if◌then◌else◌, codes, bytes_eq}
 use Rattle.bib_tables.specs.declared.mechanics.EntryType.{EntryType}
 use Rattle.bib_tables.specs.declared.mechanics.EntryType.TheVariants.{Article, Book, Booklet, InBook, InCollection, InProceedings, Manual, MastersThesis, PhdThesis, Misc, Proceedings, TechReport, Unpublished, MvBook, BookInBook, SuppBook, Periodical, SuppPeriodical, Collection, MvCollection, SuppCollection, Reference, MvReference, InReference, MvProceedings, Report, Patent, Thesis, Online, Software, Dataset, Set, XData, Unknown}
@@ -13,7 +13,7 @@ type_of_article subtype =
     else if bytes_eq subtype (codes "newspaper") then item_type.ArticleNewspaper
     else item_type.ArticleJournal
 
--- the type of the item that an entry of this type and with this `entrysubtype` becomes
+-- the type of the item of an entry with this type and this `entrysubtype`
 abbrev pub item_type_of : EntryType → List ℕ → ItemType
 item_type_of Article subtype = type_of_article subtype
 item_type_of SuppPeriodical subtype = type_of_article subtype
@@ -64,7 +64,7 @@ is_in_book item_type.PaperConference = true
 is_in_book item_type.EntryEncyclopedia = true
 is_in_book other = false
 
--- whether the item is a whole that may be one of several volumes
+-- whether the item can be a volume of a work of several volumes
 abbrev pub is_volume : ItemType → Bool
 is_volume item_type.Book = true
 is_volume item_type.Periodical = true
@@ -78,7 +78,7 @@ counts_issues item_type.ArticleNewspaper = true
 counts_issues item_type.Periodical = true
 counts_issues other = false
 
--- whether it counts the works of a series
+-- whether the field `number` counts the works of a series
 abbrev pub counts_series : ItemType → Bool
 counts_series item_type.Book = true
 counts_series item_type.Chapter = true

@@ -25,7 +25,7 @@ pub(crate) fn add_plain(
     add_text(fields, variable, texts::plain_text(alloc, entry, name)?)
 }
 
-// Appends a variable with the text of a title.
+// Appends a variable with the text of a title, with HTML tags.
 pub(crate) fn add_title(
     alloc: Global,
     variable: Variable,
@@ -38,7 +38,7 @@ pub(crate) fn add_title(
     add_text(fields, variable, texts::title_text(alloc, entry, name)?)
 }
 
-// Appends a variable with the text of another field, with HTML's tags.
+// Appends a variable with the text of a field, with HTML tags.
 pub(crate) fn add_rich(
     alloc: Global,
     variable: Variable,
@@ -51,7 +51,7 @@ pub(crate) fn add_rich(
     add_text(fields, variable, texts::rich_text(alloc, entry, name)?)
 }
 
-// Appends a variable with the text of one field or of another, with HTML's tags.
+// Appends a variable with the text of the field `name`, or of the field `other` if that is missing, with HTML tags.
 pub(crate) fn add_rich_or(
     alloc: Global,
     variable: Variable,

@@ -21,7 +21,7 @@ use bib_text::items::Items;
 use bib_text::text::Text;
 use std::alloc::{AllocError, Global};
 
-// A year as CSL counts it.
+// Returns a year as CSL counts it: the year before 1 is -1.
 #[tactic(auto, unfolding(crate::specs::Dates::csl_year))]
 fn csl_year(year: i32) -> i64
     ensures { result ≡ spec.csl_year year }
@@ -32,7 +32,7 @@ fn csl_year(year: i32) -> i64
     year as i64
 }
 
-// A number that counts from 0, from 1.
+// Returns a number that counts from 0 as a number that counts from 1.
 fn from_one(number: Option<u8>) -> Option<u16>
     ensures { result ≡ option_map spec.from_one number }
 {
@@ -54,7 +54,7 @@ fn parts_of_date(date: &Datetime) -> DateParts
     }
 }
 
-// The dates of a date or a range, those that there are.
+// Returns the dates of a date or a range: one, or two for a range with a start and an end.
 #[tactic(auto, unfolding(crate::specs::Dates::parts_of_value))]
 fn parts_of_value(alloc: Global, value: &DateValue) -> Result<Items<DateParts>, AllocError>
     ensures { IfOk result (λ parts. parts ≡ spec.parts_of_value value.now) }
@@ -72,7 +72,7 @@ fn parts_of_value(alloc: Global, value: &DateValue) -> Result<Items<DateParts>, 
     Ok(parts)
 }
 
-// The text of a range with one open side.
+// Returns the text of a range with an open side, such as `2020/..`, or `None` for another value.
 #[tactic(auto, unfolding(crate::specs::Dates::open_text))]
 fn open_text(alloc: Global, value: &DateValue) -> Result<Option<Text>, AllocError>
     ensures { IfOk result (λ text. text ≡ spec.open_text value.now) }
@@ -87,7 +87,7 @@ fn open_text(alloc: Global, value: &DateValue) -> Result<Option<Text>, AllocErro
     }
 }
 
-// A date that is read.
+// Returns the date of an item for a parsed date.
 #[tactic(auto, unfolding(crate::specs::Dates::date_item))]
 fn date_item(alloc: Global, date: &Date) -> Result<ItemDate, AllocError>
     ensures { IfOk result (λ item. item ≡ spec.date_item date.now) }
@@ -100,7 +100,7 @@ fn date_item(alloc: Global, date: &Date) -> Result<ItemDate, AllocError>
     })
 }
 
-// A date that isn't read, by its text.
+// Returns the date of an item for a text that can't be parsed as a date.
 #[tactic(auto, unfolding(crate::specs::Dates::literal_item))]
 fn literal_item(alloc: Global, text: Text) -> ItemDate
     ensures { result ≡ spec.literal_item text }
@@ -113,7 +113,7 @@ fn literal_item(alloc: Global, text: Text) -> ItemDate
     }
 }
 
-// The number that a byte of a text is as a digit.
+// Returns the value of a digit at an index of a text. It is 0 for a byte below `0`, and above 9 for a byte above `9`.
 #[tactic(auto, unfolding(crate::specs::Dates::digit))]
 fn digit(text: &[u8], i: usize) -> u32
     requires { i < length text.now }
@@ -123,7 +123,7 @@ fn digit(text: &[u8], i: usize) -> u32
     text[i].saturating_sub(b'0') as u32
 }
 
-// The year that the first four digits of a text spell.
+// Returns the year that the first four digits of a text write.
 #[tactic(auto, unfolding(crate::specs::Dates::first_year))]
 fn first_year(text: &[u8]) -> i32
     requires { 3 < length text.now }
@@ -133,14 +133,14 @@ fn first_year(text: &[u8]) -> i32
     year as i32
 }
 
-// Whether bytes are digits.
+// Returns whether all bytes are ASCII digits.
 fn are_digits(text: &[u8]) -> bool
     ensures { result ≡ list_all is_ascii_digit text.now }
 {
     text.iter().all(|byte| byte.is_ascii_digit())
 }
 
-// Whether a text is four digits of a year, a hyphen, and one of the numbers from 20 on.
+// Returns whether a text is four digits, `-2` and one more byte: ISO 8601-2 has the seasons 21 to 24 there.
 #[tactic(auto, unfolding(crate::specs::Dates::is_season_text))]
 fn is_season_text(text: &[u8]) -> bool
     ensures value { result ≡ spec.is_season_text text.now }
@@ -149,7 +149,7 @@ fn is_season_text(text: &[u8]) -> bool
     text.len() == 7 && are_digits(&text[..4]) && text[4] == b'-' && digit(text, 5) == 2
 }
 
-// The season with this number after 20.
+// Returns the season with the number 20 + `number` in ISO 8601-2.
 fn season_numbered(number: u32) -> Option<Season>
     ensures { result ≡ spec.season_numbered number }
 {
@@ -162,7 +162,7 @@ fn season_numbered(number: u32) -> Option<Season>
     }
 }
 
-// A season of a year.
+// Returns the date of an item for a season of the year at the start of `text`.
 #[tactic(auto, unfolding(crate::specs::Dates::season_item))]
 fn season_item(alloc: Global, text: &[u8], season: Season) -> Result<ItemDate, AllocError>
     requires { 3 < length text.now }
@@ -182,7 +182,7 @@ fn season_item(alloc: Global, text: &[u8], season: Season) -> Result<ItemDate, A
     })
 }
 
-// The season of a year that a text names.
+// Returns the date of an item for a text such as `2020-21`, which is a season of a year.
 #[tactic(auto, unfolding(crate::specs::Dates::season_of))]
 fn season_of(alloc: Global, text: &[u8]) -> Result<Option<ItemDate>, AllocError>
     ensures { IfOk result (λ item. item ≡ spec.season_of text.now) }
@@ -196,7 +196,7 @@ fn season_of(alloc: Global, text: &[u8]) -> Result<Option<ItemDate>, AllocError>
     }
 }
 
-// What a text says that isn't read: a season, or else the text, unless it is empty.
+// Returns the date of an item for a text that isn't parsed: a season, or else the text itself. Returns `None` if it is empty.
 #[tactic(auto, unfolding(crate::specs::Dates::unread))]
 fn unread(alloc: Global, text: Text) -> Result<Option<ItemDate>, AllocError>
     ensures { IfOk result (λ item. item ≡ spec.unread text) }
@@ -210,7 +210,8 @@ fn unread(alloc: Global, text: Text) -> Result<Option<ItemDate>, AllocError>
     }
 }
 
-/// What is read, or else what its text says: a season, or the text itself, unless it is empty. The only error is out of memory.
+/// Returns the date of an item: `date` if it was parsed, or else what `text` is, a season or an unparsed text. Returns `None` without a
+/// date if `text` is empty. The only error is out of memory.
 #[tactic(auto, unfolding(crate::specs::Dates::read_or_unread))]
 pub fn read_or_unread(
     alloc: Global,
@@ -238,7 +239,7 @@ pub fn read_date(alloc: Global, chunks: ChunksRef<'_>) -> Result<Option<Date>, A
     }
 }
 
-// The date that a year and the month and day beside it are read as.
+// Returns the date that a year, and the month and the day if they are given, are parsed as, or `None` if they can't be parsed.
 fn read_fields(
     alloc: Global,
     year: ChunksRef<'_>,
@@ -257,7 +258,7 @@ fn read_fields(
     }
 }
 
-// The date of a field.
+// Returns the date of an item for the chunks of one date field.
 #[tactic(auto, unfolding(crate::specs::Dates::read_or_unread))]
 fn one_field_item(alloc: Global, chunks: ChunksRef<'_>) -> Result<Option<ItemDate>, AllocError>
     ensures { IfOk result (λ item. item ≡ spec.read_or_unread (date_read chunks.now) (text chunks.now)) }
@@ -268,7 +269,8 @@ fn one_field_item(alloc: Global, chunks: ChunksRef<'_>) -> Result<Option<ItemDat
     unread(alloc, shown(alloc, chunks)?)
 }
 
-// The date of a year and of the month and day beside it.
+// Returns the date of an item for a year, and the month and the day if they are given. If they can't be parsed, its text is the month and
+// the year.
 #[tactic(auto, unfolding(crate::specs::Dates::three_fields_item, crate::specs::Dates::read_or_unread))]
 fn three_fields_item(
     alloc: Global,
@@ -286,7 +288,7 @@ fn three_fields_item(
     unread(alloc, joined(" ", month, shown(alloc, year)?)?)
 }
 
-// The date of the field of the first name, else of those of the other three.
+// Returns the date of an item for the field `date`, or else for the fields `year`, `month` and `day`.
 #[tactic(auto, unfolding(crate::specs::Dates::date_in, crate::specs::Dates::three_fields_item))]
 fn date_in(
     alloc: Global,

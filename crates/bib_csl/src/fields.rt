@@ -1,4 +1,4 @@
-//! Variables that an item has where they hold something.
+//! Variables of an item, unless they are empty.
 
 ghost use Rattle.std.specs.Prelude.{◌≡◌, ◌++◌, OnOk};
 ghost use Rattle.bib_csl.specs.Fields.{given, given_people, given_date};

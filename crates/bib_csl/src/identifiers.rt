@@ -1,4 +1,4 @@
-//! What identifies an item, and where it is kept.
+//! Identifiers, addresses and archives of an item.
 
 ghost use Rattle.std.specs.Prelude.{◌≡◌, ◌++◌, OnOk, IfOk};
 ghost use Rattle.std.specs.Option.{option_copied};
@@ -15,7 +15,7 @@ use bib_text::items::Items;
 use bib_text::text::Text;
 use std::alloc::{AllocError, Global};
 
-// The archive that a field names, in lowercase letters.
+// Returns the name of an archive in a field, with ASCII letters in lowercase.
 #[tactic(auto, unfolding(crate::specs::Identifiers::archive_name))]
 fn archive_name(alloc: Global, field: Option<ChunksRef<'_>>) -> Result<Text, AllocError>
     ensures { IfOk result (λ text. text ≡ spec.archive_name (option_copied field.entry)) }
@@ -28,7 +28,7 @@ fn archive_name(alloc: Global, field: Option<ChunksRef<'_>>) -> Result<Text, All
     Ok(Text::from_string(name))
 }
 
-// The archive that has the electronic version of an entry.
+// Returns the archive of the electronic version of an entry (`eprinttype` or `archiveprefix`), in lowercase.
 #[tactic(auto, unfolding(crate::specs::Identifiers::archive_of))]
 fn archive_of(alloc: Global, entry: &Entry) -> Result<Text, AllocError>
     ensures { IfOk result (λ text. text ≡ spec.archive_of entry.now) }
@@ -36,7 +36,7 @@ fn archive_of(alloc: Global, entry: &Entry) -> Result<Text, AllocError>
     archive_name(alloc, field_or(entry, "eprinttype", "archiveprefix"))
 }
 
-// The name of the electronic version there.
+// Returns the identifier in that archive (the field `eprint`).
 #[tactic(auto, unfolding(crate::specs::Identifiers::eprint_of))]
 fn eprint_of(alloc: Global, entry: &Entry) -> Result<Text, AllocError>
     ensures { IfOk result (λ text. text ≡ spec.eprint_of entry.now) }
@@ -44,7 +44,7 @@ fn eprint_of(alloc: Global, entry: &Entry) -> Result<Text, AllocError>
     plain_text(alloc, entry, "eprint")
 }
 
-/// What an address in one of the archives begins with, or nothing for any other archive.
+/// Returns the start of the addresses in an archive, or an empty text for an archive without a known address.
 #[tactic(auto, unfolding(crate::specs::Identifiers::archive_address))]
 pub fn archive_address(archive: &str) -> &'static str
     ensures { result.now ≡ spec.archive_address archive.now }
@@ -58,7 +58,7 @@ pub fn archive_address(archive: &str) -> &'static str
     }
 }
 
-// The address of what has this name in an archive.
+// Returns the address of `eprint` in an archive, or an empty text if the archive has no known address or `eprint` is empty.
 #[tactic(auto, unfolding(crate::specs::Identifiers::address_in))]
 fn address_in(alloc: Global, archive: &str, eprint: &str) -> Result<Text, AllocError>
     ensures { IfOk result (λ text. text ≡ spec.address_in archive.now eprint.now) }
@@ -74,7 +74,7 @@ fn address_in(alloc: Global, archive: &str, eprint: &str) -> Result<Text, AllocE
     Ok(address)
 }
 
-// A text that stands for an archive without such addresses.
+// Returns the text, or an empty text for an archive with a known address.
 #[tactic(auto, unfolding(crate::specs::Identifiers::unaddressed))]
 fn unaddressed(alloc: Global, archive: &str, text: Text) -> Text
     ensures { result ≡ spec.unaddressed archive.now text }
@@ -86,7 +86,7 @@ fn unaddressed(alloc: Global, archive: &str, text: Text) -> Text
     }
 }
 
-// The address: by the field `url`, else in the archive.
+// Returns the field `url`, or else the address in the archive.
 #[tactic(auto, unfolding(crate::specs::Identifiers::url_of, crate::specs::Texts::either))]
 fn url_of(alloc: Global, entry: &Entry) -> Result<Text, AllocError>
     ensures { IfOk result (λ text. text ≡ spec.url_of entry.now) }
@@ -100,7 +100,7 @@ fn url_of(alloc: Global, entry: &Entry) -> Result<Text, AllocError>
     address_in(alloc, archive.as_str(), eprint.as_str())
 }
 
-// The number in PubMed.
+// Returns the identifier in PubMed, or an empty text for another archive.
 #[tactic(auto, unfolding(crate::specs::Identifiers::pubmed_number))]
 fn pubmed_number(alloc: Global, entry: &Entry) -> Result<Text, AllocError>
     ensures { IfOk result (λ text. text ≡ spec.pubmed_number entry.now) }
@@ -112,7 +112,7 @@ fn pubmed_number(alloc: Global, entry: &Entry) -> Result<Text, AllocError>
     Ok(Text::new(alloc))
 }
 
-// The name of an archive without such addresses.
+// Returns the name of the archive, or an empty text for an archive with a known address.
 #[tactic(auto, unfolding(crate::specs::Identifiers::archive_text))]
 fn archive_text(alloc: Global, entry: &Entry) -> Result<Text, AllocError>
     ensures { IfOk result (λ text. text ≡ spec.archive_text entry.now) }
@@ -122,7 +122,7 @@ fn archive_text(alloc: Global, entry: &Entry) -> Result<Text, AllocError>
     Ok(unaddressed(alloc, archive.as_str(), name))
 }
 
-// The place in such an archive.
+// Returns the identifier in the archive, or an empty text for an archive with a known address.
 #[tactic(auto, unfolding(crate::specs::Identifiers::archive_location))]
 fn archive_location(alloc: Global, entry: &Entry) -> Result<Text, AllocError>
     ensures { IfOk result (λ text. text ≡ spec.archive_location entry.now) }
@@ -132,7 +132,7 @@ fn archive_location(alloc: Global, entry: &Entry) -> Result<Text, AllocError>
     Ok(unaddressed(alloc, archive.as_str(), eprint))
 }
 
-// Appends what identifies an item.
+// Appends the DOI, the address, the PubMed number, the ISBN and the ISSN.
 #[tactic(auto, unfolding(crate::specs::Identifiers::identifier_fields))]
 pub(crate) fn add_identifiers(
     alloc: Global,
@@ -148,7 +148,7 @@ pub(crate) fn add_identifiers(
     add_plain(alloc, Variable::Issn, entry, "issn", fields)
 }
 
-// Appends where an item is kept.
+// Appends the archive, the location in it, and the call number of a library.
 #[tactic(auto, unfolding(crate::specs::Identifiers::archive_fields))]
 pub(crate) fn add_archive(
     alloc: Global,

@@ -1,4 +1,4 @@
-//! Items of CSL-JSON: what a citation processor needs to know of a work.
+//! Items of CSL-JSON, the input of a citation processor.
 
 use crate::variables::{ItemType, Variable};
 use bib_text::items::Items;
@@ -7,27 +7,27 @@ use bib_text::text::Text;
 /// An item.
 #[derive(Debug, PartialEq, Eq, Drop)]
 pub struct Item {
-    /// The key that the item is cited by.
+    /// The key, by which the item is cited.
     pub id: Text,
     /// The type of the item.
     pub kind: ItemType,
-    /// The variables that it has, and what each holds.
+    /// The variables of the item and their contents.
     pub fields: Items<Field>,
 }
 
-/// A variable and what it holds.
+/// A variable and its content.
 #[derive(Debug, PartialEq, Eq, Drop)]
 pub struct Field {
     /// The variable.
     pub variable: Variable,
-    /// What it holds.
+    /// The content of the variable.
     pub content: Content,
 }
 
-/// What a variable holds.
+/// The content of a variable.
 #[derive(Debug, PartialEq, Eq, Drop)]
 pub enum Content {
-    /// A text, with HTML's tags where CSL has them.
+    /// A text, with HTML tags for markup.
     Text(Text),
     /// People.
     Names(Items<Name>),
@@ -38,44 +38,44 @@ pub enum Content {
 /// The name of a person or of an institution.
 #[derive(Debug, PartialEq, Eq, Drop)]
 pub enum Name {
-    /// A name that is not taken apart, as that of an institution.
+    /// A name without parts, such as that of an institution.
     Literal(Text),
-    /// A person's name in its parts.
+    /// The parts of a person's name.
     Parts(NameParts),
 }
 
-/// The parts of a person's name. An empty text stands for a part that isn't there.
+/// The parts of a person's name. A missing part is empty.
 #[derive(Debug, PartialEq, Eq, Drop)]
 pub struct NameParts {
     /// The family name.
     pub family: Text,
     /// The given name.
     pub given: Text,
-    /// What stands after the name, as `Jr.`.
+    /// A suffix, such as `Jr.`.
     pub suffix: Text,
-    /// A prefix that is left out where the family name stands alone, as `von`.
+    /// A prefix that isn't part of the family name, such as `von`: citations with only the family name omit it.
     pub dropping_particle: Text,
-    /// A prefix that counts as part of the family name.
+    /// A prefix that is part of the family name.
     pub non_dropping_particle: Text,
 }
 
 /// A date.
 #[derive(Debug, PartialEq, Eq, Drop)]
 pub struct ItemDate {
-    /// No date where it is not read, one, or the two of a range.
+    /// Empty for a date that can't be parsed; otherwise one date, or the two dates of a range.
     pub parts: Items<DateParts>,
     /// The season of the year.
     pub season: Option<Season>,
-    /// Whether the date is not sure or not exact.
+    /// Whether the date is uncertain or approximate.
     pub circa: bool,
-    /// The text of a date that its parts don't say.
+    /// The text of a date that can't be parsed, or of a range with an open side.
     pub literal: Option<Text>,
 }
 
-/// A year, month or day.
+/// A year, with its month and its day if the date has them.
 #[derive(Debug, Clone, Copy, PartialEq, Eq)]
 pub struct DateParts {
-    /// The year; the one before 1 is -1.
+    /// The year; the year before 1 is -1.
     pub year: i64,
     /// The month, from 1.
     pub month: Option<u16>,

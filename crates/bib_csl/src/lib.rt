@@ -1,9 +1,9 @@
 //! Entries as items of CSL-JSON, the input of citation processors (Citation Style Language 1.0.2).
 //!
-//! An item has a type and a list of variables. Each group of variables is a module with one call that appends those of the group that an
-//! entry has, in their order; `item` is these calls, one after another, and its definition the lists of the groups. Texts come from
-//! `texts` and `markup`, names from `people`, dates from `dates`. `objects` returns the text of an
-//! item as JSON: `members` puts its members in the order of their names, and `writing` writes it token by token.
+//! An item has a type and a list of variables. Each group of variables has a module, whose calls append the variables of the group that an
+//! entry has. `making` makes these calls one after another. Texts come from `texts` and `markup`, names from `people`, dates from `dates`.
+//! `objects` returns the text of an item as JSON: `members` puts its members in the order of their names, and `writing` writes it token
+//! by token.
 #![tactic(auto)]
 
 mod adding;

@@ -1,4 +1,4 @@
-//! Items made of entries.
+//! The item of an entry.
 
 ghost use Rattle.std.specs.Prelude.{◌≡◌, ◌++◌, OnOk, IfOk};
 ghost use Rattle.bib_csl.specs.Items.{type_of_entry, work_fields, detail_fields, item_fields, item_of_entry};
@@ -21,7 +21,7 @@ use std::alloc::{AllocError, Global};
 // Most items have no more variables.
 const USUAL_FIELDS: usize = 12;
 
-// The type of the item that an entry becomes.
+// Returns the type of the item of an entry.
 #[tactic(auto, unfolding(crate::specs::Items::type_of_entry))]
 fn type_of_entry(alloc: Global, entry: &Entry) -> Result<ItemType, AllocError>
     ensures { IfOk result (λ kind. kind ≡ type_of_entry entry.now) }
@@ -46,7 +46,7 @@ fn add_work(
     add_publishing(alloc, entry, fields)
 }
 
-// Appends the other variables that hold texts.
+// Appends the variables for the numbers, the pages, the identifiers, the archive and the notes of an item.
 #[tactic(auto, unfolding(crate::specs::Items::detail_fields))]
 fn add_details(
     alloc: Global,
@@ -63,7 +63,7 @@ fn add_details(
     add_notes(alloc, entry, fields)
 }
 
-// The variables of an item of this type that an entry becomes.
+// Returns the variables of the item of an entry.
 #[tactic(auto, unfolding(crate::specs::Items::item_fields))]
 fn item_fields(alloc: Global, kind: ItemType, entry: &Entry) -> Result<Items<Field>, AllocError>
     ensures { IfOk result (λ fields. fields ≡ item_fields kind entry.now) }
@@ -76,7 +76,7 @@ fn item_fields(alloc: Global, kind: ItemType, entry: &Entry) -> Result<Items<Fie
     Ok(fields)
 }
 
-/// The item that an entry becomes. The only error is out of memory.
+/// Returns the item of an entry. The only error is out of memory.
 #[tactic(auto, unfolding(crate::specs::Items::item_of_entry))]
 pub fn item_of(alloc: Global, entry: &Entry) -> Result<Item, AllocError>
     ensures { IfOk result (λ item. item ≡ item_of_entry entry.now) }

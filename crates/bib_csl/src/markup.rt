@@ -1,4 +1,4 @@
-//! Texts of fields with HTML's tags.
+//! Texts of fields with HTML tags.
 
 ghost use Rattle.std.specs.Prelude.{◌≡◌, ◌++◌, IfOk};
 ghost use Rattle.std.specs.Option.{option_copied};
@@ -10,7 +10,7 @@ use bib_chunks::chunk::{Chunk, ChunksRef, Spanned};
 use bib_text::text::Text;
 use std::alloc::{AllocError, Global};
 
-// A text whose case no style changes.
+// Returns the text in a tag that keeps its case in every style, or an empty text as it is.
 #[tactic(auto, unfolding(crate::specs::Texts::keeping_case))]
 fn keeping_case(alloc: Global, text: Text) -> Result<Text, AllocError>
     ensures { IfOk result (λ kept. kept ≡ keeping_case text) }
@@ -24,7 +24,7 @@ fn keeping_case(alloc: Global, text: Text) -> Result<Text, AllocError>
     Ok(kept)
 }
 
-// The text of a chunk, which keeps its case in a title where it is verbatim.
+// Returns the text of a chunk, in a tag that keeps its case if the chunk is verbatim and in a title.
 #[tactic(auto, unfolding(crate::specs::Texts::keeping_its_case))]
 fn keeping_its_case(
     alloc: Global,
@@ -40,7 +40,7 @@ fn keeping_its_case(
     }
 }
 
-// The text of a chunk as HTML writes it: commands have tags, but in math.
+// Returns the text of a chunk with HTML tags for commands. Math is unchanged.
 #[tactic(auto, unfolding(crate::specs::Texts::tagged))]
 fn tagged(alloc: Global, chunk: &Chunk, text: Text) -> Result<Text, AllocError>
     ensures { IfOk result (λ tagged_text. tagged_text ≡ tagged chunk.now text) }
@@ -51,7 +51,7 @@ fn tagged(alloc: Global, chunk: &Chunk, text: Text) -> Result<Text, AllocError>
     }
 }
 
-// A chunk with HTML's tags.
+// Returns the text of a chunk with HTML tags.
 #[tactic(auto, unfolding(crate::specs::Texts::marked_chunk))]
 fn marked_chunk(alloc: Global, is_title: bool, chunk: &Spanned<Chunk>) -> Result<Text, AllocError>
     ensures { IfOk result (λ text. text ≡ marked_chunk is_title chunk.now) }
@@ -61,7 +61,7 @@ fn marked_chunk(alloc: Global, is_title: bool, chunk: &Spanned<Chunk>) -> Result
     keeping_its_case(alloc, is_title, &chunk.v, text)
 }
 
-// A text and another after it.
+// Returns one text followed by another.
 fn followed(first: Text, next: Text) -> Result<Text, AllocError>
     ensures { IfOk result (λ text. text ≡ first ++ next) }
 {
@@ -73,7 +73,7 @@ fn followed(first: Text, next: Text) -> Result<Text, AllocError>
     Ok(text)
 }
 
-// Chunks with HTML's tags.
+// Returns the text of chunks with HTML tags.
 #[tactic(auto, unfolding(crate::specs::Texts::marked_chunks))]
 pub(crate) fn marked_chunks(
     alloc: Global,
@@ -89,7 +89,7 @@ pub(crate) fn marked_chunks(
     Ok(out)
 }
 
-// The text of a field with HTML's tags, or nothing where the field isn't there.
+// Returns the text of a field with HTML tags, or an empty text if the field is missing.
 #[tactic(auto, unfolding(crate::specs::Texts::marked_field))]
 pub(crate) fn marked_field(
     alloc: Global,

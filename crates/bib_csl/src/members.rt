@@ -14,14 +14,14 @@ use std::collections::BTreeMap;
 pub(crate) enum Held<'i> {
     /// The key of the item or the name of its type.
     Word(&'i str),
-    /// What a variable holds.
+    /// The content of a variable.
     Whole(&'i Content),
 }
 
 /// Members by their names.
 pub(crate) type Members<'i> = BTreeMap<&'i str, Held<'i>>;
 
-// Puts a member at its name.
+// Inserts a member, and replaces one with the same name.
 fn put_member<'i>(
     members: &mut Members<'i>,
     name: &'i str,
@@ -34,7 +34,7 @@ fn put_member<'i>(
     Ok(())
 }
 
-// What an item is called and its type.
+// Returns the members `id` and `type` of an item.
 #[tactic(auto, unfolding(crate::specs::Json::head_members))]
 fn head_members(alloc: Global, item: &Item) -> Result<Members<'_>, AllocError>
     ensures { IfOk result (λ members. members_held members.entries ≡ json.head_members item.now) }
@@ -45,7 +45,7 @@ fn head_members(alloc: Global, item: &Item) -> Result<Members<'_>, AllocError>
     Ok(members)
 }
 
-/// The members of an item's object.
+/// Returns the members of the object of an item.
 #[tactic(auto, unfolding(crate::specs::Json::with_variable))]
 pub(crate) fn item_members(alloc: Global, item: &Item) -> Result<Members<'_>, AllocError>
     ensures { IfOk result (λ members. members_held members.entries ≡

@@ -1,4 +1,4 @@
-//! What is said of an item in words.
+//! The abstract, the notes, the keywords and the language of an item.
 
 ghost use Rattle.std.specs.Prelude.{◌≡◌, ◌++◌, OnOk, IfOk};
 ghost use Rattle.std.specs.Option.{option_copied};
@@ -19,7 +19,7 @@ use bib_text::text::Text;
 use bib_values::enums::read_language;
 use std::alloc::{AllocError, Global};
 
-// The tag of a language, after BCP 47.
+// Returns the tag of a language (BCP 47).
 #[tactic(auto, unfolding(crate::specs::Notes::tag_of))]
 fn tag_of(language: Language) -> &'static str
     ensures { result.now ≡ spec.tag_of language }
@@ -30,7 +30,7 @@ fn tag_of(language: Language) -> &'static str
     }
 }
 
-// The tag of a language by a name that BibLaTeX has for it beside those of the table of languages, or nothing.
+// Returns the tag of a language by a name that BibLaTeX has, but not the table of languages. Returns an empty text for other names.
 #[tactic(auto, unfolding(crate::specs::Notes::tag_named))]
 fn tag_named(name: &str) -> &'static str
     ensures { result.now ≡ spec.tag_named name.now }
@@ -51,7 +51,7 @@ fn tag_named(name: &str) -> &'static str
     }
 }
 
-// The tag of the language that a text names, or the text.
+// Returns the tag of the language that a text names, or else the text.
 fn tag_or_text(alloc: Global, whole: Text) -> Result<Text, AllocError>
     ensures { IfOk result (λ text. text ≡ either (spec.tag_named whole) whole) }
 {
@@ -59,7 +59,7 @@ fn tag_or_text(alloc: Global, whole: Text) -> Result<Text, AllocError>
     Ok(either(tag, whole))
 }
 
-// The language of a field: the tag of what its text is read as or names, or the text.
+// Returns the language of a field: the tag of the language that the text is parsed as or names, or else the text.
 #[tactic(auto, unfolding(crate::specs::Notes::language_of))]
 fn language_of(alloc: Global, field: Option<ChunksRef<'_>>) -> Result<Text, AllocError>
     ensures { IfOk result (λ text. text ≡ spec.language_of (option_copied field.entry)) }
@@ -73,7 +73,7 @@ fn language_of(alloc: Global, field: Option<ChunksRef<'_>>) -> Result<Text, Allo
     }
 }
 
-// A note, and what else is said of the work or of how it was published.
+// Returns the fields `note`, `addendum` and `howpublished`, with `. ` between them.
 #[tactic(auto, unfolding(crate::specs::Notes::note_of))]
 fn note_of(alloc: Global, entry: &Entry) -> Result<Text, AllocError>
     ensures { IfOk result (λ text. text ≡ spec.note_of entry.now) }
@@ -83,7 +83,7 @@ fn note_of(alloc: Global, entry: &Entry) -> Result<Text, AllocError>
     joined(". ", both, rich_text(alloc, entry, "howpublished")?)
 }
 
-// Appends what is said of an item in words.
+// Appends the abstract, the annotation, the note, the publication status, the keywords and the language.
 #[tactic(auto, unfolding(crate::specs::Notes::note_fields))]
 pub(crate) fn add_notes(
     alloc: Global,

@@ -19,7 +19,7 @@ use bib_values::ranges::read_ranges;
 use std::alloc::{AllocError, Global};
 use std::ops::Range;
 
-// The issue: where the field `number` counts issues, it and `issue`.
+// Returns the issue: the fields `number` and `issue` if `number` counts issues, otherwise `issue`.
 #[tactic(auto, unfolding(crate::specs::Numbers::issue_of))]
 fn issue_of(kind: ItemType, number: &Text, issue: Text) -> Result<Text, AllocError>
     ensures { IfOk result (λ text. text ≡ spec.issue_of kind number.now issue) }
@@ -30,7 +30,7 @@ fn issue_of(kind: ItemType, number: &Text, issue: Text) -> Result<Text, AllocErr
     Ok(issue)
 }
 
-// The number of the item itself, where `number` counts nothing else.
+// Returns the number of the item itself: `number`, unless it counts issues or the works of a series.
 #[tactic(auto, unfolding(crate::specs::Numbers::own_number))]
 fn own_number(alloc: Global, kind: ItemType, number: &Text) -> Result<Text, AllocError>
     ensures { IfOk result (λ text. text ≡ spec.own_number kind number.now) }
@@ -41,7 +41,7 @@ fn own_number(alloc: Global, kind: ItemType, number: &Text) -> Result<Text, Allo
     number.clone()
 }
 
-// The number in the series.
+// Returns the number in the series, or an empty text if `number` doesn't count the works of a series.
 #[tactic(auto, unfolding(crate::specs::Numbers::collection_number))]
 fn collection_number(alloc: Global, kind: ItemType, number: &Text) -> Result<Text, AllocError>
     ensures { IfOk result (λ text. text ≡ spec.collection_number kind number.now) }
@@ -52,7 +52,7 @@ fn collection_number(alloc: Global, kind: ItemType, number: &Text) -> Result<Tex
     Ok(Text::new(alloc))
 }
 
-// The pages of a range.
+// Returns the text of a range of pages: the first and the last page with an en dash between them, or the only page.
 #[tactic(auto, unfolding(crate::specs::Numbers::pages_of))]
 fn pages_of(alloc: Global, range: &Range<u32>) -> Result<Text, AllocError>
     ensures { IfOk result (λ text. text ≡ spec.pages_of range.now) }
@@ -67,7 +67,7 @@ fn pages_of(alloc: Global, range: &Range<u32>) -> Result<Text, AllocError>
     Ok(text)
 }
 
-// Ranges of pages with commas between them.
+// Returns the text of ranges of pages, with commas between them.
 #[tactic(auto, unfolding(crate::specs::Numbers::pages_after))]
 fn pages_after(alloc: Global, ranges: &[Range<u32>]) -> Result<Text, AllocError>
     ensures { IfOk result (λ text. text ≡ spec.pages_after [] ranges.now) }
@@ -79,7 +79,7 @@ fn pages_after(alloc: Global, ranges: &[Range<u32>]) -> Result<Text, AllocError>
     Ok(text)
 }
 
-// The pages of a field.
+// Returns the pages of a field: the parsed ranges, or else the text of the field.
 #[tactic(auto, unfolding(crate::specs::Numbers::pages))]
 fn pages(alloc: Global, field: Option<ChunksRef<'_>>) -> Result<Text, AllocError>
     ensures { IfOk result (λ text. text ≡ spec.pages (option_copied field.entry)) }
@@ -93,7 +93,7 @@ fn pages(alloc: Global, field: Option<ChunksRef<'_>>) -> Result<Text, AllocError
     }
 }
 
-// Appends the volume, the issue, and where the item stands in a series.
+// Appends the volume, the number of volumes, the part, the issue, the number, and the number in the series.
 #[tactic(auto, unfolding(crate::specs::Numbers::volume_fields))]
 pub(crate) fn add_volume(
     alloc: Global,
@@ -114,7 +114,7 @@ pub(crate) fn add_volume(
     add_text(fields, Variable::CollectionNumber, in_series)
 }
 
-// Appends the edition and the pages.
+// Appends the edition, the chapter, the pages, the number of pages, and the version.
 #[tactic(auto, unfolding(crate::specs::Numbers::page_fields))]
 pub(crate) fn add_pages(
     alloc: Global,

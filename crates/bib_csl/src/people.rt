@@ -25,7 +25,7 @@ use bib_text::text::Text;
 use bib_values::enums::read_editor_type;
 use std::alloc::{AllocError, Global};
 
-// Whether a chunk has no character outside braces.
+// Returns whether a chunk is in braces or empty.
 fn is_braced(chunk: &Chunk) -> bool
     ensures { result ≡ spec.is_braced chunk.now }
 {
@@ -36,14 +36,14 @@ fn is_braced(chunk: &Chunk) -> bool
     }
 }
 
-// Whether all chunks are such.
+// Returns whether all chunks are in braces or empty.
 fn is_all_braced(chunks: ChunksRef<'_>) -> bool
     ensures { result ≡ list_all (λ c. spec.is_braced c.v) chunks.now }
 {
     chunks.iter().all(|chunk| is_braced(&chunk.v))
 }
 
-// The parts of a person's name, whose prefix counts as part of the family name or not.
+// Returns the parts of a person's name. `uses_prefix` says whether the prefix is part of the family name.
 #[tactic(auto, unfolding(crate::specs::People::parts_with))]
 fn parts_with(alloc: Global, uses_prefix: bool, person: Person) -> Result<NameParts, AllocError>
     ensures { IfOk result (λ parts. parts ≡ spec.parts_with uses_prefix person) }
@@ -77,7 +77,7 @@ fn parts_with(alloc: Global, uses_prefix: bool, person: Person) -> Result<NamePa
     })
 }
 
-// Whether a name isn't taken apart: it stands in braces, or says that there are others.
+// Returns whether a name has no parts: it is in braces, or is the word `others`.
 #[tactic(auto, unfolding(crate::specs::People::is_literal))]
 fn is_literal(alloc: Global, chunks: ChunksRef<'_>) -> Result<bool, AllocError>
     ensures { IfOk result (λ literal. literal ≡ spec.is_literal chunks.now) }
@@ -88,8 +88,8 @@ fn is_literal(alloc: Global, chunks: ChunksRef<'_>) -> Result<bool, AllocError>
     says_others(alloc, chunks)
 }
 
-/// The name that chunks spell, which counts prefixes as parts of family names or doesn't; the person's own word on the prefix goes
-/// before that. The only error is out of memory.
+/// Returns the name in `chunks`. `uses_prefix` says whether a prefix is part of the family name, unless the name itself says so in the
+/// extended name format. The only error is out of memory.
 #[tactic(auto, unfolding(crate::specs::People::name_said))]
 pub fn name_said(
     alloc: Global,
@@ -106,7 +106,7 @@ pub fn name_said(
     Ok(Name::Parts(parts_with(alloc, uses_prefix, person)?))
 }
 
-// Whether a name says nothing.
+// Returns whether a name is empty.
 #[tactic(auto, unfolding(crate::specs::People::says_nothing))]
 fn says_nothing(name: &Name) -> bool
     ensures { result ≡ spec.says_nothing name.now }
@@ -123,7 +123,7 @@ fn says_nothing(name: &Name) -> bool
     }
 }
 
-// Appends a name, unless it says nothing.
+// Appends a name, unless it is empty.
 #[tactic(auto, unfolding(crate::specs::People::unless_empty))]
 fn add_unless_empty(names: &mut Items<Name>, name: Name) -> Result<(), AllocError>
     ensures { OnOk result (names.new ≡ names.old ++ spec.unless_empty name) }
@@ -167,7 +167,7 @@ fn add_names_of(
     }
 }
 
-// Whether an option of an entry says that prefixes count as parts of family names.
+// Returns whether an option of an entry says that prefixes are part of family names.
 #[tactic(auto, unfolding(crate::specs::People::is_prefix_option))]
 fn is_prefix_option(alloc: Global, option: ChunksRef<'_>) -> Result<bool, AllocError>
     ensures { IfOk result (λ is. is ≡ spec.is_prefix_option (text option.now)) }
@@ -176,7 +176,7 @@ fn is_prefix_option(alloc: Global, option: ChunksRef<'_>) -> Result<bool, AllocE
     Ok(text.as_str() == "useprefix=true" || text.as_str() == "useprefix")
 }
 
-// Whether one of the options does.
+// Returns whether one of the options says that prefixes are part of family names.
 fn uses_prefix_in(alloc: Global, options: Option<ChunksRef<'_>>) -> Result<bool, AllocError>
     ensures { IfOk result (λ uses. uses ≡ spec.uses_prefix_in (option_copied options.entry)) }
 {
@@ -192,7 +192,7 @@ fn uses_prefix_in(alloc: Global, options: Option<ChunksRef<'_>>) -> Result<bool,
     Ok(false)
 }
 
-// Whether prefixes count as parts of family names in an entry.
+// Returns whether prefixes are part of family names in an entry (`useprefix` in its field `options`).
 #[tactic(auto, unfolding(crate::specs::People::uses_prefix))]
 fn uses_prefix(alloc: Global, entry: &Entry) -> Result<bool, AllocError>
     ensures { IfOk result (λ uses. uses ≡ spec.uses_prefix entry.now) }
@@ -200,7 +200,7 @@ fn uses_prefix(alloc: Global, entry: &Entry) -> Result<bool, AllocError>
     uses_prefix_in(alloc, entry.get("options"))
 }
 
-// The variable of those who did this; CSL has no other roles of editors.
+// Returns the variable of editors with this role: `editor` for a role that CSL doesn't have.
 fn variable_of_role(role: &EditorType) -> Variable
     ensures { result ≡ spec.variable_of_role role.now }
 {
@@ -212,7 +212,7 @@ fn variable_of_role(role: &EditorType) -> Variable
     }
 }
 
-// Whether editors in this role stand under the variable.
+// Returns whether editors with this role are in the variable.
 #[tactic(auto, unfolding(crate::specs::People::is_under))]
 fn is_under(variable: Variable, role: &EditorType) -> bool
     ensures { result ≡ spec.is_under variable role.now }
@@ -220,7 +220,7 @@ fn is_under(variable: Variable, role: &EditorType) -> bool
     variable_of_role(role).name() == variable.name()
 }
 
-// The role that a field names.
+// Returns the role in a field, or `Editor` if the field is missing.
 fn role_of(alloc: Global, field: Option<ChunksRef<'_>>) -> Result<EditorType, AllocError>
     ensures { IfOk result (λ role. role ≡ role_of (option_copied field.entry)) }
 {
@@ -230,15 +230,14 @@ fn role_of(alloc: Global, field: Option<ChunksRef<'_>>) -> Result<EditorType, Al
     }
 }
 
-// Whether an entry has this field.
+// Returns whether an entry has this field.
 fn has(entry: &Entry, name: &str) -> bool
     ensures { result ≡ is_some (field entry.now name.now) }
 {
     entry.get(name).is_some()
 }
 
-// Appends the people that the field of the first name holds, where their role, which the field of the second names, stands under the
-// variable.
+// Appends the names in the field `people`, if the role in the field `role` belongs to the variable.
 #[tactic(auto, unfolding(crate::specs::People::editors_listed))]
 fn add_editors_in(
     alloc: Global,
@@ -261,7 +260,7 @@ fn add_editors_in(
     Ok(())
 }
 
-// The editors of an entry that stand under the variable.
+// Returns the editors of an entry whose role belongs to the variable.
 #[tactic(auto, unfolding(crate::specs::People::editors_under))]
 fn editors_under(
     alloc: Global,
@@ -278,7 +277,7 @@ fn editors_under(
     Ok(names)
 }
 
-// Whether an entry has editors; without any none stand under a variable.
+// Returns whether an entry has editors. Without editors, all variables for them are empty.
 fn has_editors(entry: &Entry) -> bool
     ensures { result ≡ false → ((v : AnyVariable) → spec.editors_under v entry.now ≡ []) }
 {
@@ -294,7 +293,7 @@ fn has_editors(entry: &Entry) -> bool
     has(entry, "editorc")
 }
 
-// Appends the editors of an entry that stand under the variable.
+// Appends the variable with the editors whose role belongs to it.
 fn add_editors(
     alloc: Global,
     variable: Variable,
@@ -306,7 +305,7 @@ fn add_editors(
     add_names(fields, variable, editors_under(alloc, variable, entry)?)
 }
 
-// Appends the editors of an entry, each under the variable of the role.
+// Appends the editors of an entry, each in the variable of the role.
 #[tactic(auto, unfolding(crate::specs::People::editor_fields))]
 fn add_all_editors(
     alloc: Global,
@@ -324,7 +323,7 @@ fn add_all_editors(
     add_editors(alloc, Variable::Organizer, entry, fields)
 }
 
-// The people of the field of this name.
+// Returns the people in the field `name`.
 #[tactic(auto, unfolding(crate::specs::People::people))]
 fn people(alloc: Global, entry: &Entry, name: &str) -> Result<Items<Name>, AllocError>
     ensures { IfOk result (λ names. names ≡ spec.people entry.now name.now) }
@@ -335,7 +334,7 @@ fn people(alloc: Global, entry: &Entry, name: &str) -> Result<Items<Name>, Alloc
     Ok(names)
 }
 
-// Appends the people of the field of this name.
+// Appends a variable with the people in the field `name`.
 fn add_people_of(
     alloc: Global,
     variable: Variable,
@@ -348,14 +347,14 @@ fn add_people_of(
     add_names(fields, variable, people(alloc, entry, name)?)
 }
 
-// Whether the item is a patent.
+// Returns whether the item is a patent.
 fn is_patent(kind: ItemType) -> bool
     ensures { result ≡ spec.is_patent kind }
 {
     matches!(kind, ItemType::Patent)
 }
 
-// The authors; of a patent without any its holders.
+// Returns the authors, or the holders of a patent without authors.
 #[tactic(auto, unfolding(crate::specs::People::authors_of))]
 fn authors_of(alloc: Global, kind: ItemType, entry: &Entry) -> Result<Items<Name>, AllocError>
     ensures { IfOk result (λ names. names ≡ spec.authors_of kind entry.now) }
@@ -367,7 +366,7 @@ fn authors_of(alloc: Global, kind: ItemType, entry: &Entry) -> Result<Items<Name
     Ok(authors)
 }
 
-// Appends the people of an item.
+// Appends the authors, the editors by role, the translators and the authors of the container.
 #[tactic(auto, unfolding(crate::specs::People::people_fields))]
 pub(crate) fn add_people(
     alloc: Global,

@@ -1,4 +1,4 @@
-//! Who published an item and where, and what kind of work it is.
+//! The publishers of an item and of its original, and its genre.
 
 ghost use Rattle.std.specs.Prelude.{◌≡◌, ◌++◌, OnOk, IfOk};
 ghost use Rattle.bib_csl.specs.Publishing as spec;
@@ -14,7 +14,7 @@ use bib_text::items::Items;
 use bib_text::text::Text;
 use std::alloc::{AllocError, Global};
 
-// The publisher, else the institution or school, else the organization.
+// Returns the publisher, or else the institution or school, or else the organization.
 #[tactic(auto, unfolding(crate::specs::Publishing::publisher_of))]
 fn publisher_of(alloc: Global, entry: &Entry) -> Result<Text, AllocError>
     ensures { IfOk result (λ text. text ≡ spec.publisher_of entry.now) }
@@ -24,7 +24,7 @@ fn publisher_of(alloc: Global, entry: &Entry) -> Result<Text, AllocError>
     Ok(either(list_text(alloc, entry, "publisher")?, other))
 }
 
-// The kind of a thesis, a report or another work by BibLaTeX's key for it, or nothing for any other text.
+// Returns the genre of a thesis, a report or another work by BibLaTeX's key for it, or an empty text for any other text.
 #[tactic(auto, unfolding(crate::specs::Publishing::work_named))]
 fn work_named(text: &str) -> &'static str
     ensures { result.now ≡ spec.work_named text.now }
@@ -43,7 +43,7 @@ fn work_named(text: &str) -> &'static str
     }
 }
 
-// The kind of a patent by BibLaTeX's key for it.
+// Returns the genre of a patent by BibLaTeX's key for it, or an empty text for any other text.
 #[tactic(auto, unfolding(crate::specs::Publishing::patent_named))]
 fn patent_named(text: &str) -> &'static str
     ensures { result.now ≡ spec.patent_named text.now }
@@ -59,7 +59,7 @@ fn patent_named(text: &str) -> &'static str
     }
 }
 
-// The kind of a request for a patent by BibLaTeX's key for it.
+// Returns the genre of a patent request by BibLaTeX's key for it, or an empty text for any other text.
 #[tactic(auto, unfolding(crate::specs::Publishing::request_named))]
 fn request_named(text: &str) -> &'static str
     ensures { result.now ≡ spec.request_named text.now }
@@ -75,7 +75,7 @@ fn request_named(text: &str) -> &'static str
     }
 }
 
-// The first of these texts that isn't empty.
+// Returns the first text, or the other one if the first is empty.
 #[tactic(auto, unfolding(crate::specs::Texts::either))]
 fn first_of<'t>(first: &'t str, other: &'t str) -> &'t str
     ensures { result.now ≡ either_of first.now other.now }
@@ -83,7 +83,7 @@ fn first_of<'t>(first: &'t str, other: &'t str) -> &'t str
     if first.is_empty() { other } else { first }
 }
 
-// What the keys of the field `type` stand for; any other text stays.
+// Returns the genre by BibLaTeX's key for it in the field `type`, or the text itself if it is no such key.
 #[tactic(auto, unfolding(crate::specs::Publishing::genre_named))]
 fn genre_named(text: &str) -> &str
     ensures { result.now ≡ spec.genre_named text.now }
@@ -92,7 +92,7 @@ fn genre_named(text: &str) -> &str
     first_of(work_named(text), patent)
 }
 
-// What the type of an entry says of the kind of work.
+// Returns the genre that the entry type implies, or an empty text.
 #[tactic(auto, unfolding(crate::specs::Publishing::genre_of_type))]
 fn genre_of_type(entry_type: &EntryType) -> &'static str
     ensures { result.now ≡ spec.genre_of_type entry_type.now }
@@ -105,7 +105,7 @@ fn genre_of_type(entry_type: &EntryType) -> &'static str
     }
 }
 
-// The kind of work, in words.
+// Returns the genre: by the field `type`, or else by the entry type.
 #[tactic(auto, unfolding(crate::specs::Publishing::genre_of))]
 fn genre_of(alloc: Global, entry: &Entry) -> Result<Text, AllocError>
     ensures { IfOk result (λ text. text ≡ spec.genre_of entry.now) }
@@ -115,7 +115,7 @@ fn genre_of(alloc: Global, entry: &Entry) -> Result<Text, AllocError>
     Text::from_str(alloc, named)
 }
 
-// Appends who published an item and where.
+// Appends the publisher and its place.
 #[tactic(auto, unfolding(crate::specs::Publishing::publisher_fields))]
 fn add_publisher(alloc: Global, entry: &Entry, fields: &mut Items<Field>) -> Result<(), AllocError>
     ensures { OnOk result (fields.new ≡ fields.old ++ spec.publisher_fields entry.now) }
@@ -125,7 +125,7 @@ fn add_publisher(alloc: Global, entry: &Entry, fields: &mut Items<Field>) -> Res
     add_text(fields, Variable::PublisherPlace, place)
 }
 
-// Appends who published the original and where.
+// Appends the publisher of the original and its place.
 #[tactic(auto, unfolding(crate::specs::Publishing::original_fields))]
 fn add_original(alloc: Global, entry: &Entry, fields: &mut Items<Field>) -> Result<(), AllocError>
     ensures { OnOk result (fields.new ≡ fields.old ++ spec.original_fields entry.now) }
@@ -139,7 +139,7 @@ fn add_original(alloc: Global, entry: &Entry, fields: &mut Items<Field>) -> Resu
     add_text(fields, Variable::OriginalPublisherPlace, place)
 }
 
-// Appends who published an item and the original, and what kind of work it is.
+// Appends the publishers of an item and of its original, and its genre.
 #[tactic(auto, unfolding(crate::specs::Publishing::publishing_fields))]
 pub(crate) fn add_publishing(
     alloc: Global,

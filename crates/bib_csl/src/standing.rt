@@ -1,4 +1,4 @@
-//! Texts of chunks, of which most stand as they are.
+//! The formatted texts of chunks. Most chunks are copied as they are.
 
 ghost use Rattle.std.specs.Prelude.{◌≡◌, ◌∷◌, [], IfOk, IfSome, bytes_eq, codes};
 ghost use Rattle.std.specs.List.{list_all};
@@ -9,21 +9,21 @@ use bib_chunks::chunk::{Chunk, ChunksRef, Spanned, format_verbatim};
 use bib_text::text::Text;
 use std::alloc::{AllocError, Global};
 
-// Whether a byte doesn't break the line.
+// Returns whether a byte is neither a line feed nor a carriage return.
 fn is_in_line(byte: u8) -> bool
     ensures { result ≡ is_in_line byte }
 {
     !matches!(byte, b'\n' | b'\r')
 }
 
-// Whether no byte of a text does.
+// Returns whether a text contains neither a line feed nor a carriage return.
 fn is_one_line(text: &str) -> bool
     ensures { result ≡ list_all is_in_line text.now }
 {
     text.as_bytes().iter().all(|byte| is_in_line(*byte))
 }
 
-// The formatted text of a chunk, where it is the chunk's own text.
+// Returns the formatted text of a chunk if it is the text of the chunk itself.
 fn standing(chunk: &Spanned<Chunk>) -> Option<&str>
     ensures { IfSome result (λ own. own.now ≡ text (chunk.now ∷ [])) }
 {
@@ -34,7 +34,7 @@ fn standing(chunk: &Spanned<Chunk>) -> Option<&str>
     }
 }
 
-// The formatted text of a chunk.
+// Returns the formatted text of a chunk.
 pub(crate) fn shown_chunk(alloc: Global, chunk: &Spanned<Chunk>) -> Result<Text, AllocError>
     ensures { IfOk result (λ shown. shown ≡ text (chunk.now ∷ [])) }
 {
@@ -44,7 +44,7 @@ pub(crate) fn shown_chunk(alloc: Global, chunk: &Spanned<Chunk>) -> Result<Text,
     Ok(Text::from_string(format_verbatim(alloc, std::slice::from_ref(chunk))?))
 }
 
-// The formatted text of chunks.
+// Returns the formatted text of chunks.
 pub(crate) fn shown(alloc: Global, chunks: ChunksRef<'_>) -> Result<Text, AllocError>
     ensures { IfOk result (λ shown. shown ≡ text chunks.now) }
 {
@@ -54,7 +54,7 @@ pub(crate) fn shown(alloc: Global, chunks: ChunksRef<'_>) -> Result<Text, AllocE
     Ok(Text::from_string(format_verbatim(alloc, chunks)?))
 }
 
-// Whether a name says that there are others.
+// Returns whether a name is the word `others`.
 pub(crate) fn says_others(alloc: Global, chunks: ChunksRef<'_>) -> Result<bool, AllocError>
     ensures { IfOk result (λ says. says ≡ bytes_eq (text chunks.now) (codes "others")) }
 {

@@ -1,7 +1,7 @@
-//! Texts as HTML writes them, with tags for commands.
+//! Texts with HTML tags for LaTeX commands.
 //!
-//! A text is read character by character, once: what is open is a stack of the names of commands, and of a command the name so far is
-//! kept until a character shows what it is. Most texts have nothing to be written otherwise, and stay as they are.
+//! A text is read once, character by character. `names` is a stack with the name of the command of each open brace, empty if the brace has
+//! no command. `name` is the start of the name of a command, if one is being read. Most texts contain no commands and are copied.
 
 ghost use Rattle.std.specs.Prelude.{◌≡◌, [], ◌∷◌, ◌++◌, None, OnOk, IfOk, reverse};
 ghost use Rattle.std.specs.List.{list_all};
@@ -15,7 +15,7 @@ use bib_text::scanner::Scanner;
 use bib_text::text::Text;
 use std::alloc::{AllocError, Global};
 
-// Appends a character, and for a tie a space at which no line breaks.
+// Appends a character, or a no-break space for a tilde.
 #[tactic(auto, unfolding(crate::specs::Markup::untie))]
 fn push_untied(out: &mut Text, c: char) -> Result<(), AllocError>
     ensures { OnOk result (out.new ≡ out.old ++ spec.untie c) }
@@ -26,21 +26,21 @@ fn push_untied(out: &mut Text, c: char) -> Result<(), AllocError>
     }
 }
 
-// Whether a byte is none of a backslash, a brace or a tilde.
+// Returns whether a byte is neither a backslash nor a brace nor a tilde.
 fn is_unmarked_byte(byte: u8) -> bool
     ensures { result ≡ is_unmarked byte }
 {
     !matches!(byte, b'\\' | b'{' | b'}' | b'~')
 }
 
-// Whether all bytes of a text are such.
+// Returns whether a text contains neither a backslash nor a brace nor a tilde.
 fn is_unmarked(text: &str) -> bool
     ensures { result ≡ list_all is_unmarked text.now }
 {
     text.as_bytes().iter().all(|byte| is_unmarked_byte(*byte))
 }
 
-// A text whose words are tied by spaces, character by character.
+// Returns the text with no-break spaces for tildes, character by character.
 fn with_ties(alloc: Global, text: &str) -> Result<Text, AllocError>
     ensures { IfOk result (λ out. out ≡ spec.untied (chars text.now)) }
 {
@@ -52,7 +52,7 @@ fn with_ties(alloc: Global, text: &str) -> Result<Text, AllocError>
     Ok(out)
 }
 
-// A text whose words are tied by spaces.
+// Returns the text with no-break spaces for tildes.
 pub(crate) fn untied(alloc: Global, text: Text) -> Result<Text, AllocError>
     ensures { IfOk result (λ out. out ≡ spec.untied (chars text)) }
 {
@@ -62,7 +62,8 @@ pub(crate) fn untied(alloc: Global, text: Text) -> Result<Text, AllocError>
     with_ties(alloc, text.as_str())
 }
 
-// What stands before the text of a command with this name; of two commands nothing does, and of others there is none.
+// Returns the text for a command with this name and its opening brace: a tag, a quotation mark, a hyphen, or an empty text. Returns `None`
+// for other commands.
 #[tactic(auto, unfolding(crate::specs::Markup::opening_tag))]
 fn opening_tag(name: &str) -> Option<&'static str>
     ensures { option_map (λ tag. tag.now) result ≡ spec.opening_tag name.now }
@@ -84,7 +85,7 @@ fn opening_tag(name: &str) -> Option<&'static str>
     }
 }
 
-// What stands after it.
+// Returns the text for the closing brace of a command with this name, or `None` for other commands.
 #[tactic(auto, unfolding(crate::specs::Markup::closing_tag))]
 fn closing_tag(name: &str) -> Option<&'static str>
     ensures { option_map (λ tag. tag.now) result ≡ spec.closing_tag name.now }
@@ -106,7 +107,7 @@ fn closing_tag(name: &str) -> Option<&'static str>
     }
 }
 
-// Appends a command that stays as it is.
+// Appends a command as it is: its backslash and its name.
 #[tactic(auto, unfolding(crate::specs::Markup::as_command))]
 fn push_command(out: &mut Text, name: &str) -> Result<(), AllocError>
     ensures { OnOk result (out.new ≡ out.old ++ spec.as_command name.now) }
@@ -115,7 +116,7 @@ fn push_command(out: &mut Text, name: &str) -> Result<(), AllocError>
     out.push_str(name)
 }
 
-// Appends a command and the brace after it.
+// Appends the text for a command and the opening brace after it.
 #[tactic(auto, unfolding(crate::specs::Markup::begun))]
 fn push_begun(out: &mut Text, name: &str) -> Result<(), AllocError>
     ensures { OnOk result (out.new ≡ out.old ++ spec.begun name.now) }
@@ -129,7 +130,7 @@ fn push_begun(out: &mut Text, name: &str) -> Result<(), AllocError>
     }
 }
 
-// Appends what ends the innermost brace.
+// Appends the text for the closing brace of the innermost open brace.
 #[tactic(auto, unfolding(crate::specs::Markup::ended))]
 fn push_ended(out: &mut Text, names: &[Text]) -> Result<(), AllocError>
     ensures { OnOk result (out.new ≡ out.old ++ spec.ended (reverse names.now)) }
@@ -143,7 +144,7 @@ fn push_ended(out: &mut Text, names: &[Text]) -> Result<(), AllocError>
     }
 }
 
-// Whether the innermost brace holds an address, where a tilde is no tie.
+// Returns whether the innermost open brace is that of `\url`, in which a tilde isn't a no-break space.
 #[tactic(auto, unfolding(crate::specs::Markup::is_address))]
 fn is_address(names: &[Text]) -> bool
     ensures { result ≡ spec.is_address (reverse names.now) }
@@ -154,7 +155,7 @@ fn is_address(names: &[Text]) -> bool
     }
 }
 
-// Appends a character as it is shown there.
+// Appends a character, or a no-break space for a tilde outside of `\url`.
 #[tactic(auto, unfolding(crate::specs::Markup::shown_in))]
 fn push_shown(out: &mut Text, names: &[Text], c: char) -> Result<(), AllocError>
     ensures { OnOk result (out.new ≡ out.old ++ spec.shown_in (reverse names.now) c) }
@@ -165,7 +166,7 @@ fn push_shown(out: &mut Text, names: &[Text], c: char) -> Result<(), AllocError>
     push_untied(out, c)
 }
 
-// Appends what is written of a character outside names.
+// Appends the text for a character outside of the names of commands.
 #[tactic(auto, unfolding(crate::specs::Markup::said_plainly))]
 fn push_plainly(out: &mut Text, names: &[Text], c: char) -> Result<(), AllocError>
     ensures { OnOk result (out.new ≡ out.old ++ spec.said_plainly (reverse names.now) c) }
@@ -177,7 +178,7 @@ fn push_plainly(out: &mut Text, names: &[Text], c: char) -> Result<(), AllocErro
     }
 }
 
-// Opens or closes a brace outside names.
+// Opens or closes a brace outside of the names of commands.
 #[tactic(auto, unfolding(crate::specs::Markup::open_plainly))]
 fn open_plainly(alloc: Global, names: &mut Items<Text>, c: char) -> Result<(), AllocError>
     ensures { OnOk result (reverse names.new ≡ spec.open_plainly (reverse names.old) c) }
@@ -192,7 +193,7 @@ fn open_plainly(alloc: Global, names: &mut Items<Text>, c: char) -> Result<(), A
     }
 }
 
-// Whether a command is a sign: BibLaTeX's hyphen.
+// Returns whether a command is BibLaTeX's `\hyphen`.
 #[tactic(auto, unfolding(crate::specs::Markup::is_hyphen_command))]
 fn is_hyphen_command(name: &str) -> bool
     ensures { result ≡ spec.is_hyphen_command name.now }
@@ -200,7 +201,7 @@ fn is_hyphen_command(name: &str) -> bool
     name == "hyphen"
 }
 
-// Appends what is written of a character after a sign, which ends at the space that the reader puts after it.
+// Appends the text for a character after a command that is a sign: nothing for the space that ends the command.
 #[tactic(auto, unfolding(crate::specs::Markup::after_sign))]
 fn push_after_sign(out: &mut Text, names: &[Text], c: char) -> Result<(), AllocError>
     ensures { OnOk result (out.new ≡ out.old ++ spec.after_sign (reverse names.now) c) }
@@ -211,7 +212,7 @@ fn push_after_sign(out: &mut Text, names: &[Text], c: char) -> Result<(), AllocE
     push_plainly(out, names, c)
 }
 
-// Appends what is written of a character after a command without a brace.
+// Appends the text for a command without a brace, and for the character after it.
 #[tactic(auto, unfolding(crate::specs::Markup::said_after))]
 fn push_after(out: &mut Text, names: &[Text], name: &str, c: char) -> Result<(), AllocError>
     ensures { OnOk result (out.new ≡ out.old ++ spec.said_after (reverse names.now) name.now c) }
@@ -224,7 +225,7 @@ fn push_after(out: &mut Text, names: &[Text], name: &str, c: char) -> Result<(),
     push_plainly(out, names, c)
 }
 
-// Appends what is written of a character.
+// Appends the text for a character, and for the command before it if the character ends its name.
 #[tactic(auto, unfolding(crate::specs::Markup::said))]
 fn push_said(out: &mut Text, names: &[Text], name: &Option<Text>, c: char) -> Result<(), AllocError>
     ensures { OnOk result (out.new ≡ out.old ++ spec.said (reverse names.now) name.now c) }
@@ -241,7 +242,7 @@ fn push_said(out: &mut Text, names: &[Text], name: &Option<Text>, c: char) -> Re
     push_after(out, names, name.as_str(), c)
 }
 
-// Opens or closes a brace.
+// Opens or closes a brace, given the name of the command before it, if there is one.
 #[tactic(auto, unfolding(crate::specs::Markup::open_after))]
 fn open_after(
     alloc: Global,
@@ -263,7 +264,7 @@ fn open_after(
     open_plainly(alloc, names, c)
 }
 
-// The name that begins with a character.
+// Returns an empty name if a character is a backslash, which begins a command.
 #[tactic(auto, unfolding(crate::specs::Markup::begins_name))]
 fn begins_name(alloc: Global, c: char) -> Option<Text>
     ensures { result ≡ spec.begins_name c }
@@ -274,7 +275,7 @@ fn begins_name(alloc: Global, c: char) -> Option<Text>
     None
 }
 
-// The name that is being read after a character.
+// Returns the start of the name of a command that is being read after a character, if there is one.
 #[tactic(auto, unfolding(crate::specs::Markup::name_after))]
 fn name_after(alloc: Global, name: Option<Text>, c: char) -> Result<Option<Text>, AllocError>
     ensures { IfOk result (λ next. next ≡ spec.name_after name c) }
@@ -292,7 +293,7 @@ fn name_after(alloc: Global, name: Option<Text>, c: char) -> Result<Option<Text>
     Ok(begins_name(alloc, c))
 }
 
-// Appends the tags of all that is open.
+// Appends the closing tags of all open braces.
 fn push_all_ended(out: &mut Text, names: Items<Text>) -> Result<(), AllocError>
     ensures { OnOk result (out.new ≡ out.old ++ spec.all_ended (reverse names)) }
 {
@@ -303,7 +304,7 @@ fn push_all_ended(out: &mut Text, names: Items<Text>) -> Result<(), AllocError>
     Ok(())
 }
 
-// Appends what is written where the text ends.
+// Appends the text at the end: the command that is being read, and the closing tags of all open braces.
 #[tactic(auto, unfolding(crate::specs::Markup::said_last))]
 fn push_last(out: &mut Text, names: Items<Text>, name: &Option<Text>) -> Result<(), AllocError>
     ensures { OnOk result (out.new ≡ out.old ++ spec.said_last (reverse names) name.now) }
@@ -315,7 +316,7 @@ fn push_last(out: &mut Text, names: Items<Text>, name: &Option<Text>) -> Result<
     push_all_ended(out, names)
 }
 
-// A text with HTML's tags, character by character.
+// Returns the text with HTML tags, character by character.
 #[tactic(auto, unfolding(crate::specs::Markup::marked_text))]
 fn with_tags(alloc: Global, text: &str) -> Result<Text, AllocError>
     ensures { IfOk result (λ out. out ≡ spec.marked_text (chars text.now)) }
@@ -333,7 +334,7 @@ fn with_tags(alloc: Global, text: &str) -> Result<Text, AllocError>
     Ok(out)
 }
 
-// A text with HTML's tags.
+// Returns the text with HTML tags.
 pub(crate) fn marked_text(alloc: Global, text: Text) -> Result<Text, AllocError>
     ensures { IfOk result (λ out. out ≡ spec.marked_text (chars text)) }
 {

@@ -1,4 +1,4 @@
-//! The texts of fields, plain or with HTML's tags.
+//! The texts of fields, plain or with HTML tags.
 
 ghost use Rattle.std.specs.Prelude.{◌≡◌, [], IfOk};
 ghost use Rattle.std.specs.Option.{option_copied};
@@ -13,7 +13,7 @@ use bib_entry::entry::Entry;
 use bib_text::text::Text;
 use std::alloc::{AllocError, Global};
 
-// The field of this name, or else of the other.
+// Returns the field `name`, or else the field `other`.
 pub(crate) fn field_or<'e>(entry: &'e Entry, name: &str, other: &str) -> Option<ChunksRef<'e>>
     ensures { option_copied result ≡ field_or entry.now name.now other.now }
 {
@@ -23,7 +23,7 @@ pub(crate) fn field_or<'e>(entry: &'e Entry, name: &str, other: &str) -> Option<
     }
 }
 
-// The plain text of a field, or nothing where it isn't there.
+// Returns the plain text of a field, or an empty text if the field is missing.
 #[tactic(auto, unfolding(crate::specs::Texts::shown_field))]
 pub(crate) fn shown_field(alloc: Global, field: Option<ChunksRef<'_>>) -> Result<Text, AllocError>
     ensures { IfOk result (λ shown. shown ≡ shown_field (option_copied field.entry)) }
@@ -34,14 +34,14 @@ pub(crate) fn shown_field(alloc: Global, field: Option<ChunksRef<'_>>) -> Result
     }
 }
 
-// The plain text of the field of this name.
+// Returns the plain text of the field `name`, or an empty text if the field is missing.
 pub(crate) fn plain_text(alloc: Global, entry: &Entry, name: &str) -> Result<Text, AllocError>
     ensures { IfOk result (λ shown. shown ≡ shown_field (field entry.now name.now)) }
 {
     shown_field(alloc, entry.get(name))
 }
 
-// The text of a title.
+// Returns the text of the field `name`, a title, with HTML tags. Verbatim text in it keeps its case.
 #[tactic(auto, unfolding(crate::specs::Texts::title_text))]
 pub(crate) fn title_text(alloc: Global, entry: &Entry, name: &str) -> Result<Text, AllocError>
     ensures { IfOk result (λ shown. shown ≡ title_text entry.now name.now) }
@@ -49,7 +49,7 @@ pub(crate) fn title_text(alloc: Global, entry: &Entry, name: &str) -> Result<Tex
     marked_field(alloc, true, entry.get(name))
 }
 
-// The text of another field with HTML's tags.
+// Returns the text of the field `name`, which is no title, with HTML tags.
 #[tactic(auto, unfolding(crate::specs::Texts::rich_text))]
 pub(crate) fn rich_text(alloc: Global, entry: &Entry, name: &str) -> Result<Text, AllocError>
     ensures { IfOk result (λ shown. shown ≡ rich_text entry.now name.now) }
@@ -57,7 +57,7 @@ pub(crate) fn rich_text(alloc: Global, entry: &Entry, name: &str) -> Result<Text
     marked_field(alloc, false, entry.get(name))
 }
 
-// The same of the field of this name, or else of the other.
+// Returns the text of the field `name`, or else of the field `other`, with HTML tags.
 #[tactic(auto, unfolding(crate::specs::Texts::rich_text_or))]
 pub(crate) fn rich_text_or(
     alloc: Global,
@@ -70,7 +70,7 @@ pub(crate) fn rich_text_or(
     marked_field(alloc, false, field_or(entry, name, other))
 }
 
-// The first text that isn't empty.
+// Returns the first text, or the other one if the first is empty.
 #[tactic(auto, unfolding(crate::specs::Texts::either))]
 pub(crate) fn either(first: Text, other: Text) -> Text
     ensures { result ≡ either first other }
@@ -78,7 +78,7 @@ pub(crate) fn either(first: Text, other: Text) -> Text
     if first.is_empty() { other } else { first }
 }
 
-// Two texts with what separates them between them, where neither is empty.
+// Returns two texts with the separator between them, or only one of them if the other is empty.
 #[tactic(auto, unfolding(crate::specs::Texts::joined))]
 pub(crate) fn joined(separator: &str, first: Text, next: Text) -> Result<Text, AllocError>
     ensures { IfOk result (λ shown. shown ≡ joined separator.now first next) }
@@ -95,7 +95,7 @@ pub(crate) fn joined(separator: &str, first: Text, next: Text) -> Result<Text, A
     Ok(text)
 }
 
-// The texts of a list with semicolons between them.
+// Returns the texts of the parts of a list, with semicolons between them.
 fn listed(alloc: Global, parts: &[Chunks]) -> Result<Text, AllocError>
     ensures { IfOk result (λ shown. shown ≡ listed_after [] parts.now) }
 {
@@ -106,7 +106,7 @@ fn listed(alloc: Global, parts: &[Chunks]) -> Result<Text, AllocError>
     Ok(text)
 }
 
-// The texts of a field that is a list, or nothing where the field isn't there.
+// Returns the texts of a field that is a list, or an empty text if the field is missing.
 #[tactic(auto, unfolding(crate::specs::Texts::listed_field))]
 fn listed_field(alloc: Global, field: Option<ChunksRef<'_>>) -> Result<Text, AllocError>
     ensures { IfOk result (λ shown. shown ≡ listed_field (option_copied field.entry)) }
@@ -118,14 +118,14 @@ fn listed_field(alloc: Global, field: Option<ChunksRef<'_>>) -> Result<Text, All
     listed(alloc, list.as_slice())
 }
 
-// The texts of the list that the field of this name is.
+// Returns the texts of the field `name`, which is a list.
 pub(crate) fn list_text(alloc: Global, entry: &Entry, name: &str) -> Result<Text, AllocError>
     ensures { IfOk result (λ shown. shown ≡ listed_field (field entry.now name.now)) }
 {
     listed_field(alloc, entry.get(name))
 }
 
-// The same of the field of this name, or else of the other.
+// Returns the texts of the field `name`, or else of the field `other`, which are lists.
 pub(crate) fn list_text_or(
     alloc: Global,
     entry: &Entry,

@@ -1,4 +1,4 @@
-//! The titles of an item, and of what it is a part of.
+//! The titles of an item, of its container and of its event.
 
 ghost use Rattle.std.specs.Prelude.{◌≡◌, ◌++◌, OnOk, IfOk};
 ghost use Rattle.bib_csl.specs.Titles as spec;
@@ -15,7 +15,7 @@ use bib_text::items::Items;
 use bib_text::text::Text;
 use std::alloc::{AllocError, Global};
 
-// A title with its subtitle and what is added to it, in fields of these names.
+// Returns a title with its subtitle and its addition, which are in the fields `subtitle` and `addon`.
 #[tactic(auto, unfolding(crate::specs::Titles::with_subtitle))]
 fn with_subtitle(
     alloc: Global,
@@ -30,7 +30,7 @@ fn with_subtitle(
     joined(". ", both, title_text(alloc, entry, addon)?)
 }
 
-// The title of the work itself.
+// Returns the title of the work itself.
 #[tactic(auto, unfolding(crate::specs::Titles::own_title))]
 fn own_title(alloc: Global, entry: &Entry) -> Result<Text, AllocError>
     ensures { IfOk result (λ text. text ≡ spec.own_title entry.now) }
@@ -39,7 +39,7 @@ fn own_title(alloc: Global, entry: &Entry) -> Result<Text, AllocError>
     with_subtitle(alloc, entry, title, "subtitle", "titleaddon")
 }
 
-// The title of a work of several volumes.
+// Returns the title of a work of several volumes.
 #[tactic(auto, unfolding(crate::specs::Titles::title_of_work))]
 fn title_of_work(alloc: Global, entry: &Entry) -> Result<Text, AllocError>
     ensures { IfOk result (λ text. text ≡ spec.title_of_work entry.now) }
@@ -48,7 +48,7 @@ fn title_of_work(alloc: Global, entry: &Entry) -> Result<Text, AllocError>
     with_subtitle(alloc, entry, title, "mainsubtitle", "maintitleaddon")
 }
 
-// The title of the book that the work is a part of.
+// Returns the title of the book that contains the work.
 #[tactic(auto, unfolding(crate::specs::Titles::title_of_book))]
 fn title_of_book(alloc: Global, entry: &Entry) -> Result<Text, AllocError>
     ensures { IfOk result (λ text. text ≡ spec.title_of_book entry.now) }
@@ -57,7 +57,7 @@ fn title_of_book(alloc: Global, entry: &Entry) -> Result<Text, AllocError>
     with_subtitle(alloc, entry, title, "booksubtitle", "booktitleaddon")
 }
 
-// The title of the journal.
+// Returns the title of the journal.
 #[tactic(auto, unfolding(crate::specs::Titles::journal_title))]
 fn journal_title(alloc: Global, entry: &Entry) -> Result<Text, AllocError>
     ensures { IfOk result (λ text. text ≡ spec.journal_title entry.now) }
@@ -66,7 +66,7 @@ fn journal_title(alloc: Global, entry: &Entry) -> Result<Text, AllocError>
     with_subtitle(alloc, entry, title, "journalsubtitle", "journaltitleaddon")
 }
 
-// The title of the item: of a volume of a work, that of the work.
+// Returns the title of the item. For a book or a periodical that is a volume of a work, this is the title of the work.
 #[tactic(auto, unfolding(crate::specs::Titles::item_title))]
 fn item_title(alloc: Global, kind: ItemType, entry: &Entry) -> Result<Text, AllocError>
     ensures { IfOk result (λ text. text ≡ spec.item_title kind entry.now) }
@@ -78,7 +78,7 @@ fn item_title(alloc: Global, kind: ItemType, entry: &Entry) -> Result<Text, Allo
     Ok(either(title_of_work(alloc, entry)?, own))
 }
 
-// The title of the one volume, in a work of several with a title of its own.
+// Returns the title of the volume, if the work of several volumes has a title of its own.
 #[tactic(auto, unfolding(crate::specs::Titles::volume_title))]
 fn volume_title(alloc: Global, kind: ItemType, entry: &Entry) -> Result<Text, AllocError>
     ensures { IfOk result (λ text. text ≡ spec.volume_title kind entry.now) }
@@ -96,7 +96,7 @@ fn volume_title(alloc: Global, kind: ItemType, entry: &Entry) -> Result<Text, Al
     Ok(Text::new(alloc))
 }
 
-// The title of what the item is a part of.
+// Returns the title of the container: the work of several volumes, the book or the journal.
 #[tactic(auto, unfolding(crate::specs::Titles::container_title))]
 fn container_title(alloc: Global, kind: ItemType, entry: &Entry) -> Result<Text, AllocError>
     ensures { IfOk result (λ text. text ≡ spec.container_title kind entry.now) }
@@ -111,7 +111,7 @@ fn container_title(alloc: Global, kind: ItemType, entry: &Entry) -> Result<Text,
     Ok(either(journal, title_of_book(alloc, entry)?))
 }
 
-// What BibLaTeX's keys of a series stand for; any other text stays.
+// Returns the text for BibLaTeX's keys in the field `series`, or any other text as it is.
 #[tactic(auto, unfolding(crate::specs::Titles::series_named))]
 fn series_named(alloc: Global, text: Text) -> Result<Text, AllocError>
     ensures { IfOk result (λ named. named ≡ spec.series_named text) }
@@ -123,7 +123,7 @@ fn series_named(alloc: Global, text: Text) -> Result<Text, AllocError>
     }
 }
 
-// The title of the series.
+// Returns the title of the series.
 #[tactic(auto, unfolding(crate::specs::Titles::series_title))]
 fn series_title(alloc: Global, entry: &Entry) -> Result<Text, AllocError>
     ensures { IfOk result (λ text. text ≡ spec.series_title entry.now) }
@@ -131,7 +131,7 @@ fn series_title(alloc: Global, entry: &Entry) -> Result<Text, AllocError>
     series_named(alloc, title_text(alloc, entry, "series")?)
 }
 
-// The name of the conference.
+// Returns the name of the event, such as a conference.
 #[tactic(auto, unfolding(crate::specs::Titles::event_title))]
 fn event_title(alloc: Global, entry: &Entry) -> Result<Text, AllocError>
     ensures { IfOk result (λ text. text ≡ spec.event_title entry.now) }
@@ -140,7 +140,7 @@ fn event_title(alloc: Global, entry: &Entry) -> Result<Text, AllocError>
     joined(". ", title, title_text(alloc, entry, "eventtitleaddon")?)
 }
 
-// Appends the titles of an item.
+// Appends the title, the short title, the title of the volume and the title of the original.
 #[tactic(auto, unfolding(crate::specs::Titles::title_fields))]
 pub(crate) fn add_titles(
     alloc: Global,
@@ -160,7 +160,7 @@ pub(crate) fn add_titles(
     add_title(alloc, Variable::OriginalTitle, entry, "origtitle", fields)
 }
 
-// Appends what an item is a part of.
+// Appends the title of the container, its short form and the title of the series.
 #[tactic(auto, unfolding(crate::specs::Titles::container_fields))]
 pub(crate) fn add_container(
     alloc: Global,
@@ -189,7 +189,7 @@ pub(crate) fn add_container(
     )
 }
 
-// Appends the conference that an item comes from.
+// Appends the title and the place of the event, such as a conference.
 #[tactic(auto, unfolding(crate::specs::Titles::event_fields))]
 pub(crate) fn add_event(
     alloc: Global,

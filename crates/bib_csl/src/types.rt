@@ -1,4 +1,4 @@
-//! Which type of item an entry becomes, and which items are alike.
+//! The type of the item of an entry, and groups of these types.
 
 ghost use Rattle.std.specs.Prelude.{◌≡◌};
 ghost use Rattle.bib_csl.specs.Types.{type_of_article, item_type_of, is_article, is_in_book, is_volume, counts_issues, counts_series};
@@ -6,7 +6,7 @@ ghost use Rattle.bib_csl.specs.Types.{type_of_article, item_type_of, is_article,
 use crate::variables::ItemType;
 use bib_tables::mechanics::EntryType;
 
-// The type of an article, by the text of the field `entrysubtype`.
+// Returns the type of an article, by the text of the field `entrysubtype`.
 fn type_of_article(subtype: &str) -> ItemType
     ensures { result ≡ type_of_article subtype.now }
 {
@@ -17,7 +17,7 @@ fn type_of_article(subtype: &str) -> ItemType
     }
 }
 
-// The type of the item that an entry of this type and with this `entrysubtype` becomes.
+// Returns the type of the item of an entry with this type and this `entrysubtype`.
 pub(crate) fn item_type_of(entry_type: &EntryType, subtype: &str) -> ItemType
     ensures { result ≡ item_type_of entry_type.now subtype.now }
 {
@@ -54,7 +54,7 @@ pub(crate) fn item_type_of(entry_type: &EntryType, subtype: &str) -> ItemType
     }
 }
 
-// Whether the item is an article.
+// Returns whether the item is an article.
 pub(crate) fn is_article(kind: ItemType) -> bool
     ensures { result ≡ is_article kind }
 {
@@ -64,7 +64,7 @@ pub(crate) fn is_article(kind: ItemType) -> bool
     )
 }
 
-// Whether the item is a part of a book.
+// Returns whether the item is a part of a book.
 pub(crate) fn is_in_book(kind: ItemType) -> bool
     ensures { result ≡ is_in_book kind }
 {
@@ -74,14 +74,14 @@ pub(crate) fn is_in_book(kind: ItemType) -> bool
     )
 }
 
-// Whether the item is a whole that may be one of several volumes.
+// Returns whether the item can be a volume of a work of several volumes.
 pub(crate) fn is_volume(kind: ItemType) -> bool
     ensures { result ≡ is_volume kind }
 {
     matches!(kind, ItemType::Book | ItemType::Periodical)
 }
 
-// Whether the field `number` counts the issues of a periodical.
+// Returns whether the field `number` counts the issues of a periodical.
 pub(crate) fn counts_issues(kind: ItemType) -> bool
     ensures { result ≡ counts_issues kind }
 {
@@ -94,7 +94,7 @@ pub(crate) fn counts_issues(kind: ItemType) -> bool
     )
 }
 
-// Whether the field `number` counts the works of a series.
+// Returns whether the field `number` counts the works of a series.
 pub(crate) fn counts_series(kind: ItemType) -> bool
     ensures { result ≡ counts_series kind }
 {

@@ -1,9 +1,9 @@
-//! The types of items and their variables, by CSL's names.
+//! The types of items and their variables, with CSL's names.
 
 ghost use Rattle.std.specs.Prelude.{◌≡◌};
 ghost use Rattle.bib_csl.specs.Names.{item_type_name, variable_name};
 
-/// The types of items that entries become (CSL 1.0.2, appendix III).
+/// The types of the items of entries (CSL 1.0.2, appendix III).
 #[derive(Debug, Clone, Copy, PartialEq, Eq)]
 pub enum ItemType {
     /// An article of a journal.
@@ -18,11 +18,11 @@ pub enum ItemType {
     Chapter,
     /// A data set.
     Dataset,
-    /// What no other type fits.
+    /// A work of no other type.
     Document,
     /// An article of a work of reference.
     EntryEncyclopedia,
-    /// A work that isn't published.
+    /// An unpublished work.
     Manuscript,
     /// A printed work without a publisher.
     Pamphlet,
@@ -38,12 +38,12 @@ pub enum ItemType {
     Software,
     /// A thesis.
     Thesis,
-    /// A page or a site of the web.
+    /// A web page or a web site.
     Webpage,
 }
 
 impl ItemType {
-    /// The name by which CSL knows the type.
+    /// Returns CSL's name of the type.
     pub fn name(self) -> &'static str
         ensures { result.now ≡ item_type_name self }
     {
@@ -69,24 +69,24 @@ impl ItemType {
     }
 }
 
-/// The variables of items that fields become (CSL 1.0.2, appendix IV).
+/// The variables of the items of entries (CSL 1.0.2, appendix IV).
 #[derive(Debug, Clone, Copy, PartialEq, Eq)]
 pub enum Variable {
     /// The title.
     Title,
-    /// The title, abridged.
+    /// The abbreviated title.
     TitleShort,
     /// The title of the volume, in a work of several.
     VolumeTitle,
-    /// The title of the journal or book that the work is a part of.
+    /// The title of the container: the journal or book that contains the work.
     ContainerTitle,
-    /// The same, abbreviated.
+    /// The abbreviated title of the container.
     ContainerTitleShort,
     /// The title of the series.
     CollectionTitle,
     /// The title of the original.
     OriginalTitle,
-    /// The name of the conference.
+    /// The name of the event, such as a conference.
     EventTitle,
     /// The publisher.
     Publisher,
@@ -96,19 +96,19 @@ pub enum Variable {
     OriginalPublisher,
     /// The place of the publisher of the original.
     OriginalPublisherPlace,
-    /// The place of the conference.
+    /// The place of the event.
     EventPlace,
-    /// The kind of thesis, report or other work, in words.
+    /// The genre, such as the kind of a thesis or a report.
     Genre,
     /// The volume.
     Volume,
-    /// How many volumes there are.
+    /// The number of volumes.
     NumberOfVolumes,
     /// The part of a volume.
     PartNumber,
     /// The issue of a journal.
     Issue,
-    /// The number of the work, as of a report.
+    /// The number of the work itself, such as a report.
     Number,
     /// The number in the series.
     CollectionNumber,
@@ -118,37 +118,37 @@ pub enum Variable {
     ChapterNumber,
     /// The pages in the container.
     Page,
-    /// How many pages there are.
+    /// The number of pages.
     NumberOfPages,
     /// The version.
     Version,
     /// The digital object identifier.
     Doi,
-    /// The address.
+    /// The address (URL).
     Url,
-    /// The number in PubMed.
+    /// The PubMed number.
     Pmid,
-    /// The standard number of the book.
+    /// The ISBN.
     Isbn,
-    /// The standard number of the serial.
+    /// The ISSN.
     Issn,
-    /// The archive that has the work.
+    /// The archive that contains the work.
     Archive,
     /// The place in the archive.
     ArchiveLocation,
-    /// The place in a library.
+    /// The call number in a library.
     CallNumber,
     /// The abstract.
     Abstract,
-    /// What an annotated bibliography says of the work.
+    /// An annotation of the work.
     Annote,
     /// A note.
     Note,
-    /// How far the publication is.
+    /// The publication status.
     Status,
-    /// Key words.
+    /// The keywords.
     Keyword,
-    /// The language, by its tag.
+    /// The language: its tag, if it is known.
     Language,
     /// The authors.
     Author,
@@ -164,18 +164,18 @@ pub enum Variable {
     Translator,
     /// The authors of the container.
     ContainerAuthor,
-    /// When the work was published.
+    /// The date of publication.
     Issued,
-    /// When the address was visited.
+    /// The date on which the address was visited.
     Accessed,
     /// The date of the event, for example of a conference.
     EventDate,
-    /// When the original was published.
+    /// The date of publication of the original.
     OriginalDate,
 }
 
 impl Variable {
-    /// The name by which CSL knows the variable.
+    /// Returns CSL's name of the variable.
     pub fn name(self) -> &'static str
         ensures { result.now ≡ variable_name self }
     {

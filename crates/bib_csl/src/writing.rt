@@ -89,7 +89,7 @@ fn write_names(out: &mut Writer, names: &[Name]) -> Result<(), AllocError>
     out.end_array()
 }
 
-// Writes a day of a month, if there is one.
+// Writes a day of a month, if it is given.
 fn write_day(out: &mut Writer, day: Option<u16>) -> Result<(), AllocError>
     ensures written { OnOk result (out.new.tokens ≡ out.old.tokens ++ spec.day_tokens day) }
     ensures before { out.new.before ≡ out.old.before }
@@ -100,7 +100,7 @@ fn write_day(out: &mut Writer, day: Option<u16>) -> Result<(), AllocError>
     }
 }
 
-// Writes a month and its day, if there is one.
+// Writes a month, and its day if it is given. Writes nothing without a month.
 fn write_month(out: &mut Writer, month: Option<u16>, day: Option<u16>) -> Result<(), AllocError>
     ensures written { OnOk result (out.new.tokens ≡ out.old.tokens ++ spec.month_tokens month day) }
     ensures before { out.new.before ≡ out.old.before }
@@ -112,7 +112,7 @@ fn write_month(out: &mut Writer, month: Option<u16>, day: Option<u16>) -> Result
     write_day(out, day)
 }
 
-// Writes year, month and day as a list.
+// Writes an array with the year, the month and the day.
 fn write_date_parts(out: &mut Writer, parts: &DateParts) -> Result<(), AllocError>
     ensures written { OnOk result (out.new.tokens ≡ out.old.tokens ++ tokens_of (json.date_parts_json parts.now)) }
     ensures before { out.new.before ≡ out.old.before }
@@ -146,7 +146,7 @@ fn write_dates(out: &mut Writer, dates: &[DateParts]) -> Result<(), AllocError>
     out.end_array()
 }
 
-// Writes the word that a date isn't exact, where it isn't.
+// Writes the member `circa`, if the date is uncertain or approximate.
 fn write_circa(out: &mut Writer, circa: bool) -> Result<(), AllocError>
     ensures written { OnOk result (out.new.tokens ≡ out.old.tokens ++ spec.circa_tokens circa) }
     ensures before { out.new.before ≡ out.old.before }
@@ -158,7 +158,7 @@ fn write_circa(out: &mut Writer, circa: bool) -> Result<(), AllocError>
     Ok(())
 }
 
-// Writes the dates of a date, unless there are none.
+// Writes the member `date-parts`, unless there are no dates.
 #[tactic(auto, unfolding(crate::specs::Tokens::dates_tokens))]
 fn write_all_parts(out: &mut Writer, dates: &[DateParts]) -> Result<(), AllocError>
     ensures written { OnOk result (out.new.tokens ≡ out.old.tokens ++ spec.dates_tokens dates.now) }
@@ -171,7 +171,7 @@ fn write_all_parts(out: &mut Writer, dates: &[DateParts]) -> Result<(), AllocErr
     write_dates(out, dates)
 }
 
-// Writes the text of a date, if there is one.
+// Writes the member `literal` with the text of a date, if there is one.
 fn write_literal(out: &mut Writer, literal: &Option<Text>) -> Result<(), AllocError>
     ensures written { OnOk result (out.new.tokens ≡ out.old.tokens ++ spec.literal_tokens literal.now) }
     ensures before { out.new.before ≡ out.old.before }
@@ -183,7 +183,7 @@ fn write_literal(out: &mut Writer, literal: &Option<Text>) -> Result<(), AllocEr
     out.string(text.as_str())
 }
 
-// Writes the season, if there is one.
+// Writes the member `season`, if there is one.
 fn write_season(out: &mut Writer, season: Option<Season>) -> Result<(), AllocError>
     ensures written { OnOk result (out.new.tokens ≡ out.old.tokens ++ spec.season_tokens season) }
     ensures before { out.new.before ≡ out.old.before }
@@ -195,7 +195,7 @@ fn write_season(out: &mut Writer, season: Option<Season>) -> Result<(), AllocErr
     out.u64(season_number(season))
 }
 
-// The number of a season.
+// Returns the number of a season.
 fn season_number(season: Season) -> u64
     ensures { result ≡ json.season_number season }
 {
@@ -229,7 +229,7 @@ fn write_date(out: &mut Writer, date: &ItemDate) -> Result<(), AllocError>
     out.end_object()
 }
 
-/// Writes what a variable holds.
+/// Writes the content of a variable.
 #[tactic(auto, unfolding(crate::specs::Json::content_json))]
 pub(crate) fn write_content(out: &mut Writer, content: &Content) -> Result<(), AllocError>
     ensures written { OnOk result (out.new.tokens ≡ out.old.tokens ++ tokens_of (json.content_json content.now)) }
@@ -242,7 +242,7 @@ pub(crate) fn write_content(out: &mut Writer, content: &Content) -> Result<(), A
     }
 }
 
-// Writes what a member holds.
+// Writes the value of a member.
 fn write_held(out: &mut Writer, held: Held<'_>) -> Result<(), AllocError>
     ensures written { OnOk result (out.new.tokens ≡ out.old.tokens ++ tokens_of (spec.held_json held.entry)) }
     ensures before { out.new.before ≡ out.old.before }
@@ -293,7 +293,7 @@ pub(crate) fn write_item(alloc: Global, out: &mut Writer, item: &Item) -> Result
     write_members(out, item_members(alloc, item)?)
 }
 
-/// The text of what was written.
+/// Returns the text of a writer.
 pub(crate) fn text_written(out: Writer) -> String
     requires { out.before ≡ [] }
     ensures { string_bytes result ≡ print out.tokens }

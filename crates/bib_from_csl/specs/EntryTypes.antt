@@ -1,12 +1,12 @@
 -- Meaning: words of public contracts.
--- Types of entries, by those of items.
+-- The types of the entries of items.
 use Rattle.std.specs.Prelude.{ℕ, Bool, true, false, if◌then◌else◌, List, [], ◌∷◌, codes, bytes_eq, Option, Some, None, unwrap_or}
 use Rattle.std.specs.List.{list_any}
 use Rattle.bib_text.specs.Enums.{words}
 use Rattle.bib_tables.specs.declared.mechanics.EntryType.{EntryType}
 use Rattle.bib_tables.specs.declared.mechanics.EntryType.TheVariants as entry_type
 
--- whether a name is one of these words, which spaces separate
+-- whether a name is one of the words of a list that spaces separate
 abbrev pub is_among_words : List ℕ → List ℕ → Bool
 is_among_words list name = list_any (bytes_eq name) (words list)
 
@@ -36,18 +36,18 @@ whole_type kind =
     else if is_among_words (codes "post post-weblog webpage") kind then entry_type.Online
     else entry_type.Misc
 
--- the type of the entry that an item of this type becomes
+-- the type of the entry of an item with this type
 abbrev pub type_for_item : List ℕ → EntryType
 type_for_item kind = unwrap_or (part_type kind) (whole_type kind)
 
--- what the field `entrysubtype` says of an item of this type, or nothing
+-- the value of the field `entrysubtype` for an item with this type, or nothing
 abbrev pub subtype_of : List ℕ → List ℕ
 subtype_of kind =
     if bytes_eq kind (codes "article-magazine") then codes "magazine"
     else if bytes_eq kind (codes "article-newspaper") then codes "newspaper"
     else []
 
--- whether the entry is a whole that may be one of several volumes
+-- whether the entry can be a volume of a work of several volumes
 abbrev pub may_be_volume : EntryType → Bool
 may_be_volume entry_type.Book = true
 may_be_volume entry_type.Collection = true
@@ -67,7 +67,7 @@ numbers_issues entry_type.Article = true
 numbers_issues entry_type.Periodical = true
 numbers_issues other = false
 
--- whether it counts the works of a series
+-- whether the field `number` counts the works of a series
 abbrev pub numbers_series : EntryType → Bool
 numbers_series entry_type.Book = true
 numbers_series entry_type.Collection = true
@@ -77,7 +77,7 @@ numbers_series entry_type.InProceedings = true
 numbers_series entry_type.Booklet = true
 numbers_series other = false
 
--- whether an institution publishes the work, and no publisher
+-- whether the work is published by an institution instead of a publisher
 abbrev pub is_of_institution : EntryType → Bool
 is_of_institution entry_type.Thesis = true
 is_of_institution entry_type.Report = true

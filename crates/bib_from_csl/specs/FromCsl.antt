@@ -1,5 +1,5 @@
 -- Meaning: words of public contracts.
--- The entries that a text of CSL-JSON gives, what of its items isn't in them, and why it gives none.
+-- The entries of a text of CSL-JSON, the members of its items that they lack or change, and the errors.
 use Rattle.std.specs.Prelude.{◌≡◌, ◌≤◌, ℕ, List, length}
 use Rattle.biblatex.specs.Headline.{IsAcceptedText, IsBibliographyOf}
 use Rattle.biblatex.specs.Syntax.{Bibliography}
@@ -14,7 +14,8 @@ use Rattle.bib_from_csl.specs.FromItems.{items_source}
 use Rattle.bib_from_csl.specs.GivenItems.{items_read}
 use Rattle.bib_from_csl.specs.Losses.{all_losses}
 
--- entries are those of a text of CSL-JSON: they are written as its items are, and what is read of them again lacks what is said to be lost
+-- the conversion of a text of CSL-JSON: the source of the entries of its items, and the members that the entries lack or change after the
+-- source is parsed
 pub record AreEntriesOf (json : List ℕ) (converted : Converted) : Type 0 where
   pub items : List GivenItem
   pub of_json : items_read json ≡ Are items
@@ -23,24 +24,24 @@ pub record AreEntriesOf (json : List ℕ) (converted : Converted) : Type 0 where
   pub read_again : IsBibliographyOf converted.text bibliography
   pub losses : converted.losses ≡ all_losses items bibliography.entries
 
--- the text gives items whose entries aren't read again
+-- the text contains items, but the source of their entries can't be parsed
 pub record AreUnreadItems (json : List ℕ) : Type 0 where
   pub items : List GivenItem
   pub of_json : items_read json ≡ Are items
   pub unread : IsAcceptedText (items_source items) → ⊥
 
--- a refusal says why the text gives no items, or that two entries have one key
+-- a refusal gives the reason why the text contains no items that can be converted, or says that two entries have one key
 pub data IsItemsRefusal (json : List ℕ) (r : Refusal) : Type 0 where
   no_items : items_read json ≡ Refused r.element r.fault → r.at ≤ length json → IsItemsRefusal json r
   key_twice : r.fault ≡ KeyTwice → r.at ≤ length json → AreUnreadItems json → IsItemsRefusal json r
 
--- an error says that two items have one key, or that entries aren't read again
+-- an error says that two items have one key, or that the source of the entries can't be parsed
 abbrev pub IsOfUnreadItems : List ℕ → ItemsError → Type 0
 IsOfUnreadItems json (refused r) = (r.fault ≡ KeyTwice) × (r.at ≤ length json)
 IsOfUnreadItems json (NotRead e) = Unit {0}
 IsOfUnreadItems json OutOfMemory = Unit {0}
 
--- why no entries are made of a text
+-- the reasons why a text can't be converted to entries
 abbrev pub MayRefuseItems : List ℕ → ItemsError → Type 0
 MayRefuseItems json (refused r) = IsItemsRefusal json r
 MayRefuseItems json (NotRead e) = AreUnreadItems json

@@ -1,5 +1,5 @@
 -- Meaning: words of public contracts.
--- Items as entries of BibLaTeX, as a file has them.
+-- Items written as BibLaTeX entries.
 use Rattle.std.specs.Prelude.{ℕ, Bool, true, false, not, ◌&&◌, ◌||◌, ◌==◌, if◌then◌else◌, List, [], ◌∷◌, ◌++◌, length, codes, bytes_eq, encode_utf8, Option, Some, None}
 use Rattle.std.specs.List.{flat_map, list_any}
 use Rattle.std.specs.Str.{chars}
@@ -22,15 +22,16 @@ use Rattle.bib_from_csl.specs.WrittenPeople.{have_fixed_prefix, names_value}
 abbrev pub is_volume_title : Given → Bool
 is_volume_title given = bytes_eq given.name (codes "volume-title")
 
--- whether a content has a name with a prefix that counts as part of the family name
+-- whether a content has a name with a prefix that is part of the family name
 abbrev pub content_has_prefix : Option Content → Bool
 content_has_prefix (Some (content.Names names)) = have_fixed_prefix names
 content_has_prefix other = false
 
+-- whether a member has a name with a prefix that is part of the family name
 abbrev pub has_prefix : Given → Bool
 has_prefix given = content_has_prefix given.content
 
--- what the fields of the entry of an item depend on
+-- the properties of an item that its fields depend on
 unfoldable pub work_for_item : GivenItem → Work
 work_for_item item = record {
   kind = type_for_item item.kind;
@@ -46,7 +47,7 @@ entry_field_line name value = codes "  " ++ (name ++ (codes " = " ++ (value ++ c
 unfoldable pub known_line : List ℕ → List ℕ → List ℕ
 known_line name text = if length text == 0 then [] else entry_field_line name (braced text)
 
--- the value of a field that holds the text of a variable, by the names of both
+-- the value of the field `field` for the text of the variable `name`
 unfoldable pub variable_source : List ℕ → List ℕ → List ℕ → List ℕ
 variable_source field name text =
     if is_list_variable name then listed_value text
@@ -54,23 +55,25 @@ variable_source field name text =
     else if bytes_eq name (codes "page") then pages_value text
     else plain_value field text
 
--- the value of a field that holds what a variable holds, if that says something that a field can say
+-- the value of the field `field` for the content of the variable `name`; `None` for a date that can't be written
 abbrev pub content_source : Bool → List ℕ → List ℕ → Content → Option (List ℕ)
 content_source uses_prefix field name (content.Text text) = Some (variable_source field name text)
 content_source uses_prefix field name (content.Names names) = Some (names_value uses_prefix names)
 content_source uses_prefix field name (content.Date date) = date_source date
 
--- the field of a language with this tag, and what it holds: the name that BibLaTeX has for it, or the tag
+-- the field for a language with this tag: `langid` if BibLaTeX has a name for it, otherwise `language`
 abbrev pub language_field : List ℕ → List ℕ
 language_field tag = if length (language_name tag) == 0 then codes "language" else codes "langid"
 
+-- the value of that field: BibLaTeX's name of the language, or else the tag
 abbrev pub language_text : List ℕ → List ℕ
 language_text tag = if length (language_name tag) == 0 then tag else language_name tag
 
+-- the line of that field
 abbrev pub language_line : List ℕ → List ℕ
 language_line tag = entry_field_line (language_field tag) (plain_value (language_field tag) (language_text tag))
 
--- the line of a field with this value, if there is one, and of the field beside it
+-- the line of a field with this value and that of the additional field, or nothing without a value
 abbrev pub lines_with : List ℕ → List ℕ → Option (List ℕ) → List ℕ
 lines_with field name None = []
 lines_with field name (Some value) = entry_field_line field value ++ known_line (beside_field name) (beside_text name)
@@ -79,7 +82,7 @@ lines_with field name (Some value) = entry_field_line field value ++ known_line 
 abbrev pub valued_lines : Work → List ℕ → List ℕ → Content → List ℕ
 valued_lines work field name content = lines_with field name (content_source work.uses_prefix field name content)
 
--- the same, where the field may have no name
+-- the lines of a variable that has this field, or nothing if the name of the field is empty
 abbrev pub lines_in : Work → List ℕ → List ℕ → Content → List ℕ
 lines_in work field name content = if length field == 0 then [] else valued_lines work field name content
 
@@ -97,7 +100,7 @@ is_empty_content (content.Text text) = length text == 0
 is_empty_content (content.Names names) = length names == 0
 is_empty_content (content.Date date) = false
 
--- the lines of a content, if there is one and it holds something
+-- the lines of a content, or nothing if there is none or it is empty
 abbrev pub member_lines : Work → List ℕ → Option Content → List ℕ
 member_lines work name None = []
 member_lines work name (Some content) = if is_empty_content content then [] else content_lines work name content
@@ -106,38 +109,38 @@ member_lines work name (Some content) = if is_empty_content content then [] else
 abbrev pub given_lines : Work → Given → List ℕ
 given_lines work given = member_lines work given.name given.content
 
--- the characters that BibTeX has other uses for
+-- whether a character has another use in BibTeX
 abbrev pub is_special : ℕ → Bool
 is_special c =
     c == char.open_brace || c == char.quote || c == char.hash || c == char.percent || c == char.backslash || c == char.tilde
     || c == char.open_parenthesis || c == char.close_parenthesis || c == char.equals || c == char.apostrophe || c == char.at
 
--- whether a character may stand in the key of an entry, for BibTeX too
+-- whether a character can be in the key of an entry, also for BibTeX
 abbrev pub is_of_key : ℕ → Bool
 is_of_key c = is_key c && not (is_special c)
 
--- a character of a key, or an underscore in its place
+-- a character of a key, or an underscore for one that can't be in a key
 abbrev pub key_character : ℕ → List ℕ
 key_character c = if is_of_key c then encode_utf8 c else codes "_"
 
--- the key of the entry of an item that is called so
+-- the key of the entry of an item with this `id`
 abbrev pub key_text : List ℕ → List ℕ
 key_text = flat_map key_character
 
--- what stands before the fields of an entry
+-- the start of an entry, up to the comma after its key
 unfoldable pub head : GivenItem → List ℕ
 head item = codes "@" ++ (entry_type_name (type_for_item item.kind) ++ (codes "{" ++ (key_text (chars item.id) ++ codes ",\n")))
 
--- what the field `options` says
+-- the value of the field `options`, or nothing
 abbrev pub options_of : Bool → List ℕ
 options_of uses_prefix = if uses_prefix then codes "useprefix=true" else []
 
--- what stands before the fields of an entry that are variables
+-- the start of an entry and its fields that aren't variables: `entrysubtype` and `options`
 unfoldable pub beginning : Work → GivenItem → List ℕ
 beginning work item =
     head item ++ (known_line (codes "entrysubtype") (subtype_of item.kind) ++ known_line (codes "options") (options_of work.uses_prefix))
 
--- the entry of an item, given what its fields depend on
+-- the entry of an item, given the properties that its fields depend on
 unfoldable pub source_with : Work → GivenItem → List ℕ
 source_with work item = beginning work item ++ (flat_map (given_lines work) item.fields ++ codes "}\n")
 
@@ -149,6 +152,7 @@ item_source item = source_with (work_for_item item) item
 abbrev pub next_entry : Bool → GivenItem → List ℕ
 next_entry first item = if first then item_source item else codes "\n" ++ item_source item
 
+-- the entries of items, with an empty line before each except a first one
 abbrev pub entries_from : Bool → List GivenItem → List ℕ
 entries_from first [] = []
 entries_from first (item ∷ items) = next_entry first item ++ entries_from false items

@@ -1,5 +1,5 @@
 -- Meaning: words of public contracts.
--- Which items a text of CSL-JSON gives, and why it gives none.
+-- The items in a text of CSL-JSON, and the faults of a text without items.
 use Rattle.std.specs.Prelude.{ℕ, ◌+◌, Bool, true, false, ◌==◌, ◌&&◌, ◌||◌, if◌then◌else◌, List, [], ◌∷◌, codes, bytes_eq, encode_utf8_all, Option, Some, None, is_some}
 use Rattle.std.specs.Char.{is_ascii_digit}
 use Rattle.std.specs.List.{list_all, before_first, after_first}
@@ -25,23 +25,23 @@ use Rattle.bib_from_csl.specs.Objects.{array_elements, object_members, string_un
 use Rattle.bib_from_csl.specs.Values.{replaced}
 use Rattle.bib_from_csl.specs.Variables.{is_date, is_names, is_text}
 
--- a character that pages of numbers are written with
+-- whether a character occurs in page numbers
 abbrev pub is_of_pages : ℕ → Bool
 is_of_pages c = is_ascii_digit c || ((c == char.hyphen) || ((c == char.en_dash) || ((c == char.comma) || (c == char.space))))
 
--- whether pages are numbers with hyphens, dashes, commas and spaces between them
+-- whether a text consists of ASCII digits, hyphens, en dashes, commas and spaces, as page numbers do
 abbrev pub are_numbers : List ℕ → Bool
 are_numbers text = list_all is_of_pages (chars text)
 
--- whether the hyphens of a variable's text are dashes: it is of pages, which are numbers
+-- whether the hyphens of a text are written as en dashes: it is the variable `page`, and consists of page numbers
 unfoldable pub has_dashes : List ℕ → List ℕ → Bool
 has_dashes name text = bytes_eq name (codes "page") && are_numbers text
 
--- a text with dashes for its hyphens
+-- a text with an en dash for each hyphen
 unfoldable pub dashed_text : List ℕ → List ℕ
 dashed_text text = replaced char.hyphen (encode_utf8_all (codes "–")) (chars text)
 
--- the page of a range that begins and ends with it, as `115` of `115-115`; else the text
+-- the page of a range of one page, such as `115` for `115-115`; another text as it is
 unfoldable pub single_page : List ℕ → List ℕ
 single_page text =
     if has_byte char.hyphen text
@@ -49,7 +49,7 @@ single_page text =
     then before_first (λ b. b == char.hyphen) text
     else text
 
--- the text of a variable; a hyphen between numbers of pages is a dash, and a range of one page is the page
+-- the text of a variable; in page numbers, each hyphen is replaced by an en dash, and a range of one page by the page
 unfoldable pub content_text : List ℕ → List ℕ → List ℕ
 content_text name text =
     if has_dashes name text then dashed_text (single_page text) else text
@@ -58,29 +58,29 @@ content_text name text =
 abbrev pub member_with : List ℕ → Option Content → Bool → Option Given
 member_with name content is_whole = Some (record { name = name; content = content; is_whole = is_whole })
 
--- a variable that holds people
+-- a variable of names; `None` if the value has another form
 unfoldable pub names_member : List ℕ → Json → Option Given
 names_member name j = if are_objects j then member_with name (Some (content.Names (given_names j))) (are_whole_names j) else None
 
--- a variable that holds this date, if there is one
+-- a variable of this date, or without a content
 abbrev pub of_date : List ℕ → Option ItemDate → Bool → Option Given
 of_date name (Some date) is_whole = member_with name (Some (content.Date date)) is_whole
 of_date name None is_whole = member_with name None is_whole
 
--- a variable that holds a date
+-- a variable of a date; `None` if the value has another form
 unfoldable pub date_member : List ℕ → Json → Option Given
 date_member name j = if is_some (object_members j) then of_date name (date_given j) (is_whole_date j) else None
 
--- a variable that holds this text, if there is one
+-- a variable of this text, if there is one
 abbrev pub of_text : List ℕ → Option (List ℕ) → Option Given
 of_text name None = None
 of_text name (Some text) = member_with name (Some (content.Text (content_text name text))) true
 
--- a variable that holds a text
+-- a variable of a text; `None` if the value has another form
 unfoldable pub text_member : List ℕ → Json → Option Given
 text_member name j = of_text name (text_in j)
 
--- a member, unless it hasn't the form of the variable of its name
+-- a member; `None` if it doesn't have the form of its variable
 unfoldable pub member_of : List ℕ → Json → Option Given
 member_of name j =
     if is_names name then names_member name j
@@ -88,26 +88,27 @@ member_of name j =
     else if is_text name then text_member name j
     else member_with name None false
 
--- whether a member says what an item is called or its type
+-- whether a member is `id` or `type`
 abbrev pub is_head : List ℕ → Bool
 is_head name = bytes_eq name (codes "id") || bytes_eq name (codes "type")
 
--- a member before others, where all have their form
+-- a member before others, unless one of them has a wrong form
 abbrev pub before_fields : Option Given → Option (List Given) → Option (List Given)
 before_fields None rest = None
 before_fields (Some field) None = None
 before_fields (Some field) (Some fields) = Some (field ∷ fields)
 
--- the members except the head; none if one of them has a wrong form
+-- the members except `id` and `type`; `None` if one of them has a wrong form
 abbrev pub members_read : List (List ℕ × Json) → Option (List Given)
 members_read [] = Some []
 members_read (m ∷ ms) = if is_head m.0 then members_read ms else before_fields (member_of m.0 m.1) (members_read ms)
 
--- the item with this head and these members
+-- the item with this `id`, this type and these members, unless one of them has a wrong form
 abbrev pub item_with : List ℕ → List ℕ → Option (List Given) → ItemReading
 item_with id kind None = Unfit fault.WrongForm
 item_with id kind (Some fields) = Says (record { id = id; kind = kind; fields = fields })
 
+-- the item with this `id`, this type and the members of this object
 abbrev pub item_of_members : List ℕ → List ℕ → List (List ℕ × Json) → ItemReading
 item_of_members id kind ms = item_with id kind (members_read ms)
 
@@ -118,25 +119,25 @@ item_of_parts (Some ms) None kind = Unfit fault.NoId
 item_of_parts (Some ms) (Some id) None = Unfit fault.NoType
 item_of_parts (Some ms) (Some id) (Some kind) = item_of_members id kind ms
 
--- what an element is as an item
+-- the item of an element, or the fault
 abbrev pub item_in : Json → ItemReading
 item_in j = item_of_parts (object_members j) (text_under (codes "id") j) (string_under (codes "type") j)
 
--- an item, by the index of its element, before others
+-- an item, by the index of its element, before others; the first fault counts
 abbrev pub before_items : ℕ → ItemReading → ItemsReading → ItemsReading
 before_items index (Unfit fault) rest = Refused index fault
 before_items index (Says item) (Are items) = Are (item ∷ items)
 before_items index (Says item) (Refused other fault) = Refused other fault
 
--- the items that these elements are; the first element has this index
+-- the items of these elements, or the first fault; the first element has this index
 abbrev pub items_read_from : ℕ → List Json → ItemsReading
 items_read_from index [] = Are []
 items_read_from index (j ∷ js) = before_items index (item_in j) (items_read_from (index + 1) js)
 
--- what a value is as items
+-- the items of a JSON value, or the first fault
 abbrev pub items_in : Json → ItemsReading
 items_in j = option_map_or (items_read_from 0) (array_elements j) (Refused 0 fault.NotAnArray)
 
--- what a text is as items
+-- the items in a text of CSL-JSON, or the first fault
 unfoldable pub items_read : List ℕ → ItemsReading
 items_read text = option_map_or items_in (document text) (Refused 0 fault.NotJson)

@@ -1,8 +1,8 @@
 -- Meaning: words of public contracts.
--- Languages, by their tags after BCP 47, as BibLaTeX names them.
+-- BibLaTeX's names of languages, by their tags (BCP 47).
 use Rattle.std.specs.Prelude.{ℕ, ◌==◌, if◌then◌else◌, List, [], length, codes, bytes_eq}
 
--- the name of a language of several countries, by a tag that has the country, or nothing
+-- the name of a language for a tag with a country or a script, or nothing
 unfoldable pub national_name : List ℕ → List ℕ
 national_name name =
     if bytes_eq name (codes "en-US") then codes "american"
@@ -18,7 +18,7 @@ national_name name =
     else if bytes_eq name (codes "sr-Cyrl") then codes "serbianc"
     else []
 
--- the name of a language of the west or the north of Europe, or nothing
+-- the name of a language of western, southern or northern Europe, or nothing
 unfoldable pub western_name : List ℕ → List ℕ
 western_name name =
     if bytes_eq name (codes "ca") then codes "catalan"
@@ -57,10 +57,10 @@ eastern_name name =
     else if bytes_eq name (codes "uk") then codes "ukrainian"
     else []
 
--- the first name, or the other where it is empty
+-- the first name, or the other one if the first is empty
 abbrev pub first_name : List ℕ → List ℕ → List ℕ
 first_name first other = if length first == 0 then other else first
 
--- the name that BibLaTeX has for the language of a tag, or nothing
+-- BibLaTeX's name of the language of a tag, or nothing
 unfoldable pub language_name : List ℕ → List ℕ
 language_name tag = first_name (first_name (national_name tag) (western_name tag)) (eastern_name tag)

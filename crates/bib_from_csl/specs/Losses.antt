@@ -1,5 +1,5 @@
 -- Meaning: words of public contracts.
--- What of an item isn't in its entry, or not as it is.
+-- The members of an item that its entry lacks or changes.
 use Rattle.std.specs.Prelude.{ℕ, Bool, true, false, not, ◌==◌, ◌||◌, if◌then◌else◌, List, [], ◌∷◌, ◌++◌, length, codes, bytes_eq, Option, Some, None}
 use Rattle.std.specs.List.{flat_map}
 use Rattle.bib_entry.specs.declared.entry.Entry.{Entry}
@@ -18,33 +18,33 @@ use Rattle.bib_from_csl.specs.declared.writing.Work.{Work}
 use Rattle.bib_from_csl.specs.FromItems.{is_empty_content, work_for_item}
 use Rattle.bib_from_csl.specs.Variables.{variable_field}
 
--- the content of the variable of a name
+-- the content of the variable with a name
 abbrev pub content_of : List ℕ → List Field → Option Content
 content_of name [] = None
 content_of name (field ∷ fields) = if bytes_eq (variable_name field.variable) name then Some field.content else content_of name fields
 
--- whether a field of this kind of entry has the variable of a name
+-- whether an entry of this kind has a field for the variable with a name
 abbrev pub is_fielded : Work → List ℕ → Bool
 is_fielded work name = bytes_eq name (codes "language") || not (length (variable_field work.kind work.in_work name) == 0)
 
--- whether this is there, and the same as a content
+-- whether there is a content, and it is the same as the other one
 abbrev pub is_this : Option Content → Content → Bool
 is_this None given = false
 is_this (Some found) given = content.ghosts.eq found given
 
--- whether the variable of a name holds this content
+-- whether the variable with a name has this content
 abbrev pub holds_content : List Field → List ℕ → Content → Bool
 holds_content fields name given = is_this (content_of name fields) given
 
--- what becomes of a member that is whole or isn't, of which a field has what a variable can hold
+-- the loss of a member whose content is in a field: `Partly` if the content isn't the whole value
 abbrev pub partly_unless : Bool → Option LossKind
 partly_unless is_whole = if is_whole then None else Some Partly
 
--- and of one that no variable can hold
+-- the loss of a member without a content: `NoField` if the content isn't the whole value
 abbrev pub no_field_unless : Bool → Option LossKind
 no_field_unless is_whole = if is_whole then None else Some NoField
 
--- what becomes of a content
+-- the loss of a member with a content
 unfoldable pub content_loss : Work → List Field → List ℕ → Content → Bool → Option LossKind
 content_loss work fields name given is_whole =
     if is_empty_content given then None
@@ -52,12 +52,12 @@ content_loss work fields name given is_whole =
     else if not (holds_content fields name given) then Some Changed
     else partly_unless is_whole
 
--- the same, if there is one
+-- the loss of a member, with or without a content
 abbrev pub loss_of_content : Work → List Field → List ℕ → Option Content → Bool → Option LossKind
 loss_of_content work fields name None is_whole = no_field_unless is_whole
 loss_of_content work fields name (Some given) is_whole = content_loss work fields name given is_whole
 
--- what becomes of a member, where these are the variables of the item of its entry
+-- the loss of a member, given the variables of the item that its entry is converted back to
 abbrev pub loss_of : Work → List Field → Given → Option LossKind
 loss_of work fields given = loss_of_content work fields given.name given.content given.is_whole
 
@@ -66,35 +66,36 @@ abbrev pub loss : List ℕ → List ℕ → Option LossKind → List Loss
 loss id name None = []
 loss id name (Some kind) = record { id = id; name = name; kind = kind } ∷ []
 
--- what becomes of a text that is read again as this one
+-- the loss of a text that is parsed as `read`
 abbrev pub text_loss : List ℕ → List ℕ → Option LossKind
 text_loss given read = if bytes_eq given read then None else Some Changed
 
--- what is lost of a member
+-- the losses of a member
 abbrev pub member_loss : Work → List ℕ → List Field → Given → List Loss
 member_loss work id fields given = loss id given.name (loss_of work fields given)
 
--- what is lost of an item, given the item of its entry
+-- the losses of an item, given the item that its entry is converted back to
 unfoldable pub item_losses : GivenItem → Item → List Loss
 item_losses item read =
     loss item.id (codes "id") (text_loss item.id read.id) ++ (loss item.id (codes "type") (text_loss item.kind (item_type_name read.kind))
     ++ flat_map (member_loss (work_for_item item) item.id read.fields) item.fields)
 
--- what is lost of an item, given its entry, if there is one
+-- the losses of an item, given its entry, if there is one
 abbrev pub losses_in : GivenItem → Option Entry → List Loss
 losses_in item None = loss item.id (codes "id") (Some NoField)
 losses_in item (Some entry) = item_losses item (item_of_entry entry)
 
--- the first of some entries, and the others
+-- the first of some entries
 abbrev pub first_entry : List Entry → Option Entry
 first_entry [] = None
 first_entry (entry ∷ entries) = Some entry
 
+-- the entries after the first
 abbrev pub after_first_entry : List Entry → List Entry
 after_first_entry [] = []
 after_first_entry (entry ∷ entries) = entries
 
--- what is lost of items, given their entries in order
+-- the losses of items, given their entries in the same order
 abbrev pub all_losses : List GivenItem → List Entry → List Loss
 all_losses [] entries = []
 all_losses (item ∷ items) entries = losses_in item (first_entry entries) ++ all_losses items (after_first_entry entries)

@@ -1,5 +1,5 @@
 -- Meaning: words of public contracts.
--- What values of JSON hold. A text is given by its bytes.
+-- The parts of JSON values. A text is given by its bytes.
 use Rattle.std.specs.Prelude.{ℕ, ℤ, Bool, if◌then◌else◌, List, [], ◌∷◌, length, Option, Some, None, option_and_then, option_map}
 use Rattle.std.specs.Option.{option_map_or, option_or}
 use Rattle.json.specs.Json.{Json, array, object, Items, no_items, item, Members, no_members, member}
@@ -24,7 +24,7 @@ array_elements j = option_map listed_items (as_array j)
 abbrev pub object_members : Json → Option (List (List ℕ × Json))
 object_members j = option_map listed_members (as_object j)
 
--- how many members an object has
+-- the number of members of an object; 0 for another value
 abbrev pub object_size : Json → ℕ
 object_size j = option_map_or length (object_members j) 0
 
@@ -32,18 +32,18 @@ object_size j = option_map_or length (object_members j) 0
 abbrev pub text_in : Json → Option (List ℕ)
 text_in j = option_or (as_str j) (as_number j)
 
--- the text that an object has under a name
+-- the text of the member with a name
 abbrev pub string_under : List ℕ → Json → Option (List ℕ)
 string_under name j = option_and_then as_str (get name j)
 
--- the text or the number that an object has under a name
+-- the text or the digits of the number of the member with a name
 abbrev pub text_under : List ℕ → Json → Option (List ℕ)
 text_under name j = option_and_then text_in (get name j)
 
--- the whole number that a value is, or that its text spells in decimal digits
+-- the whole number that a value is, or that its text writes in decimal digits
 abbrev pub whole_number : Json → Option ℤ
 whole_number j = option_and_then decimal_of (text_in j)
 
--- one for what is there
+-- 1 for true and 0 for false
 abbrev pub one_if : Bool → ℕ
 one_if is_there = if is_there then 1 else 0

@@ -1,5 +1,5 @@
 -- Meaning: words of public contracts.
--- Dates that are read back from what is written of them.
+-- Dates that are parsed back from their text.
 use Rattle.std.specs.Prelude.{◌≡◌, ℕ, List, Some}
 use Rattle.bib_chunks.specs.declared.chunk.Chunk.TheVariants.{Normal}
 use Rattle.bib_chunks.specs.Values.{alone}
@@ -10,14 +10,14 @@ use Rattle.bib_dates.specs.declared.date.DateValue.{DateValue}
 use Rattle.bib_dates.specs.declared.date.DateValue.TheVariants.{At, After, Before, Between}
 use Rattle.bib_from_csl.specs.WrittenDates.{text_of_item}
 
--- one date, or a range of which both ends are there
+-- one date, or a range with both ends
 abbrev pub HasBothEnds : DateValue → Type 0
 HasBothEnds (At d) = Unit {0}
 HasBothEnds (Between a b) = Unit {0}
 HasBothEnds (After d) = ⊥
 HasBothEnds (Before d) = ⊥
 
--- a date is written, and what is written of it is read as that date
+-- a date can be written, and its text is parsed as that date
 pub record IsDateReadBack (date : ItemDate) : Type 0 where
   pub text : List ℕ
   pub written : text_of_item date ≡ Some text

@@ -1,5 +1,5 @@
 -- Meaning: words of public contracts.
--- Names of people that are read back from what is written of them.
+-- Names that are parsed back from their written form.
 use Rattle.std.specs.Prelude.{◌≡◌, ℕ, ◌<◌, ◌==◌, Bool, false, not, List, [], ◌∷◌, length, codes, bytes_eq}
 use Rattle.std.specs.List.{list_any}
 use Rattle.std.specs.Str.{chars, IsUtf8}
@@ -10,16 +10,16 @@ use Rattle.bib_csl.specs.declared.item.Name.TheVariants.{Literal, Parts}
 use Rattle.bib_csl.specs.declared.item.NameParts.{NameParts}
 use Rattle.bib_from_csl.specs.WrittenPeople.{particle}
 
--- a name that is one text, without a tilde, and isn't the word for other people
+-- a name without parts, without a tilde, and not the word `others`
 pub record IsPlainLiteral (text : List ℕ) : Type 0 where
   pub some : 0 < length text
   pub utf8 : IsUtf8 text
   pub untied : list_any (λ c. c == char.tilde) (chars text) ≡ false
   pub other : bytes_eq text (codes "others") ≡ false
 
--- a person with a family name and a given name, of words of letters of ASCII, points and hyphens with single spaces between them, none of
--- which is `and`: those of the family name begin with capital letters, and those of the particle with small ones; the particle is the one
--- that the entry says, and there is no other
+-- a name with a family name and a given name. All words are of ASCII letters, points and hyphens, with single spaces between them, and none
+-- is `and`. Those of the family name begin with capital letters, and those of the particle with lowercase letters. There is no other
+-- particle than the one that the entry can write as a prefix.
 pub record IsPlainParts (uses_prefix : Bool) (p : NameParts) : Type 0 where
   pub family : AreWords is_capital_letter p.family
   pub given_name : AreWords is_name_byte p.given
@@ -29,12 +29,12 @@ pub record IsPlainParts (uses_prefix : Bool) (p : NameParts) : Type 0 where
   pub has_given : 0 < length p.given
   pub no_other : particle (not uses_prefix) p ≡ []
 
--- a name that is read back, in an entry that says that prefixes count as parts of family names or not
+-- a name that is parsed back; the flag says whether prefixes are part of family names in the entry
 abbrev pub IsPlainName : Bool → Name → Type 0
 IsPlainName uses_prefix (Literal text) = IsPlainLiteral text
 IsPlainName uses_prefix (Parts p) = IsPlainParts uses_prefix p
 
--- names that are
+-- names that are parsed back; the flag says whether prefixes are part of family names in the entry
 abbrev pub ArePlainNames : Bool → List Name → Type 0
 ArePlainNames uses_prefix [] = Unit {0}
 ArePlainNames uses_prefix (name ∷ names) = IsPlainName uses_prefix name × ArePlainNames uses_prefix names

@@ -1,5 +1,5 @@
 -- Meaning: words of public contracts.
--- Texts with HTML's tags, as LaTeX writes them. A text is given by its bytes.
+-- Texts with HTML tags, written in LaTeX. A text is given by its bytes.
 use Rattle.std.specs.Prelude.{ℕ, zero, suc, ◌+◌, ◌-◌, ◌==◌, Bool, false, nat_lt, if◌then◌else◌, List, [], ◌∷◌, ◌++◌, length, drop, eqb, codes, encode_utf8_all, replicate, Option, Some, None, option_map}
 use Rattle.std.specs.List.{after_first, before_first, position_or_len, slice_split, starts_with}
 use Rattle.std.specs.Option.{option_or}
@@ -9,11 +9,11 @@ use Rattle.bib_chunks.specs.Written.{spelling}
 use Rattle.bib_from_csl.specs.declared.tags.Tag.{Tag}
 use Rattle.bib_from_csl.specs.declared.tags.Tag.TheVariants.{Italic, Bold, Superscript, Subscript, SmallCapitals, KeepsCase}
 
--- what stands after a prefix of a text
+-- the text after a prefix, if the text begins with it
 abbrev pub without_prefix : List ℕ → List ℕ → Option (List ℕ)
 without_prefix prefix text = if starts_with eqb text prefix then Some (drop (length prefix) text) else None
 
--- a tag, as it stands after its less-than sign
+-- a tag without its less-than sign
 abbrev pub tag_name : Tag → List ℕ
 tag_name Italic = codes "i>"
 tag_name Bold = codes "b>"
@@ -22,7 +22,7 @@ tag_name Subscript = codes "sub>"
 tag_name SmallCapitals = codes "span style=\"font-variant:small-caps;\">"
 tag_name KeepsCase = codes "span class=\"nocase\">"
 
--- what begins the text of a tag in LaTeX
+-- the LaTeX command of a tag and its opening brace
 abbrev pub command_of : Tag → List ℕ
 command_of Italic = codes "\\emph{"
 command_of Bold = codes "\\textbf{"
@@ -31,17 +31,17 @@ command_of Subscript = codes "\\textsubscript{"
 command_of SmallCapitals = codes "\\textsc{"
 command_of KeepsCase = codes "{"
 
--- this tag, where a piece begins with it, and what stands after it
+-- this tag and the text after it, if a piece begins with the tag
 abbrev pub opened_by : List ℕ → Tag → Option (Tag × List ℕ)
 opened_by piece tag = option_map (λ rest. (tag, rest)) (without_prefix (tag_name tag) piece)
 
--- the tag that a piece begins with, and what stands after it
+-- the opening tag that a piece begins with, and the text after it
 abbrev pub opened : List ℕ → Option (Tag × List ℕ)
 opened piece =
     option_or (option_or (option_or (option_or (option_or (opened_by piece Italic) (opened_by piece Bold)) (opened_by piece Superscript))
     (opened_by piece Subscript)) (opened_by piece SmallCapitals)) (opened_by piece KeepsCase)
 
--- what stands after the tag that ends another, where a piece begins with one
+-- the text after the closing tag that a piece begins with
 abbrev pub closed : List ℕ → Option (List ℕ)
 closed piece =
     option_or (option_or
@@ -49,50 +49,54 @@ closed piece =
     (without_prefix (codes "/sup>") piece))
     (without_prefix (codes "/sub>") piece)) (without_prefix (codes "/span>") piece)
 
--- a text in which no character has a meaning for LaTeX
+-- a text with the special characters of LaTeX escaped
 abbrev pub spelled_text : List ℕ → List ℕ
 spelled_text text = encode_utf8_all (spelling false (chars text))
 
--- a piece that begins with no tag, or ends one that isn't open
+-- the output for a piece that begins with no tag, or closes one while none is open
 abbrev pub untagged : List ℕ → List ℕ
 untagged piece = codes "<" ++ spelled_text piece
 
--- what a piece is that begins with the end of a tag, if it does, where so many are open
+-- the output for a piece with this many open tags, given the text after its closing tag, if it begins with one
 abbrev pub closing_text : ℕ → List ℕ → Option (List ℕ) → List ℕ
 closing_text depth piece None = untagged piece
 closing_text zero piece (Some rest) = untagged piece
 closing_text (suc depth) piece (Some rest) = codes "}" ++ spelled_text rest
 
--- what a piece after a less-than sign is, where so many tags are open
+-- the output for a piece with this many open tags, given its opening tag and the text after it, if it begins with one
 abbrev pub opening_text : ℕ → List ℕ → Option (Tag × List ℕ) → List ℕ
 opening_text depth piece (Some found) = command_of found.0 ++ spelled_text found.1
 opening_text depth piece None = closing_text depth piece (closed piece)
 
+-- the output for a piece after a less-than sign, with this many open tags
 abbrev pub tag_piece_text : ℕ → List ℕ → List ℕ
 tag_piece_text depth piece = opening_text depth piece (opened piece)
 
--- how many tags are open after it
+-- the number of open tags after a piece without an opening tag, given the text after its closing tag, if it begins with one
 abbrev pub open_after_end : ℕ → Option (List ℕ) → ℕ
 open_after_end depth None = depth
 open_after_end depth (Some rest) = depth - 1
 
+-- the number of open tags after a piece, given its opening tag, if it begins with one
 abbrev pub open_after_tag : ℕ → List ℕ → Option (Tag × List ℕ) → ℕ
 open_after_tag depth piece (Some found) = depth + 1
 open_after_tag depth piece None = open_after_end depth (closed piece)
 
+-- the number of open tags after a piece
 abbrev pub open_after_piece : ℕ → List ℕ → ℕ
 open_after_piece depth piece = open_after_tag depth piece (opened piece)
 
--- pieces one after another, and how many tags are open after them
+-- the output for pieces, with this many open tags before them
 abbrev pub pieces_text : ℕ → List (List ℕ) → List ℕ
 pieces_text depth [] = []
 pieces_text depth (piece ∷ pieces) = tag_piece_text depth piece ++ pieces_text (open_after_piece depth piece) pieces
 
+-- the number of open tags after pieces
 abbrev pub open_after_pieces : ℕ → List (List ℕ) → ℕ
 open_after_pieces depth [] = depth
 open_after_pieces depth (piece ∷ pieces) = open_after_pieces (open_after_piece depth piece) pieces
 
--- a brace for each of so many tags
+-- a closing brace for each of this many open tags
 abbrev pub all_closed : ℕ → List ℕ
 all_closed depth = replicate depth char.close_brace
 
@@ -100,11 +104,11 @@ all_closed depth = replicate depth char.close_brace
 abbrev pub tag_pieces : List ℕ → List (List ℕ)
 tag_pieces text = slice_split (λ b. b == char.less) text
 
--- the text after the first less-than sign
+-- the output for the text after the first less-than sign
 abbrev pub tagged_rest : List ℕ → List ℕ
 tagged_rest text = pieces_text 0 (tag_pieces text) ++ all_closed (open_after_pieces 0 (tag_pieces text))
 
--- a text with HTML's tags, as LaTeX writes it
+-- the LaTeX source of a text with HTML tags
 unfoldable pub tagged_source : List ℕ → List ℕ
 tagged_source text =
     if nat_lt (position_or_len (λ b. b == char.less) text) (length text)

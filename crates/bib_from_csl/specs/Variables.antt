@@ -1,22 +1,22 @@
 -- Meaning: words of public contracts.
--- Which field has what a variable of an item holds.
+-- The fields for the variables of items.
 use Rattle.std.specs.Prelude.{ℕ, Bool, true, false, ◌==◌, ◌&&◌, ◌||◌, if◌then◌else◌, List, [], length, codes, bytes_eq}
 use Rattle.bib_tables.specs.declared.mechanics.EntryType.{EntryType}
 use Rattle.bib_tables.specs.declared.mechanics.EntryType.TheVariants as entry_type
 use Rattle.bib_from_csl.specs.EntryTypes.{numbers_issues, numbers_series, stands_in_book, is_of_institution, is_among_words, may_be_volume}
 
--- whether a variable holds people
+-- whether a variable is a list of names
 abbrev pub is_names : List ℕ → Bool
 is_names =
     is_among_words
     (codes
     "author chair collection-editor compiler composer container-author contributor curator director editor editorial-director executive-producer guest host illustrator interviewer narrator organizer original-author performer producer recipient reviewed-author script-writer series-creator translator")
 
--- whether a variable holds a date
+-- whether a variable is a date
 abbrev pub is_date : List ℕ → Bool
 is_date = is_among_words (codes "accessed available-date event-date issued original-date submitted")
 
--- whether a variable holds a title
+-- whether a variable is a title
 abbrev pub is_title : List ℕ → Bool
 is_title =
     is_among_words
@@ -27,46 +27,47 @@ is_title =
 abbrev pub is_list_variable : List ℕ → Bool
 is_list_variable = is_among_words (codes "publisher publisher-place original-publisher original-publisher-place")
 
--- whether a variable holds another text with HTML's tags
+-- whether a variable is a text with HTML tags that is no title
 abbrev pub is_rich : List ℕ → Bool
 is_rich = is_among_words (codes "event-place genre abstract annote note")
 
--- whether a variable holds a text with HTML's tags
+-- whether a variable is a text with HTML tags
 abbrev pub is_tagged : List ℕ → Bool
 is_tagged name = is_title name || is_rich name
 
--- whether a variable holds a number, or another short text
+-- whether a variable is a number, or another short text
 abbrev pub is_number_variable : List ℕ → Bool
 is_number_variable =
     is_among_words
     (codes
     "volume number-of-volumes part-number issue number collection-number edition chapter-number page number-of-pages version status keyword language")
 
--- whether a variable says by what the item is identified, or where it is kept
+-- whether a variable is an identifier, an address, or a place where the work is kept
 abbrev pub is_identifier : List ℕ → Bool
 is_identifier = is_among_words (codes "DOI URL PMID ISBN ISSN archive archive_location call-number")
 
--- whether a variable holds a text or a number, which a field can hold
+-- whether a variable is a text or a number that a field can contain
 abbrev pub is_text : List ℕ → Bool
 is_text name = is_title name || is_list_variable name || is_rich name || is_number_variable name || is_identifier name
 
--- the field of the title of what an item is a part of, by the type of the entry; the flag says whether that is one volume of a work
+-- the field for the title of the container that is no work of several volumes
 abbrev pub container_of : EntryType → List ℕ
 container_of entry_type.Article = codes "journaltitle"
 container_of other = codes "booktitle"
 
+-- the field for the title of the container; the flag says whether the item has a title of its volume
 abbrev pub container_field : EntryType → Bool → List ℕ
 container_field kind in_work = if stands_in_book kind && in_work then codes "maintitle" else container_of kind
 
--- the field of the title of the one volume of a work
+-- the field for the title of the volume, or nothing
 abbrev pub volume_field : EntryType → List ℕ
 volume_field kind = if may_be_volume kind then codes "title" else if stands_in_book kind then codes "booktitle" else []
 
--- the field of the title of an item
+-- the field for the title of an item
 abbrev pub own_field : EntryType → Bool → List ℕ
 own_field kind in_work = if may_be_volume kind && in_work then codes "maintitle" else codes "title"
 
--- the field of a title, or nothing
+-- the field for a title, or nothing for another variable
 unfoldable pub title_field : EntryType → Bool → List ℕ → List ℕ
 title_field kind in_work name =
     if bytes_eq name (codes "title") then own_field kind in_work
@@ -79,15 +80,16 @@ title_field kind in_work name =
     else if bytes_eq name (codes "event-title") then codes "eventtitle"
     else []
 
--- the field of the publisher
+-- the field for a publisher that is no institution
 abbrev pub published_by : EntryType → List ℕ
 published_by entry_type.Online = codes "organization"
 published_by other = codes "publisher"
 
+-- the field for the publisher
 abbrev pub publisher_field : EntryType → List ℕ
 publisher_field kind = if is_of_institution kind then codes "institution" else published_by kind
 
--- the field of another text, or nothing
+-- the field for another text, or nothing for another variable
 unfoldable pub word_field : EntryType → List ℕ → List ℕ
 word_field kind name =
     if bytes_eq name (codes "publisher") then publisher_field kind
@@ -103,19 +105,19 @@ word_field kind name =
     else if bytes_eq name (codes "keyword") then codes "keywords"
     else []
 
--- the field of the issue
+-- the field for the issue
 abbrev pub issue_field : EntryType → List ℕ
 issue_field kind = if numbers_issues kind then codes "number" else codes "issue"
 
--- the field of the number of the work itself, or nothing
+-- the field for the number of the work itself, or nothing
 abbrev pub own_number_field : EntryType → List ℕ
 own_number_field kind = if numbers_issues kind || numbers_series kind then [] else codes "number"
 
--- the field of the number in the series, or nothing
+-- the field for the number in the series, or nothing
 abbrev pub series_number_field : EntryType → List ℕ
 series_number_field kind = if numbers_series kind then codes "number" else []
 
--- the field of a number, or nothing
+-- the field for a number, or nothing for another variable
 unfoldable pub number_field : EntryType → List ℕ → List ℕ
 number_field kind name =
     if bytes_eq name (codes "volume") then codes "volume"
@@ -131,7 +133,7 @@ number_field kind name =
     else if bytes_eq name (codes "version") then codes "version"
     else []
 
--- the field of what identifies an item, or says where it is kept, or nothing
+-- the field for an identifier, an address or an archive, or nothing for another variable
 unfoldable pub identifier_field : List ℕ → List ℕ
 identifier_field name =
     if bytes_eq name (codes "DOI") then codes "doi"
@@ -144,7 +146,7 @@ identifier_field name =
     else if bytes_eq name (codes "call-number") then codes "library"
     else []
 
--- the field of people, or nothing
+-- the field for names, or nothing for another variable
 unfoldable pub people_field : List ℕ → List ℕ
 people_field name =
     if bytes_eq name (codes "author") then codes "author"
@@ -156,7 +158,7 @@ people_field name =
     else if bytes_eq name (codes "container-author") then codes "bookauthor"
     else []
 
--- the field of a date, or nothing
+-- the field for a date, or nothing for another variable
 unfoldable pub field_of_date : List ℕ → List ℕ
 field_of_date name =
     if bytes_eq name (codes "issued") then codes "date"
@@ -165,19 +167,18 @@ field_of_date name =
     else if bytes_eq name (codes "original-date") then codes "origdate"
     else []
 
--- the first name, or the other where it is empty
+-- the first name, or the other one if the first is empty
 abbrev pub either_name : List ℕ → List ℕ → List ℕ
 either_name first other = if length first == 0 then other else first
 
--- the field that has what a variable holds, or nothing, by the type of the entry; the flag says whether the item has a title of its one
--- volume
+-- the field for a variable in an entry of this type, or nothing; the flag says whether the item has a title of its volume
 unfoldable pub variable_field : EntryType → Bool → List ℕ → List ℕ
 variable_field kind in_work name =
     either_name (either_name (either_name
     (either_name (either_name (title_field kind in_work name) (word_field kind name)) (number_field kind name))
     (identifier_field name)) (people_field name)) (field_of_date name)
 
--- the field beside the field of a variable, which says what the first means, or nothing
+-- the additional field that says what the field of a variable means, or nothing
 unfoldable pub beside_field : List ℕ → List ℕ
 beside_field name =
     if bytes_eq name (codes "PMID") then codes "eprinttype"
@@ -186,7 +187,7 @@ beside_field name =
     else if bytes_eq name (codes "organizer") then codes "editorctype"
     else []
 
--- what that field says
+-- the value of that additional field, or nothing
 unfoldable pub beside_text : List ℕ → List ℕ
 beside_text name =
     if bytes_eq name (codes "PMID") then codes "pubmed"

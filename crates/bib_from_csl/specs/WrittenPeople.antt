@@ -1,5 +1,5 @@
 -- Meaning: words of public contracts.
--- People as fields have them: as BibTeX writes a name, where it is read back from that, else in the extended format of BibLaTeX.
+-- The values of name fields: a name that parses back from BibTeX's format is written so, and any other in BibLaTeX's extended name format.
 use Rattle.std.specs.Prelude.{ℕ, Bool, true, false, not, ◌&&◌, ◌||◌, ◌==◌, if◌then◌else◌, List, [], ◌∷◌, ◌++◌, length, codes, bytes_eq, encode_utf8_all}
 use Rattle.std.specs.Char.{is_whitespace}
 use Rattle.std.specs.List.{list_all, list_any, slice_split}
@@ -14,22 +14,22 @@ use Rattle.bib_csl.specs.declared.item.Name.TheVariants.{Literal, Parts}
 use Rattle.bib_csl.specs.declared.item.NameParts.{NameParts}
 use Rattle.bib_from_csl.specs.Values.{tie, with_ties}
 
--- whether a character may stand in a word of a name that is written as BibTeX has it
+-- whether a character can be in a word of a name in BibTeX's format
 abbrev pub may_stand_in_name : ℕ → Bool
 may_stand_in_name c =
     if c == tie then true
     else not (is_whitespace c) && not ((c == char.comma) || ((c == char.equals) || (c == char.tilde)))
 
--- whether there is a first character, and it is a small letter
+-- whether there is a first character, and it is a lowercase letter
 abbrev pub begins_small : List ℕ → Bool
 begins_small [] = false
 begins_small (c ∷ cs) = is_lowercase c
 
--- whether a word begins with a small letter
+-- whether a word begins with a lowercase letter
 abbrev pub begins_with_small : List ℕ → Bool
 begins_with_small word = begins_small (chars word)
 
--- whether a word may stand in a name that is written as BibTeX has it
+-- whether a word can be in a name in BibTeX's format
 abbrev pub is_plain_word : List ℕ → Bool
 is_plain_word word = not (length word == 0) && (not (bytes_eq word (codes "and")) && list_all may_stand_in_name (chars word))
 
@@ -37,19 +37,19 @@ is_plain_word word = not (length word == 0) && (not (bytes_eq word (codes "and")
 abbrev pub words_in : List ℕ → List (List ℕ)
 words_in text = slice_split (λ b. b == char.space) text
 
--- whether a text is such words with single spaces between them
+-- whether a text consists of such words with single spaces between them
 abbrev pub are_plain_words : List ℕ → Bool
 are_plain_words text = list_all is_plain_word (words_in text)
 
--- whether a text is nothing, or such words
+-- whether a text is empty or consists of such words
 abbrev pub is_nothing_or_words : List ℕ → Bool
 is_nothing_or_words text = (length text == 0) || are_plain_words text
 
--- whether no word of a text begins with a small letter
+-- whether no word of a text begins with a lowercase letter
 abbrev pub has_no_small_word : List ℕ → Bool
 has_no_small_word text = not (list_any begins_with_small (words_in text))
 
--- whether all do
+-- whether all words of a text begin with a lowercase letter
 abbrev pub has_small_words : List ℕ → Bool
 has_small_words text = list_all begins_with_small (words_in text)
 
@@ -57,51 +57,51 @@ has_small_words text = list_all begins_with_small (words_in text)
 abbrev pub is_plain_particle : List ℕ → Bool
 is_plain_particle particle = (length particle == 0) || (are_plain_words particle && has_small_words particle)
 
--- the particle of a name, where the entry says that prefixes count as parts of family names or not
+-- the particle of a name that the entry can write as its prefix; the flag says whether prefixes are part of family names in the entry
 abbrev pub particle : Bool → NameParts → List ℕ
 particle true p = p.non_dropping_particle
 particle false p = p.dropping_particle
 
--- whether a name is written as BibTeX has it
+-- whether a name is written in BibTeX's format
 unfoldable pub is_bibtex_name : Bool → NameParts → Bool
 is_bibtex_name uses_prefix p =
     are_plain_words p.family && (has_no_small_word p.family && (are_plain_words p.given && (is_nothing_or_words p.suffix
     && (is_plain_particle (particle uses_prefix p) && (length (particle (not uses_prefix) p) == 0)))))
 
--- whether a family name stands alone and is one word
+-- whether a name is only a family name of one word
 unfoldable pub is_one_word : NameParts → Bool
 is_one_word p =
     is_plain_word p.family && ((length p.given == 0) && ((length p.suffix == 0)
     && ((length p.dropping_particle == 0) && (length p.non_dropping_particle == 0))))
 
--- a text and what stands after it, unless the text is empty
+-- a text and a separator, or nothing if the text is empty
 abbrev pub with_separator : List ℕ → List ℕ → List ℕ
 with_separator text separator = if length text == 0 then [] else text ++ separator
 
--- a name as BibTeX has it
+-- a name in BibTeX's format
 unfoldable pub plain_text_of : Bool → NameParts → List ℕ
 plain_text_of uses_prefix p =
     with_separator (particle uses_prefix p) (codes " ")
     ++ (with_separator p.family (codes ", ") ++ (with_separator p.suffix (codes ", ") ++ p.given))
 
--- a key and its value, unless the value is empty
+-- a key and its value, or nothing if the value is empty
 unfoldable pub keyed_unless_empty : List ℕ → List ℕ → Value
 keyed_unless_empty key value = if length value == 0 then [] else nowhere (Normal key) ∷ nowhere (Verbatim value) ∷ []
 
--- the prefix of a name with both particles, or with one
+-- the prefix of a name: the dropping particle, a space and the other particle, or only one of them
 unfoldable pub whole_prefix : NameParts → List ℕ
 whole_prefix p =
     if length p.non_dropping_particle == 0 then p.dropping_particle
     else with_separator p.dropping_particle (codes " ") ++ p.non_dropping_particle
 
--- whether a prefix counts as part of the family name, or nothing where there is none
+-- `true` or `false` as the prefix is part of the family name or not, or nothing without a prefix
 unfoldable pub prefix_flag : NameParts → List ℕ
 prefix_flag p =
     if not (length p.non_dropping_particle == 0) then codes "true"
     else if not (length p.dropping_particle == 0) then codes "false"
     else []
 
--- what else than the family name is there of a name, by its keys
+-- the parts of a name except the family name, each with its key
 unfoldable pub extended_keys : NameParts → Value
 extended_keys p =
     keyed_unless_empty (codes ", given=") p.given ++ (keyed_unless_empty (codes ", prefix=") (whole_prefix p)
@@ -111,12 +111,12 @@ extended_keys p =
 unfoldable pub extended_chunks : NameParts → Value
 extended_chunks p = nowhere (Normal (codes "family=")) ∷ nowhere (Verbatim p.family) ∷ extended_keys p
 
--- a name that is one text: in braces, but for the word that stands for other people
+-- a name without parts: in braces, except for the word `others`
 abbrev pub literal_chunks : List ℕ → Value
 literal_chunks text =
     if bytes_eq text (codes "others") then nowhere (Normal (codes "others")) ∷ [] else nowhere (Verbatim text) ∷ []
 
--- a name of parts
+-- a name with parts
 unfoldable pub parts_chunks : Bool → NameParts → Value
 parts_chunks uses_prefix p =
     if is_one_word p then nowhere (Normal p.family) ∷ []
@@ -128,11 +128,12 @@ abbrev pub name_chunks : Bool → Name → Value
 name_chunks uses_prefix (Literal text) = literal_chunks text
 name_chunks uses_prefix (Parts p) = parts_chunks uses_prefix p
 
--- the same, after the word `and` for all but the first
+-- a name, after the word `and` unless it is the first
 abbrev pub joined_name : Bool → Bool → Name → Value
 joined_name uses_prefix first name =
     if first then name_chunks uses_prefix name else nowhere (Normal (codes " and ")) ∷ name_chunks uses_prefix name
 
+-- names, each after the word `and` except a first one
 abbrev pub names_from : Bool → Bool → List Name → Value
 names_from uses_prefix first [] = []
 names_from uses_prefix first (name ∷ names) = joined_name uses_prefix first name ++ names_from uses_prefix false names
@@ -141,15 +142,15 @@ names_from uses_prefix first (name ∷ names) = joined_name uses_prefix first na
 abbrev pub names_chunks : Bool → List Name → Value
 names_chunks uses_prefix = names_from uses_prefix true
 
--- the value of a field that holds people
+-- the value of a name field
 unfoldable pub names_value : Bool → List Name → List ℕ
 names_value uses_prefix names = with_ties (encode_utf8_all (written_value (names_chunks uses_prefix names) false))
 
--- whether a name has a prefix that counts as part of the family name
+-- whether a name has a prefix that is part of the family name
 abbrev pub has_fixed_prefix : Name → Bool
 has_fixed_prefix (Literal text) = false
 has_fixed_prefix (Parts p) = not (length p.non_dropping_particle == 0)
 
--- whether one of these names does
+-- whether one of these names has a prefix that is part of the family name
 abbrev pub have_fixed_prefix : List Name → Bool
 have_fixed_prefix names = list_any has_fixed_prefix names

@@ -15,39 +15,40 @@ use biblatex::{Bibliography, Entry, ParseError, ParseErrorKind};
 use json::{Error, Scratch, Value};
 use std::alloc::{AllocError, Global};
 
-/// Entries that are made of items.
+/// The entries of items.
 #[derive(Debug, Drop)]
 pub struct Converted {
-    /// The text of the entries, as a file of BibLaTeX has them.
+    /// The source of the entries, for a .bib file.
     pub text: Text,
-    /// The members of items that their entries have not, or not as they are.
+    /// The members of items that their entries lack or change.
     pub losses: Items<Loss>,
 }
 
-/// Why a text gives no items.
+/// The reason why a text contains no items that can be converted, and its position.
 #[derive(Debug, Clone, Copy, PartialEq, Eq)]
 pub struct Refusal {
-    /// What is wrong.
+    /// The reason.
     pub fault: Fault,
-    /// The index of the element that it lies in.
+    /// The index of the element at fault.
     pub element: usize,
-    /// Where it lies, in bytes of the text: at the start of that element, and where the text is no JSON where it stops to be.
+    /// The byte offset of the fault: the start of that element, or the first place at which the text isn't JSON. For JSON that is no array,
+    /// it is the start of the value.
     pub at: usize,
 }
 
-/// Why no entries are made of a text.
+/// The reason why a text can't be converted to entries.
 #[derive(Debug, Drop)]
 pub enum ItemsError {
-    /// The text gives no items, or two with one key.
+    /// The text contains no items that can be converted, or two items with one key.
     Refused(Refusal),
-    /// The entries aren't read again, for this reason.
+    /// The source of the entries can't be parsed, for this reason.
     NotRead(ParseError),
-    /// There was no memory.
+    /// Out of memory.
     OutOfMemory,
 }
 
 impl ItemsError {
-    /// Passes out of memory on as such: Ok with any other error.
+    /// Returns the error itself, or an `AllocError` for `OutOfMemory`.
     pub fn unless_out_of_memory(self) -> Result<ItemsError, AllocError>
         ensures other { IfOk result (λ other. (other ≡ self) × (self ≢ ItemsError.OutOfMemory)) }
         ensures no_memory { OnErr result (self ≡ ItemsError.OutOfMemory) }
@@ -69,7 +70,7 @@ impl From<AllocError> for ItemsError {
     }
 }
 
-// Passes out of memory on as such: Ok with any other error.
+// Returns an `AllocError` for out of memory, and Ok for any other error.
 fn unless_out_of_memory(error: Error) -> Result<(), AllocError>
     ensures other { OnOk result (error ≢ Error.OutOfMemory) }
 {
@@ -79,7 +80,7 @@ fn unless_out_of_memory(error: Error) -> Result<(), AllocError>
     }
 }
 
-// What a text is as items.
+// Returns the items in a text of CSL-JSON, or the fault.
 #[tactic(auto, unfolding(crate::specs::GivenItems::items_read))]
 fn items_of(alloc: Global, text: &str) -> Result<ItemsReading, AllocError>
     ensures { IfOk result (λ reading. reading ≡ items_read text.now) }
@@ -94,7 +95,7 @@ fn items_of(alloc: Global, text: &str) -> Result<ItemsReading, AllocError>
     }
 }
 
-// Where a fault lies.
+// Returns the byte offset of a fault.
 fn place_of(alloc: Global, text: &str, element: usize, fault: Fault) -> Result<usize, AllocError>
     ensures { IfOk result (λ place. place ≤ length text.now) }
 {
@@ -105,7 +106,7 @@ fn place_of(alloc: Global, text: &str, element: usize, fault: Fault) -> Result<u
     }
 }
 
-// The error of a fault.
+// Returns the refusal for a fault.
 fn refused_at(
     alloc: Global,
     text: &str,
@@ -121,7 +122,7 @@ fn refused_at(
     })
 }
 
-// The index of the second item whose entry has this key, or of the last.
+// Returns the index of the second item whose entry has this key, or the number of items if there is none.
 fn index_of_second(alloc: Global, items: &[GivenItem], key: &str) -> Result<usize, AllocError> {
     let mut index = 0;
     let mut is_met = false;
@@ -137,7 +138,7 @@ fn index_of_second(alloc: Global, items: &[GivenItem], key: &str) -> Result<usiz
     Ok(index)
 }
 
-// The error of entries that aren't read again.
+// Returns the error for entries whose source can't be parsed: `KeyTwice` for the second of two entries with one key, otherwise `NotRead`.
 fn unread(
     alloc: Global,
     json: &str,
@@ -153,8 +154,14 @@ fn unread(
     Ok(ItemsError::NotRead(error))
 }
 
-/// The entries of BibLaTeX that the items of a text of CSL-JSON are, one for each item in order, as a file has them; and what of the items
-/// isn't in them: the text is read as a bibliography, each entry made an item again, and each member compared that holds something.
+/// Converts the items of a text of CSL-JSON to BibLaTeX entries, one for each item, in order. Also returns the members of items that the
+/// entries lack or change: the source of the entries is parsed, each entry is converted back to an item, and each member that isn't empty
+/// is compared.
+///
+/// # Errors
+///
+/// `Refused` if the text contains no items that can be converted, or two items with one key; `NotRead` if the source of the entries can't
+/// be parsed; `OutOfMemory` if memory runs out.
 pub fn entries_of(alloc: Global, json: &str) -> Result<Converted, ItemsError>
     ensures made { IfOk result (spec.AreEntriesOf json.now) }
     ensures refused { IfErr result (spec.MayRefuseItems json.now) }

@@ -1,4 +1,4 @@
-//! Dates, as an item gives them.
+//! Parses the dates of items.
 
 ghost use Rattle.std.specs.Prelude.{◌≡◌, ◌≤◌, map, IfOk};
 ghost use Rattle.std.specs.Option.{option_map};
@@ -15,14 +15,14 @@ use bib_text::text::Text;
 use json::Value;
 use std::alloc::{AllocError, Global};
 
-// A number that fits in 16 bits.
+// Returns a number if it fits in 16 bits.
 fn small(number: i64) -> Option<u16>
     ensures { result ≡ spec.sixteen_bits number }
 {
     u16::try_from(number).ok()
 }
 
-// A month or a day.
+// Returns the number of a month or a day.
 fn small_number(value: &Value<'_>) -> Option<u16>
     ensures { result ≡ spec.small_count (value_view value.now) }
 {
@@ -30,7 +30,7 @@ fn small_number(value: &Value<'_>) -> Option<u16>
     small(number)
 }
 
-// Year, month and day, where an array has one to three numbers.
+// Returns the year, the month and the day of an array of one to three numbers.
 fn date_parts(values: &[Value<'_>]) -> Option<DateParts>
     ensures { result ≡ spec.day_of_numbers (map value_view values.now) }
 {
@@ -54,7 +54,7 @@ fn date_parts(values: &[Value<'_>]) -> Option<DateParts>
     }
 }
 
-// The date that an array is.
+// Returns the date of a value that is an array of one to three numbers.
 fn date_in(value: &Value<'_>) -> Option<DateParts>
     ensures { result ≡ spec.day_in (value_view value.now) }
 {
@@ -62,7 +62,7 @@ fn date_in(value: &Value<'_>) -> Option<DateParts>
     date_parts(numbers)
 }
 
-// One date, or the two of a range, where an array has these.
+// Returns one date, or the two dates of a range, if the array contains one or two dates.
 fn dates_of(alloc: Global, values: &[Value<'_>]) -> Result<Option<Items<DateParts>>, AllocError>
     ensures { IfOk result (λ dates. dates ≡ spec.dates_of (map value_view values.now)) }
 {
@@ -86,7 +86,7 @@ fn dates_of(alloc: Global, values: &[Value<'_>]) -> Result<Option<Items<DatePart
     Ok(Some(dates))
 }
 
-// The dates under `date-parts`.
+// Returns the dates in the member `date-parts`.
 fn dates_under(alloc: Global, date: &Value<'_>) -> Result<Option<Items<DateParts>>, AllocError>
     ensures { IfOk result (λ dates. dates ≡ spec.dates_under (value_view date.now)) }
 {
@@ -99,7 +99,7 @@ fn dates_under(alloc: Global, date: &Value<'_>) -> Result<Option<Items<DateParts
     dates_of(alloc, values)
 }
 
-// The season with this number.
+// Returns the season with this number.
 fn season_of(number: &str) -> Option<Season>
     ensures { result ≡ spec.season_of_number number.now }
 {
@@ -112,7 +112,7 @@ fn season_of(number: &str) -> Option<Season>
     }
 }
 
-// The season under `season`.
+// Returns the season in the member `season`.
 fn season_under(date: &Value<'_>) -> Option<Season>
     ensures { result ≡ spec.season_under (value_view date.now) }
 {
@@ -120,7 +120,7 @@ fn season_under(date: &Value<'_>) -> Option<Season>
     season_of(number)
 }
 
-// What stands under `circa`, where that is true or false.
+// Returns the member `circa` if it is true or false.
 fn circa_under(date: &Value<'_>) -> Option<bool>
     ensures { result ≡ spec.circa_under (value_view date.now) }
 {
@@ -128,7 +128,7 @@ fn circa_under(date: &Value<'_>) -> Option<bool>
     member.as_bool()
 }
 
-// The text of a date: what stands under `literal`, else under `raw`.
+// Returns the text of a date: the member `literal`, or else the member `raw`.
 fn date_text<'a>(date: &Value<'a>) -> Option<&'a str>
     ensures { option_map (λ text. text.now) result ≡ spec.date_words (value_view date.now) }
 {
@@ -138,7 +138,7 @@ fn date_text<'a>(date: &Value<'a>) -> Option<&'a str>
     }
 }
 
-// A copy of a text, if there is one.
+// Returns a copy of a text, if there is one.
 fn copied(alloc: Global, text: Option<&str>) -> Result<Option<Text>, AllocError>
     ensures { IfOk result (λ copy. copy ≡ option_map (λ text. text.now) text.entry) }
 {
@@ -148,7 +148,7 @@ fn copied(alloc: Global, text: Option<&str>) -> Result<Option<Text>, AllocError>
     }
 }
 
-// A date of these parts, with what else the object says.
+// Returns the date with these parts, and with the season, `circa` and the text of the object.
 #[tactic(auto, unfolding(crate::specs::GivenDates::parted_date))]
 fn parted_date(
     alloc: Global,
@@ -165,7 +165,7 @@ fn parted_date(
     })
 }
 
-// The date that a text says in the field of a date.
+// Returns the date that a text is parsed as in a date field, or else a date with this text.
 fn said_date(alloc: Global, text: &str) -> Result<Option<ItemDate>, AllocError>
     ensures { IfOk result (λ item. item ≡ spec.said_date text.now) }
 {
@@ -174,7 +174,7 @@ fn said_date(alloc: Global, text: &str) -> Result<Option<ItemDate>, AllocError>
     read_or_unread(alloc, date, Text::from_str(alloc, text)?)
 }
 
-// The date that an object gives: by its parts, else by its text.
+// Returns the date of an object: by its parts, or else by its text.
 #[tactic(auto, unfolding(crate::specs::GivenDates::date_given))]
 pub(crate) fn given_date(alloc: Global, date: &Value<'_>) -> Result<Option<ItemDate>, AllocError>
     ensures { IfOk result (λ item. item ≡ spec.date_given (value_view date.now)) }
@@ -188,7 +188,7 @@ pub(crate) fn given_date(alloc: Global, date: &Value<'_>) -> Result<Option<ItemD
     }
 }
 
-// How many members of an object are parts of the date that it gives.
+// Returns the number of members of an object that its date is made of.
 #[tactic(auto, unfolding(crate::specs::GivenDates::said_by_parts))]
 fn said_by_parts(alloc: Global, date: &Value<'_>) -> Result<usize, AllocError>
     ensures { IfOk result (λ n. n ≡ spec.said_by_parts (value_view date.now)) }
@@ -203,7 +203,7 @@ fn said_by_parts(alloc: Global, date: &Value<'_>) -> Result<usize, AllocError>
     )
 }
 
-// Whether the date that an object gives is all that it says.
+// Returns whether an object has no members except those that its date is made of.
 pub(crate) fn is_whole_date(alloc: Global, date: &Value<'_>) -> Result<bool, AllocError>
     ensures { IfOk result (λ is. is ≡ spec.is_whole_date (value_view date.now)) }
 {

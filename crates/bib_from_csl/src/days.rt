@@ -1,4 +1,4 @@
-//! Dates as fields have them.
+//! Writes the values of date fields.
 
 ghost use Rattle.std.specs.Prelude.{◌≡◌, ◌≤◌, ◌++◌, IfOk, string_bytes};
 ghost use Rattle.std.specs.Option.{option_map};
@@ -12,7 +12,7 @@ use bib_dates::date::{Date, DateValue, Datetime};
 use bib_text::text::Text;
 use std::alloc::{AllocError, Global};
 
-// A year as BibLaTeX counts it, where it has at most four digits.
+// Returns a year as BibLaTeX counts it, with 0 for the year before 1, or `None` if it then has more than four digits.
 fn year_of(year: i64) -> Option<i32>
     ensures { result ≡ spec.counted_year year }
 {
@@ -25,7 +25,7 @@ fn year_of(year: i64) -> Option<i32>
     Some(year as i32)
 }
 
-// A number that counts from 1 to this one, from 0.
+// Returns a number from 1 to `last` as one that counts from 0, or `None` for another number.
 fn from_zero(number: u16, last: u16) -> Option<u8>
     requires { last ≤ 256 }
     ensures { result ≡ spec.from_zero number last }
@@ -36,7 +36,7 @@ fn from_zero(number: u16, last: u16) -> Option<u8>
     Some((number - 1) as u8)
 }
 
-// The same of a number that may not be there; nothing where it is out of range.
+// Returns an optional number from 1 to `last` as one that counts from 0, or `None` if it is out of range.
 fn counted(number: Option<u16>, last: u16) -> Option<Option<u8>>
     requires { last ≤ 256 }
     ensures { result ≡ spec.counted_part number last }
@@ -47,7 +47,7 @@ fn counted(number: Option<u16>, last: u16) -> Option<Option<u8>>
     }
 }
 
-// A year, a month and a day as a date.
+// Returns the date of a year, a month and a day, or `None` if one is out of range.
 fn datetime_of(parts: &DateParts) -> Option<Datetime>
     ensures { result ≡ spec.datetime_of parts.now }
 {
@@ -62,7 +62,7 @@ fn datetime_of(parts: &DateParts) -> Option<Datetime>
     })
 }
 
-// One date, or the two of a range.
+// Returns the value for one date, or for the two dates of a range.
 fn value_of(parts: &[DateParts]) -> Option<DateValue>
     ensures { result ≡ spec.dates_value parts.now }
 {
@@ -77,7 +77,7 @@ fn value_of(parts: &[DateParts]) -> Option<DateValue>
     }
 }
 
-// The number of a season after 20.
+// Returns the last digit of the number of a season in ISO 8601-2 (21 to 24).
 fn season_digit(season: Season) -> &'static str
     ensures { result.now ≡ spec.season_digit season }
 {
@@ -89,7 +89,7 @@ fn season_digit(season: Season) -> &'static str
     }
 }
 
-// The first of some dates as a date.
+// Returns the first of these dates.
 fn first_of(parts: &[DateParts]) -> Option<Datetime>
     ensures { result ≡ spec.date_of_first parts.now }
 {
@@ -99,7 +99,7 @@ fn first_of(parts: &[DateParts]) -> Option<Datetime>
     }
 }
 
-// The text of a season.
+// Returns the text of a season, such as `2020-21`, if there is a date for its year.
 fn season_text(
     alloc: Global,
     parts: &[DateParts],
@@ -121,7 +121,7 @@ fn mark_of(circa: bool) -> &'static str
     if circa { "~" } else { "" }
 }
 
-// The text of a date or a range.
+// Returns the text of a date or a range, with a mark if it is approximate.
 fn value_text(alloc: Global, value: DateValue, circa: bool) -> Result<Text, AllocError>
     ensures { IfOk result (λ text. text ≡ text_of_date (spec.date_with value circa)) }
 {
@@ -135,7 +135,7 @@ fn value_text(alloc: Global, value: DateValue, circa: bool) -> Result<Text, Allo
     Ok(Text::from_string(text))
 }
 
-// The text of dates, where there are one or two that BibLaTeX can count.
+// Returns the text of one or two dates, or `None` if BibLaTeX can't write them.
 fn parts_text(alloc: Global, parts: &[DateParts], circa: bool) -> Result<Option<Text>, AllocError>
     ensures { IfOk result (λ text. text ≡ spec.parts_text parts.now circa) }
 {
@@ -145,7 +145,7 @@ fn parts_text(alloc: Global, parts: &[DateParts], circa: bool) -> Result<Option<
     }
 }
 
-// The text of a date that says itself what it is; the mark goes with dates beside it.
+// Returns the text of a date with a text of its own. The mark of an approximate date is only added if the date has parts.
 #[tactic(auto, unfolding(crate::specs::WrittenDates::literal_source))]
 fn literal_text(alloc: Global, literal: &str, date: &ItemDate) -> Result<Text, AllocError>
     ensures { IfOk result (λ text. text ≡ spec.literal_source literal.now date.now) }
@@ -155,7 +155,7 @@ fn literal_text(alloc: Global, literal: &str, date: &ItemDate) -> Result<Text, A
     Ok(text)
 }
 
-// The text of a date.
+// Returns the text of a date: its season, or else its own text, or else its parts.
 #[tactic(auto, unfolding(crate::specs::WrittenDates::text_of_item))]
 fn text_of_item(alloc: Global, date: &ItemDate) -> Result<Option<Text>, AllocError>
     ensures { IfOk result (λ text. text ≡ spec.text_of_item date.now) }
@@ -169,7 +169,7 @@ fn text_of_item(alloc: Global, date: &ItemDate) -> Result<Option<Text>, AllocErr
     }
 }
 
-// The value of a field that holds a date.
+// Returns the value of a date field, if the date can be written.
 pub(crate) fn date_value(alloc: Global, date: &ItemDate) -> Result<Option<Text>, AllocError>
     ensures { IfOk result (λ value. value ≡ spec.date_source date.now) }
 {

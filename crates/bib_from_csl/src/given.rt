@@ -1,15 +1,15 @@
-//! Items as they are given: the members of an object of CSL-JSON, in their order.
+//! Parsed items: the members of an object of CSL-JSON, in their order.
 
 use bib_csl::item::Content;
 use bib_text::items::Items;
 use bib_text::text::Text;
 
-/// An item that is given.
+/// A parsed item.
 #[derive(Debug, Drop)]
 pub struct GivenItem {
-    /// What the member `id` holds.
+    /// The value of the member `id`.
     pub id: Text,
-    /// What the member `type` holds.
+    /// The value of the member `type`.
     pub kind: Text,
     /// The other members.
     pub fields: Items<Given>,
@@ -18,10 +18,10 @@ pub struct GivenItem {
 /// A member of an item.
 #[derive(Debug, Drop)]
 pub struct Given {
-    /// Its name, as that of a variable.
+    /// The name of the member.
     pub name: Text,
-    /// What it holds as the content of a variable, where it has the form of one.
+    /// The value as the content of a variable, if it has that form.
     pub content: Option<Content>,
-    /// Whether that is all that it holds.
+    /// Whether the content is the whole value.
     pub is_whole: bool,
 }

@@ -1,9 +1,9 @@
-//! Languages, by their tags after BCP 47, as BibLaTeX names them.
+//! BibLaTeX's names of languages, by their tags (BCP 47).
 
 ghost use Rattle.std.specs.Prelude.{◌≡◌};
 ghost use Rattle.bib_from_csl.specs.LanguageNames as spec;
 
-// The name of a language of several countries, by a tag that has the country, or nothing.
+// Returns the name of a language for a tag with a country or a script, or an empty text.
 #[tactic(auto, unfolding(crate::specs::LanguageNames::national_name))]
 fn national_name(tag: &str) -> &'static str
     ensures { result.now ≡ spec.national_name tag.now }
@@ -24,7 +24,7 @@ fn national_name(tag: &str) -> &'static str
     }
 }
 
-// The name of a language of the west or the north of Europe, or nothing.
+// Returns the name of a language of western, southern or northern Europe, or an empty text.
 #[tactic(auto, unfolding(crate::specs::LanguageNames::western_name))]
 fn western_name(tag: &str) -> &'static str
     ensures { result.now ≡ spec.western_name tag.now }
@@ -47,7 +47,7 @@ fn western_name(tag: &str) -> &'static str
     }
 }
 
-// The name of another language, or nothing.
+// Returns the name of another language, or an empty text.
 #[tactic(auto, unfolding(crate::specs::LanguageNames::eastern_name))]
 fn other_name(tag: &str) -> &'static str
     ensures { result.now ≡ spec.eastern_name tag.now }
@@ -73,14 +73,14 @@ fn other_name(tag: &str) -> &'static str
     }
 }
 
-// The first name, or the other where it is empty.
+// Returns the first name, or the other one if the first is empty.
 fn first_name(first: &'static str, other: &'static str) -> &'static str
     ensures { result.now ≡ spec.first_name first.now other.now }
 {
     if first.is_empty() { other } else { first }
 }
 
-// The name that BibLaTeX has for the language of a tag, or nothing.
+// Returns BibLaTeX's name of the language of a tag, or an empty text.
 #[tactic(auto, unfolding(crate::specs::LanguageNames::language_name))]
 pub(crate) fn language_name(tag: &str) -> &'static str
     ensures { result.now ≡ spec.language_name tag.now }

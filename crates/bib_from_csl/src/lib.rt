@@ -1,8 +1,9 @@
 //! Items of CSL-JSON as entries (Citation Style Language 1.0.2).
 //!
-//! `objects` looks into JSON, and `reading`, over `names` and `dates`, reads each object of an array as an item, with its members in
-//! their order. `writing` writes each item as an entry, whose fields are named by `variables` and `types` and whose values are written by
-//! `values`, `tags`, `people` and `days`. `converting` reads what is written again, and `losses` compares.
+//! `reading` parses each object of an array as an item, with its members in their order; `objects`, `names` and `dates` return the parts
+//! of JSON values. `writing` writes each item as an entry: `variables` and `types` choose the fields, and `values`, `tags`, `people`,
+//! `days` and `languages` write their values. `converting` parses the entries again, and `losses` compares them with the items. `places`
+//! finds the byte offset of a fault.
 #![tactic(auto)]
 
 pub mod converting;

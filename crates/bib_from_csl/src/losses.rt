@@ -1,4 +1,4 @@
-//! What of an item isn't in its entry.
+//! The members of an item that its entry lacks or changes.
 
 ghost use Rattle.std.specs.Prelude.{◌≡◌, ◌↔◌, ◌++◌, OnOk, IfOk, IsTrue};
 ghost use Rattle.std.specs.List.{flat_map};
@@ -15,29 +15,29 @@ use bib_text::items::Items;
 use bib_text::text::Text;
 use std::alloc::{AllocError, Global};
 
-/// A member of an item that its entry has not, or not as it is.
+/// A member of an item that its entry lacks or changes.
 #[derive(Debug, Drop)]
 pub struct Loss {
-    /// What the item is called.
+    /// The `id` of the item.
     pub id: Text,
     /// The name of the member.
     pub name: Text,
-    /// What becomes of it.
+    /// The kind of loss.
     pub kind: LossKind,
 }
 
-/// What becomes of a member of an item that its entry hasn't as it is.
+/// The kind of loss of a member.
 #[derive(Debug, Clone, Copy, PartialEq, Eq)]
 pub enum LossKind {
-    /// No field has it.
+    /// No field contains it.
     NoField,
-    /// A field has it, and is read as something else.
+    /// A field contains it, but is parsed as something else.
     Changed,
-    /// A field has what a variable can hold of it, and no field has the rest.
+    /// A field contains the part that a variable can have, but no field contains the rest.
     Partly,
 }
 
-// What the variable of a name holds.
+// Returns the content of the variable with a name.
 fn content_of<'f>(fields: &'f [Field], name: &str) -> Option<&'f Content>
     ensures { option_copied result ≡ spec.content_of name.now fields.now }
 {
@@ -49,14 +49,14 @@ fn content_of<'f>(fields: &'f [Field], name: &str) -> Option<&'f Content>
     None
 }
 
-// Whether a field of this kind of entry has the variable of a name.
+// Returns whether an entry of this kind has a field for the variable with a name.
 fn has_field(work: &Work, name: &str) -> bool
     ensures { result ≡ spec.is_fielded work.now name.now }
 {
     name == "language" || !field_of(&work.kind, work.in_work, name).is_empty()
 }
 
-// Whether the variable of a name holds this.
+// Returns whether the variable with a name has this content.
 fn holds(fields: &[Field], name: &str, content: &Content) -> bool
     ensures { result ≡ spec.holds_content fields.now name.now content.now }
 {
@@ -66,7 +66,7 @@ fn holds(fields: &[Field], name: &str, content: &Content) -> bool
     }
 }
 
-// What becomes of a content.
+// Returns the loss of a member with a content.
 #[tactic(auto, unfolding(crate::specs::Losses::content_loss))]
 fn content_loss(
     work: &Work,
@@ -89,7 +89,7 @@ fn content_loss(
     partly_unless(is_whole)
 }
 
-// What becomes of a member that is whole or isn't.
+// Returns the loss of a member whose content is in a field: `Partly` if the content isn't the whole value.
 fn partly_unless(is_whole: bool) -> Option<LossKind>
     ensures { result ≡ spec.partly_unless is_whole }
 {
@@ -99,7 +99,7 @@ fn partly_unless(is_whole: bool) -> Option<LossKind>
     Some(LossKind::Partly)
 }
 
-// What becomes of a member without a content that a variable can hold.
+// Returns the loss of a member without a content: `NoField` if the content isn't the whole value.
 fn no_field_unless(is_whole: bool) -> Option<LossKind>
     ensures { result ≡ spec.no_field_unless is_whole }
 {
@@ -109,7 +109,7 @@ fn no_field_unless(is_whole: bool) -> Option<LossKind>
     Some(LossKind::NoField)
 }
 
-// What becomes of a member, where these are the fields of the item of its entry.
+// Returns the loss of a member, given the variables of the item that its entry is converted back to.
 fn loss_of(work: &Work, fields: &[Field], given: &Given) -> Option<LossKind>
     ensures { result ≡ spec.loss_of work.now fields.now given.now }
 {
@@ -119,7 +119,7 @@ fn loss_of(work: &Work, fields: &[Field], given: &Given) -> Option<LossKind>
     }
 }
 
-// Appends what is lost of a member, if something is.
+// Appends a loss, if there is one.
 fn push_loss(
     alloc: Global,
     losses: &mut Items<Loss>,
@@ -140,7 +140,7 @@ fn push_loss(
     Ok(())
 }
 
-// What becomes of a text that is read again as this one.
+// Returns the loss of a text that is parsed as `read`.
 fn change_of(given: &str, read: &str) -> Option<LossKind>
     ensures { result ≡ spec.text_loss given.now read.now }
 {
@@ -150,7 +150,7 @@ fn change_of(given: &str, read: &str) -> Option<LossKind>
     Some(LossKind::Changed)
 }
 
-// Appends what is lost of the members of an item, given the item of its entry.
+// Appends the losses of the members of an item, given the item that its entry is converted back to.
 fn push_members(
     alloc: Global,
     losses: &mut Items<Loss>,
@@ -167,7 +167,7 @@ fn push_members(
     Ok(())
 }
 
-// Appends what is lost of an item, given the item of its entry.
+// Appends the losses of an item, given the item that its entry is converted back to.
 #[tactic(auto, unfolding(crate::specs::Losses::item_losses))]
 fn push_item(
     alloc: Global,
@@ -190,7 +190,7 @@ fn push_item(
     push_members(alloc, losses, &work, item, read)
 }
 
-// Appends what is lost of an item, given its entry, if there is one.
+// Appends the losses of an item, given its entry, if there is one.
 fn push_losses(
     alloc: Global,
     losses: &mut Items<Loss>,
@@ -214,7 +214,7 @@ fn push_losses(
     }
 }
 
-/// What of items isn't in their entries, which are read of a text in order.
+/// Returns the losses of items, given their entries in the same order.
 pub(crate) fn all_losses(
     alloc: Global,
     items: &[GivenItem],
@@ -231,7 +231,7 @@ pub(crate) fn all_losses(
     Ok(losses)
 }
 
-// The entries after the first.
+// Returns the entries after the first.
 fn after_first(entries: &[Entry]) -> &[Entry]
     ensures { result.now ≡ spec.after_first_entry entries.now }
 {

@@ -1,4 +1,4 @@
-//! People, as an item gives them.
+//! Parses the names of items.
 
 ghost use Rattle.std.specs.Prelude.{◌≡◌, ◌≤◌, map, IfOk};
 ghost use Rattle.std.specs.List.{list_all};
@@ -13,7 +13,7 @@ use bib_text::text::Text;
 use json::Value;
 use std::alloc::{AllocError, Global};
 
-// The text under a name, or nothing.
+// Returns the text of a member, or an empty text if it is missing or no text.
 fn part(alloc: Global, person: &Value<'_>, name: &str) -> Result<Text, AllocError>
     ensures { IfOk result (λ text. text ≡ spec.name_part name.now (value_view person.now)) }
 {
@@ -23,7 +23,7 @@ fn part(alloc: Global, person: &Value<'_>, name: &str) -> Result<Text, AllocErro
     }
 }
 
-// The parts of a name.
+// Returns the parts of a name.
 #[tactic(auto, unfolding(crate::specs::GivenNames::given_parts))]
 fn given_parts(alloc: Global, person: &Value<'_>) -> Result<NameParts, AllocError>
     ensures { IfOk result (λ parts. parts ≡ spec.given_parts (value_view person.now)) }
@@ -37,7 +37,7 @@ fn given_parts(alloc: Global, person: &Value<'_>) -> Result<NameParts, AllocErro
     })
 }
 
-// The name that an object gives.
+// Returns the name of an object.
 #[tactic(auto, unfolding(crate::specs::GivenNames::given_name))]
 fn given_name(alloc: Global, person: &Value<'_>) -> Result<Name, AllocError>
     ensures { IfOk result (λ name. name ≡ spec.given_name (value_view person.now)) }
@@ -48,7 +48,7 @@ fn given_name(alloc: Global, person: &Value<'_>) -> Result<Name, AllocError>
     }
 }
 
-// One where a text stands under a name.
+// Returns 1 if the member with a name is a text, and 0 otherwise.
 fn count(person: &Value<'_>, name: &str) -> usize
     ensures value { result ≡ spec.count name.now (value_view person.now) }
     ensures small { result ≤ 1 }
@@ -56,7 +56,7 @@ fn count(person: &Value<'_>, name: &str) -> usize
     one_if(string_under(person, name).is_some())
 }
 
-// How many members of an object are parts of the name that it gives.
+// Returns the number of members of an object that its name is made of.
 #[tactic(auto, unfolding(crate::specs::GivenNames::said_parts))]
 fn said_parts(person: &Value<'_>) -> usize
     ensures { result ≡ spec.said_parts (value_view person.now) }
@@ -71,28 +71,28 @@ fn said_parts(person: &Value<'_>) -> usize
         + count(person, "non-dropping-particle")
 }
 
-// Returns whether an object has no members except the parts of its name.
+// Returns whether an object has no members except those that its name is made of.
 fn is_whole_name(person: &Value<'_>) -> bool
     ensures { result ≡ spec.says_name_only (value_view person.now) }
 {
     size(person) == said_parts(person)
 }
 
-// Whether a value is an object.
+// Returns whether a value is an object.
 fn is_object(value: &Value<'_>) -> bool
     ensures { result ≡ spec.is_object (value_view value.now) }
 {
     members(value).is_some()
 }
 
-// Whether some values are objects.
+// Returns whether all values are objects.
 fn all_objects(values: &[Value<'_>]) -> bool
     ensures { result ≡ list_all (λ value. spec.is_object (value_view value)) values.now }
 {
     values.iter().all(|value| is_object(value))
 }
 
-// Whether a value is an array of objects.
+// Returns whether a value is an array of objects.
 pub(crate) fn are_objects(value: &Value<'_>) -> bool
     ensures { result ≡ spec.are_objects (value_view value.now) }
 {
@@ -102,7 +102,7 @@ pub(crate) fn are_objects(value: &Value<'_>) -> bool
     }
 }
 
-// The names that an array gives.
+// Returns the names of an array of objects.
 #[tactic(auto, unfolding(crate::specs::GivenNames::given_names))]
 pub(crate) fn given_names(alloc: Global, value: &Value<'_>) -> Result<Items<Name>, AllocError>
     ensures { IfOk result (λ names. names ≡ spec.given_names (value_view value.now)) }
@@ -117,14 +117,14 @@ pub(crate) fn given_names(alloc: Global, value: &Value<'_>) -> Result<Items<Name
     Ok(names)
 }
 
-// Whether the names that some objects give are all that they say.
+// Returns whether each object has no members except those that its name is made of.
 fn all_whole_names(people: &[Value<'_>]) -> bool
     ensures { result ≡ list_all (λ person. spec.says_name_only (value_view person)) people.now }
 {
     people.iter().all(|person| is_whole_name(person))
 }
 
-// Whether these names are all that the array says.
+// Returns whether each object of an array has no members except those that its name is made of.
 #[tactic(auto, unfolding(crate::specs::GivenNames::are_whole_names))]
 pub(crate) fn are_whole_names(value: &Value<'_>) -> bool
     ensures { result ≡ spec.are_whole_names (value_view value.now) }

@@ -1,4 +1,4 @@
-//! What values of JSON hold.
+//! The parts of JSON values.
 
 ghost use Rattle.std.specs.Prelude.{◌≡◌, map};
 ghost use Rattle.std.specs.Option.{option_map};
@@ -8,7 +8,7 @@ ghost use Rattle.bib_values.specs.Numbers.{decimal_of};
 
 use json::Value;
 
-// The elements of an array.
+// Returns the elements of an array, or `None` for another value.
 pub(crate) fn elements<'v, 'a>(value: &'v Value<'a>) -> Option<&'v [Value<'a>]>
     ensures { option_map (λ all. map value_view all.now) result ≡ spec.array_elements (value_view value.now) }
 {
@@ -18,7 +18,7 @@ pub(crate) fn elements<'v, 'a>(value: &'v Value<'a>) -> Option<&'v [Value<'a>]>
     }
 }
 
-// The members of an object.
+// Returns the members of an object, or `None` for another value.
 pub(crate) fn members<'v, 'a>(value: &'v Value<'a>) -> Option<&'v [(&'a str, Value<'a>)]>
     ensures { option_map (λ all. map (λ m. (m.0.now, value_view m.1)) all.now) result ≡ spec.object_members (value_view value.now) }
 {
@@ -28,7 +28,7 @@ pub(crate) fn members<'v, 'a>(value: &'v Value<'a>) -> Option<&'v [(&'a str, Val
     }
 }
 
-// How many members an object has.
+// Returns the number of members of an object, or 0 for another value.
 pub(crate) fn size(value: &Value<'_>) -> usize
     ensures { result ≡ spec.object_size (value_view value.now) }
 {
@@ -38,7 +38,7 @@ pub(crate) fn size(value: &Value<'_>) -> usize
     }
 }
 
-// A text, or the digits of a number.
+// Returns a text, or the digits of a number.
 pub(crate) fn text_in<'a>(value: &Value<'a>) -> Option<&'a str>
     ensures { option_map (λ text. text.now) result ≡ spec.text_in (value_view value.now) }
 {
@@ -48,7 +48,7 @@ pub(crate) fn text_in<'a>(value: &Value<'a>) -> Option<&'a str>
     }
 }
 
-// The text that an object has under a name.
+// Returns the text of the member with a name.
 pub(crate) fn string_under<'a>(value: &Value<'a>, name: &str) -> Option<&'a str>
     ensures { option_map (λ text. text.now) result ≡ spec.string_under name.now (value_view value.now) }
 {
@@ -56,7 +56,7 @@ pub(crate) fn string_under<'a>(value: &Value<'a>, name: &str) -> Option<&'a str>
     member.as_str()
 }
 
-// The text or the number that an object has under a name.
+// Returns the text or the digits of the number of the member with a name.
 pub(crate) fn text_under<'a>(value: &Value<'a>, name: &str) -> Option<&'a str>
     ensures { option_map (λ text. text.now) result ≡ spec.text_under name.now (value_view value.now) }
 {
@@ -64,14 +64,14 @@ pub(crate) fn text_under<'a>(value: &Value<'a>, name: &str) -> Option<&'a str>
     text_in(member)
 }
 
-// The number that a text spells in decimal digits.
+// Returns the number that a text writes in decimal digits.
 fn decimal(text: &str) -> Option<i64>
     ensures { result ≡ decimal_of text.now }
 {
     text.parse::<i64>().ok()
 }
 
-// The whole number that a value is, or that its text spells.
+// Returns the whole number that a value is, or that its text writes.
 pub(crate) fn whole_number(value: &Value<'_>) -> Option<i64>
     ensures { result ≡ spec.whole_number (value_view value.now) }
 {
@@ -79,7 +79,7 @@ pub(crate) fn whole_number(value: &Value<'_>) -> Option<i64>
     decimal(text)
 }
 
-// One for what is there.
+// Returns 1 for true and 0 for false.
 pub(crate) fn one_if(is_there: bool) -> usize
     ensures { result ≡ spec.one_if is_there }
 {

@@ -1,7 +1,7 @@
-//! People as fields have them.
+//! Writes the values of name fields.
 //!
-//! A name is written as BibTeX has it, prefix and family name before the first comma, where it is read back from that; else in the
-//! extended format of BibLaTeX, a list of `key=value`, which keeps any part as it is.
+//! A name that parses back from BibTeX's format (`von Family, Jr, Given`) is written so. Any other name is written in BibLaTeX's extended
+//! name format, a list of `key=value`, which can contain any text.
 
 ghost use Rattle.std.specs.Prelude.{◌≡◌, ◌++◌, OnOk, IfOk};
 ghost use Rattle.std.specs.List.{list_all};
@@ -17,7 +17,7 @@ use bib_text::text::Text;
 use std::alloc::{AllocError, Global};
 use unicode::properties::is_lowercase;
 
-// Whether a character may stand in a word of a name that is written as BibTeX has it.
+// Returns whether a character can be in a word of a name in BibTeX's format.
 fn is_plain(c: char) -> bool
     ensures { result ≡ spec.may_stand_in_name c }
 {
@@ -27,7 +27,7 @@ fn is_plain(c: char) -> bool
     !c.is_whitespace() && !matches!(c, ',' | '=' | '~')
 }
 
-// Whether a word begins with a small letter.
+// Returns whether a word begins with a lowercase letter.
 fn is_small(word: &str) -> bool
     ensures { result ≡ spec.begins_with_small word.now }
 {
@@ -37,21 +37,21 @@ fn is_small(word: &str) -> bool
     }
 }
 
-// Whether the characters of a word may stand in a name that is written as BibTeX has it.
+// Returns whether all characters of a word can be in a name in BibTeX's format.
 fn has_plain_characters(word: &str) -> bool
     ensures { result ≡ list_all spec.may_stand_in_name (chars word.now) }
 {
     word.chars().all(|c| is_plain(c))
 }
 
-// Whether a word may stand in a name that is written as BibTeX has it.
+// Returns whether a word can be in a name in BibTeX's format.
 fn is_plain_word(word: &str) -> bool
     ensures { result ≡ spec.is_plain_word word.now }
 {
     !word.is_empty() && word != "and" && has_plain_characters(word)
 }
 
-// Whether a text is such words with single spaces between them.
+// Returns whether a text consists of such words with single spaces between them.
 fn are_plain_words(text: &str) -> bool
     ensures { result ≡ spec.are_plain_words text.now }
 {
@@ -62,14 +62,14 @@ fn are_plain_words(text: &str) -> bool
     are_plain
 }
 
-// Whether a text is nothing, or such words.
+// Returns whether a text is empty or consists of such words.
 fn is_nothing_or_words(text: &str) -> bool
     ensures { result ≡ spec.is_nothing_or_words text.now }
 {
     text.is_empty() || are_plain_words(text)
 }
 
-// Whether no word of a text begins with a small letter.
+// Returns whether no word of a text begins with a lowercase letter.
 fn has_no_small_word(text: &str) -> bool
     ensures { result ≡ spec.has_no_small_word text.now }
 {
@@ -80,7 +80,7 @@ fn has_no_small_word(text: &str) -> bool
     !found
 }
 
-// Whether all words of a text begin with a small letter.
+// Returns whether all words of a text begin with a lowercase letter.
 fn has_small_words(text: &str) -> bool
     ensures { result ≡ spec.has_small_words text.now }
 {
@@ -91,14 +91,15 @@ fn has_small_words(text: &str) -> bool
     are_small
 }
 
-// Whether a particle is a prefix that BibTeX knows by its small letters, or nothing.
+// Returns whether a particle is empty, or consists of plain words that each begin with a lowercase letter, as a prefix in BibTeX does.
 fn is_plain_particle(particle: &str) -> bool
     ensures { result ≡ spec.is_plain_particle particle.now }
 {
     particle.is_empty() || (are_plain_words(particle) && has_small_words(particle))
 }
 
-// The particle of a name, where the entry says that prefixes count as parts of family names or not.
+// Returns the particle of a name that the entry can write as its prefix. `uses_prefix` says whether prefixes are part of family names in
+// the entry.
 fn particle(uses_prefix: bool, parts: &NameParts) -> &str
     ensures { result.now ≡ spec.particle uses_prefix parts.now }
 {
@@ -108,7 +109,7 @@ fn particle(uses_prefix: bool, parts: &NameParts) -> &str
     parts.dropping_particle.as_str()
 }
 
-// Whether a name is written as BibTeX has it.
+// Returns whether a name is written in BibTeX's format.
 #[tactic(auto, unfolding(crate::specs::WrittenPeople::is_bibtex_name))]
 fn is_plain_name(uses_prefix: bool, parts: &NameParts) -> bool
     ensures { result ≡ spec.is_bibtex_name uses_prefix parts.now }
@@ -121,7 +122,7 @@ fn is_plain_name(uses_prefix: bool, parts: &NameParts) -> bool
         && particle(!uses_prefix, parts).is_empty()
 }
 
-// Whether a family name stands alone and is one word.
+// Returns whether a name is only a family name of one word.
 #[tactic(auto, unfolding(crate::specs::WrittenPeople::is_one_word))]
 fn is_one_word(parts: &NameParts) -> bool
     ensures { result ≡ spec.is_one_word parts.now }
@@ -133,7 +134,7 @@ fn is_one_word(parts: &NameParts) -> bool
         && parts.non_dropping_particle.is_empty()
 }
 
-// Appends a text and what stands after it, unless the text is empty.
+// Appends a text and a separator, unless the text is empty.
 fn push_before(out: &mut Text, text: &str, separator: &str) -> Result<(), AllocError>
     ensures { OnOk result (out.new ≡ out.old ++ spec.with_separator text.now separator.now) }
 {
@@ -144,7 +145,7 @@ fn push_before(out: &mut Text, text: &str, separator: &str) -> Result<(), AllocE
     out.push_str(separator)
 }
 
-// A name as BibTeX has it.
+// Returns a name in BibTeX's format.
 #[tactic(auto, unfolding(crate::specs::WrittenPeople::plain_text_of))]
 fn plain_text_of(alloc: Global, uses_prefix: bool, parts: &NameParts) -> Result<Text, AllocError>
     ensures { IfOk result (λ text. text ≡ spec.plain_text_of uses_prefix parts.now) }
@@ -169,7 +170,7 @@ fn push_key(alloc: Global, all: &mut Chunks, key: &str, value: &str) -> Result<(
     push_verbatim(all, Text::from_str(alloc, value)?)
 }
 
-// The prefix of a name with both particles, or with one.
+// Returns the prefix of a name: the dropping particle, a space and the other particle, or only one of them.
 #[tactic(auto, unfolding(crate::specs::WrittenPeople::whole_prefix))]
 fn whole_prefix(alloc: Global, parts: &NameParts) -> Result<Text, AllocError>
     ensures { IfOk result (λ text. text ≡ spec.whole_prefix parts.now) }
@@ -184,7 +185,7 @@ fn whole_prefix(alloc: Global, parts: &NameParts) -> Result<Text, AllocError>
     Ok(text)
 }
 
-// Whether a prefix counts as part of the family name, or nothing where there is none.
+// Returns `true` or `false` as the prefix is part of the family name or not, or an empty text without a prefix.
 #[tactic(auto, unfolding(crate::specs::WrittenPeople::prefix_flag))]
 fn prefix_flag(parts: &NameParts) -> &'static str
     ensures { result.now ≡ spec.prefix_flag parts.now }
@@ -198,7 +199,7 @@ fn prefix_flag(parts: &NameParts) -> &'static str
     ""
 }
 
-// Appends what else than the family name is there of a name, by its keys.
+// Appends the parts of a name except the family name, each with its key.
 #[tactic(auto, unfolding(crate::specs::WrittenPeople::extended_keys))]
 fn push_keys(alloc: Global, all: &mut Chunks, parts: &NameParts) -> Result<(), AllocError>
     ensures { OnOk result (all.new ≡ all.old ++ spec.extended_keys parts.now) }
@@ -220,7 +221,7 @@ fn push_extended(alloc: Global, all: &mut Chunks, parts: &NameParts) -> Result<(
     push_keys(alloc, all, parts)
 }
 
-// Appends a name that is one text: in braces, but for the word that stands for other people.
+// Appends a name without parts: in braces, except for the word `others`.
 fn push_literal(alloc: Global, all: &mut Chunks, text: &Text) -> Result<(), AllocError>
     ensures { OnOk result (all.new ≡ all.old ++ spec.literal_chunks text.now) }
 {
@@ -230,7 +231,7 @@ fn push_literal(alloc: Global, all: &mut Chunks, text: &Text) -> Result<(), Allo
     push_verbatim(all, text.clone()?)
 }
 
-// Appends a name of parts.
+// Appends a name with parts.
 #[tactic(auto, unfolding(crate::specs::WrittenPeople::parts_chunks))]
 fn push_parts(
     alloc: Global,
@@ -280,7 +281,7 @@ fn push_joined(
     push_name(alloc, uses_prefix, all, name)
 }
 
-// The names of a list, as chunks.
+// Returns the chunks of a list of names.
 fn chunks_of(alloc: Global, uses_prefix: bool, names: &[Name]) -> Result<Chunks, AllocError>
     ensures { IfOk result (λ chunks. chunks ≡ spec.names_chunks uses_prefix names.now) }
 {
@@ -293,7 +294,7 @@ fn chunks_of(alloc: Global, uses_prefix: bool, names: &[Name]) -> Result<Chunks,
     Ok(all)
 }
 
-// The value of a field that holds people.
+// Returns the value of a name field.
 #[tactic(auto, unfolding(crate::specs::WrittenPeople::names_value))]
 pub(crate) fn names_value(
     alloc: Global,
@@ -307,7 +308,7 @@ pub(crate) fn names_value(
     with_ties(alloc, value.as_str())
 }
 
-// Whether a name has a prefix that counts as part of the family name.
+// Returns whether a name has a prefix that is part of the family name.
 fn has_fixed_prefix(name: &Name) -> bool
     ensures { result ≡ spec.has_fixed_prefix name.now }
 {
@@ -317,7 +318,7 @@ fn has_fixed_prefix(name: &Name) -> bool
     }
 }
 
-// Whether one of these names does.
+// Returns whether one of these names has a prefix that is part of the family name.
 pub(crate) fn have_fixed_prefix(names: &[Name]) -> bool
     ensures { result ≡ spec.have_fixed_prefix names.now }
 {

@@ -1,11 +1,11 @@
-//! Where in a text of JSON a fault lies.
+//! The byte offset of a fault in a text of JSON.
 
 ghost use Rattle.std.specs.Prelude.{◌≤◌, length, IfOk};
 
 use json::{Reader, Scratch, Token};
 use std::alloc::{AllocError, Global};
 
-// A bracket that is open.
+// An open bracket.
 #[derive(Clone, Copy, PartialEq, Eq)]
 enum Bracket {
     // Of an array.
@@ -14,7 +14,7 @@ enum Bracket {
     Curly,
 }
 
-// What is read so far of a text: the brackets that are open, and whether a value at the top ended.
+// The state after some tokens: the open brackets, and whether the value at the top has ended.
 #[derive(Drop)]
 struct Nesting {
     open: Vec<Bracket>,
@@ -27,14 +27,14 @@ impl Nesting {
         self.is_over = self.open.is_empty();
     }
 
-    // Ends an array or an object, if such a one is open.
+    // Ends an array or an object. Returns whether the innermost open bracket was of this kind.
     fn close(&mut self, bracket: Bracket) -> bool {
         let is_open = self.open.pop() == Some(bracket);
         self.end_value();
         is_open
     }
 
-    // Passes a token, and says whether it may stand there.
+    // Records a token, and returns whether it is allowed there.
     fn pass(&mut self, token: &Token<'_>) -> Result<bool, AllocError> {
         if self.is_over {
             return Ok(false);
@@ -52,14 +52,14 @@ impl Nesting {
     }
 }
 
-// A place that lies in a text of this length.
+// Returns a byte offset, but at most `end`.
 fn inside(place: usize, end: usize) -> usize
     ensures { result ≤ end }
 {
     place.min(end)
 }
 
-/// Where a text stops being JSON: at its end where it is cut off.
+/// Returns the byte offset at which a text stops being JSON: its end if it is cut off.
 pub(crate) fn place_of_fault(alloc: Global, text: &str) -> Result<usize, AllocError>
     ensures { IfOk result (λ place. place ≤ length text.now) }
 {
@@ -82,7 +82,7 @@ pub(crate) fn place_of_fault(alloc: Global, text: &str) -> Result<usize, AllocEr
     Ok(inside(place, text.len()))
 }
 
-/// Where the element with this index begins in a text that is an array.
+/// Returns the byte offset at which the element with this index of an array begins.
 pub(crate) fn place_of_element(alloc: Global, text: &str, index: usize) -> Result<usize, AllocError>
     ensures { IfOk result (λ place. place ≤ length text.now) }
 {

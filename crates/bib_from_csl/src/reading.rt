@@ -1,4 +1,4 @@
-//! Items of CSL-JSON, read from their objects.
+//! Parses the objects of CSL-JSON as items.
 
 ghost use Rattle.std.specs.Prelude.{◌≡◌, ◌==◌, map, IfOk, IfSome, is_some};
 ghost use Rattle.std.specs.List.{before_first, after_first};
@@ -20,12 +20,12 @@ use bib_text::text::Text;
 use json::Value;
 use std::alloc::{AllocError, Global};
 
-/// Why a text isn't an array of items.
+/// The reason why a text isn't an array of items.
 #[derive(Debug, Clone, Copy, PartialEq, Eq)]
 pub enum Fault {
-    /// It is no JSON.
+    /// The text isn't JSON.
     NotJson,
-    /// It is JSON, but no array.
+    /// The text is JSON, but no array.
     NotAnArray,
     /// An element is no object.
     NotAnObject,
@@ -33,38 +33,38 @@ pub enum Fault {
     NoId,
     /// An item has no `type` that is a text.
     NoType,
-    /// A variable of an item hasn't the form that CSL has for it: a text or a number, names, or a date.
+    /// A variable of an item doesn't have the form that CSL requires: a text or a number, names, or a date.
     WrongForm,
     /// Two items have one key.
     KeyTwice,
 }
 
-/// What an object is as an item.
+/// The result of parsing an object.
 #[derive(Debug, Drop)]
 pub enum ItemReading {
-    /// This item.
+    /// The item.
     Says(GivenItem),
-    /// None, for this reason.
+    /// The reason why it isn't an item.
     Unfit(Fault),
 }
 
-/// What an array is as items.
+/// The result of parsing an array.
 #[derive(Debug, Drop)]
 pub enum ItemsReading {
-    /// These items.
+    /// The items.
     Are(Items<GivenItem>),
-    /// None, for the element with this index, and this reason.
+    /// The index of the first element that isn't an item, and the reason.
     Refused(usize, Fault),
 }
 
-// Whether pages are numbers with hyphens, dashes, commas and spaces between them.
+// Returns whether a text consists of ASCII digits, hyphens, en dashes, commas and spaces, as page numbers do.
 fn are_numbers(text: &str) -> bool
     ensures { result ≡ spec.are_numbers text.now }
 {
     text.chars().all(|c| c.is_ascii_digit() || matches!(c, '-' | '–' | ',' | ' '))
 }
 
-// Whether the hyphens of a variable's text are dashes: it is of pages, which are numbers.
+// Returns whether the hyphens of a text are written as en dashes: it is the variable `page`, and consists of page numbers.
 #[tactic(auto, unfolding(crate::specs::GivenItems::has_dashes))]
 fn has_dashes(name: &str, text: &str) -> bool
     ensures { result ≡ spec.has_dashes name.now text.now }
@@ -72,7 +72,7 @@ fn has_dashes(name: &str, text: &str) -> bool
     name == "page" && are_numbers(text)
 }
 
-// A text with dashes for its hyphens.
+// Returns the text with an en dash for each hyphen.
 #[tactic(auto, unfolding(crate::specs::GivenItems::dashed_text))]
 fn dashed_text(alloc: Global, text: &str) -> Result<Text, AllocError>
     ensures { IfOk result (λ dashed. dashed ≡ spec.dashed_text text.now) }
@@ -80,7 +80,7 @@ fn dashed_text(alloc: Global, text: &str) -> Result<Text, AllocError>
     replaced(alloc, text, '-', "–")
 }
 
-// The two sides of the first hyphen.
+// Returns the text before and after the first hyphen.
 fn sides(text: &str) -> Option<(&str, &str)>
     ensures some { is_some result ≡ has_byte char.hyphen text.now }
     ensures from { IfSome result (λ p. p.0.now ≡ before_first (λ b. b == char.hyphen) text.now) }
@@ -89,7 +89,7 @@ fn sides(text: &str) -> Option<(&str, &str)>
     text.split_once('-')
 }
 
-// The page of a range that begins and ends with it, as `115` of `115-115`; else the text.
+// Returns the page of a range of one page, such as `115` for `115-115`, or another text as it is.
 #[tactic(auto, unfolding(crate::specs::GivenItems::single_page))]
 fn single_page(text: &str) -> &str
     ensures { result.now ≡ spec.single_page text.now }
@@ -100,7 +100,7 @@ fn single_page(text: &str) -> &str
     }
 }
 
-// The text of a variable; a hyphen between numbers of pages is a dash, and a range of one page is the page.
+// Returns the text of a variable. In page numbers, each hyphen is replaced by an en dash, and a range of one page by the page.
 #[tactic(auto, unfolding(crate::specs::GivenItems::content_text))]
 fn content_text(alloc: Global, name: &str, text: &str) -> Result<Text, AllocError>
     ensures { IfOk result (λ content. content ≡ spec.content_text name.now text.now) }
@@ -111,7 +111,7 @@ fn content_text(alloc: Global, name: &str, text: &str) -> Result<Text, AllocErro
     Text::from_str(alloc, text)
 }
 
-// A member with this content.
+// Returns a member with this content.
 fn given(
     alloc: Global,
     name: &str,
@@ -127,7 +127,7 @@ fn given(
     }))
 }
 
-// A variable that holds people.
+// Returns a variable of names, or `None` if the value has another form.
 #[tactic(auto, unfolding(crate::specs::GivenItems::names_member))]
 fn names_member(alloc: Global, name: &str, value: &Value<'_>) -> Result<Option<Given>, AllocError>
     ensures { IfOk result (λ member. member ≡ spec.names_member name.now (value_view value.now)) }
@@ -144,7 +144,7 @@ fn names_member(alloc: Global, name: &str, value: &Value<'_>) -> Result<Option<G
     )
 }
 
-// A variable that holds a date.
+// Returns a variable of a date, or `None` if the value has another form.
 #[tactic(auto, unfolding(crate::specs::GivenItems::date_member))]
 fn date_member(alloc: Global, name: &str, value: &Value<'_>) -> Result<Option<Given>, AllocError>
     ensures { IfOk result (λ member. member ≡ spec.date_member name.now (value_view value.now)) }
@@ -159,7 +159,7 @@ fn date_member(alloc: Global, name: &str, value: &Value<'_>) -> Result<Option<Gi
     }
 }
 
-// A variable that holds a text.
+// Returns a variable of a text, or `None` if the value has another form.
 #[tactic(auto, unfolding(crate::specs::GivenItems::text_member))]
 fn text_member(alloc: Global, name: &str, value: &Value<'_>) -> Result<Option<Given>, AllocError>
     ensures { IfOk result (λ member. member ≡ spec.text_member name.now (value_view value.now)) }
@@ -171,7 +171,7 @@ fn text_member(alloc: Global, name: &str, value: &Value<'_>) -> Result<Option<Gi
     given(alloc, name, Some(Content::Text(text)), true)
 }
 
-// A member, unless it hasn't the form of the variable of its name.
+// Returns a member, or `None` if it doesn't have the form of its variable.
 #[tactic(auto, unfolding(crate::specs::GivenItems::member_of))]
 fn member_of(alloc: Global, name: &str, value: &Value<'_>) -> Result<Option<Given>, AllocError>
     ensures { IfOk result (λ member. member ≡ spec.member_of name.now (value_view value.now)) }
@@ -188,14 +188,14 @@ fn member_of(alloc: Global, name: &str, value: &Value<'_>) -> Result<Option<Give
     given(alloc, name, None, false)
 }
 
-// Whether a member says what an item is called or its type.
+// Returns whether a member is `id` or `type`.
 fn is_head(name: &str) -> bool
     ensures { result ≡ spec.is_head name.now }
 {
     matches!(name, "id" | "type")
 }
 
-// The members of an object but for its head, unless one hasn't the form that it should have.
+// Returns the members except `id` and `type`, or `None` if one doesn't have the form of its variable.
 fn fields_of(
     alloc: Global,
     members: &[(&str, Value<'_>)],
@@ -216,7 +216,7 @@ fn fields_of(
     Ok(Some(fields))
 }
 
-// The item of these members.
+// Returns the item with these members, or the fault.
 fn item_of_members(
     alloc: Global,
     id: &str,
@@ -235,7 +235,7 @@ fn item_of_members(
     }
 }
 
-// What an element is as an item.
+// Returns the item of an element, or the fault.
 fn item_in(alloc: Global, value: &Value<'_>) -> Result<ItemReading, AllocError>
     ensures { IfOk result (λ reading. reading ≡ spec.item_in (value_view value.now)) }
 {
@@ -251,7 +251,7 @@ fn item_in(alloc: Global, value: &Value<'_>) -> Result<ItemReading, AllocError>
     item_of_members(alloc, id, kind, members)
 }
 
-// What elements are as items.
+// Returns the items of elements, or the first fault.
 fn items_from(alloc: Global, values: &[Value<'_>]) -> Result<ItemsReading, AllocError>
     ensures { IfOk result (λ reading. reading ≡ spec.items_read_from 0 (map value_view values.now)) }
 {
@@ -267,7 +267,7 @@ fn items_from(alloc: Global, values: &[Value<'_>]) -> Result<ItemsReading, Alloc
     Ok(ItemsReading::Are(items))
 }
 
-/// What a value of JSON is as items.
+/// Returns the items of a JSON value, or the first fault.
 pub(crate) fn items_in(alloc: Global, value: &Value<'_>) -> Result<ItemsReading, AllocError>
     ensures { IfOk result (λ reading. reading ≡ spec.items_in (value_view value.now)) }
 {

@@ -1,7 +1,7 @@
-//! Texts with HTML's tags, as LaTeX writes them.
+//! Texts with HTML tags, written in LaTeX.
 //!
-//! Each tag begins with a less-than sign, so the text is cut there: a piece begins with a tag's name, or with none. Of the commands that
-//! are open how many there are is known, and each tag that ends one ends the innermost.
+//! Each tag begins with a less-than sign, so the text is split there, and a piece may begin with the rest of a tag. The open tags are
+//! counted, and each closing tag, of any name, closes the innermost open one.
 
 ghost use Rattle.std.specs.Prelude.{◌≡◌, ◌==◌, ◌++◌, length, OnOk, IfOk, string_bytes};
 ghost use Rattle.std.specs.Option.{option_map};
@@ -13,7 +13,7 @@ use bib_text::items::Items;
 use bib_text::text::Text;
 use std::alloc::{AllocError, Global};
 
-// A tag that stands for a command of LaTeX, or for braces.
+// An opening tag that is written as a LaTeX command, or as braces.
 #[derive(Debug, Clone, Copy, PartialEq, Eq)]
 pub enum Tag {
     // Italic.
@@ -30,14 +30,14 @@ pub enum Tag {
     KeepsCase,
 }
 
-// What stands after a prefix of a text.
+// Returns the text after a prefix, if the text begins with it.
 fn rest_after<'s>(text: &'s str, prefix: &str) -> Option<&'s str>
     ensures { option_map (λ rest. rest.now) result ≡ spec.without_prefix prefix.now text.now }
 {
     text.strip_prefix(prefix)
 }
 
-// A tag, as it stands after its less-than sign.
+// Returns a tag without its less-than sign.
 fn name_of(tag: Tag) -> &'static str
     ensures { result.now ≡ spec.tag_name tag }
 {
@@ -51,7 +51,7 @@ fn name_of(tag: Tag) -> &'static str
     }
 }
 
-// What begins the text of a tag in LaTeX.
+// Returns the LaTeX command of a tag and its opening brace.
 fn command_of(tag: Tag) -> &'static str
     ensures { result.now ≡ spec.command_of tag }
 {
@@ -65,7 +65,7 @@ fn command_of(tag: Tag) -> &'static str
     }
 }
 
-// The tag, of these, that a piece begins with, and what stands after it.
+// If a piece begins with this tag, returns the tag and the text after it.
 fn opened_by(piece: &str, tag: Tag) -> Option<(Tag, &str)>
     ensures { option_map (λ found. (found.0, found.1.now)) result ≡ spec.opened_by piece.now tag }
 {
@@ -73,7 +73,7 @@ fn opened_by(piece: &str, tag: Tag) -> Option<(Tag, &str)>
     Some((tag, rest))
 }
 
-// The tag that a piece begins with, and what stands after it.
+// Returns the opening tag that a piece begins with, and the text after it.
 fn opened(piece: &str) -> Option<(Tag, &str)>
     ensures { option_map (λ found. (found.0, found.1.now)) result ≡ spec.opened piece.now }
 {
@@ -85,7 +85,7 @@ fn opened(piece: &str) -> Option<(Tag, &str)>
         .or_else(|| opened_by(piece, Tag::KeepsCase))
 }
 
-// What stands after the tag that ends another, where a piece begins with one.
+// Returns the text after the closing tag that a piece begins with.
 fn closed(piece: &str) -> Option<&str>
     ensures { option_map (λ rest. rest.now) result ≡ spec.closed piece.now }
 {
@@ -96,7 +96,7 @@ fn closed(piece: &str) -> Option<&str>
         .or_else(|| rest_after(piece, "/span>"))
 }
 
-// A text in which no character has a meaning for LaTeX.
+// Returns a text with the special characters of LaTeX escaped.
 pub(crate) fn spelled(alloc: Global, text: &str) -> Result<Text, AllocError>
     ensures { IfOk result (λ out. out ≡ spec.spelled_text text.now) }
 {
@@ -104,7 +104,7 @@ pub(crate) fn spelled(alloc: Global, text: &str) -> Result<Text, AllocError>
     Ok(Text::from_string(chunk.to_biblatex_string(alloc, false)?))
 }
 
-// Appends such a text.
+// Appends a text with the special characters of LaTeX escaped.
 fn push_spelled(alloc: Global, out: &mut Text, text: &str) -> Result<(), AllocError>
     ensures { OnOk result (out.new ≡ out.old ++ spec.spelled_text text.now) }
 {
@@ -112,14 +112,14 @@ fn push_spelled(alloc: Global, out: &mut Text, text: &str) -> Result<(), AllocEr
     out.push_str(text.as_str())
 }
 
-// A text, and the tags that are open where it ends, the innermost last.
+// The output, and the open tags after it, the innermost last.
 #[derive(Drop)]
 struct Marked {
     text: Text,
     tags: Items<Tag>,
 }
 
-// Appends what a piece after a less-than sign is.
+// Appends the output for a piece after a less-than sign.
 fn push_piece(alloc: Global, marked: &mut Marked, piece: &str) -> Result<(), AllocError>
     ensures text { OnOk result (marked.new.text ≡ marked.old.text ++ spec.tag_piece_text (length marked.old.tags) piece.now) }
     ensures depth { OnOk result (length marked.new.tags ≡ spec.open_after_piece (length marked.old.tags) piece.now) }
@@ -139,7 +139,7 @@ fn push_piece(alloc: Global, marked: &mut Marked, piece: &str) -> Result<(), All
     push_spelled(alloc, &mut marked.text, piece)
 }
 
-// Appends the pieces after the first less-than sign.
+// Appends the output for the pieces after the first less-than sign.
 fn push_pieces(alloc: Global, marked: &mut Marked, text: &str) -> Result<(), AllocError>
     ensures text { OnOk result (marked.new.text ≡ marked.old.text ++ spec.pieces_text (length marked.old.tags) (spec.tag_pieces text.now)) }
     ensures depth { OnOk result (length marked.new.tags ≡ spec.open_after_pieces (length marked.old.tags) (spec.tag_pieces text.now)) }
@@ -150,7 +150,7 @@ fn push_pieces(alloc: Global, marked: &mut Marked, text: &str) -> Result<(), All
     Ok(())
 }
 
-// Appends a brace for each tag that is open.
+// Appends a closing brace for each open tag.
 fn push_closed(marked: &mut Marked) -> Result<(), AllocError>
     ensures { OnOk result (marked.new.text ≡ marked.old.text ++ spec.all_closed (length marked.old.tags)) }
 {
@@ -160,7 +160,7 @@ fn push_closed(marked: &mut Marked) -> Result<(), AllocError>
     Ok(())
 }
 
-// A text with HTML's tags, as LaTeX writes it.
+// Returns the LaTeX source of a text with HTML tags.
 #[tactic(auto, unfolding(crate::specs::Tags::tagged_source))]
 pub(crate) fn tagged(alloc: Global, text: &str) -> Result<Text, AllocError>
     ensures { IfOk result (λ out. out ≡ spec.tagged_source text.now) }

@@ -1,11 +1,11 @@
-//! Types of entries, by those of items.
+//! The types of the entries of items.
 
 ghost use Rattle.std.specs.Prelude.{◌≡◌};
 ghost use Rattle.bib_from_csl.specs.EntryTypes as spec;
 
 use bib_tables::mechanics::EntryType;
 
-// The type of the entry of an item that is part of another work, or one issue of a periodical.
+// Returns the type of the entry of an item that is part of another work, or one issue of a periodical.
 fn part_type(kind: &str) -> Option<EntryType>
     ensures { result ≡ spec.part_type kind.now }
 {
@@ -24,7 +24,7 @@ fn part_type(kind: &str) -> Option<EntryType>
     }
 }
 
-// The type of the entry of any other item.
+// Returns the type of the entry of any other item.
 fn whole_type(kind: &str) -> EntryType
     ensures { result ≡ spec.whole_type kind.now }
 {
@@ -43,7 +43,7 @@ fn whole_type(kind: &str) -> EntryType
     }
 }
 
-// The type of the entry that an item of this type becomes.
+// Returns the type of the entry of an item with this type.
 pub(crate) fn entry_type_of(kind: &str) -> EntryType
     ensures { result ≡ spec.type_for_item kind.now }
 {
@@ -53,7 +53,7 @@ pub(crate) fn entry_type_of(kind: &str) -> EntryType
     }
 }
 
-// What the field `entrysubtype` says of an item of this type, or nothing.
+// Returns the value of the field `entrysubtype` for an item with this type, or an empty text.
 pub(crate) fn subtype_of(kind: &str) -> &'static str
     ensures { result.now ≡ spec.subtype_of kind.now }
 {
@@ -64,7 +64,7 @@ pub(crate) fn subtype_of(kind: &str) -> &'static str
     }
 }
 
-// Whether the entry is a whole that may be one of several volumes.
+// Returns whether the entry can be a volume of a work of several volumes.
 pub(crate) fn is_volume(kind: &EntryType) -> bool
     ensures { result ≡ spec.may_be_volume kind.now }
 {
@@ -74,7 +74,7 @@ pub(crate) fn is_volume(kind: &EntryType) -> bool
     )
 }
 
-// Whether the entry is a part of a book.
+// Returns whether the entry is a part of a book.
 pub(crate) fn is_in_book(kind: &EntryType) -> bool
     ensures { result ≡ spec.stands_in_book kind.now }
 {
@@ -84,14 +84,14 @@ pub(crate) fn is_in_book(kind: &EntryType) -> bool
     )
 }
 
-// Whether the field `number` counts the issues of a periodical.
+// Returns whether the field `number` counts the issues of a periodical.
 pub(crate) fn counts_issues(kind: &EntryType) -> bool
     ensures { result ≡ spec.numbers_issues kind.now }
 {
     matches!(kind, EntryType::Article | EntryType::Periodical)
 }
 
-// Whether the field `number` counts the works of a series.
+// Returns whether the field `number` counts the works of a series.
 pub(crate) fn counts_series(kind: &EntryType) -> bool
     ensures { result ≡ spec.numbers_series kind.now }
 {
@@ -106,7 +106,7 @@ pub(crate) fn counts_series(kind: &EntryType) -> bool
     )
 }
 
-// Whether an institution publishes the work, and no publisher.
+// Returns whether the work is published by an institution instead of a publisher.
 pub(crate) fn is_of_institution(kind: &EntryType) -> bool
     ensures { result ≡ spec.is_of_institution kind.now }
 {

@@ -1,4 +1,4 @@
-//! Values of fields, as a file has them.
+//! Writes the values of fields.
 
 ghost use Rattle.std.specs.Prelude.{◌≡◌, ◌==◌, ◌++◌, OnOk, IfOk, codes, string_bytes};
 ghost use Rattle.std.specs.List.{list_any, slice_split};
@@ -14,7 +14,7 @@ use bib_text::scanner::Scanner;
 use bib_text::text::Text;
 use std::alloc::{AllocError, Global};
 
-// Appends a character, or what stands in its place.
+// Appends `c`, or `with` if it is the replaced character.
 fn push_replaced(out: &mut Text, replaced: char, with: &str, c: char) -> Result<(), AllocError>
     ensures { OnOk result (out.new ≡ out.old ++ spec.replacing replaced with.now c) }
 {
@@ -25,7 +25,7 @@ fn push_replaced(out: &mut Text, replaced: char, with: &str, c: char) -> Result<
     }
 }
 
-// A text in which another text stands in the place of a character.
+// Returns a text with `with` for each character `replaced`.
 pub(crate) fn replaced(
     alloc: Global,
     text: &str,
@@ -42,7 +42,7 @@ pub(crate) fn replaced(
     Ok(out)
 }
 
-// The value of a field that holds a plain text.
+// Returns the value of the field `field` for a plain text.
 pub(crate) fn plain_value(alloc: Global, field: &str, text: &str) -> Result<Text, AllocError>
     ensures { IfOk result (λ value. value ≡ spec.plain_value field.now text.now) }
 {
@@ -60,14 +60,14 @@ pub(crate) fn pages_value(alloc: Global, text: &str) -> Result<Text, AllocError>
     replaced(alloc, value.as_str(), '–', "--")
 }
 
-// A text with a tilde for each space at which no line breaks.
+// Returns the text with a tilde for each no-break space.
 pub(crate) fn with_ties(alloc: Global, text: &str) -> Result<Text, AllocError>
     ensures { IfOk result (λ out. out ≡ spec.with_ties text.now) }
 {
     replaced(alloc, text, '\u{a0}', "~")
 }
 
-// A text between braces.
+// Returns a text between braces.
 pub(crate) fn braced(alloc: Global, text: &str) -> Result<Text, AllocError>
     ensures { IfOk result (λ value. value ≡ spec.braced text.now) }
 {
@@ -78,7 +78,7 @@ pub(crate) fn braced(alloc: Global, text: &str) -> Result<Text, AllocError>
     Ok(value)
 }
 
-// The value of a field that holds a text with HTML's tags.
+// Returns the value of a field for a text with HTML tags.
 pub(crate) fn tagged_value(alloc: Global, text: &str) -> Result<Text, AllocError>
     ensures { IfOk result (λ value. value ≡ spec.tagged_value text.now) }
 {
@@ -87,7 +87,7 @@ pub(crate) fn tagged_value(alloc: Global, text: &str) -> Result<Text, AllocError
     braced(alloc, tied.as_str())
 }
 
-// Whether one of the words of a text is `and`.
+// Returns whether one of the words of a text is `and`.
 pub(crate) fn has_and(text: &str) -> bool
     ensures { result ≡ spec.has_and text.now }
 {
@@ -98,7 +98,7 @@ pub(crate) fn has_and(text: &str) -> bool
     found
 }
 
-// The value of a field that is a list, of which the text is one part.
+// Returns the value of a list field with this text as its only part: in another pair of braces if it contains the word `and`.
 #[tactic(auto, unfolding(crate::specs::Values::listed_value))]
 pub(crate) fn listed_value(alloc: Global, text: &str) -> Result<Text, AllocError>
     ensures { IfOk result (λ value. value ≡ spec.listed_value text.now) }

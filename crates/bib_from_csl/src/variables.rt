@@ -1,4 +1,4 @@
-//! Which field has what a variable of an item holds.
+//! The fields for the variables of items.
 
 ghost use Rattle.std.specs.Prelude.{◌≡◌};
 ghost use Rattle.bib_from_csl.specs.Variables as spec;
@@ -6,7 +6,7 @@ ghost use Rattle.bib_from_csl.specs.Variables as spec;
 use crate::types::{counts_issues, counts_series, is_in_book, is_of_institution, is_volume};
 use bib_tables::mechanics::EntryType;
 
-// Whether a variable holds people.
+// Returns whether a variable is a list of names.
 pub(crate) fn is_names(name: &str) -> bool
     ensures { result ≡ spec.is_names name.now }
 {
@@ -41,7 +41,7 @@ pub(crate) fn is_names(name: &str) -> bool
     )
 }
 
-// Whether a variable holds a date.
+// Returns whether a variable is a date.
 pub(crate) fn is_date(name: &str) -> bool
     ensures { result ≡ spec.is_date name.now }
 {
@@ -51,14 +51,14 @@ pub(crate) fn is_date(name: &str) -> bool
     )
 }
 
-// Whether a variable holds a text or a number, which a field can hold.
+// Returns whether a variable is a text or a number that a field can contain.
 pub(crate) fn is_text(name: &str) -> bool
     ensures { result ≡ spec.is_text name.now }
 {
     is_title(name) || is_listed(name) || is_rich(name) || is_number(name) || is_identifier(name)
 }
 
-// Whether a variable holds a title.
+// Returns whether a variable is a title.
 fn is_title(name: &str) -> bool
     ensures { result ≡ spec.is_title name.now }
 {
@@ -75,7 +75,7 @@ fn is_title(name: &str) -> bool
     )
 }
 
-// Whether the field of a variable is a list.
+// Returns whether the field of a variable is a list.
 pub(crate) fn is_listed(name: &str) -> bool
     ensures { result ≡ spec.is_list_variable name.now }
 {
@@ -85,7 +85,7 @@ pub(crate) fn is_listed(name: &str) -> bool
     )
 }
 
-// Whether a variable holds another text with HTML's tags.
+// Returns whether a variable is a text with HTML tags that is no title.
 fn is_rich(name: &str) -> bool
     ensures { result ≡ spec.is_rich name.now }
 {
@@ -95,14 +95,14 @@ fn is_rich(name: &str) -> bool
     )
 }
 
-// Whether a variable holds a text with HTML's tags.
+// Returns whether a variable is a text with HTML tags.
 pub(crate) fn is_tagged(name: &str) -> bool
     ensures { result ≡ spec.is_tagged name.now }
 {
     is_title(name) || is_rich(name)
 }
 
-// Whether a variable holds a number, or another short text.
+// Returns whether a variable is a number, or another short text.
 fn is_number(name: &str) -> bool
     ensures { result ≡ spec.is_number_variable name.now }
 {
@@ -125,7 +125,7 @@ fn is_number(name: &str) -> bool
     )
 }
 
-// Whether a variable says by what the item is identified, or where it is kept.
+// Returns whether a variable is an identifier, an address, or a place where the work is kept.
 fn is_identifier(name: &str) -> bool
     ensures { result ≡ spec.is_identifier name.now }
 {
@@ -135,7 +135,7 @@ fn is_identifier(name: &str) -> bool
     )
 }
 
-// The field of the title of what an item is a part of; `in_work` says whether that is one volume of a work.
+// Returns the field for the title of the container. `in_work` says whether the item has a title of its volume.
 fn container_field(kind: &EntryType, in_work: bool) -> &'static str
     ensures { result.now ≡ spec.container_field kind.now in_work }
 {
@@ -148,7 +148,7 @@ fn container_field(kind: &EntryType, in_work: bool) -> &'static str
     }
 }
 
-// The field of the title of the one volume of a work.
+// Returns the field for the title of the volume, or an empty text.
 fn volume_field(kind: &EntryType) -> &'static str
     ensures { result.now ≡ spec.volume_field kind.now }
 {
@@ -161,7 +161,7 @@ fn volume_field(kind: &EntryType) -> &'static str
     ""
 }
 
-// The field of the title of an item.
+// Returns the field for the title of an item.
 fn own_field(kind: &EntryType, in_work: bool) -> &'static str
     ensures { result.now ≡ spec.own_field kind.now in_work }
 {
@@ -171,7 +171,7 @@ fn own_field(kind: &EntryType, in_work: bool) -> &'static str
     "title"
 }
 
-// The field of a title, or nothing.
+// Returns the field for a title, or an empty text for another variable.
 #[tactic(auto, unfolding(crate::specs::Variables::title_field))]
 fn title_field(kind: &EntryType, in_work: bool, name: &str) -> &'static str
     ensures { result.now ≡ spec.title_field kind.now in_work name.now }
@@ -189,7 +189,7 @@ fn title_field(kind: &EntryType, in_work: bool, name: &str) -> &'static str
     }
 }
 
-// The field of the publisher.
+// Returns the field for the publisher.
 fn publisher_field(kind: &EntryType) -> &'static str
     ensures { result.now ≡ spec.publisher_field kind.now }
 {
@@ -202,7 +202,7 @@ fn publisher_field(kind: &EntryType) -> &'static str
     }
 }
 
-// The field of another text, or nothing.
+// Returns the field for another text, or an empty text for another variable.
 #[tactic(auto, unfolding(crate::specs::Variables::word_field))]
 fn word_field(kind: &EntryType, name: &str) -> &'static str
     ensures { result.now ≡ spec.word_field kind.now name.now }
@@ -223,7 +223,7 @@ fn word_field(kind: &EntryType, name: &str) -> &'static str
     }
 }
 
-// The field of the issue.
+// Returns the field for the issue.
 fn issue_field(kind: &EntryType) -> &'static str
     ensures { result.now ≡ spec.issue_field kind.now }
 {
@@ -243,7 +243,7 @@ fn own_number_field(kind: &EntryType) -> &'static str
     "number"
 }
 
-// The field of the number in the series, or nothing.
+// Returns the field for the number in the series, or an empty text.
 fn series_number_field(kind: &EntryType) -> &'static str
     ensures { result.now ≡ spec.series_number_field kind.now }
 {
@@ -253,7 +253,7 @@ fn series_number_field(kind: &EntryType) -> &'static str
     ""
 }
 
-// The field of a number, or nothing.
+// Returns the field for a number, or an empty text for another variable.
 #[tactic(auto, unfolding(crate::specs::Variables::number_field))]
 fn number_field(kind: &EntryType, name: &str) -> &'static str
     ensures { result.now ≡ spec.number_field kind.now name.now }
@@ -274,7 +274,7 @@ fn number_field(kind: &EntryType, name: &str) -> &'static str
     }
 }
 
-// The field of what identifies an item, or says where it is kept, or nothing.
+// Returns the field for an identifier, an address or an archive, or an empty text for another variable.
 #[tactic(auto, unfolding(crate::specs::Variables::identifier_field))]
 fn identifier_field(name: &str) -> &'static str
     ensures { result.now ≡ spec.identifier_field name.now }
@@ -292,7 +292,7 @@ fn identifier_field(name: &str) -> &'static str
     }
 }
 
-// The field of people, or nothing.
+// Returns the field for names, or an empty text for another variable.
 #[tactic(auto, unfolding(crate::specs::Variables::people_field))]
 fn people_field(name: &str) -> &'static str
     ensures { result.now ≡ spec.people_field name.now }
@@ -309,7 +309,7 @@ fn people_field(name: &str) -> &'static str
     }
 }
 
-// The field of a date, or nothing.
+// Returns the field for a date, or an empty text for another variable.
 #[tactic(auto, unfolding(crate::specs::Variables::field_of_date))]
 fn date_field(name: &str) -> &'static str
     ensures { result.now ≡ spec.field_of_date name.now }
@@ -323,15 +323,15 @@ fn date_field(name: &str) -> &'static str
     }
 }
 
-// The first name, or the other where it is empty.
+// Returns the first name, or the other one if the first is empty.
 fn either_name(first: &'static str, other: &'static str) -> &'static str
     ensures { result.now ≡ spec.either_name first.now other.now }
 {
     if first.is_empty() { other } else { first }
 }
 
-// The field that has what a variable holds, in an entry of this type, or nothing; `in_work` says whether the item has a title of its one
-// volume. The field of a language depends on the language.
+// Returns the field for a variable in an entry of this type, or an empty text. `in_work` says whether the item has a title of its volume.
+// The field for `language` depends on the language, so it isn't returned here.
 #[tactic(auto, unfolding(crate::specs::Variables::variable_field))]
 pub(crate) fn field_of(kind: &EntryType, in_work: bool, name: &str) -> &'static str
     ensures { result.now ≡ spec.variable_field kind.now in_work name.now }
@@ -344,7 +344,7 @@ pub(crate) fn field_of(kind: &EntryType, in_work: bool, name: &str) -> &'static 
     either_name(people, date_field(name))
 }
 
-// The field beside the field of a variable, which says what the first means, or nothing.
+// Returns the additional field that says what the field of a variable means, or an empty text.
 #[tactic(auto, unfolding(crate::specs::Variables::beside_field))]
 pub(crate) fn beside_field(name: &str) -> &'static str
     ensures { result.now ≡ spec.beside_field name.now }
@@ -358,7 +358,7 @@ pub(crate) fn beside_field(name: &str) -> &'static str
     }
 }
 
-// What that field says.
+// Returns the value of that additional field, or an empty text.
 #[tactic(auto, unfolding(crate::specs::Variables::beside_text))]
 pub(crate) fn beside_text(name: &str) -> &'static str
     ensures { result.now ≡ spec.beside_text name.now }

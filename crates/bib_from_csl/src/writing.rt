@@ -1,4 +1,4 @@
-//! Items as entries of BibLaTeX, as a file has them.
+//! Writes items as BibLaTeX entries.
 
 ghost use Rattle.std.specs.Prelude.{◌≡◌, ◌++◌, OnOk, IfOk, codes};
 ghost use Rattle.std.specs.List.{flat_map, list_any};
@@ -19,25 +19,25 @@ use bib_text::scanner::Scanner;
 use bib_text::text::Text;
 use std::alloc::{AllocError, Global};
 
-/// What the fields of an entry depend on.
+/// The properties of an item that its fields depend on.
 #[derive(Debug, Drop)]
 pub struct Work {
     /// The type of the entry.
     pub kind: EntryType,
-    /// Whether the item has a title of its one volume.
+    /// Whether the item has a title of its volume.
     pub in_work: bool,
-    /// Whether prefixes count as parts of family names.
+    /// Whether prefixes are part of family names.
     pub uses_prefix: bool,
 }
 
-// Whether a member is the title of a volume.
+// Returns whether a member is the title of a volume.
 fn is_volume_title(given: &Given) -> bool
     ensures { result ≡ spec.is_volume_title given.now }
 {
     given.name.as_str() == "volume-title"
 }
 
-// Whether a member has a name with a prefix that counts as part of the family name.
+// Returns whether a member has a name with a prefix that is part of the family name.
 fn has_prefix(given: &Given) -> bool
     ensures { result ≡ spec.has_prefix given.now }
 {
@@ -47,21 +47,21 @@ fn has_prefix(given: &Given) -> bool
     }
 }
 
-// Whether one of some members is the title of a volume.
+// Returns whether one of these members is the title of a volume.
 fn have_volume_title(fields: &[Given]) -> bool
     ensures { result ≡ list_any spec.is_volume_title fields.now }
 {
     fields.iter().any(|given| is_volume_title(given))
 }
 
-// Whether one of some members has such a name.
+// Returns whether one of these members has a name with a prefix that is part of the family name.
 fn have_prefix(fields: &[Given]) -> bool
     ensures { result ≡ list_any spec.has_prefix fields.now }
 {
     fields.iter().any(|given| has_prefix(given))
 }
 
-// What the fields of the entry of an item depend on.
+// Returns the properties of an item that its fields depend on.
 #[tactic(auto, unfolding(crate::specs::FromItems::work_for_item))]
 pub(crate) fn work_of(item: &GivenItem) -> Work
     ensures { result ≡ spec.work_for_item item.now }
@@ -96,7 +96,7 @@ fn push_known(alloc: Global, out: &mut Text, name: &str, text: &str) -> Result<(
     push_line(out, name, value.as_str())
 }
 
-// The value of a field that holds the text of a variable.
+// Returns the value of a field for the text of the variable `name`.
 #[tactic(auto, unfolding(crate::specs::FromItems::variable_source))]
 fn text_value(alloc: Global, field: &str, name: &str, text: &str) -> Result<Text, AllocError>
     ensures { IfOk result (λ value. value ≡ spec.variable_source field.now name.now text.now) }
@@ -113,7 +113,7 @@ fn text_value(alloc: Global, field: &str, name: &str, text: &str) -> Result<Text
     plain_value(alloc, field, text)
 }
 
-// The value of a field that holds what a variable holds, if that says something that a field can say.
+// Returns the value of a field for the content of the variable `name`, or `None` for a date that can't be written.
 fn value_of(
     alloc: Global,
     uses_prefix: bool,
@@ -130,7 +130,7 @@ fn value_of(
     }
 }
 
-// The field of a language with this tag.
+// Returns the field for a language with this tag: `langid` if BibLaTeX has a name for it, otherwise `language`.
 fn language_field(tag: &str) -> &'static str
     ensures { result.now ≡ spec.language_field tag.now }
 {
@@ -140,7 +140,7 @@ fn language_field(tag: &str) -> &'static str
     "langid"
 }
 
-// What that field holds.
+// Returns the value of that field: BibLaTeX's name of the language, or else the tag.
 fn language_text(tag: &str) -> &str
     ensures { result.now ≡ spec.language_text tag.now }
 {
@@ -151,7 +151,7 @@ fn language_text(tag: &str) -> &str
     name
 }
 
-// Appends the line of a language with this tag.
+// Appends the line of the field for a language.
 fn push_language(alloc: Global, out: &mut Text, tag: &str) -> Result<(), AllocError>
     ensures { OnOk result (out.new ≡ out.old ++ spec.language_line tag.now) }
 {
@@ -160,7 +160,7 @@ fn push_language(alloc: Global, out: &mut Text, tag: &str) -> Result<(), AllocEr
     push_line(out, field, value.as_str())
 }
 
-// Appends the lines of a variable that has this field.
+// Appends the lines of a variable with this field: that of the field, and that of the additional field, if there is one.
 fn push_valued(
     alloc: Global,
     out: &mut Text,
@@ -178,7 +178,7 @@ fn push_valued(
     push_known(alloc, out, beside_field(name), beside_text(name))
 }
 
-// Appends the lines of a variable.
+// Appends the lines of a variable, if it has a field.
 fn push_content(
     alloc: Global,
     out: &mut Text,
@@ -200,7 +200,7 @@ fn push_content(
     push_valued(alloc, out, work, field, name, content)
 }
 
-// Whether a text or a list of names is empty.
+// Returns whether a text or a list of names is empty.
 pub(crate) fn is_empty_content(content: &Content) -> bool
     ensures { result ≡ spec.is_empty_content content.now }
 {
@@ -211,7 +211,7 @@ pub(crate) fn is_empty_content(content: &Content) -> bool
     }
 }
 
-// Appends the lines of a member, if it holds something.
+// Appends the lines of a member, unless it has no content or an empty one.
 fn push_given(alloc: Global, out: &mut Text, work: &Work, given: &Given) -> Result<(), AllocError>
     ensures { OnOk result (out.new ≡ out.old ++ spec.given_lines work.now given.now) }
 {
@@ -226,7 +226,7 @@ fn push_given(alloc: Global, out: &mut Text, work: &Work, given: &Given) -> Resu
     }
 }
 
-// Whether a character may stand in the key of an entry, for BibTeX too.
+// Returns whether a character can be in the key of an entry, also for BibTeX.
 fn is_of_key(c: char) -> bool
     ensures { result ≡ spec.is_of_key c }
 {
@@ -237,7 +237,7 @@ fn is_of_key(c: char) -> bool
         )
 }
 
-// Appends a character of a key, or an underscore in its place.
+// Appends a character of a key, or an underscore for one that can't be in a key.
 fn push_of_key(key: &mut Text, c: char) -> Result<(), AllocError>
     ensures { OnOk result (key.new ≡ key.old ++ spec.key_character c) }
 {
@@ -248,7 +248,7 @@ fn push_of_key(key: &mut Text, c: char) -> Result<(), AllocError>
     }
 }
 
-// The key of the entry of an item that is called so.
+// Returns the key of the entry of an item with this `id`.
 pub(crate) fn key_of(alloc: Global, id: &str) -> Result<Text, AllocError>
     ensures { IfOk result (λ key. key ≡ spec.key_text (chars id.now)) }
 {
@@ -260,7 +260,7 @@ pub(crate) fn key_of(alloc: Global, id: &str) -> Result<Text, AllocError>
     Ok(key)
 }
 
-// Appends what stands before the fields of an entry.
+// Appends the start of an entry, up to the comma after its key.
 #[tactic(auto, unfolding(crate::specs::FromItems::head))]
 fn push_head(alloc: Global, out: &mut Text, item: &GivenItem) -> Result<(), AllocError>
     ensures { OnOk result (out.new ≡ out.old ++ spec.head item.now) }
@@ -274,14 +274,14 @@ fn push_head(alloc: Global, out: &mut Text, item: &GivenItem) -> Result<(), Allo
     out.push_str(",\n")
 }
 
-// What the field `options` says.
+// Returns the value of the field `options`, or an empty text.
 fn options_of(uses_prefix: bool) -> &'static str
     ensures { result.now ≡ spec.options_of uses_prefix }
 {
     if uses_prefix { "useprefix=true" } else { "" }
 }
 
-// Appends the fields of an entry.
+// Appends the fields of the members of an item.
 fn push_fields(
     alloc: Global,
     out: &mut Text,
@@ -296,7 +296,7 @@ fn push_fields(
     Ok(())
 }
 
-// Appends what stands before the fields of an entry that are variables.
+// Appends the start of an entry and its fields that aren't variables: `entrysubtype` and `options`.
 #[tactic(auto, unfolding(crate::specs::FromItems::beginning))]
 fn push_beginning(
     alloc: Global,
@@ -318,7 +318,7 @@ fn push_end(out: &mut Text) -> Result<(), AllocError>
     out.push_str("}\n")
 }
 
-// Appends the entry of an item, given what its fields depend on.
+// Appends the entry of an item, given the properties that its fields depend on.
 #[tactic(auto, unfolding(crate::specs::FromItems::source_with))]
 fn push_with(alloc: Global, out: &mut Text, work: &Work, item: &GivenItem) -> Result<(), AllocError>
     ensures { OnOk result (out.new ≡ out.old ++ spec.source_with work.now item.now) }
@@ -347,7 +347,7 @@ fn push_next(alloc: Global, out: &mut Text, first: bool, item: &GivenItem) -> Re
     push_entry(alloc, out, item)
 }
 
-// The entries of items.
+// Returns the source of the entries of items.
 pub(crate) fn entries_text(alloc: Global, items: &[GivenItem]) -> Result<Text, AllocError>
     ensures { IfOk result (λ text. text ≡ spec.items_source items.now) }
 {

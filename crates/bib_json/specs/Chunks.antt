@@ -15,11 +15,11 @@ kind_name (Normal text) = codes "normal"
 kind_name (Verbatim text) = codes "verbatim"
 kind_name (Math text) = codes "math"
 
--- a byte of the file, unless the chunk that begins here stands nowhere in it
+-- a byte offset in the source; `None` for a chunk that isn't in it, given the start of the chunk
 abbrev pub byte_unless_nowhere : ℕ → ℕ → Option Data
 byte_unless_nowhere start byte = if start == 2 ^ 64 - 1 then None else Some (number (unsigned byte))
 
--- a chunk: its kind, its text, and its bytes in the file, if it stands there
+-- a chunk: its kind, its text, and its byte offsets in the source, if it is in it
 abbrev pub chunk_members : Spanned Chunk → List Member
 chunk_members c =
     (codes "kind", Some (string (kind_name c.v)))

@@ -12,7 +12,7 @@ use Rattle.serde_json.specs.Data.{Data, number, unsigned, string, boolean}
 use Rattle.serde_json.specs.Find.{of_integer}
 use Rattle.bib_json.specs.Objects.{Member, object_of}
 
--- how many minutes an offset is ahead of UTC
+-- the offset from UTC in minutes, positive for a time ahead of UTC
 abbrev pub offset_minutes : TimeOffset → ℤ
 offset_minutes Utc = pos 0
 offset_minutes (Offset true hours minutes) = pos (hours * 60 + minutes)
@@ -39,7 +39,7 @@ time_json t = object_of (time_members t)
 abbrev pub counted_json : ℕ → Data
 counted_json index = number (unsigned (index + 1))
 
--- a year, and perhaps a month, a day and a time
+-- a year, with its month, its day and its time if the date has them
 abbrev pub datetime_members : Datetime → List Member
 datetime_members d =
     (codes "year", Some (number (of_integer d.year)))
@@ -52,14 +52,14 @@ datetime_members d =
 abbrev pub datetime_json : Datetime → Data
 datetime_json d = object_of (datetime_members d)
 
--- whether a date is one date, or which ends a range has
+-- the kind of a date: one date, or a range with a start, with an end, or with both
 abbrev pub date_kind : DateValue → List ℕ
 date_kind (At d) = codes "at"
 date_kind (After d) = codes "after"
 date_kind (Before d) = codes "before"
 date_kind (Between d e) = codes "between"
 
--- one date, or the start of a range
+-- the only date, or the start of a range
 abbrev pub date_start : DateValue → Option Datetime
 date_start (At d) = Some d
 date_start (After d) = Some d

@@ -13,7 +13,7 @@ use Rattle.serde_json.specs.Written.{compact_text, outline}
 use Rattle.bib_json.specs.Fields.{fields_json}
 use Rattle.bib_json.specs.Objects.{Member, object_of}
 
--- the name of a type; of one that isn't known, that which stands in the file, in lowercase letters
+-- the name of an entry type: for an unknown type, its name in the source, in lowercase
 abbrev pub type_text : EntryType → List ℕ
 type_text (Unknown name) = name
 type_text type = entry_type_name type
@@ -34,7 +34,7 @@ entry_object entry = object_of (entry_members entry)
 abbrev pub json_text_of : Entry → List ℕ
 json_text_of entry = compact_text (entry_object entry)
 
--- the text of an entry has the tokens of its object, and is read as it
+-- the text of an entry has the tokens of its object, and is parsed as that object
 pub record IsReadBack (entry : Entry) : Type 0 where
   pub same_tokens : tokens (json_text_of entry) ≡ json_tokens (outline (entry_object entry))
   pub value : read (json_text_of entry) ≡ Some (entry_object entry)

@@ -8,20 +8,20 @@ use Rattle.serde_json.specs.View.{items_of}
 abbrev pub Member : Type 0
 Member = List ℕ × Option Data
 
--- members with a value at this name, if there is one
+-- members with a value of this name, if there is one
 abbrev pub with_given : List ℕ → Option Data → Members → Members
 with_given name None members = members
 with_given name (Some value) members = put name value members
 
--- members and more of them, those that have a value
+-- members, and more of them that have a value
 abbrev pub with_members : Members → List Member → Members
 with_members members [] = members
 with_members members (m ∷ rest) = with_members (with_given m.0 m.1 members) rest
 
--- the object of these members, those that have a value
+-- the object of the members that have a value
 abbrev pub object_of : List Member → Data
 object_of members = object (with_members no_members members)
 
--- the array of what elements are
+-- the array of the values of elements
 abbrev pub array_of : {T : Type 0} → (T → Data) → List T → Data
 array_of element elements = array (items_of (map element elements))

@@ -1,5 +1,5 @@
 -- Meaning: words of public contracts.
--- What the contents of fields are read as, by the fields' names.
+-- The types of the values of fields, by the names of the fields.
 use Rattle.std.specs.Prelude.{ℕ, Bool, if◌then◌else◌, List, [], ◌∷◌, codes, Option, Some, None, bytes_eq}
 use Rattle.std.specs.List.{list_any}
 use Rattle.bib_json.specs.declared.types.ValueType.{ValueType}
@@ -32,11 +32,11 @@ and_fields =
     ∷ codes "origlocation"
     ∷ codes "origpublisher" ∷ []
 
--- the fields of what page numbers count
+-- the fields of the unit that page numbers count
 abbrev pub pagination_fields : List (List ℕ)
 pagination_fields = codes "pagination" ∷ codes "bookpagination" ∷ []
 
--- the fields of what editors did
+-- the fields of the roles of editors
 abbrev pub role_fields : List (List ℕ)
 role_fields = codes "editortype" ∷ codes "editoratype" ∷ codes "editorbtype" ∷ codes "editorctype" ∷ []
 
@@ -44,7 +44,7 @@ role_fields = codes "editortype" ∷ codes "editoratype" ∷ codes "editorbtype"
 abbrev pub is_listed_in : List (List ℕ) → List ℕ → Bool
 is_listed_in names name = list_any (bytes_eq name) names
 
--- what the only field of its type is read as
+-- the type of a field that is the only one of its type
 abbrev pub single_type : List ℕ → Option ValueType
 single_type name =
     if bytes_eq name (codes "pages") then Some Pages
@@ -53,7 +53,7 @@ single_type name =
     else if bytes_eq name (codes "gender") then Some Gender
     else None
 
--- what a field of this name is read as, if it has a type
+-- the type of the field with this name, if it has one
 abbrev pub value_type : List ℕ → Option ValueType
 value_type name =
     if is_listed_in fields_of_people name then Some People

@@ -1,5 +1,5 @@
 -- Meaning: words of public contracts.
--- What fields are read as, in JSON.
+-- The parsed values of fields, in JSON.
 use Rattle.std.specs.Prelude.{ℕ, List, [], ◌∷◌, codes, Option, Some, option_map, option_and_then, unwrap_or}
 use Rattle.std.specs.declared.ops.Range.{Range}
 use Rattle.bib_chunks.specs.Cuts.{and_list}
@@ -24,7 +24,7 @@ use Rattle.bib_json.specs.ValueTypes.{value_type}
 use Rattle.bib_json.specs.declared.types.ValueType.{ValueType}
 use Rattle.bib_json.specs.declared.types.ValueType.TheVariants.{People, Date, Number, Pages, Keys, Parts, Languages, Language, Pagination, Role, Gender}
 
--- a person: the four parts of the name, and what the extended name format adds
+-- a person: the four parts of the name, and the additional parts of the extended name format
 abbrev pub person_members : Person → List Member
 person_members p =
     (codes "name", Some (string p.name))
@@ -52,7 +52,7 @@ range_json range = object_of (
 abbrev pub part_json : Value → Data
 part_json part = string (text part)
 
--- a language by the name that it is written by
+-- the name of a language
 abbrev pub language_json : ALanguage → Data
 language_json language = string (language_row language).name
 
@@ -60,7 +60,7 @@ language_json language = string (language_row language).name
 abbrev pub language_or_part : Value → Data
 language_or_part part = unwrap_or (option_map language_json (language_read part)) (part_json part)
 
--- what chunks are read as by this type, if they are read as one
+-- the value of chunks by this type; `None` if they can't be parsed
 abbrev pub typed_json : ValueType → Value → Option Data
 typed_json People chunks = Some (array_of person_json (people_of chunks))
 typed_json Date chunks = option_map date_json (date_read chunks)
@@ -74,6 +74,6 @@ typed_json Pagination chunks = option_map (λ scheme. string (pagination_name sc
 typed_json Role chunks = Some (string (editor_type_name (editor_type_read chunks)))
 typed_json Gender chunks = option_map (λ gender. string (gender_name gender)) (gender_read chunks)
 
--- what the chunks of a field of this name are read as, if it has a type and they are read as one
+-- the value of the chunks of a field with this name; `None` if the field has no type or they can't be parsed
 abbrev pub value_json : List ℕ → Value → Option Data
 value_json name chunks = option_and_then (λ type. typed_json type chunks) (value_type name)

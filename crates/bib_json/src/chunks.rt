@@ -10,7 +10,7 @@ use bib_chunks::chunk::{Chunk, ChunksRef, Spanned};
 use serde_json::{Map, Value};
 use std::alloc::{AllocError, Global};
 
-// The kind of a chunk.
+// Returns the kind of a chunk.
 fn kind_name(chunk: &Chunk) -> &'static str
     ensures { result.now ≡ spec.kind_name chunk.now }
 {
@@ -21,7 +21,7 @@ fn kind_name(chunk: &Chunk) -> &'static str
     }
 }
 
-// A byte of the file, unless the chunk that begins here stands nowhere in it.
+// Returns a byte offset in the source, or `None` for a chunk that isn't in it. `start` is the start of the chunk.
 fn byte_unless_nowhere(start: usize, byte: usize) -> Option<Value>
     ensures { option_map view result ≡ spec.byte_unless_nowhere start byte }
 {
@@ -31,7 +31,7 @@ fn byte_unless_nowhere(start: usize, byte: usize) -> Option<Value>
     Some(Value::from(byte))
 }
 
-// A chunk: its kind, its text, and its bytes in the file, if it stands there.
+// Returns a chunk: its kind, its text, and its byte offsets in the source, if it is in it.
 fn chunk_value(alloc: Global, chunk: &Spanned<Chunk>) -> Result<Value, AllocError>
     ensures { IfOk result (λ value. view value ≡ spec.chunk_json chunk.now) }
 {
@@ -54,7 +54,7 @@ fn chunk_value(alloc: Global, chunk: &Spanned<Chunk>) -> Result<Value, AllocErro
     Ok(Value::from(members))
 }
 
-/// The chunks of a field.
+/// Returns the chunks of a field.
 pub(crate) fn chunks_value(alloc: Global, chunks: ChunksRef<'_>) -> Result<Value, AllocError>
     ensures { IfOk result (λ value. view value ≡ spec.chunks_json chunks.now) }
 {

@@ -10,7 +10,7 @@ use bib_dates::date::{Date, DateValue, Datetime, Time, TimeOffset};
 use serde_json::{Map, Value};
 use std::alloc::{AllocError, Global};
 
-// How many minutes an offset is ahead of UTC.
+// Returns the offset from UTC in minutes, positive for a time ahead of UTC.
 fn offset_minutes(offset: TimeOffset) -> i32
     ensures { result ≡ spec.offset_minutes offset }
 {
@@ -27,7 +27,7 @@ fn offset_minutes(offset: TimeOffset) -> i32
     }
 }
 
-// A time of day.
+// Returns a time of day.
 fn time_value(alloc: Global, time: Time) -> Result<Value, AllocError>
     ensures { IfOk result (λ value. view value ≡ spec.time_json time) }
 {
@@ -42,14 +42,14 @@ fn time_value(alloc: Global, time: Time) -> Result<Value, AllocError>
     Ok(Value::from(members))
 }
 
-// A month or a day, counted from 1.
+// Returns a month or a day, counted from 1.
 fn counted_value(index: u8) -> Value
     ensures { view result ≡ spec.counted_json index }
 {
     Value::from(u16::from(index) + 1)
 }
 
-// A time of day, if there is one.
+// Returns a time of day, if there is one.
 fn time_if_given(alloc: Global, time: Option<Time>) -> Result<Option<Value>, AllocError>
     ensures { IfOk result (λ value. option_map view value ≡ option_map spec.time_json time) }
 {
@@ -59,7 +59,7 @@ fn time_if_given(alloc: Global, time: Option<Time>) -> Result<Option<Value>, All
     }
 }
 
-// A year, and perhaps a month, a day and a time.
+// Returns a year, with its month, its day and its time if the date has them.
 fn datetime_value(alloc: Global, datetime: Datetime) -> Result<Value, AllocError>
     ensures { IfOk result (λ value. view value ≡ spec.datetime_json datetime) }
 {
@@ -77,7 +77,7 @@ fn datetime_value(alloc: Global, datetime: Datetime) -> Result<Value, AllocError
     Ok(Value::from(members))
 }
 
-// One end of a range, if it has it.
+// Returns one end of a range, if the range has it.
 fn end_value(alloc: Global, end: Option<Datetime>) -> Result<Option<Value>, AllocError>
     ensures { IfOk result (λ value. option_map view value ≡ option_map spec.datetime_json end) }
 {
@@ -87,7 +87,7 @@ fn end_value(alloc: Global, end: Option<Datetime>) -> Result<Option<Value>, Allo
     }
 }
 
-// Whether a date is one date, or which ends a range has.
+// Returns the kind of a date: one date, or a range with a start, with an end, or with both.
 fn kind_name(value: DateValue) -> &'static str
     ensures { result.now ≡ spec.date_kind value }
 {
@@ -99,7 +99,7 @@ fn kind_name(value: DateValue) -> &'static str
     }
 }
 
-// One date, or the start of a range.
+// Returns the only date, or the start of a range.
 fn start_of(value: DateValue) -> Option<Datetime>
     ensures { result ≡ spec.date_start value }
 {
@@ -109,7 +109,7 @@ fn start_of(value: DateValue) -> Option<Datetime>
     }
 }
 
-// The end of a range.
+// Returns the end of a range.
 fn end_of(value: DateValue) -> Option<Datetime>
     ensures { result ≡ spec.date_end value }
 {
@@ -119,7 +119,7 @@ fn end_of(value: DateValue) -> Option<Datetime>
     }
 }
 
-/// A date or a range of dates.
+/// Returns a date or a range of dates.
 pub(crate) fn date_value(alloc: Global, date: Date) -> Result<Value, AllocError>
     ensures { IfOk result (λ value. view value ≡ spec.date_json date) }
 {

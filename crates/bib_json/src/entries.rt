@@ -13,7 +13,7 @@ use bib_tables::mechanics::EntryType;
 use serde_json::{Map, Value};
 use std::alloc::{AllocError, Global};
 
-// The name of a type; of one that isn't known, that which stands in the file, in lowercase letters.
+// Returns the name of an entry type: for an unknown type, its name in the source, in lowercase.
 fn type_name(entry_type: &EntryType) -> &str
     ensures { result.now ≡ spec.type_text entry_type.now }
 {
@@ -23,8 +23,7 @@ fn type_name(entry_type: &EntryType) -> &str
     }
 }
 
-/// An entry as an object of JSON: its type, its key, and its fields by their names, each with its chunks and what they are
-/// read as.
+/// Returns an entry as a JSON object: its type, its key, and its fields by their names, each with its chunks and its parsed value.
 pub fn entry_json(alloc: Global, entry: &Entry) -> Result<Value, AllocError>
     ensures { IfOk result (λ value. view value ≡ spec.entry_object entry.now) }
 {
@@ -36,7 +35,7 @@ pub fn entry_json(alloc: Global, entry: &Entry) -> Result<Value, AllocError>
     Ok(Value::from(members))
 }
 
-/// The text of that object, on one line; it is read as that object.
+/// Returns the text of that object, on one line. A JSON parser returns the same object for it.
 pub fn entry_text(alloc: Global, entry: &Entry) -> Result<String, AllocError>
     ensures text { IfOk result (λ text. string_bytes text ≡ spec.json_text_of entry.now) }
     ensures reads_back { IfOk result (λ _. IsReadBack entry.now) }

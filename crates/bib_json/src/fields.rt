@@ -12,7 +12,7 @@ use bib_collections::text_map::TextMap;
 use serde_json::{Map, Value};
 use std::alloc::{AllocError, Global};
 
-// A field of this name: its chunks, and what they are read as.
+// Returns the object of a field: its chunks and its parsed value.
 fn field_object(alloc: Global, name: &str, chunks: ChunksRef<'_>) -> Result<Value, AllocError>
     ensures { IfOk result (λ value. view value ≡ field_json name.now chunks.now) }
 {
@@ -24,7 +24,7 @@ fn field_object(alloc: Global, name: &str, chunks: ChunksRef<'_>) -> Result<Valu
     Ok(Value::from(members))
 }
 
-/// Fields by their names.
+/// Returns an object with fields by their names.
 pub(crate) fn fields_object(alloc: Global, fields: &TextMap<Chunks>) -> Result<Value, AllocError>
     ensures { IfOk result (λ value. view value ≡ fields_json fields.now) }
 {

@@ -1,4 +1,4 @@
-//! Laws of what is written. These functions do nothing: what they ensure is proved of the definitions alone.
+//! Laws of the JSON output. These functions have no code: their clauses are theorems about definitions.
 
 ghost use Rattle.std.specs.Prelude.{◌≡◌, ℕ, List, map, codes, true, Some, option_and_then};
 ghost use Rattle.std.specs.FinMap as by_name;
@@ -12,18 +12,18 @@ ghost use Rattle.bib_json.specs.Entries.{entry_object, json_text_of, IsReadBack}
 ghost use Rattle.bib_json.specs.Fields.{field_json};
 ghost use Rattle.bib_json.specs.Objects.{array_of};
 
-/// Each field of an entry has its object under its name, and no other name has one.
+/// The JSON of an entry has each of its fields under the name of the field, and no other.
 pub fn fields_are_found()
     ensures { (entry : Entry) (name : List ℕ) → option_and_then (get name) (get (codes "fields") (entry_object entry)) ≡
         option_map (field_json name) (by_name.get entry.fields name) }
 {}
 
-/// Elements that are written one after another, each after what stands before it, with the end after them, make the array.
+/// Elements, each after the text before it, and the end after them, are the array.
 pub fn pieces_make_the_array()
     ensures { (elements : List (List ℕ)) → in_pieces true elements ≡ array_text elements }
 {}
 
-/// An array of entries, each of which is read back, is read as the array of their objects.
+/// An array of entries that are each parsed back is parsed as the array of their objects.
 pub fn array_is_read()
     ensures { (entries : List Entry) → AllByRecursion IsReadBack entries →
         read (array_text (map json_text_of entries)) ≡ Some (array_of entry_object entries) }

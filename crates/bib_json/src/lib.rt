@@ -1,9 +1,9 @@
 //! Entries as JSON, for other programs.
 //!
-//! A definition lists the members of an object in the order in which a reader looks for them, those without a value too; `members`
-//! puts a value at its name, if there is one, so that code and definition go the same way. `types` says by the name of a field what
-//! it is read as; `values` reads it, over `people`, `dates` and `lists`, and `fields` puts that beside its `chunks`. `arrays` has the
-//! pieces by which a program writes an array element by element.
+//! A definition lists the members of an object, also those without a value. The code inserts them in the same order: `members` inserts a
+//! member if it has a value. `types` returns the type of a field by its name. `values` parses the field with this type, with `people`,
+//! `dates` and `lists`, and `fields` returns the parsed value together with the `chunks`. `arrays` returns the texts around the elements
+//! of an array, so that a program can write it element by element.
 #![tactic(auto)]
 
 pub mod arrays;

@@ -13,7 +13,7 @@ use serde_json::{Map, Value};
 use std::alloc::{AllocError, Global};
 use std::ops::Range;
 
-// A range of numbers, from the first to the last.
+// Returns a range of numbers: the first and the last.
 fn range_value(alloc: Global, range: &Range<u32>) -> Result<Value, AllocError>
     ensures { IfOk result (λ value. view value ≡ range_json range.now) }
 {
@@ -23,7 +23,7 @@ fn range_value(alloc: Global, range: &Range<u32>) -> Result<Value, AllocError>
     Ok(Value::from(members))
 }
 
-/// Ranges of numbers.
+/// Returns an array of ranges of numbers.
 pub(crate) fn ranges_value(alloc: Global, ranges: &[Range<u32>]) -> Result<Value, AllocError>
     ensures { IfOk result (λ value. view value ≡ array_of range_json ranges.now) }
 {
@@ -35,7 +35,7 @@ pub(crate) fn ranges_value(alloc: Global, ranges: &[Range<u32>]) -> Result<Value
     Ok(Value::from(elements))
 }
 
-/// Texts.
+/// Returns an array of texts.
 pub(crate) fn texts_value(alloc: Global, texts: &[String]) -> Result<Value, AllocError>
     ensures { IfOk result (λ value. view value ≡ array_of string (map (λ s. string_bytes s) texts.now)) }
 {
@@ -47,14 +47,14 @@ pub(crate) fn texts_value(alloc: Global, texts: &[String]) -> Result<Value, Allo
     Ok(Value::from(elements))
 }
 
-// The text of a part of a list.
+// Returns the text of a part of a list.
 fn part_value(alloc: Global, part: ChunksRef<'_>) -> Result<Value, AllocError>
     ensures { IfOk result (λ value. view value ≡ part_json part.now) }
 {
     Ok(Value::from(format_verbatim(alloc, part)?))
 }
 
-/// The texts of the parts of a list.
+/// Returns an array with the texts of the parts of a list.
 pub(crate) fn parts_value(alloc: Global, parts: &[Chunks]) -> Result<Value, AllocError>
     ensures { IfOk result (λ value. view value ≡ array_of part_json parts.now) }
 {
@@ -66,7 +66,7 @@ pub(crate) fn parts_value(alloc: Global, parts: &[Chunks]) -> Result<Value, Allo
     Ok(Value::from(elements))
 }
 
-/// A language by the name that it is written by.
+/// Returns the name of a language.
 pub(crate) fn language_value(alloc: Global, language: Language) -> Result<Value, AllocError>
     ensures { IfOk result (λ value. view value ≡ language_json language) }
 {
@@ -74,7 +74,7 @@ pub(crate) fn language_value(alloc: Global, language: Language) -> Result<Value,
     Ok(Value::from(name))
 }
 
-// The name of the language that a part of a list names, or else its text.
+// Returns the name of the language that a part of a list names, or else the text of the part.
 fn language_or_part(alloc: Global, part: ChunksRef<'_>) -> Result<Value, AllocError>
     ensures { IfOk result (λ value. view value ≡ language_or_part part.now) }
 {

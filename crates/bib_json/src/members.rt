@@ -9,7 +9,7 @@ ghost use Rattle.bib_json.specs.Objects.{with_given};
 use serde_json::{Map, Value};
 use std::alloc::{AllocError, Global};
 
-/// Puts a value at a name, if there is one.
+/// Inserts a member with a value, if there is one.
 pub(crate) fn put_given(
     members: &mut Map<String, Value>,
     alloc: Global,
@@ -25,7 +25,7 @@ pub(crate) fn put_given(
     Ok(())
 }
 
-/// Puts a text at a name.
+/// Inserts a member with a text.
 pub(crate) fn put_text(
     members: &mut Map<String, Value>,
     alloc: Global,

@@ -14,7 +14,7 @@ use bib_text::text::Text;
 use serde_json::{Map, Value};
 use std::alloc::{AllocError, Global};
 
-// Puts a text at a name, if there is one.
+// Inserts a member with a text, if there is one.
 fn put_text_if_given(
     members: &mut Map<String, Value>,
     alloc: Global,
@@ -30,7 +30,7 @@ fn put_text_if_given(
     Ok(())
 }
 
-// A person: the four parts of the name, and what the extended name format adds.
+// Returns a person: the four parts of the name, and the additional parts of the extended name format.
 fn person_value(alloc: Global, person: &Person) -> Result<Value, AllocError>
     ensures { IfOk result (λ value. view value ≡ person_json person.now) }
 {
@@ -61,7 +61,7 @@ fn person_value(alloc: Global, person: &Person) -> Result<Value, AllocError>
     Ok(Value::from(members))
 }
 
-/// People, one after another.
+/// Returns an array of people.
 pub(crate) fn people_value(alloc: Global, people: &[Person]) -> Result<Value, AllocError>
     ensures { IfOk result (λ value. view value ≡ array_of person_json people.now) }
 {

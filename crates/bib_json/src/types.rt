@@ -1,9 +1,9 @@
-//! What the contents of fields are read as, by the fields' names.
+//! The types of the values of fields, by the names of the fields.
 
 ghost use Rattle.std.specs.Prelude.{◌≡◌};
 ghost use Rattle.bib_json.specs.ValueTypes as spec;
 
-/// What the contents of a field are read as.
+/// The type of the value of a field.
 #[derive(Debug, Clone, Copy, PartialEq, Eq)]
 pub enum ValueType {
     /// People.
@@ -14,23 +14,23 @@ pub enum ValueType {
     Number,
     /// Ranges of pages.
     Pages,
-    /// Texts with commas between them, as keys and keywords.
+    /// Texts with commas between them, such as keys and keywords.
     Keys,
-    /// Texts with `and` between them, as places and publishers.
+    /// Texts with `and` between them, such as places and publishers.
     Parts,
     /// Languages with `and` between them.
     Languages,
     /// A language.
     Language,
-    /// What page numbers count.
+    /// The unit that page numbers count, such as pages or columns.
     Pagination,
-    /// What an editor did.
+    /// The role of an editor.
     Role,
     /// The gender of a name.
     Gender,
 }
 
-// Whether this is a field of people.
+// Returns whether this is a field of people.
 fn is_of_people(name: &str) -> bool
     ensures { result ≡ spec.is_listed_in spec.fields_of_people name.now }
 {
@@ -54,21 +54,21 @@ fn is_of_people(name: &str) -> bool
     )
 }
 
-// Whether this is the field of a date.
+// Returns whether this is a field of a date.
 fn is_of_date(name: &str) -> bool
     ensures { result ≡ spec.is_listed_in spec.dated_fields name.now }
 {
     matches!(name, "date" | "eventdate" | "origdate" | "urldate")
 }
 
-// Whether this is the field of a whole number.
+// Returns whether this is a field of a whole number.
 fn is_of_number(name: &str) -> bool
     ensures { result ≡ spec.is_listed_in spec.number_fields name.now }
 {
     matches!(name, "volume" | "volumes" | "edition")
 }
 
-// Whether this is the field of a list with commas between its texts.
+// Returns whether this is a field of a list with commas between its texts.
 fn is_of_keys(name: &str) -> bool
     ensures { result ≡ spec.is_listed_in spec.comma_fields name.now }
 {
@@ -78,7 +78,7 @@ fn is_of_keys(name: &str) -> bool
     )
 }
 
-// Whether this is the field of a list with `and` between its texts.
+// Returns whether this is a field of a list with `and` between its texts.
 fn is_of_parts(name: &str) -> bool
     ensures { result ≡ spec.is_listed_in spec.and_fields name.now }
 {
@@ -95,14 +95,14 @@ fn is_of_parts(name: &str) -> bool
     )
 }
 
-// Whether this is a field of what page numbers count.
+// Returns whether this is a field of the unit that page numbers count.
 fn is_of_pagination(name: &str) -> bool
     ensures { result ≡ spec.is_listed_in spec.pagination_fields name.now }
 {
     matches!(name, "pagination" | "bookpagination")
 }
 
-// Whether this is a field of what editors did.
+// Returns whether this is a field of the role of an editor.
 fn is_of_role(name: &str) -> bool
     ensures { result ≡ spec.is_listed_in spec.role_fields name.now }
 {
@@ -112,7 +112,7 @@ fn is_of_role(name: &str) -> bool
     )
 }
 
-// What the only field of its type is read as.
+// Returns the type of a field that is the only one of its type.
 fn single_type(name: &str) -> Option<ValueType>
     ensures { result ≡ spec.single_type name.now }
 {
@@ -125,7 +125,7 @@ fn single_type(name: &str) -> Option<ValueType>
     }
 }
 
-/// What a field of this name, in lowercase letters, is read as, if it has a type.
+/// Returns the type of the field with this name, in lowercase, if it has one.
 pub fn value_type(name: &str) -> Option<ValueType>
     ensures { result ≡ spec.value_type name.now }
 {

@@ -1,4 +1,4 @@
-//! What fields are read as, as JSON.
+//! Parses the values of fields by their types, and returns them as JSON.
 
 ghost use Rattle.std.specs.Prelude.{◌≡◌, IfOk};
 ghost use Rattle.std.specs.Option.{option_map};
@@ -24,7 +24,7 @@ use bib_values::ranges::read_ranges;
 use serde_json::Value;
 use std::alloc::{AllocError, Global};
 
-// People.
+// Returns people.
 fn people(alloc: Global, chunks: ChunksRef<'_>) -> Result<Option<Value>, AllocError>
     ensures { IfOk result (λ value. option_map view value ≡ typed_json type.People chunks.now) }
 {
@@ -32,7 +32,7 @@ fn people(alloc: Global, chunks: ChunksRef<'_>) -> Result<Option<Value>, AllocEr
     Ok(Some(people_value(alloc, people.as_slice())?))
 }
 
-// A date.
+// Returns a date, or `None` if it can't be parsed.
 fn date(alloc: Global, chunks: ChunksRef<'_>) -> Result<Option<Value>, AllocError>
     ensures { IfOk result (λ value. option_map view value ≡ typed_json type.Date chunks.now) }
 {
@@ -45,7 +45,7 @@ fn date(alloc: Global, chunks: ChunksRef<'_>) -> Result<Option<Value>, AllocErro
     }
 }
 
-// A whole number.
+// Returns a whole number, or `None` if it can't be parsed.
 fn number(alloc: Global, chunks: ChunksRef<'_>) -> Result<Option<Value>, AllocError>
     ensures { IfOk result (λ value. option_map view value ≡ typed_json type.Number chunks.now) }
 {
@@ -62,7 +62,7 @@ fn pages(alloc: Global, chunks: ChunksRef<'_>) -> Result<Option<Value>, AllocErr
     }
 }
 
-// Texts with commas between them.
+// Returns the texts of a list with commas between them.
 fn keys(alloc: Global, chunks: ChunksRef<'_>) -> Result<Option<Value>, AllocError>
     ensures { IfOk result (λ value. option_map view value ≡ typed_json type.Keys chunks.now) }
 {
@@ -70,7 +70,7 @@ fn keys(alloc: Global, chunks: ChunksRef<'_>) -> Result<Option<Value>, AllocErro
     Ok(Some(texts_value(alloc, texts.as_slice())?))
 }
 
-// Texts with `and` between them.
+// Returns the texts of a list with `and` between them.
 fn parts(alloc: Global, chunks: ChunksRef<'_>) -> Result<Option<Value>, AllocError>
     ensures { IfOk result (λ value. option_map view value ≡ typed_json type.Parts chunks.now) }
 {
@@ -78,7 +78,7 @@ fn parts(alloc: Global, chunks: ChunksRef<'_>) -> Result<Option<Value>, AllocErr
     Ok(Some(parts_value(alloc, parts.as_slice())?))
 }
 
-// Languages with `and` between them.
+// Returns the languages of a list with `and` between them, or the text of a part that names no language.
 fn languages(alloc: Global, chunks: ChunksRef<'_>) -> Result<Option<Value>, AllocError>
     ensures { IfOk result (λ value. option_map view value ≡ typed_json type.Languages chunks.now) }
 {
@@ -86,7 +86,7 @@ fn languages(alloc: Global, chunks: ChunksRef<'_>) -> Result<Option<Value>, Allo
     Ok(Some(languages_value(alloc, parts.as_slice())?))
 }
 
-// A language.
+// Returns a language, or `None` if the text names none.
 fn language(alloc: Global, chunks: ChunksRef<'_>) -> Result<Option<Value>, AllocError>
     ensures { IfOk result (λ value. option_map view value ≡ typed_json type.Language chunks.now) }
 {
@@ -96,7 +96,7 @@ fn language(alloc: Global, chunks: ChunksRef<'_>) -> Result<Option<Value>, Alloc
     }
 }
 
-// What page numbers count.
+// Returns the unit that page numbers count, or `None` for another text.
 fn pagination(alloc: Global, chunks: ChunksRef<'_>) -> Result<Option<Value>, AllocError>
     ensures { IfOk result (λ value. option_map view value ≡ typed_json type.Pagination chunks.now) }
 {
@@ -106,7 +106,7 @@ fn pagination(alloc: Global, chunks: ChunksRef<'_>) -> Result<Option<Value>, All
     }
 }
 
-// What an editor did.
+// Returns the role of an editor.
 fn role(alloc: Global, chunks: ChunksRef<'_>) -> Result<Option<Value>, AllocError>
     ensures { IfOk result (λ value. option_map view value ≡ typed_json type.Role chunks.now) }
 {
@@ -114,7 +114,7 @@ fn role(alloc: Global, chunks: ChunksRef<'_>) -> Result<Option<Value>, AllocErro
     Ok(Some(Value::try_from_str(alloc, role.as_ref())?))
 }
 
-// The gender of a name.
+// Returns the gender of a name, or `None` for another text.
 fn gender(alloc: Global, chunks: ChunksRef<'_>) -> Result<Option<Value>, AllocError>
     ensures { IfOk result (λ value. option_map view value ≡ typed_json type.Gender chunks.now) }
 {
@@ -124,7 +124,7 @@ fn gender(alloc: Global, chunks: ChunksRef<'_>) -> Result<Option<Value>, AllocEr
     }
 }
 
-// What chunks are read as by this type, if they are read as one.
+// Returns the value of chunks by this type, or `None` if they can't be parsed.
 fn typed_value(
     alloc: Global,
     value_type: ValueType,
@@ -147,7 +147,7 @@ fn typed_value(
     }
 }
 
-/// What the chunks of a field of this name are read as, if it has a type and they are read as one.
+/// Returns the value of the chunks of a field with this name, or `None` if the field has no type or they can't be parsed.
 pub(crate) fn field_value(
     alloc: Global,
     name: &str,

@@ -40,7 +40,7 @@ part_text entry (Title case count) = title_in_key case count entry
 part_text entry Year = year_in_key false entry
 part_text entry ShortYear = year_in_key true entry
 
--- whether `c` stays in a key after the character `last`: it is allowed, and no second hyphen
+-- whether `c` stays in a key after the character `last`: it is allowed, and no hyphen after a hyphen
 abbrev pub is_kept : ℕ → ℕ → Bool
 is_kept last c = is_in_keys c && not (last == char.hyphen && c == char.hyphen)
 

@@ -16,20 +16,21 @@ in_case Lower word = map to_ascii_lowercase word
 in_case Capital word = map to_ascii_uppercase (take 1 word) ++ drop 1 word
 in_case Upper word = map to_ascii_uppercase word
 
--- the function words, which don't count as words of a title: articles and small words of English, German, French, Spanish and Italian
+-- the function words, which aren't significant in a title: articles, prepositions and conjunctions of English, German, French, Spanish
+-- and Italian
 abbrev pub function_words : List (List ℕ)
 function_words =
     words (codes "a an and as at au aux but by das de dei del della dem den der des di die du ein eine einem einen einer eines el en et")
     ++ words (codes "for from gli il im in into la las le les lo los nor of on or oder the to un una und une vom von with y zu zum zur")
 
--- whether a word is one of them, in any case
+-- whether a word is a function word, in any ASCII case
 abbrev pub is_function_word : List ℕ → Bool
 is_function_word word = list_any (λ known. str_eq_ignore_ascii_case known word) function_words
 
--- whether a word counts: it isn't empty and no function word
+-- whether a word is significant: it isn't empty and no function word
 abbrev pub is_significant : List ℕ → Bool
 is_significant word = not (length word == 0) && not (is_function_word word)
 
--- the words of a title that count, as plain text
+-- the significant words of a title, as plain text
 abbrev pub significant_words : List ℕ → List (List ℕ)
 significant_words title = filter is_significant (slice_split (λ b. b == char.space) (key_letters title))

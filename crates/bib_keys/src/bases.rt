@@ -26,7 +26,7 @@ fn field_or<'a>(entry: &'a Entry, name: &str, other: &str) -> Option<ChunksRef<'
     }
 }
 
-// Appends the names of the authors.
+// Appends the names of the authors, or those of the editors if there is no field `author`.
 fn push_authors(
     alloc: Global,
     out: &mut String,
@@ -60,7 +60,7 @@ fn push_title(
     push_words(alloc, out, case, &words)
 }
 
-// Appends the digits of the year.
+// Appends the digits of the year, in the field `date`, or in `year` if there is no `date`.
 fn push_year(
     alloc: Global,
     out: &mut String,
@@ -100,7 +100,7 @@ fn joined(alloc: Global, pattern: &[Part], entry: &Entry) -> Result<String, Allo
     Ok(out)
 }
 
-// Returns whether `c` stays in a key after the character `last`: it is allowed, and no second hyphen.
+// Returns whether `c` stays in a key after the character `last`: it is allowed, and no hyphen after a hyphen.
 fn is_kept(last: char, c: char) -> bool
     ensures { result ≡ spec.is_kept last c }
 {

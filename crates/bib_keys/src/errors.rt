@@ -12,7 +12,7 @@ pub enum PatternError {
     /// The character at this offset isn't allowed in a key.
     #[error("a key can't contain the character at byte {0}, only ASCII letters, digits and `+-./:_`")]
     NotInKeys(usize),
-    /// The brace at this offset doesn't begin a placeholder.
+    /// The opening brace at this offset doesn't begin a placeholder.
     #[error("expected `{{author}}`, `{{title}}` or `{{year}}` at byte {0}, or one of them with a number, such as `{{title:3}}`")]
     NoPlaceholder(usize),
     /// Out of memory.

@@ -82,7 +82,7 @@ fn take_key(
     Ok(key)
 }
 
-// Returns the key that a pattern gives for each entry.
+// Returns the key of each entry: the text that the pattern gives, with the first suffix that makes a new key.
 fn keys_of(alloc: Global, pattern: &[Part], entries: &[Entry]) -> Result<Vec<Text>, AllocError>
     ensures { IfOk result (λ keys. AreKeys pattern.now entries.now keys.items) }
 {
@@ -95,7 +95,7 @@ fn keys_of(alloc: Global, pattern: &[Part], entries: &[Entry]) -> Result<Vec<Tex
     Ok(keys)
 }
 
-// Returns the key that a pattern gives for each entry.
+// Returns the key that a pattern gives for each entry. The keys are distinct, and all characters are allowed in keys.
 pub(crate) fn new_keys(
     alloc: Global,
     pattern: &[Part],

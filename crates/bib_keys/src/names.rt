@@ -34,7 +34,7 @@ fn family_names(alloc: Global, people: &[Person]) -> Result<Vec<Text>, AllocErro
     Ok(names)
 }
 
-// Keeps the names that are written in a key.
+// Returns the names that are written in a key: the first name, or `count` names, and `EtAl` if there are more.
 fn shown(alloc: Global, count: Option<u8>, mut names: Vec<Text>) -> Result<Vec<Text>, AllocError>
     ensures { IfOk result (λ shown. shown.items ≡ spec.shown_names count names.items) }
 {

@@ -81,7 +81,7 @@ fn first_part(text: &str) -> Option<(Part, &str)>
     None
 }
 
-// Returns the error at an offset where the text goes on with `rest`, and no part begins.
+// Returns the error for the text `rest` at the byte offset `at`, which begins with no part.
 fn stop_error(at: usize, rest: &str) -> PatternError
     ensures { result ≡ stop_error at rest.now }
 {

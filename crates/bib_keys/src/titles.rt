@@ -1,4 +1,4 @@
-//! The words of titles that count.
+//! The significant words of titles.
 
 ghost use Rattle.std.specs.Prelude.{◌≡◌, IfOk, map, take};
 ghost use Rattle.std.specs.List.{list_any};
@@ -11,7 +11,7 @@ use bib_chunks::chunk::{ChunksRef, format_verbatim};
 use bib_text::text::Text;
 use std::alloc::{AllocError, Global};
 
-// Articles and small words of English, German, French, Spanish and Italian.
+// Articles, prepositions and conjunctions of English, German, French, Spanish and Italian.
 static FUNCTION_WORDS: [&str; 61] = [
     "a", "an", "and", "as", "at", "au", "aux", "but", "by", "das", "de", "dei", "del", "della",
     "dem", "den", "der", "des", "di", "die", "du", "ein", "eine", "einem", "einen", "einer",
@@ -27,21 +27,21 @@ fn is_among(words: &[&'static str], word: &str) -> bool
     words.iter().any(|known| known.eq_ignore_ascii_case(word))
 }
 
-// Returns whether a word is a function word, in any case.
+// Returns whether a word is a function word, in any ASCII case.
 fn is_function_word(word: &str) -> bool
     ensures { result ≡ spec.is_function_word word.now }
 {
     is_among(&FUNCTION_WORDS, word)
 }
 
-// Returns whether a word counts: it isn't empty and no function word.
+// Returns whether a word is significant: it isn't empty and no function word.
 fn is_significant(word: &str) -> bool
     ensures { result ≡ spec.is_significant word.now }
 {
     !word.is_empty() && !is_function_word(word)
 }
 
-// Returns the first `count` words of a title that count, as plain text.
+// Returns the first `count` significant words of a title, as plain text.
 pub(crate) fn first_words(
     alloc: Global,
     count: usize,

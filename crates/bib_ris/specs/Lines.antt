@@ -6,7 +6,7 @@ use Rattle.std.specs.Str.{chars}
 use Rattle.bib_chunks.specs.Formatted.{is_break}
 use Rattle.bib_text.specs.Characters as char
 
--- a character on one line: a space in place of one that breaks the line
+-- a character, or a space for a line feed or a carriage return
 abbrev pub on_line : ℕ → ℕ
 on_line c = if is_break c then char.space else c
 
@@ -14,15 +14,15 @@ on_line c = if is_break c then char.space else c
 abbrev pub one_line : List ℕ → List ℕ
 one_line text = encode_utf8_all (map on_line (chars text))
 
--- a line of this tag with a text
+-- a line with this tag and a text
 abbrev pub ris_line : List ℕ → List ℕ → List ℕ
 ris_line tag text = tag ++ (codes "  - " ++ (one_line text ++ codes "\n"))
 
--- a line of this tag for each text
+-- a line with this tag for each text
 abbrev pub ris_lines : List ℕ → List (List ℕ) → List ℕ
 ris_lines tag texts = flat_map (ris_line tag) texts
 
--- a line of this tag, if there is a text
+-- a line with this tag, if there is a text
 abbrev pub line_if_given : List ℕ → Option (List ℕ) → List ℕ
 line_if_given tag None = []
 line_if_given tag (Some text) = ris_line tag text

@@ -20,16 +20,16 @@ use Rattle.bib_values.specs.Ranges.{range_read}
 use Rattle.bib_ris.specs.Lines.{ris_line, ris_lines, line_if_given}
 use Rattle.bib_ris.specs.Types.{ris_type}
 
--- the chunks of a field, if it is there
+-- the chunks of a field, if the entry has it
 abbrev pub entry_field : Entry → List ℕ → Option Value
 entry_field entry name = by_name.get entry.fields name
 
--- the chunks of the first of these fields that is there
+-- the chunks of the first of these fields that the entry has
 abbrev pub first_field : Entry → List (List ℕ) → Option Value
 first_field entry [] = None
 first_field entry (name ∷ names) = option_or (entry_field entry name) (first_field entry names)
 
--- a line with the text of the first of these fields that is there
+-- a line with the text of the first of these fields that the entry has
 abbrev pub ris_field : Entry → List ℕ → List (List ℕ) → List ℕ
 ris_field entry tag names = line_if_given tag (option_map text (first_field entry names))
 
@@ -39,15 +39,15 @@ ris_field entry tag names = line_if_given tag (option_map text (first_field entr
 abbrev pub family_name : Person → List ℕ
 family_name p = if length p.prefix == 0 then p.name else p.prefix ++ (codes " " ++ p.name)
 
--- a given name after the family name; the comma stands there for a suffix too
+-- a comma and the given name, unless the person has neither a given name nor a suffix
 abbrev pub given_part : Person → List ℕ
 given_part p = if (length p.given_name == 0) && (length p.suffix == 0) then [] else codes ", " ++ p.given_name
 
--- a suffix after these
+-- a comma and the suffix, if there is one
 abbrev pub suffix_part : Person → List ℕ
 suffix_part p = if length p.suffix == 0 then [] else codes ", " ++ p.suffix
 
--- a person
+-- the name of a person
 abbrev pub person_text : Person → List ℕ
 person_text p = family_name p ++ (given_part p ++ suffix_part p)
 
@@ -64,17 +64,17 @@ names_part entry =
 
 -- ---- titles
 
--- a title, with the subtitle after it
+-- a title, with its subtitle if there is one
 abbrev pub whole_title : Value → Option Value → List ℕ
 whole_title title None = text title
 whole_title title (Some subtitle) = text title ++ (codes ": " ++ text subtitle)
 
--- the same, if there is a title
+-- the title with its subtitle, if there is a title
 abbrev pub title_given : Option Value → Option Value → Option (List ℕ)
 title_given None subtitle = None
 title_given (Some title) subtitle = Some (whole_title title subtitle)
 
--- the title, that of the journal or of the book, and that of the series
+-- the title, the title of the journal or the book, and the title of the series
 abbrev pub titles_part : Entry → List ℕ
 titles_part entry =
     line_if_given (codes "TI") (title_given (entry_field entry (codes "title")) (entry_field entry (codes "subtitle")))
@@ -83,7 +83,7 @@ titles_part entry =
 
 -- ---- dates
 
--- the date that a year, a month and a day are read as, if there is a year
+-- the date that a year, a month and a day are parsed as; `None` if there is no year or they can't be parsed
 abbrev pub three_fields_read : Option Value → Option Value → Option Value → Option Date
 three_fields_read None month day = None
 three_fields_read (Some year) month day = readable_value (three_fields_reading year month day)
@@ -93,21 +93,21 @@ abbrev pub date_or_three : Option Value → Option Date → Option Date
 date_or_three None three = three
 date_or_three (Some chunks) three = date_read chunks
 
--- the date of an entry, if it has one that can be read
+-- the date of an entry; `None` if it has none or the date can't be parsed
 abbrev pub entry_date : Entry → Option Date
 entry_date entry =
     date_or_three (entry_field entry (codes "date"))
     (three_fields_read (entry_field entry (codes "year")) (entry_field entry (codes "month"))
     (entry_field entry (codes "day")))
 
--- one date, or the end of a range that is known first
+-- the only date, or the start of a range, or its end if it has no start
 abbrev pub first_date : DateValue → Datetime
 first_date (At d) = d
 first_date (After d) = d
 first_date (Before d) = d
 first_date (Between d e) = d
 
--- a month or a day, counted from 1, in two digits; nothing where it isn't known
+-- a month or a day, counted from 1, in two digits, or nothing if it is unknown
 abbrev pub two_digits : Option ℕ → List ℕ
 two_digits None = []
 two_digits (Some index) = if nat_lt index 9 then codes "0" ++ decimal (index + 1) else decimal (index + 1)
@@ -123,19 +123,19 @@ day_line year (Some month) day =
 abbrev pub datetime_lines : Datetime → List ℕ
 datetime_lines d = ris_line (codes "PY") (signed_decimal d.year) ++ day_line d.year d.month d.day
 
--- the same, if there is a date
+-- the lines of a date, if there is one
 abbrev pub ris_date : Option Date → List ℕ
 ris_date None = []
 ris_date (Some d) = datetime_lines (first_date d.value)
 
 -- ---- numbers
 
--- the first and the last page of a range, or the text that is no range
+-- the first and the last page of a range, or the text if it is no range
 abbrev pub range_lines : Value → Option (Range ℕ) → List ℕ
 range_lines chunks None = ris_line (codes "SP") (text chunks)
 range_lines chunks (Some range) = ris_line (codes "SP") (decimal range.start) ++ ris_line (codes "EP") (decimal range.end)
 
--- the first range of pages
+-- the first range of pages, or the text if that is no range
 abbrev pub pages_lines : Option Value → List ℕ
 pages_lines None = []
 pages_lines (Some chunks) = range_lines chunks (range_read chunks)
@@ -156,7 +156,7 @@ publisher_part entry =
     ris_field entry (codes "PB") (codes "publisher" ∷ codes "institution" ∷ codes "school" ∷ codes "organization" ∷ [])
     ++ ris_field entry (codes "CY") (codes "location" ∷ codes "address" ∷ [])
 
--- standard numbers and addresses
+-- the ISBN or ISSN, the DOI and the URL
 abbrev pub links_part : Entry → List ℕ
 links_part entry =
     ris_field entry (codes "SN") (codes "isbn" ∷ codes "issn" ∷ [])
@@ -187,11 +187,11 @@ type_part entry = ris_line (codes "TY") (ris_type entry.entry_type (entry_field 
 abbrev pub end_part : Entry → List ℕ
 end_part entry = ris_line (codes "ID") entry.key ++ codes "ER  - \n\n"
 
--- what a record says of who wrote what, and when
+-- the type, the names, the titles and the date
 abbrev pub work_part : Entry → List ℕ
 work_part entry = type_part entry ++ (names_part entry ++ (titles_part entry ++ ris_date (entry_date entry)))
 
--- where it is published, and what else is known of it
+-- the numbers, the publisher, the identifiers and the contents
 abbrev pub publication_part : Entry → List ℕ
 publication_part entry = numbers_part entry ++ (publisher_part entry ++ (links_part entry ++ contents_part entry))
 

@@ -13,7 +13,7 @@ periodical_type subtype =
     else if str_eq_ignore_ascii_case subtype (codes "newspaper") then codes "NEWS"
     else codes "JOUR"
 
--- the same, where that field may be missing
+-- the type of an article, by its field `entrysubtype`, if it has this field
 abbrev pub article_type : Option Value → List ℕ
 article_type None = codes "JOUR"
 article_type (Some subtype) = periodical_type (text subtype)

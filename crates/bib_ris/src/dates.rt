@@ -12,7 +12,7 @@ use bib_dates::date::{Date, DateValue, Datetime};
 use bib_entry::entry::Entry;
 use std::alloc::{AllocError, Global};
 
-// The date that chunks are read as.
+// Returns the date that chunks are parsed as, or `None` if they can't be parsed.
 fn read_date(alloc: Global, chunks: ChunksRef<'_>) -> Result<Option<Date>, AllocError>
     ensures { IfOk result (λ date. date ≡ date_read chunks.now) }
 {
@@ -25,7 +25,7 @@ fn read_date(alloc: Global, chunks: ChunksRef<'_>) -> Result<Option<Date>, Alloc
     }
 }
 
-// The date that a year, a month and a day are read as, if there is a year.
+// Returns the date that a year, a month and a day are parsed as, or `None` if there is no year or they can't be parsed.
 fn read_three_fields(
     alloc: Global,
     year: Option<ChunksRef<'_>>,
@@ -47,7 +47,7 @@ fn read_three_fields(
     }
 }
 
-// The date of an entry, if it has one that can be read.
+// Returns the date of an entry, or `None` if it has none or the date can't be parsed.
 fn date_of(alloc: Global, entry: &Entry) -> Result<Option<Date>, AllocError>
     ensures { IfOk result (λ date. date ≡ spec.entry_date entry.now) }
 {
@@ -62,7 +62,7 @@ fn date_of(alloc: Global, entry: &Entry) -> Result<Option<Date>, AllocError>
     }
 }
 
-// One date, or the end of a range that is known first.
+// Returns the only date, or the start of a range, or its end if it has no start.
 fn first_date(value: DateValue) -> Datetime
     ensures { result ≡ spec.first_date value }
 {
@@ -74,7 +74,7 @@ fn first_date(value: DateValue) -> Datetime
     }
 }
 
-// A month or a day, counted from 1, in two digits; nothing where it isn't known.
+// Returns a month or a day, counted from 1, in two digits, or an empty text if it is unknown.
 fn two_digits(alloc: Global, index: Option<u8>) -> Result<String, AllocError>
     ensures { IfOk result (λ text. string_bytes text ≡ spec.two_digits index) }
 {
@@ -85,7 +85,7 @@ fn two_digits(alloc: Global, index: Option<u8>) -> Result<String, AllocError>
     }
 }
 
-// Writes year, month and day with a slash after each, if the month is known.
+// Appends a line with the year, the month and the day, with a slash after each, if the month is known.
 fn push_day(out: &mut String, alloc: Global, date: Datetime) -> Result<(), AllocError>
     ensures { OnOk result (string_bytes out.new ≡ string_bytes out.old ++ spec.day_line date.year date.month date.day) }
 {
@@ -98,7 +98,7 @@ fn push_day(out: &mut String, alloc: Global, date: Datetime) -> Result<(), Alloc
     push_line(out, "DA", text.as_str())
 }
 
-// Writes the lines of a date.
+// Appends the lines of a date.
 fn push_datetime(out: &mut String, alloc: Global, date: Datetime) -> Result<(), AllocError>
     ensures { OnOk result (string_bytes out.new ≡ string_bytes out.old ++ spec.datetime_lines date) }
 {
@@ -107,7 +107,7 @@ fn push_datetime(out: &mut String, alloc: Global, date: Datetime) -> Result<(), 
     push_day(out, alloc, date)
 }
 
-/// Writes the lines of the date of an entry, if it has one that can be read.
+/// Appends the lines of the date of an entry, if the entry has a date that can be parsed.
 pub(crate) fn push_date(out: &mut String, alloc: Global, entry: &Entry) -> Result<(), AllocError>
     ensures { OnOk result (string_bytes out.new ≡ string_bytes out.old ++ spec.ris_date (spec.entry_date entry.now)) }
 {

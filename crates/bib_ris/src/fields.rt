@@ -10,7 +10,7 @@ use bib_chunks::chunk::{ChunksRef, format_verbatim};
 use bib_entry::entry::Entry;
 use std::alloc::{AllocError, Global};
 
-// The chunks of the first of these fields that is there.
+// Returns the chunks of the first of these fields that the entry has.
 fn first_field<'e>(entry: &'e Entry, names: &[&str]) -> Option<ChunksRef<'e>>
     ensures { option_copied result ≡ spec.first_field entry.now (map (λ n. n.now) names.now) }
 {
@@ -22,7 +22,7 @@ fn first_field<'e>(entry: &'e Entry, names: &[&str]) -> Option<ChunksRef<'e>>
     None
 }
 
-/// Writes a line with the text of the first of these fields that is there.
+/// Appends a line with the text of the first of these fields that the entry has.
 pub(crate) fn push_field(
     out: &mut String,
     alloc: Global,

@@ -1,7 +1,7 @@
 //! Entries as RIS records, which reference managers import.
 //!
-//! A record is written line by line at the end of a text: `lines` writes a line, `fields` the line of a field, `people`, `dates`
-//! and `pages` the lines of their fields, and `records` the parts of a record one after another.
+//! A record is appended to a text line by line: `lines` writes a line, `fields` the line of a field, `people`, `dates`, `pages` and
+//! `titles` the lines of their fields, and `records` the parts of a record one after another. `types` returns the type of a record.
 #![tactic(auto)]
 
 mod dates;

@@ -6,14 +6,14 @@ ghost use Rattle.bib_ris.specs.Lines as spec;
 
 use std::alloc::AllocError;
 
-// A character on one line: a space in place of one that breaks the line.
+// Returns a character, or a space for a line feed or a carriage return.
 fn unbroken(c: char) -> char
     ensures { result ≡ spec.on_line c }
 {
     if c == '\n' || c == '\r' { ' ' } else { c }
 }
 
-// Writes a text on one line.
+// Appends a text, with a space for each line feed and carriage return.
 fn push_one_line(out: &mut String, text: &str) -> Result<(), AllocError>
     ensures { OnOk result (string_bytes out.new ≡ string_bytes out.old ++ spec.one_line text.now) }
 {
@@ -23,7 +23,7 @@ fn push_one_line(out: &mut String, text: &str) -> Result<(), AllocError>
     Ok(())
 }
 
-/// Writes a line of this tag with a text.
+/// Appends a line with this tag and a text.
 pub(crate) fn push_line(out: &mut String, tag: &str, text: &str) -> Result<(), AllocError>
     ensures { OnOk result (string_bytes out.new ≡ string_bytes out.old ++ spec.ris_line tag.now text.now) }
 {
@@ -33,7 +33,7 @@ pub(crate) fn push_line(out: &mut String, tag: &str, text: &str) -> Result<(), A
     out.push('\n')
 }
 
-/// Writes a line of this tag for each text.
+/// Appends a line with this tag for each text.
 pub(crate) fn push_lines(out: &mut String, tag: &str, texts: &[String]) -> Result<(), AllocError>
     ensures { OnOk result (string_bytes out.new ≡ string_bytes out.old ++
         spec.ris_lines tag.now (map (λ t. string_bytes t) texts.now)) }

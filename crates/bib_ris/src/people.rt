@@ -11,7 +11,7 @@ use bib_people::people::read_people;
 use bib_people::person::Person;
 use std::alloc::{AllocError, Global};
 
-// Writes a family name after its prefix.
+// Appends the prefix and the family name.
 fn push_family_name(out: &mut String, person: &Person) -> Result<(), AllocError>
     ensures { OnOk result (string_bytes out.new ≡ string_bytes out.old ++ spec.family_name person.now) }
 {
@@ -22,7 +22,7 @@ fn push_family_name(out: &mut String, person: &Person) -> Result<(), AllocError>
     out.push_str(person.name.as_str())
 }
 
-// Writes a given name after the family name; the comma stands there for a suffix too.
+// Appends a comma and the given name, unless the person has neither a given name nor a suffix.
 fn push_given_part(out: &mut String, person: &Person) -> Result<(), AllocError>
     ensures { OnOk result (string_bytes out.new ≡ string_bytes out.old ++ spec.given_part person.now) }
 {
@@ -33,7 +33,7 @@ fn push_given_part(out: &mut String, person: &Person) -> Result<(), AllocError>
     out.push_str(person.given_name.as_str())
 }
 
-// Writes a suffix after these.
+// Appends a comma and the suffix, if there is one.
 fn push_suffix_part(out: &mut String, person: &Person) -> Result<(), AllocError>
     ensures { OnOk result (string_bytes out.new ≡ string_bytes out.old ++ spec.suffix_part person.now) }
 {
@@ -44,7 +44,7 @@ fn push_suffix_part(out: &mut String, person: &Person) -> Result<(), AllocError>
     out.push_str(person.suffix.as_str())
 }
 
-// A person.
+// Returns the name of a person.
 fn person_text(alloc: Global, person: &Person) -> Result<String, AllocError>
     ensures { IfOk result (λ text. string_bytes text ≡ spec.person_text person.now) }
 {
@@ -55,7 +55,7 @@ fn person_text(alloc: Global, person: &Person) -> Result<String, AllocError>
     Ok(text)
 }
 
-// Writes a line for each person.
+// Appends a line for each person.
 fn push_people(
     out: &mut String,
     alloc: Global,
@@ -71,7 +71,7 @@ fn push_people(
     Ok(())
 }
 
-/// Writes a line for each person of a field.
+/// Appends a line for each person of a field.
 pub(crate) fn push_people_of(
     out: &mut String,
     alloc: Global,

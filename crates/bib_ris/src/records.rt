@@ -15,7 +15,7 @@ use bib_entry::entry::Entry;
 use bib_values::lists::read_strings;
 use std::alloc::{AllocError, Global};
 
-// Writes the type.
+// Appends the line of the type.
 fn push_type(out: &mut String, alloc: Global, entry: &Entry) -> Result<(), AllocError>
     ensures { OnOk result (string_bytes out.new ≡ string_bytes out.old ++ spec.type_part entry.now) }
 {
@@ -23,7 +23,7 @@ fn push_type(out: &mut String, alloc: Global, entry: &Entry) -> Result<(), Alloc
     push_line(out, "TY", name)
 }
 
-// Writes the authors, and then the editors.
+// Appends the lines of the authors, and then those of the editors.
 fn push_names(out: &mut String, alloc: Global, entry: &Entry) -> Result<(), AllocError>
     ensures { OnOk result (string_bytes out.new ≡ string_bytes out.old ++ spec.names_part entry.now) }
 {
@@ -31,7 +31,7 @@ fn push_names(out: &mut String, alloc: Global, entry: &Entry) -> Result<(), Allo
     push_people_of(out, alloc, entry, "ED", "editor")
 }
 
-// Writes the title, that of the journal or of the book, and that of the series.
+// Appends the lines of the title, the title of the journal or the book, and the title of the series.
 fn push_titles(out: &mut String, alloc: Global, entry: &Entry) -> Result<(), AllocError>
     ensures { OnOk result (string_bytes out.new ≡ string_bytes out.old ++ spec.titles_part entry.now) }
 {
@@ -46,7 +46,7 @@ fn push_titles(out: &mut String, alloc: Global, entry: &Entry) -> Result<(), All
     push_field(out, alloc, entry, "T3", &["series"])
 }
 
-// Writes volume, number, edition and pages.
+// Appends the lines of the volume, the number, the edition and the pages.
 fn push_numbers(out: &mut String, alloc: Global, entry: &Entry) -> Result<(), AllocError>
     ensures { OnOk result (string_bytes out.new ≡ string_bytes out.old ++ spec.numbers_part entry.now) }
 {
@@ -56,7 +56,7 @@ fn push_numbers(out: &mut String, alloc: Global, entry: &Entry) -> Result<(), Al
     push_pages(out, alloc, entry)
 }
 
-// Writes publisher and place.
+// Appends the lines of the publisher and its place.
 fn push_publisher(out: &mut String, alloc: Global, entry: &Entry) -> Result<(), AllocError>
     ensures { OnOk result (string_bytes out.new ≡ string_bytes out.old ++ spec.publisher_part entry.now) }
 {
@@ -70,7 +70,7 @@ fn push_publisher(out: &mut String, alloc: Global, entry: &Entry) -> Result<(), 
     push_field(out, alloc, entry, "CY", &["location", "address"])
 }
 
-// Writes standard numbers and addresses.
+// Appends the lines of the ISBN or ISSN, the DOI and the URL.
 fn push_links(out: &mut String, alloc: Global, entry: &Entry) -> Result<(), AllocError>
     ensures { OnOk result (string_bytes out.new ≡ string_bytes out.old ++ spec.links_part entry.now) }
 {
@@ -79,7 +79,7 @@ fn push_links(out: &mut String, alloc: Global, entry: &Entry) -> Result<(), Allo
     push_field(out, alloc, entry, "UR", &["url"])
 }
 
-// Writes a line for each keyword.
+// Appends a line for each keyword.
 fn push_keywords(out: &mut String, alloc: Global, entry: &Entry) -> Result<(), AllocError>
     ensures { OnOk result (string_bytes out.new ≡ string_bytes out.old ++
         spec.keyword_lines (spec.entry_field entry.now (codes "keywords"))) }
@@ -91,7 +91,7 @@ fn push_keywords(out: &mut String, alloc: Global, entry: &Entry) -> Result<(), A
     push_lines(out, "KW", keywords.as_slice())
 }
 
-// Writes abstract, note, keywords and language.
+// Appends the lines of the abstract, the note, the keywords and the language.
 fn push_contents(out: &mut String, alloc: Global, entry: &Entry) -> Result<(), AllocError>
     ensures { OnOk result (string_bytes out.new ≡ string_bytes out.old ++ spec.contents_part entry.now) }
 {
@@ -101,7 +101,7 @@ fn push_contents(out: &mut String, alloc: Global, entry: &Entry) -> Result<(), A
     push_field(out, alloc, entry, "LA", &["language"])
 }
 
-// Writes what a record says of who wrote what, and when.
+// Appends the lines of the type, the names, the titles and the date.
 fn push_work(out: &mut String, alloc: Global, entry: &Entry) -> Result<(), AllocError>
     ensures { OnOk result (string_bytes out.new ≡ string_bytes out.old ++ spec.work_part entry.now) }
 {
@@ -111,7 +111,7 @@ fn push_work(out: &mut String, alloc: Global, entry: &Entry) -> Result<(), Alloc
     push_date(out, alloc, entry)
 }
 
-// Writes where it is published, and what else is known of it.
+// Appends the lines of the numbers, the publisher, the identifiers and the contents.
 fn push_publication(out: &mut String, alloc: Global, entry: &Entry) -> Result<(), AllocError>
     ensures { OnOk result (string_bytes out.new ≡ string_bytes out.old ++ spec.publication_part entry.now) }
 {
@@ -121,7 +121,7 @@ fn push_publication(out: &mut String, alloc: Global, entry: &Entry) -> Result<()
     push_contents(out, alloc, entry)
 }
 
-// Writes the key, and the end of the record with an empty line after it.
+// Appends the line of the key, and the end of the record with an empty line after it.
 fn push_end(out: &mut String, entry: &Entry) -> Result<(), AllocError>
     ensures { OnOk result (string_bytes out.new ≡ string_bytes out.old ++ spec.end_part entry.now) }
 {
@@ -129,8 +129,8 @@ fn push_end(out: &mut String, entry: &Entry) -> Result<(), AllocError>
     out.push_str("ER  - \n\n")
 }
 
-/// The record of an entry, with an empty line after it. Each line is a tag, two spaces, a hyphen and a space, and a text on one line, and
-/// ends with a line feed.
+/// Returns the record of an entry, with an empty line after it. Each line is a tag, two spaces, a hyphen, a space, and a text on one line,
+/// and ends with a line feed. The only error is out of memory.
 pub fn record_text(alloc: Global, entry: &Entry) -> Result<String, AllocError>
     ensures { IfOk result (λ text. string_bytes text ≡ spec.ris_of entry.now) }
 {

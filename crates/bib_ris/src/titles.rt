@@ -11,7 +11,7 @@ use bib_chunks::chunk::{ChunksRef, format_verbatim};
 use bib_entry::entry::Entry;
 use std::alloc::{AllocError, Global};
 
-// A title, with the subtitle after it.
+// Returns a title, with its subtitle if there is one.
 fn whole_title(
     alloc: Global,
     title: ChunksRef<'_>,
@@ -28,7 +28,7 @@ fn whole_title(
     format!(in alloc; "{}: {}", title.as_str(), subtitle.as_str())
 }
 
-/// Writes the line of the title with the subtitle, if there is a title.
+/// Appends the line of the title with its subtitle, if there is a title.
 pub(crate) fn push_title(out: &mut String, alloc: Global, entry: &Entry) -> Result<(), AllocError>
     ensures { OnOk result (string_bytes out.new ≡ string_bytes out.old ++ line_if_given (codes "TI")
         (spec.title_given (spec.entry_field entry.now (codes "title")) (spec.entry_field entry.now (codes "subtitle")))) }

@@ -8,7 +8,7 @@ use bib_chunks::chunk::{ChunksRef, format_verbatim};
 use bib_tables::mechanics::EntryType;
 use std::alloc::{AllocError, Global};
 
-// The type of an article, by the text of its `entrysubtype`.
+// Returns the type of an article, by the text of its `entrysubtype`.
 fn periodical_type(subtype: &str) -> &'static str
     ensures { result.now ≡ spec.periodical_type subtype.now }
 {
@@ -21,7 +21,7 @@ fn periodical_type(subtype: &str) -> &'static str
     }
 }
 
-// The type of an article, where that field may be missing.
+// Returns the type of an article, by its field `entrysubtype`, if it has this field.
 fn article_type(alloc: Global, subtype: Option<ChunksRef<'_>>) -> Result<&'static str, AllocError>
     ensures { IfOk result (λ name. name.now ≡ spec.article_type (option_copied subtype.entry)) }
 {
@@ -34,7 +34,7 @@ fn article_type(alloc: Global, subtype: Option<ChunksRef<'_>>) -> Result<&'stati
     }
 }
 
-/// The type of a record, by the type of its entry and the chunks of its `entrysubtype`.
+/// Returns the type of a record, by the entry type and the chunks of the field `entrysubtype`. The only error is out of memory.
 pub fn ris_type(
     alloc: Global,
     entry_type: &EntryType,

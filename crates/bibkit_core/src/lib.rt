@@ -5,9 +5,9 @@
 //! `counting` prints counts, and `comparing` prints findings and checks the citations of a document with `cited`. `run` reads the
 //! files in turn and prints those texts.
 //!
-//! `selection` selects findings by their codes, and `conditions` by the conditions that entries meet. `lint` prints the selected ones, each as a line (`lines`), as a line in colours
-//! (`frames`) or as a JSON object (`objects`), and counts them (`tally`). `tables` prints counts. `messages` prints messages and
-//! progress.
+//! `selection` selects findings by their codes, and `conditions` by the conditions that entries meet. `decoding` decodes a file. `lint`
+//! prints the selected findings, each as a line (`lines`), as a line in colours (`frames`) or as a JSON object (`objects`), and counts
+//! them (`tally`). `tables` prints counts. `messages` prints messages and progress.
 //!
 //! `folder` specifies each call on the files of a folder, and the contents that a crash may leave. `replacing` replaces the text
 //! of a file as a whole: it writes a new file beside the old one, and renames it. `laws` proves that the contracts of `folder`,

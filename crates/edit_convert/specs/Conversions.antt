@@ -30,7 +30,7 @@ other_type dialect kind =
     if is_unnamed_type kind || bytes_eq (entry_type_name (kind_in dialect kind)) (entry_type_name kind) then None
     else Some (entry_type_name (kind_in dialect kind))
 
--- the names of fields that a dialect calls otherwise in entries of a type, each with the dialect's name
+-- the fields that have another name in a dialect in entries of a type, each with the dialect's name
 abbrev pub other_names : Dialect → EntryType → List (List ℕ × List ℕ)
 other_names Biblatex kind = biblatex_names
 other_names Bibtex kind = names_in kind
@@ -115,7 +115,7 @@ abbrev pub keep_comments : List ℕ → List FieldReading → Bool
 keep_comments text [] = true
 keep_comments text (f ∷ fs) = keeps_comments text f fs && keep_comments text fs
 
--- the text of a field that is there, if its value is one literal
+-- the text of a field, if there is one and its value is one literal
 abbrev pub literal_of : Option FieldReading → Option (List ℕ)
 literal_of None = None
 literal_of (Some f) = single_text f.value.pieces
@@ -237,7 +237,7 @@ abbrev pub with_missing_type : Option (List ℕ) → List FieldChange → List F
 with_missing_type None changes = changes
 with_missing_type (Some value) changes = with_field_before_kept (type_field value) changes
 
--- whether a field is kept
+-- whether at least one field is kept
 abbrev pub keeps_one : (FieldReading → Option Replacement) → List FieldReading → Bool
 keeps_one replacement fields = list_any (λ f. not (is_some (replacement f))) fields
 
@@ -263,6 +263,6 @@ conversion dialect defines text e =
 abbrev pub document_conversion : Dialect → Document → EntryReading → EntryChange
 document_conversion dialect d = conversion dialect (defines_month d.says.abbreviations) d.text
 
--- a text is a document's, converted to a dialect, and reads so
+-- a text is a document's, converted to a dialect, and parses so
 abbrev pub IsConverted : Dialect → Document → List ℕ → Type 0
 IsConverted dialect d text = IsChanged (document_conversion dialect d) d text

@@ -1,6 +1,5 @@
 -- Meaning: words of public contracts.
--- A year, a month and perhaps a day joined to the text of one date, as BibLaTeX has it: the date that the library reads from the three
--- fields.
+-- A year, a month and perhaps a day joined to the text of one date, as in BibLaTeX: the date that the three fields are parsed as.
 use Rattle.std.specs.Prelude.{ℕ, Bool, true, ◌&&◌, ◌||◌, if◌then◌else◌, List, [], ◌∷◌, is_some, not, Option, Some, None}
 use Rattle.std.specs.Char.{is_ascii_alphabetic}
 use Rattle.std.specs.List.{list_all}
@@ -27,14 +26,14 @@ abbrev pub is_day_alone : Option (List ℕ) → Bool
 is_day_alone None = true
 is_day_alone (Some text) = is_short_number text
 
--- the text of a date with a month, if it reads as a date
+-- the text of the first side of a date, if it has a month and the text parses as a date
 abbrev pub month_date_text : Option Date → Option (List ℕ)
 month_date_text None = None
 month_date_text (Some d) =
     if is_some (first_side d.value).month && is_some (readable_value (date_of (datetime_text (first_side d.value))))
     then Some (datetime_text (first_side d.value)) else None
 
--- the text of the date that a year in four digits, a month and perhaps a day read as
+-- the text of the date that a year in four digits, a month and perhaps a day are parsed as, if they are a date
 abbrev pub joined_text : List ℕ → List ℕ → Option (List ℕ) → Option (List ℕ)
 joined_text year month day =
     if are_digits 4 year && (is_month_alone month && is_day_alone day)
@@ -44,7 +43,7 @@ joined_text year month day =
 abbrev pub is_month_name : List ℕ → Bool
 is_month_name name = is_some (month_of_abbreviation name)
 
--- the text of a month: one literal, or the name of one abbreviation of a month, if the file doesn't define it
+-- the text of a month: one literal, or the abbreviation of a month if the file defines no such abbreviation
 abbrev pub month_value : Bool → List Piece → Option (List ℕ)
 month_value defines [] = None
 month_value defines (literal p ∷ []) = Some p.text

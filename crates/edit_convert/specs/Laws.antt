@@ -22,7 +22,7 @@ PartsStayApart =
     (dialect : Dialect) (e : EntryReading) (f : FieldReading) (sides : Sides) → date_to_divide dialect e f ≡ Some sides
     → list_any (is_field_there e.fields) part_names ≡ false
 
--- the text of a date reads as the date of the year, the month and perhaps the day among some fields
+-- the text of a date is parsed as the date of the year, the month and perhaps the day among some fields
 pub record IsDateOfParts (defines : Bool) (fields : List FieldReading) (date : List ℕ) : Type 0 where
   pub year : List ℕ
   pub month : List ℕ
@@ -30,7 +30,7 @@ pub record IsDateOfParts (defines : Bool) (fields : List FieldReading) (date : L
   pub month_is : month_of defines (find (has_name (codes "month")) fields) ≡ Some month
   pub same : date_of date ≡ three_fields_of year (Some month) (literal_of (find (has_name (codes "day")) fields))
 
--- the date that replaces its parts reads as the date of these parts
+-- the date that replaces its parts is parsed as the date of these parts
 abbrev pub JoinedIsTheSame : Type 0
 JoinedIsTheSame =
     (dialect : Dialect) (defines : Bool) (text : List ℕ) (e : EntryReading) (date : List ℕ)

@@ -287,7 +287,7 @@ fn push_field_edits(
     Ok(())
 }
 
-// Returns whether a field is kept.
+// Returns whether at least one of these fields is kept.
 fn keeps_one(alloc: Global, changes: &Changes, fields: &[Pair<'_>]) -> Result<bool, AllocError>
     ensures { IfOk result (λ stays. stays ≡ spec.keeps_one (replacement_by changes.now) (map field_of fields.now)) }
 {
@@ -362,8 +362,8 @@ fn edits(
 /// Returns the text of a document with its entry types and fields converted to those of `dialect`. Every other byte is kept: other values,
 /// comments, and the text between entries.
 ///
-/// **Types.** The name of a type that the dialect calls otherwise is replaced, in any ASCII case. A type that neither BibTeX nor BibLaTeX
-/// has is kept.
+/// **Types.** The name of a type that has another name in the dialect is replaced, in any ASCII case. A type that neither BibTeX nor
+/// BibLaTeX has is kept.
 ///
 /// For BibLaTeX a Master's thesis, a PhD thesis and a technical report without a field `type` get `type = {mathesis}`, `{phdthesis}` or
 /// `{techreport}`, as Biber reads them, before the first field that is kept. If no field is kept, the name of the type is kept too.
@@ -383,9 +383,9 @@ fn edits(
 ///
 /// For BibLaTeX `year` and `month`, and `day` if there is one, are joined to one `date`: the last of them is replaced by the date, and
 /// the others are removed. This is done if all of the following hold. The entry has one of each and no other date. The year is one
-/// literal of four digits. The month is one abbreviation that the file doesn't define, or one literal that is the English name of a
-/// month, its first three letters or its number. The day, if there is one, is one literal of one or two digits. No comment would be
-/// removed.
+/// literal of four digits. The month is the abbreviation of a month, and the file defines no such abbreviation, or the month is one
+/// literal that is the English name of a month, its first three letters or its number. The day, if there is one, is one literal of one or
+/// two digits. The parts are a date that exists. No comment would be removed.
 ///
 /// # Errors
 ///

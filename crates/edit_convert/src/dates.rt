@@ -179,7 +179,7 @@ fn sides_of<'t>(alloc: Global, texts: &[&'t str]) -> Result<Option<Sides<'t>>, A
     }
 }
 
-// Returns whether a text reads as a date or a range.
+// Returns whether a text parses as a date or a range.
 pub(crate) fn is_date(alloc: Global, text: &str) -> Result<bool, AllocError>
     ensures { IfOk result (λ is. is ≡ is_some (readable_value (date_of text.now))) }
 {

@@ -1,4 +1,4 @@
-//! The parts of a date joined to one field, as BibLaTeX has it.
+//! Joins the parts of a date to one field, as in BibLaTeX.
 
 ghost use Rattle.std.specs.Prelude.{◌≡◌, IfOk, Some, codes, map};
 ghost use Rattle.std.specs.Char.{is_ascii_alphabetic};
@@ -91,7 +91,7 @@ fn lent_chunks(chunks: &Option<Chunks>) -> Option<ChunksRef<'_>>
     }
 }
 
-// Returns the date that a year, a month and perhaps a day read as, if they can be read.
+// Returns the date that a year, a month and perhaps a day are parsed as, or `None` if they can't be parsed.
 fn three_fields(
     alloc: Global,
     year: &str,
@@ -117,7 +117,7 @@ fn three_fields(
     }
 }
 
-// Returns the text of a date with a month, if it reads as a date.
+// Returns the text of the first side of a date, if it has a month and the text parses as a date.
 fn month_date_text(alloc: Global, date: &Date) -> Result<Option<String>, AllocError>
     ensures { IfOk result (λ text. option_map string_bytes text ≡ spec.month_date_text (Some date.now)) }
 {
@@ -132,7 +132,7 @@ fn month_date_text(alloc: Global, date: &Date) -> Result<Option<String>, AllocEr
     Ok(Some(text))
 }
 
-// Returns the text of the date that a year in four digits, a month and perhaps a day read as.
+// Returns the text of the date that a year in four digits, a month and perhaps a day are parsed as, if they are a date.
 fn joined_text(
     alloc: Global,
     year: &str,
@@ -169,7 +169,7 @@ pub(crate) fn defines_month(abbreviations: &[Pair<'_>]) -> bool
     false
 }
 
-// Returns the text of a month: one literal, or the name of one abbreviation of a month, if the file doesn't define it.
+// Returns the text of a month: one literal, or the abbreviation of a month if the file defines no such abbreviation.
 fn month_value<'s>(defines: bool, pieces: &[Spanned<RawChunk<'s>>]) -> Option<&'s str>
     ensures { lent_text result ≡ spec.month_value defines (map piece_of pieces.now) }
 {
@@ -196,7 +196,7 @@ fn literal_named<'s>(fields: &[Pair<'s>], name: &str) -> Option<&'s str>
     single_text(&field.value.v)
 }
 
-// Returns the text of the first month.
+// Returns the text of the first field `month` (see `month_value`).
 fn month_among<'s>(defines: bool, fields: &[Pair<'s>]) -> Option<&'s str>
     ensures { lent_text result ≡ conversions.month_of defines (find (has_name (codes "month")) (map field_of fields.now)) }
 {
@@ -204,7 +204,7 @@ fn month_among<'s>(defines: bool, fields: &[Pair<'s>]) -> Option<&'s str>
     month_value(defines, &field.value.v)
 }
 
-// Returns the text of the date whose parts are among an entry's fields.
+// Returns the text of the date whose parts are among an entry's fields, or `None` if a part is missing or has no such text.
 fn date_of_fields(
     alloc: Global,
     defines: bool,

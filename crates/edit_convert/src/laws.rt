@@ -1,4 +1,4 @@
-//! Laws of conversion. These functions do nothing; their clauses are proved of the definitions.
+//! Laws of conversion. These functions have no code: their clauses are theorems about definitions.
 
 ghost use Rattle.edit_convert.specs.Laws.{JoinedIsTheSame, JoinedStaysApart, NamesStayApart, PartsStayApart};
 
@@ -12,7 +12,7 @@ pub fn parts_stay_apart()
     ensures { PartsStayApart }
 {}
 
-/// The date that replaces its parts reads as the date of these parts.
+/// The date that replaces its parts is parsed as the date of these parts.
 pub fn joined_is_the_same()
     ensures { JoinedIsTheSame }
 {}

@@ -1,4 +1,4 @@
-//! Types and fields that a dialect calls otherwise.
+//! Types and fields that have another name in a dialect.
 
 ghost use Rattle.std.specs.Prelude.{◌≡◌, IfOk, map};
 ghost use Rattle.std.specs.List.{list_any};
@@ -42,7 +42,7 @@ pub(crate) fn other_type(dialect: Dialect, kind: &EntryType) -> Option<&'static 
     Some(other.name())
 }
 
-// Returns the names of fields that BibTeX calls otherwise in entries of a type, each with BibTeX's name.
+// Returns the fields that have another name in BibTeX in entries of a type, each with BibTeX's name.
 fn bibtex_names(kind: &EntryType) -> &'static [(&'static str, &'static str)]
     ensures { lent_names result.now ≡ spec.other_names Dialect.Bibtex kind.now }
 {
@@ -56,7 +56,7 @@ fn bibtex_names(kind: &EntryType) -> &'static [(&'static str, &'static str)]
     }
 }
 
-// Returns the names of fields that a dialect calls otherwise in entries of a type, each with the dialect's name.
+// Returns the fields that have another name in a dialect in entries of a type, each with the dialect's name.
 pub(crate) fn other_names(
     dialect: Dialect,
     kind: &EntryType,

@@ -1,4 +1,4 @@
-//! Notes on the fields that a conversion keeps although the dialect doesn't read them, or on what it doesn't read after a change.
+//! Notes on the fields that a conversion keeps although the dialect doesn't read them, and on replaced dates that it doesn't read fully.
 
 ghost use Rattle.std.specs.Prelude.{◌≡◌, ◌++◌, IfOk, OnOk, is_some, map};
 ghost use Rattle.std.specs.Option.{option_and_then, option_map};
@@ -26,24 +26,25 @@ use std::alloc::{AllocError, Global};
 /// The reason for a note on a field.
 #[derive(Debug, Clone, Copy, PartialEq, Eq)]
 pub enum NoteKind {
-    /// It keeps its name, because its entry has a field with the dialect's name for it.
+    /// The field keeps its name, because its entry has a field with the dialect's name for it.
     NameIsThere,
-    /// It is a date that BibTeX has no fields for, or whose entry already has such fields.
+    /// The field is a `date` that isn't replaced: BibTeX has no fields for it, or its entry already has such fields or another `date`.
     DateStays,
-    /// It is a month that isn't joined with a year to a date.
+    /// The field is a `month` that isn't joined with a year to a date.
     MonthStays,
     /// No standard style of BibTeX reads a field with this name.
     NotRead,
-    /// It is a date that is replaced by fields of its parts, and no standard style of BibTeX reads all of them: it has a day, or is a range.
+    /// The field is a `date` that is replaced by fields of its parts. It has a day or is a range, and no standard style of BibTeX reads
+    /// all these fields.
     PartsNotRead,
 }
 
 /// A note on a field.
 #[derive(Debug, Clone, Copy, PartialEq, Eq)]
 pub struct Note {
-    /// The index of its entry, from 0.
+    /// The index of the entry, from 0.
     pub entry: usize,
-    /// Its index among the fields of its entry, from 0.
+    /// The index of the field in its entry, from 0.
     pub field: usize,
     /// The reason for the note.
     pub kind: NoteKind,
@@ -120,7 +121,7 @@ fn kept_note(dialect: Dialect, other: Option<&str>, field: &Pair<'_>) -> Option<
     }
 }
 
-// What decides the notes on an entry's fields: the names that the dialect calls otherwise, and the changes of the entry.
+// The data that the notes on an entry's fields depend on: the names that the dialect replaces, and the changes of the entry.
 #[derive(Drop)]
 struct Rules {
     dialect: Dialect,

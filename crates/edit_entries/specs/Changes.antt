@@ -61,7 +61,7 @@ pub record EntryChange : Type 0 where
 abbrev pub value_end : List ℕ → FieldReading → ℕ
 value_end text f = f.value.start + length (trim_end (value_stretch text f))
 
--- from there to the end of the value's span there is only white space
+-- only white space is between `value_end` and the end of the value's span
 abbrev pub IsTrimmed : List ℕ → FieldReading → Type 0
 IsTrimmed text f = Run is_whitespace (place text (value_end text f)) (place text f.value.end)
 

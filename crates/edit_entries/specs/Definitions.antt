@@ -21,12 +21,12 @@ ArePiecesSame one other = placeless_pieces one ≡ placeless_pieces other
 abbrev pub AreLast : List FieldReading → (List ℕ → Option ℕ) → Type 0
 AreLast definitions found = (name : List ℕ) → found (str_to_ascii_lowercase name) ≡ last_position (has_name name) definitions
 
--- a definition has the value of the last of `others` with its name, in any ASCII case
+-- a definition has the value of the last of `others` with its name, in any ASCII case, if there is one
 abbrev pub AgreesWithLast : List FieldReading → FieldReading → Type 0
 AgreesWithLast others f =
     (k : ℕ) (g : FieldReading) → last_position (has_name f.name.text) others ≡ Some k → slice_get others k ≡ Some g
     → HaveSameValue f g
 
--- each definition has the value of the last of `others` with its name, in any ASCII case
+-- each definition has the value of the last of `others` with its name, in any ASCII case, if there is one
 abbrev pub AllAgree : List FieldReading → List FieldReading → Type 0
 AllAgree definitions others = (j : ℕ) (f : FieldReading) → slice_get definitions j ≡ Some f → AgreesWithLast others f

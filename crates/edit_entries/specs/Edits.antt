@@ -20,7 +20,7 @@ abbrev pub edited_all : List Edit → List ℕ → List ℕ
 edited_all [] text = text
 edited_all (edit ∷ edits) text = edited edit (edited_all edits text)
 
--- the new byte offset for an old one: those before the end of the stretch are kept, those after it move
+-- the new byte offset for an old one: offsets before the end of the stretch are kept, those from the end on move
 abbrev pub moved_place : Edit → ℕ → ℕ
 moved_place edit at = if nat_lt at edit.end then at else at - edit.end + (edit.start + length edit.bytes)
 
@@ -28,16 +28,19 @@ moved_place edit at = if nat_lt at edit.end then at else at - edit.end + (edit.s
 abbrev pub moved_part : (ℕ → ℕ) → Part → Part
 moved_part move p = record { text = p.text; start = move p.start; end = move p.end }
 
+-- a piece with moved byte offsets
 abbrev pub moved_piece : (ℕ → ℕ) → Piece → Piece
 moved_piece move (literal p) = literal (moved_part move p)
 moved_piece move (abbreviation p) = abbreviation (moved_part move p)
 
+-- a field with moved byte offsets
 abbrev pub moved_field : (ℕ → ℕ) → FieldReading → FieldReading
 moved_field move f = record {
   name = moved_part move f.name;
   value = record { pieces = map (moved_piece move) f.value.pieces; start = move f.value.start; end = move f.value.end };
 }
 
+-- an entry with moved byte offsets
 abbrev pub moved_entry : (ℕ → ℕ) → EntryReading → EntryReading
 moved_entry move e = record {
   key = moved_part move e.key;

@@ -35,8 +35,8 @@ name_change old new f = if has_name old f then FieldChange.renamed new else Fiel
 abbrev pub names_changed : List ℕ → List ℕ → EntryReading → EntryChange
 names_changed old new e = record { kind = None; fields = map (name_change old new) e.fields }
 
--- the change of an entry by an edit: each field with the name gets the value, or a new field comes first; a new field comes first only if
--- no field has the name; each field with the old name gets the new one, unless a field has the new name already
+-- the change of an entry by an edit. `Set`: each field with the name gets the value; if there is none, a new field comes first. `Add`: if
+-- no field has the name, a new field comes first. `Rename`: each field with the old name gets the new one, unless a field has that already.
 abbrev pub entry_edited_by : List ℕ → FieldEdit → EntryReading → EntryChange
 entry_edited_by text (Set name value) e =
     if has_named name.now e then values_set name.now (value_of value) e else new_field_first text name.now (value_of value) e.fields
@@ -44,7 +44,7 @@ entry_edited_by text (Add name value) e = if has_named name.now e then unchanged
     (value_of value) e.fields
 entry_edited_by text (Rename old new) e = if has_named new.now e then unchanged else names_changed old.now new.now e
 
--- the changes of entries by an edit of those with the keys of a set
+-- the change of an entry by an edit of the entries whose keys are in a set
 abbrev pub selected_edited : List ℕ → BTreeSet (Bor (List ℕ)) → FieldEdit → EntryReading → EntryChange
 selected_edited text keys edit e = if is_in_set keys e.key.text then entry_edited_by text edit e else unchanged
 
@@ -71,8 +71,7 @@ abbrev pub first_start : (List ℕ → Bool) → ℕ → List EntryReading → �
 first_start selected other [] = other
 first_start selected other (e ∷ es) = if selected e.key.text then e.start else first_start selected other es
 
--- the value of an edit can't be written in each entry with a selected key: a number or an abbreviation that is defined before the first
--- of these entries can
+-- the value of an edit can't be written in the first entry with a selected key; this is the error for it
 pub record CantBeEdited (d : Document) (selected : List ℕ → Bool) (edit : FieldEdit) (error : EditError) : Type 0 where
   pub because : IsValueError edit error
   pub unfit : HasFitValue d.says.abbreviations (first_start selected (length d.text) d.says.entries) edit → ⊥

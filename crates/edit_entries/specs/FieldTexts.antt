@@ -1,5 +1,5 @@
 -- Machinery: words of private contracts.
--- What the edits of a field of several entries ask of a text.
+-- The conditions on a text under which a field of several entries can be edited.
 use Rattle.std.specs.Prelude.{◌≡◌, ℕ, List, ⊤}
 use Rattle.std.specs.List.{AllByRecursion}
 use Rattle.bib_syntax.specs.Reading.{EntryReading, FieldReading}

@@ -11,10 +11,11 @@ use lib.Dec.{eqb}
 abbrev pub sign_text : List ℕ → FieldReading → List ℕ
 sign_text text f = between (place text f.name.end) (place text f.value.start)
 
--- the white space before and after the equals sign of a field
+-- the text between the name of a field and its equals sign
 abbrev pub before_equals : List ℕ → FieldReading → List ℕ
 before_equals text f = before_first (λ b. eqb b char.equals) (sign_text text f)
 
+-- the text between the equals sign of a field and its value
 abbrev pub after_equals : List ℕ → FieldReading → List ℕ
 after_equals text f = after_first (λ b. eqb b char.equals) (sign_text text f)
 
@@ -26,7 +27,7 @@ is_blank_byte b = b == char.space || b == 9
 abbrev pub sign_column : List ℕ → FieldReading → ℕ
 sign_column text f = length f.name.text + length (before_equals text f)
 
--- the column of the equals sign of the first of these fields that has more than one byte of white space before it
+-- the `sign_column` of the first of these fields that has more than one byte between its name and its equals sign
 abbrev pub wide_column : List ℕ → List FieldReading → Option ℕ
 wide_column text [] = None
 wide_column text (f ∷ fs) = if nat_lt 1 (length (before_equals text f)) then Some (sign_column text f) else wide_column text fs

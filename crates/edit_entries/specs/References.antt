@@ -26,7 +26,7 @@ abbrev pub first_found : Option ℕ → Option ℕ → Option ℕ
 first_found (Some i) other = Some i
 first_found None other = other
 
--- an index, unless one with another key is found too
+-- the first index, unless the second one is that of another key
 abbrev pub unless_other : List (List ℕ) → Option ℕ → Option ℕ → Option ℕ
 unless_other keys None other = None
 unless_other keys (Some i) None = Some i
@@ -41,7 +41,7 @@ abbrev pub has_key_word : List ℕ → EntryReading → Bool
 has_key_word name e = is_word e.key.text name
 
 -- the index of the entry that BibTeX finds by a name, unless Biber finds one with another key by its field `ids`. BibTeX finds the first
--- key that is the name in any ASCII case. Of entries with one key both programs read the first.
+-- key that is the name in any ASCII case. If several entries have one key, both programs read the first.
 abbrev pub index_in_any_case : List EntryReading → List ℕ → Option ℕ
 index_in_any_case entries name =
     unless_other (map (λ e. e.key.text) entries) (first_position (has_key_word name) entries) (first_position (has_alias name) entries)

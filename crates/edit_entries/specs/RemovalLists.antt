@@ -5,7 +5,7 @@ use Rattle.bib_syntax.specs.Reading.{EntryReading}
 use Rattle.edit_entries.specs.Edits.{Edit}
 use Rattle.edit_entries.specs.Selected.{AreRemovals}
 
--- a list of edits is another one with the edits that remove these entries after it
+-- `new` is `old`, followed by the edits that remove these entries
 pub record AreRemovalsAdded (text : List ℕ) (es : List EntryReading) (old new : List Edit) : Type 0 where
   pub edits : List Edit
   pub removals : AreRemovals text es edits

@@ -21,7 +21,7 @@ unset_if_selected selected text name e = if selected e.key.text then unset_edits
 abbrev pub without_if_selected : (List ℕ → Bool) → List ℕ → EntryReading → EntryReading
 without_if_selected selected name e = if selected e.key.text then without_named name e else e
 
--- whether the key of an entry is selected, and all its fields have a name
+-- whether the key of an entry is selected, it has at least one field, and all its fields have a name
 abbrev pub would_be_empty : (List ℕ → Bool) → List ℕ → EntryReading → Bool
 would_be_empty selected name e = selected e.key.text && have_only name e.fields
 

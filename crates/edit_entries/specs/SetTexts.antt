@@ -12,7 +12,7 @@ use Rattle.edit_entries.specs.Setting.{CanBeNewName, IsAfterComma, IsWritableAt,
 use Rattle.edit_entries.specs.declared.errors.EditError.{EditError}
 use Rattle.edit_entries.specs.declared.errors.EditError.TheVariants.{UnknownKey, KeyIsThere, NotAKey, NotAName, NotInBraces, NotBare, DefinitionIsThere, NoFieldLeft, OutOfMemory}
 
--- what setting a field of an entry asks of the entry in its text
+-- the condition on an entry in a text under which one of its fields can be set
 pub record CanBeSetIn (text : List ℕ) (e : EntryReading) (name : List ℕ) (value : SetValue) : Type 0 where
   pub comma : HasComma text e
   pub values : AllByRecursion (IsPlaced text) e.fields

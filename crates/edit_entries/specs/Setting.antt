@@ -21,8 +21,8 @@ use Rattle.edit_entries.specs.declared.errors.EditError.TheVariants.{UnknownKey,
 
 -- ---- values
 
--- a text can be a value in braces for the file grammar, in which a backslash hides the next character. It also can for BibTeX, Biber and
--- bibtool, in which a backslash hides nothing.
+-- a text can be a value in braces for the file grammar, in which a backslash escapes the next character, and for BibTeX, Biber and
+-- bibtool, in which a backslash escapes nothing
 pub record CanBeValue (text : List ℕ) : Type 0 where
   pub braced : CanStandInBraces text
   pub balanced : IsBalanced text
@@ -47,7 +47,7 @@ abbrev pub value_of : FieldValue → SetValue
 value_of (Text text) = SetValue.plain_text text.now
 value_of (Bare text) = SetValue.bare_text text.now
 
--- whether a text consists of digits
+-- whether a text consists of one or more ASCII digits
 abbrev pub is_bare_number : List ℕ → Bool
 is_bare_number [] = false
 is_bare_number (b ∷ bs) = list_all is_ascii_digit (b ∷ bs)

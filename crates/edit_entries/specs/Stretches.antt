@@ -16,11 +16,12 @@ AreValuesPlaced text fields = (j : ℕ) (f : FieldReading) → slice_get fields 
 abbrev pub AreEntriesPlaced : List ℕ → List EntryReading → Type 0
 AreEntriesPlaced text entries = (k : ℕ) (e : EntryReading) → slice_get entries k ≡ Some e → AreValuesPlaced text e.fields
 
--- the byte offsets of the part that a change replaces
+-- the byte offset at which the part that a change replaces begins
 abbrev pub change_start : Change → ℕ
 change_start (Change.key p new) = p.start
 change_start (Change.value f new) = f.value.start
 
+-- the byte offset at which the part ends
 abbrev pub change_end : Change → ℕ
 change_end (Change.key p new) = p.end
 change_end (Change.value f new) = f.value.end

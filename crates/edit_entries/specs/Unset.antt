@@ -25,7 +25,8 @@ end_before e (suc j) = option_map_or (λ f. f.value.end) (slice_get e.fields j) 
 abbrev pub has_percent : List ℕ → ℕ → ℕ → Bool
 has_percent text start end = list_any (λ b. b == char.percent) (between (place text start) (place text end))
 
--- whether no comment is before a field or directly after its value: a comma ends what is before it
+-- whether a comma directly follows the span of the value or key before a field, no percent sign is between the comma and the field, and
+-- none directly follows the span of its value: no comment is there then
 abbrev pub is_uncommented : List ℕ → EntryReading → ℕ → FieldReading → Bool
 is_uncommented text e j f =
     has_byte_at text (end_before e j) char.comma && not (has_percent text (end_before e j) f.name.start)
@@ -50,8 +51,8 @@ abbrev pub removals : List ℕ → EntryReading → ℕ → List FieldReading �
 removals name e index [] = []
 removals name e index (f ∷ rest) = removal name e index f ++ removals name e (suc index) rest
 
--- the edits that unset the first field with a name, at this index: if no other field has the name, and no comment is there, it goes with
--- its line
+-- the edits that unset a field; the first one with the name is at this index. If no other field has the name, and no comment is there,
+-- it is removed with its line (`line_edit`).
 abbrev pub edits_from : List ℕ → List ℕ → EntryReading → ℕ → Option FieldReading → List Edit
 edits_from text name e j None = []
 edits_from text name e j (Some f) =
@@ -64,8 +65,8 @@ abbrev pub edits_at : List ℕ → List ℕ → EntryReading → Option ℕ → 
 edits_at text name e None = []
 edits_at text name e (Some j) = edits_from text name e j (slice_get e.fields j)
 
--- the edits that unset the fields of an entry with a name. A comment is never removed with another field's line: a field goes up to the
--- next field or the closing brace if a comment is directly before it, or if several fields have the name.
+-- the edits that unset the fields of an entry with a name. A field is removed up to the next field or the closing brace, with the comments
+-- there, if a comment is directly before it or after its value, or if several fields have the name.
 abbrev pub unset_edits : List ℕ → List ℕ → EntryReading → List Edit
 unset_edits text name e = edits_at text name e (first_position (has_name name) e.fields)
 

@@ -22,7 +22,8 @@ fn is_plain(c: char) -> bool
     c != '{' && c != '}' && c != '\\'
 }
 
-// Returns the text up to the brace that closes it, if there is one.
+// Returns the text up to the first closing brace that closes no brace in it, and stops at that brace. Returns `None` if there is no such
+// brace. A brace after a backslash isn't counted.
 fn parts<'s>(s: &mut Scanner<'s>) -> Option<&'s str>
     ensures { MatchOption result
         ((v w : Place) → Parts s.old v → CharAt v char.close_brace w → ⊥)

@@ -103,10 +103,10 @@ impl<'s> RawDocument<'s> {
     ///
     /// # Errors
     ///
-    /// `UnknownKey` if no entry has the key; `NotAName` if `name` can't be the name of a field; `NotInBraces` if a field has another value
-    /// and a text can't stand in braces, for this library or for BibTeX, which also counts a brace after a backslash; `NotBare` if a field
-    /// has another value and the new one isn't a text, and neither a number nor an abbreviation that is a month or is defined before the
-    /// entry, in any ASCII case.
+    /// `UnknownKey` if no entry has the key; `NotAName` if the entry has no field with `name`, which can't be the name of a new field.
+    /// If a field with `name` is missing or has another value: `NotInBraces` if a text can't be written in braces, for this library or for
+    /// BibTeX, which also counts a brace after a backslash; `NotBare` if a value without braces is neither a number nor an abbreviation
+    /// that is a month or is defined before the entry, in any ASCII case.
     pub fn set_field(
         &self,
         alloc: Global,
@@ -124,12 +124,13 @@ impl<'s> RawDocument<'s> {
         }
     }
 
-    /// Returns the text without a field of an entry: each field with the name, of the first entry with the key, is removed. Returns the
-    /// same text if the entry lacks the field.
+    /// Returns the text without a field of an entry: each field with `name`, in any ASCII case, of the first entry with `key` is removed.
+    /// Returns the same text if the entry lacks the field.
     ///
-    /// A field goes with the white space before it and its comma: with its line, where it has one. So comments of other fields and the
-    /// closing brace stay where they are. If a comment is between the comma before it and its name, or between its value and its comma,
-    /// or if several fields have the name, each is removed up to the next field or the closing brace, with a comment that is there.
+    /// A field is removed with the white space before it and its comma: with its line, if it has one. So comments of other fields and the
+    /// closing brace stay where they are. There are exceptions: several fields have the name; a comment is between the field and the value
+    /// or key before it, or between its value and its comma; white space is between the key and its comma, before the first field. Then
+    /// each field with the name is removed up to the next field or the closing brace, with the comments between them.
     ///
     /// # Errors
     ///
@@ -150,6 +151,10 @@ impl<'s> RawDocument<'s> {
     }
 
     /// Returns the text without the first entry with a key, and without the white space after it.
+    ///
+    /// # Errors
+    ///
+    /// `UnknownKey` if no entry has the key.
     pub fn remove_entry(&self, alloc: Global, key: &str) -> Result<String, EditError>
         ensures removed { IfOk result (λ new. IsEdited (EntryRemoved self.now key.now) (string_bytes new)) }
         ensures refused { IfErr result (EntryIsRefused self.now key.now) }
@@ -208,9 +213,9 @@ impl<'s> RawDocument<'s> {
         with_new_keys(alloc, self.text, entries, keys)
     }
 
-    /// Returns the text with another key of the first entry with the key `old`, also in each reference to it: in the elements of the
-    /// comma lists that the fields `crossref`, `xref`, `xdata`, `entryset`, `related` and `set` of all entries are, if the value is one
-    /// text. An element refers to the first entry that has exactly this key. An element of `crossref`, the only one of these fields that
+    /// Returns the text with the key `new` for the first entry with the key `old`, also in each reference to it. The references are in the
+    /// fields `crossref`, `xref`, `xdata`, `entryset`, `related` and `set` of all entries: if the value is one text, each element of this
+    /// comma list is one. An element refers to the first entry that has exactly this key. An element of `crossref`, the only one of these fields that
     /// BibTeX reads, can also refer to an entry by its key in another ASCII case: if BibTeX finds the entry by it, and Biber finds no
     /// other entry by its field `ids`. A value that changes is written in braces. Joined values, abbreviations, and keys that are written
     /// with TeX stay. The text stays if `new` is `old`.
@@ -274,18 +279,22 @@ impl<'s> RawDocument<'s> {
         self.with_keys(alloc, NewKeys::Each(keys))
     }
 
-    /// Returns the first key of an entry that isn't one for BibTeX, Biber and bibtool, so that `add_entries` refuses the document.
+    /// Returns the key of the first entry whose key can't be a new one (see `EditError::NotAKey`), or `None` if there is no such entry.
+    /// `add_entries` refuses to add a document with such a key.
     pub fn first_unsafe_key(&self) -> Option<&'s str>
         ensures { MatchOption result (HaveNewKeys self.now.says.entries) (λ key. IsFirstUnsafeKey self.now.says.entries key.now) }
     {
         first_unsafe_key(&self.raw.entries)
     }
 
-    /// Returns the text, its line end, and the text of another document: `\r\n` if the first line of the text ends so, otherwise `\n`. The
-    /// other text is copied; `with_line_ends_of` gives it the same line ends. The edit is refused if an entry of the other document has a
-    /// name, in any ASCII case, of an entry of this one or of an earlier entry of the other, if the key of one isn't a key for BibTeX,
-    /// Biber and bibtool, or if both documents define an abbreviation, in any ASCII case, with different values. The names of an entry
-    /// are its key and the names in its field `ids`.
+    /// Returns the text, its line end (`\r\n` if the first line of the text ends so, otherwise `\n`), and the text of `more`. That text is
+    /// copied as it is; `with_line_ends_of` returns it with the line ends of this document.
+    ///
+    /// # Errors
+    ///
+    /// `KeyIsThere` if an entry of `more` has a name, in any ASCII case, of an entry of this document or of an earlier entry of `more`; the
+    /// names of an entry are its key and the names in its field `ids`. `NotAKey` if the key of an entry of `more` can't be a new key (see
+    /// `EditError::NotAKey`). `DefinitionIsThere` if both documents define an abbreviation, in any ASCII case, with different values.
     pub fn add_entries(&self, alloc: Global, more: &RawDocument<'_>) -> Result<String, EditError>
         ensures added { IfOk result (λ text. IsEdited (EntriesAdded self.now more.now) (string_bytes text)) }
         ensures refused { IfErr result (EntriesAreRefused self.now more.now) }

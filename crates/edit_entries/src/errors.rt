@@ -12,12 +12,12 @@ pub enum EditError {
     /// No entry has the key.
     #[error("no entry has the key")]
     UnknownKey,
-    /// Another entry has the name already, as its key or in its field `ids`, in any ASCII case; or the renamed entry has it in its
-    /// `ids`.
+    /// A new key, or a name of an added entry, is the key of another entry, a name in the field `ids` of an entry, or another new key, in
+    /// any ASCII case.
     #[error("an entry has the name already, as its key or in its field `ids`")]
     KeyIsThere,
-    /// The text can't be a new key, or is the key of an added entry and couldn't be one: BibTeX, Biber or bibtool misreads it, a reference
-    /// to it is parsed as another text, or its citation means all entries.
+    /// The text, a new key or the key of an added entry, can't be a new key: BibTeX, Biber or bibtool misreads it, a reference to it is
+    /// parsed as another text, or its citation means all entries. Or the key to replace is empty.
     #[error("a new key isn't empty or `*`, and has no white space, control character, comma, quote, brace, parenthesis, `--` or any of # $ % = \\ ~")]
     NotAKey,
     /// The text can't be the name of a new field. BibTeX and Biber read no name that begins with a digit.
@@ -27,11 +27,11 @@ pub enum EditError {
     /// brace after a backslash; or a backslash hides the last brace.
     #[error("the value can't be written in braces")]
     NotInBraces,
-    /// The value can't be written without braces: it is neither a number nor the name of an abbreviation that is defined before the entry,
-    /// as BibTeX requires.
+    /// The value can't be written without braces: it is neither a number nor the name of an abbreviation that is a month or is defined
+    /// before the entry, as BibTeX requires.
     #[error("the value is neither a number nor an abbreviation that is defined before the entry")]
     NotBare,
-    /// An abbreviation is defined already, in any ASCII case, with another text: every use of it would get another value.
+    /// An abbreviation is defined already, in any ASCII case, with another value: uses of it would change their value.
     #[error("an abbreviation is defined already with another text")]
     DefinitionIsThere,
     /// The entry would have no field left. bibtool doesn't read such an entry, and loses the one after it too.

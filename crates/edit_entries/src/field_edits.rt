@@ -51,7 +51,8 @@ pub enum FieldEdit<'a> {
     },
 }
 
-// Returns the value of an edit as it is written at a byte offset, or an empty text if it has none.
+// Returns the value of an edit as it is written at a byte offset, or an empty text if the edit has none. Fails if the name that fields
+// get can't be the name of a new field, or if the value can't be written there.
 pub(crate) fn edit_text(
     alloc: Global,
     definitions: &[Pair<'_>],

@@ -35,7 +35,7 @@ fn are_digits(bytes: &[u8]) -> bool
     bytes.iter().all(|byte| byte.is_ascii_digit())
 }
 
-// Returns whether a text consists of digits.
+// Returns whether a text consists of one or more ASCII digits.
 fn is_number(text: &str) -> bool
     ensures { result ≡ spec.is_bare_number text.now }
 {

@@ -11,7 +11,7 @@ ghost use Rattle.edit_entries.specs.Placed.{IsSignPlaced};
 use bib_syntax::raw::Pair;
 use std::alloc::{AllocError, Global};
 
-// Returns the white space before and after the equals sign of a field.
+// Returns the text between the name of a field and its equals sign, and the text between that and its value.
 fn signs<'t>(text: &'t str, field: &Pair<'_>) -> (&'t str, &'t str)
     requires { IsSignPlaced text.now (field_of field.now) }
     ensures before { result.0.now ≡ spec.before_equals text.now (field_of field.now) }
@@ -44,7 +44,8 @@ fn is_blank(text: &str) -> bool
     true
 }
 
-// Returns the column of the equals sign of the first of these fields that has more than one byte of white space before it.
+// Returns the bytes from the start of the name to the equals sign, in the first of these fields with more than one byte between the name
+// and the sign.
 fn wide_column(text: &str, fields: &[Pair<'_>]) -> Option<usize>
     requires { AllByRecursion (IsSignPlaced text.now) (map field_of fields.now) }
     ensures { result ≡ spec.wide_column text.now (map field_of fields.now) }

@@ -19,7 +19,7 @@ pub fn line_end(text: &str) -> &'static str
     }
 }
 
-// Appends a carriage return if a line feed needs one after the character before it.
+// Appends a carriage return if `c` is a line feed, and `before`, the character before it, isn't a carriage return.
 fn push_return(new: &mut String, before: char, c: char) -> Result<(), AllocError>
     ensures { OnOk result (string_bytes new.new ++ encode_utf8 c ≡ string_bytes new.old ++ encode_utf8_all (spec.with_return before c)) }
 {

@@ -186,7 +186,7 @@ fn key_at<'s>(keys: &[&'s str], index: usize) -> &'s str
     }
 }
 
-// Returns an index, unless one with another key is found too.
+// Returns the index `found`, unless `other` is the index of another key.
 fn unless_other(keys: &[&str], found: Option<&usize>, other: Option<&usize>) -> Option<usize>
     ensures { result ≡ references.unless_other (map (λ k. k.now) keys.now)
         (option_map (λ i. i.now) found.entry) (option_map (λ i. i.now) other.entry) }

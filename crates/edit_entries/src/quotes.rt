@@ -10,8 +10,8 @@ use crate::removing::has_byte;
 use bib_syntax::raw::{Pair, RawChunk, RawEntry};
 use bib_text::spanned::Spanned;
 
-/// Returns whether a piece of a text is in quotes, and its braces aren't balanced: BibTeX and Biber, which end a text in quotes at the first
-/// quote outside of braces, end it elsewhere.
+/// Returns whether `piece` is in quotes in `text`, and its braces aren't balanced. BibTeX and Biber, which end a text in quotes at the
+/// first quote outside of braces, end such a piece elsewhere.
 pub fn is_unbalanced_quote(text: &str, piece: &Spanned<RawChunk<'_>>) -> bool
     ensures { result ≡ spec.is_unbalanced_quote text.now (piece_of piece.now) }
 {

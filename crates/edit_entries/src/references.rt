@@ -14,7 +14,7 @@ use bib_tables::fields::is_reference_field;
 use bib_text::spanned::Spanned;
 use std::alloc::{AllocError, Global};
 
-// Returns whether an element of a comma list in a field gets a new name.
+// Returns whether `element`, one of a comma list in a field, gets a new name.
 fn is_renamed(
     alloc: Global,
     names: &Names<'_, '_>,
@@ -26,7 +26,7 @@ fn is_renamed(
     Ok(names.name_for(alloc, field, element.trim())?.is_some())
 }
 
-// Returns whether an element of a comma list in a field gets a new name.
+// Returns whether any element of a comma list in a field gets a new name.
 fn has_renamed(
     alloc: Global,
     names: &Names<'_, '_>,

@@ -87,7 +87,7 @@ fn field_limit(entry: &Spanned<RawEntry<'_>>, index: usize) -> usize
     }
 }
 
-// Adds the edit that removes a field of an entry, if it has a name.
+// Adds the edit that removes a field up to the next one or the closing brace, if the field has `name`. `index` is that of the field.
 fn push_removal(
     edits: &mut Vec<Edit>,
     alloc: Global,
@@ -111,7 +111,7 @@ fn push_removal(
     Ok(())
 }
 
-// Returns the edits that remove the fields with a name from an entry.
+// Returns the edits that remove each field with `name` from an entry, up to the next field or the closing brace.
 fn removals(
     alloc: Global,
     entry: &Spanned<RawEntry<'_>>,
@@ -184,7 +184,8 @@ fn end_before(entry: &Spanned<RawEntry<'_>>, index: usize) -> usize
     entry.v.fields[index - 1].value.span.end
 }
 
-// Returns whether no comment is before a field or directly after its value.
+// Returns whether a comma directly follows the span of the value or key before a field, no percent sign is between the comma and the
+// field, and none directly follows the span of its value: no comment is there then.
 fn is_uncommented(text: &str, entry: &Spanned<RawEntry<'_>>, index: usize, field: &Pair<'_>) -> bool
     requires { index < length (entry_reading_of entry.now).fields }
     ensures is { result ≡ unset.is_uncommented text.now (entry_reading_of entry.now) index (field_of field.now) }

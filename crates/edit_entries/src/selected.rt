@@ -18,14 +18,14 @@ use bib_text::spanned::Spanned;
 use std::alloc::{AllocError, Global};
 use std::collections::BTreeSet;
 
-// Returns whether an entry has one of these keys, and all its fields have a name.
+// Returns whether an entry has one of these keys and at least one field, and all its fields have `name`.
 fn would_be_empty(entry: &Spanned<RawEntry<'_>>, keys: &BTreeSet<&str>, name: &str) -> bool
     ensures { result ≡ spec.would_be_empty (is_in_set keys.now) name.now (entry_reading_of entry.now) }
 {
     keys.contains(entry.v.key.v) && have_only(&entry.v.fields, name)
 }
 
-// Returns whether all fields of an entry with one of these keys have a name.
+// Returns whether an entry with one of these keys has at least one field, and all its fields have `name`.
 pub(crate) fn would_one_be_empty(
     entries: &[Spanned<RawEntry<'_>>],
     keys: &BTreeSet<&str>,

@@ -60,7 +60,7 @@ fn has_field_to_set(fields: &[Pair<'_>], name: &str, value: FieldValue<'_>) -> b
     false
 }
 
-// Adds the edit of a field that gets a value if it has a name. `written` is the value as it is written.
+// Adds the edit that gives `field` a value, if it has `name` and another value. `written` is the new value as it is written.
 fn push_new_value(
     edits: &mut Vec<Edit>,
     alloc: Global,
@@ -86,7 +86,7 @@ fn push_new_value(
     Ok(())
 }
 
-// Adds the edits of fields in which those with a name get a value. `written` is the value as it is written.
+// Adds the edits that give a value to each field with `name` and another value. `written` is the new value as it is written.
 pub(crate) fn push_values(
     edits: &mut Vec<Edit>,
     alloc: Global,
@@ -107,7 +107,7 @@ pub(crate) fn push_values(
     Ok(())
 }
 
-// Returns the text with a value for each field of an entry with a name. The text is the same if they all have it.
+// Returns the text in which each field of `entry` with `name` has the value. The text is the same if they all have this value already.
 fn with_values(
     alloc: Global,
     definitions: &[Pair<'_>],
@@ -145,7 +145,8 @@ pub(crate) fn white_before(text: &str, at: usize) -> &str
     &before[rest.len()..]
 }
 
-// Returns a new field, a comma, white space, and the name of the field that follows. `sign` is the text between its name and its value.
+// Returns a new field, a comma, white space, and the name of the field that follows. `sign` is the text between the name and the value
+// of the new field.
 pub(crate) fn text_before(
     alloc: Global,
     name: &str,

@@ -1,6 +1,6 @@
 -- Meaning: words of public contracts.
--- A text in one style: its entries have a new layout. The text between them is unchanged, except for white space if the style asks
--- for blank lines.
+-- A text in one style: its entries have a new layout, or are copied. The text between them is unchanged, except for white space if
+-- the style asks for blank lines.
 use Rattle.std.specs.Prelude.{◌≡◌, ◌&&◌, ◌||◌, ℕ, zero, suc, ◌+◌, ◌-◌, max, Bool, false, if◌then◌else◌, List, [], ◌∷◌, ◌++◌, codes, cond, drop, fold, length, map, nat_lt, not, replicate, Option, None, Some}
 use Rattle.std.specs.Char.{is_ascii_whitespace}
 use Rattle.std.specs.List.{flat_map, list_all, list_any}
@@ -105,8 +105,8 @@ has_percent_between text start (f ∷ fs) end = has_percent text start f.name.st
 abbrev pub has_comment : List ℕ → EntryReading → Bool
 has_comment text e = has_percent_between text e.key.end e.fields e.end
 
--- whether a piece is a literal whose braces aren't balanced. BibTeX, Biber and bibtool end such a text elsewhere: no backslash hides a
--- brace, and no quote inside braces ends a text in quotes.
+-- whether a piece is a literal whose braces aren't balanced. BibTeX and Biber end such a text elsewhere: for them, a backslash escapes no
+-- brace, and a quote inside braces doesn't end a text in quotes.
 abbrev pub is_unbalanced : Piece → Bool
 is_unbalanced (literal p) = not (is_balanced p.text)
 is_unbalanced (abbreviation p) = false
@@ -148,11 +148,11 @@ rest_in_style line_end style blank_lines text at (e ∷ es) =
 abbrev pub text_in_style : Style → List ℕ → FileReading → List ℕ
 text_in_style style text says = rest_in_style (line_end_of text) style None text 0 says.entries
 
--- an entry with its fields in the order of the style, unless it contains a comment
+-- an entry with its fields in the order of the style, unless it is copied
 abbrev pub entry_in_order : Style → List ℕ → EntryReading → EntryReading
 entry_in_order style text e = cond (is_copied text e) e (record e { fields = in_order (order_of style) e.fields })
 
--- a reading with the fields of each entry in the order of the style, except in entries that contain a comment
+-- a reading with the fields of each entry in the order of the style, except in entries that are copied
 abbrev pub says_in_order : Style → List ℕ → FileReading → FileReading
 says_in_order style text says = record says { entries = map (entry_in_order style text) says.entries }
 

@@ -55,10 +55,11 @@ fn with_entries(
 /// ```
 ///
 /// The entry type and the names of fields are converted to ASCII lowercase, and the pieces of values are copied. The style may
-/// also change the delimiters of literals, break long values into one line for each piece, and order the fields. An entry with
-/// a `%` between its key, its fields and its closing brace is copied unchanged. If there is only ASCII white space between two
-/// entries, the style may replace it by blank lines. Everything else is unchanged, byte for byte. New line ends are those of
-/// the file's first line. Returns an error only if memory runs out.
+/// also change the delimiters of literals, break long values into one line for each piece, and order the fields. An entry is
+/// copied unchanged if it contains a `%` between its key, its fields and its closing brace, or a literal whose braces aren't
+/// balanced, counted without escapes as BibTeX counts them. If there is only ASCII white space between two entries, the style
+/// may replace it by blank lines. Everything else is unchanged, byte for byte. New line ends are those of the file's first
+/// line. Returns an error only if memory runs out.
 pub fn format(
     alloc: Global,
     document: &RawDocument<'_>,

@@ -31,7 +31,7 @@ pub struct Style<'a> {
     pub delimiters: Delimiters,
     /// Names of fields, in any ASCII case. The fields of an entry with one of these names come first, in the order of the
     /// names. Fields with the same name, and the other fields, keep their relative order, so the last field of a name is still
-    /// the last. An entry that contains a comment keeps its order.
+    /// the last. An entry that is copied (see `format`) keeps its order.
     pub order: &'a [&'a str],
     /// Maximum number of characters of a line, with the comma after it, for a field whose value has several pieces. In a longer
     /// line, each piece except the first begins a new line, with its `#` in the column of the first piece. A value of one piece

@@ -13,8 +13,8 @@ use Rattle.bib_text.specs.Characters as char
 abbrev pub separates_words : ℕ → Bool
 separates_words c = is_whitespace c || (c == char.slash || (c == char.hyphen || (c == char.en_dash || c == char.em_dash)))
 
--- the letters that a small letter is sorted as, in UTF-8. Those of the first eight don't decompose, but Unicode's default collation
--- doesn't tell them from these letters at its first level: ß æ œ ð đ ħ ł ø. Any other letter is sorted as itself.
+-- the letters that a lowercase letter is sorted as, in UTF-8. The eight letters ß æ œ ð đ ħ ł ø don't decompose, but Unicode's default
+-- collation doesn't distinguish them from these letters at its first level. Any other letter, and each digit, is sorted as itself.
 abbrev pub sort_letters : ℕ → List ℕ
 sort_letters c =
     if c == 0xDF then codes "ss"

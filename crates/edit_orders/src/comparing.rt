@@ -17,7 +17,7 @@ fn texts_compared(first: &[Text], second: &[Text]) -> Ordering
     first.cmp(second)
 }
 
-// Compares two sort values: numbers by size, and texts by their bytes.
+// Compares two sort values: numbers by size, and texts by their bytes. A number is less than texts.
 fn compared(first: &SortValue, second: &SortValue) -> Ordering
     ensures { result ≡ spec.value_cmp first.now second.now }
 {
@@ -58,7 +58,7 @@ fn missing_last(
     }
 }
 
-// Compares the sort values at an index, or nothing after the last ones.
+// Compares the sort values at an index. After the end of a list, its value is missing.
 fn compared_at(
     direction: Direction,
     index: usize,

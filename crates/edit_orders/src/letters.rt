@@ -13,7 +13,7 @@ fn is_gap(c: char) -> bool
     c.is_whitespace() || matches!(c, '/' | '-' | '–' | '—')
 }
 
-// Appends a small letter, or the letters that it is sorted as.
+// Appends `c`, a letter or a digit in lowercase, or the letters that it is sorted as.
 fn push_letters(out: &mut String, c: char) -> Result<(), AllocError>
     ensures { OnOk result (string_bytes out.new ≡ string_bytes out.old ++ spec.sort_letters c) }
 {

@@ -26,7 +26,7 @@ read_name name =
     let lower : List ℕ = str_to_ascii_lowercase name in
     unwrap_or (value_named biber_names lower) (biblatex_name lower)
 
--- the fields that also keep a field with this name from being inherited: a date excludes its parts, and a year a date
+-- for a field, the fields that exclude it: an entry with one of them inherits no field with this name
 abbrev pub rival_names : List (List ℕ × List (List ℕ))
 rival_names =
     (codes "date", codes "year" ∷ []) ∷ (codes "year", codes "date" ∷ []) ∷ (codes "month", codes "date" ∷ [])

@@ -91,7 +91,7 @@ inherited_by entries fields e = new_fields (map (λ f. read_name f.name.text) e.
 abbrev pub fields_by : List EntryReading → (ℕ → List Named) → EntryReading → List Named
 fields_by entries fields e = map (in_place (given_fields_by fields (parents entries e))) e.fields ++ inherited_by entries fields e
 
--- the fields of the entry at an index, along at most so many references one after another
+-- the fields of the entry at an index, along at most this many references one after another
 abbrev pub fields_along : List EntryReading → ℕ → ℕ → List Named
 fields_along entries zero index = map as_itself (entry_at entries index).fields
 fields_along entries (suc most) index = fields_by entries (fields_along entries most) (entry_at entries index)
@@ -147,7 +147,7 @@ resolution text entries e = record {
   fields = field_resolutions text (is_resolved entries) (replacement entries e) (inherited entries e) e.fields;
 }
 
--- a text is a document's with inherited fields written out, and reads so
+-- a text is a document's with inherited fields written out, and parses so
 abbrev pub IsResolved : Document → List ℕ → Type 0
 IsResolved d text = IsChanged (resolution d.text d.says.entries) d text
 

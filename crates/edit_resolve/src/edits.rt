@@ -43,7 +43,8 @@ fn push_removal(
     Ok(())
 }
 
-// Adds the edit of an entry's last resolved reference.
+// Adds the edit of an entry's last resolved reference: the inherited fields replace it. If there are none, it is removed, or kept if no
+// field follows.
 fn push_last(
     edits: &mut Vec<Edit>,
     alloc: Global,
@@ -111,7 +112,7 @@ fn count_resolved(
     Ok(count)
 }
 
-// Adds the edit that writes the field that takes the place of an own field, if there is one.
+// Adds the edit of an own field, if another field takes its place.
 fn push_own(
     edits: &mut Vec<Edit>,
     alloc: Global,
@@ -166,7 +167,7 @@ fn push_field_edits(
     Ok(())
 }
 
-// Returns fields without this number of first ones.
+// Returns fields without the first `count` ones.
 fn without_first<'f, 'a, 's>(fields: &'f [Named<'a, 's>], count: usize) -> &'f [Named<'a, 's>]
     requires { count ≤ length fields.now }
     ensures { result.now ≡ drop count fields.now }
@@ -174,7 +175,8 @@ fn without_first<'f, 'a, 's>(fields: &'f [Named<'a, 's>], count: usize) -> &'f [
     &fields[count..]
 }
 
-// Adds the edits of an entry, which has these fields: first its own ones, or those that take their places.
+// Adds the edits of an entry. `all` has its fields with the inherited ones; the first of them are its own ones, or those that take their
+// places.
 fn push_entry_edits(
     edits: &mut Vec<Edit>,
     alloc: Global,

@@ -36,7 +36,7 @@ struct Gathered<'a, 's> {
     fields: Vec<Named<'a, 's>>,
 }
 
-// Adds an offered field, unless its name is taken.
+// Adds an offered field, unless its name, or one that excludes it, is taken.
 fn push_new<'a, 's>(
     gathered: &mut Gathered<'a, 's>,
     alloc: Global,
@@ -173,7 +173,7 @@ fn push_offers<'a, 's>(
     }
 }
 
-// Returns the names of fields.
+// Returns the names of fields, as Biber reads them.
 fn own_names(alloc: Global, fields: &[Pair<'_>]) -> Result<BTreeSet<String>, AllocError>
     ensures { IfOk result (λ names. (name : List ℕ) → contains_text names name ≡
         is_listed (map (λ f. read_name f.name.text) (map field_of fields.now)) name) }

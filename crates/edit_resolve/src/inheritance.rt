@@ -129,7 +129,7 @@ fn titles_in(parent: &EntryType, child: &EntryType) -> Option<Titles>
     }
 }
 
-// Returns the new name of a title in the title of a part.
+// Returns the new name of a title of a work of several volumes.
 fn main_title(name: &str) -> Option<&'static str>
     ensures { option_map (λ new. new.now) result ≡ value_named (title_names Main) name.now }
 {
@@ -141,7 +141,7 @@ fn main_title(name: &str) -> Option<&'static str>
     }
 }
 
-// Returns the new name of the title of a volume.
+// Returns the new name of a title of a book.
 fn volume_title(name: &str) -> Option<&'static str>
     ensures { option_map (λ new. new.now) result ≡ value_named (title_names Volume) name.now }
 {
@@ -153,7 +153,7 @@ fn volume_title(name: &str) -> Option<&'static str>
     }
 }
 
-// Returns the new name of the title of a periodical.
+// Returns the new name of a title of a periodical.
 fn journal_title(name: &str) -> Option<&'static str>
     ensures { option_map (λ new. new.now) result ≡ value_named (title_names Journal) name.now }
 {
@@ -212,7 +212,7 @@ pub(crate) fn name_by_crossref(
     title_name(titles_in(parent, child), name)
 }
 
-// Returns whether a field isn't inherited under its own name if titles get new ones.
+// Returns whether a field isn't inherited under its own name if the titles of the parent get new names.
 fn is_own_title(name: &str) -> bool
     ensures { result ≡ is_one_of own_titles name.now }
 {

@@ -1,8 +1,8 @@
 //! Writes the fields that entries inherit into the entries of a file, as BibLaTeX has them.
 //!
-//! The parents of an entry are found by the keys in its `crossref` and `xdata` (`index`, `parents`). The references form a graph over the
-//! indices of the entries. The entries are taken in a topological order of this graph, so that the fields of an entry's parents are known
-//! when it inherits from them (`turns`). `inheritance` has the tables of BibLaTeX: which field of a parent becomes which field of an entry.
+//! The parents of an entry are found by the keys in its `crossref` and `xdata` (`file`, `parents`). The references form a graph over the
+//! indices of the entries. The entries are visited in a topological order of this graph, so that the fields of an entry's parents are known
+//! when it inherits from them (`turns`). `inheritance` contains the tables of BibLaTeX: the name that a field of a parent gets in an entry.
 //! `giving` finds the fields that take the places of own ones, and `gathering` the offered fields that the entry lacks. `edits` replaces
 //! own fields and references by them.
 //!

@@ -169,7 +169,7 @@ fn push_linked(
     Ok(())
 }
 
-// Returns the parents of an entry.
+// Returns the parents of an entry: those of `xdata`, and then those of `crossref`, each from the last to the first.
 fn parents(
     alloc: Global,
     file: &File<'_, '_>,

@@ -22,10 +22,11 @@ use std::alloc::Global;
 /// entry with this name in its fields `ids`; `xdata` finds only entries of the type `xdata`.
 ///
 /// **Fields.** By `xdata` an entry inherits all fields except `ids`, `options`, `crossref`, `xdata` and annotations. By `crossref` the
-/// titles of the parent get other names, such as `booktitle`, if the types of both entries have such a rule. Annotations and `ids`,
-/// `xref`, `related`, `label`, `options`, `shorthand`, `sortkey` and other fields of the parent itself aren't inherited, and all other
-/// fields keep their names. A field of an `xdata` parent takes the place of an own field with its name; by `crossref` no own field is
-/// replaced. Names are compared as Biber reads them: in any ASCII case, and `address`, `journal` or `school` as `location`,
+/// titles of the parent get other names, such as `booktitle`, if the types of both entries have such a rule; then `shorttitle`,
+/// `sorttitle`, `indextitle` and `indexsorttitle` aren't inherited. A part of a book inherits the author of the book also as `bookauthor`.
+/// Annotations and `ids`, `xref`, `related`, `label`, `options`, `shorthand`, `sortkey` and other fields of the parent itself aren't
+/// inherited, and all other fields keep their names. A field of an `xdata` parent takes the place of an own field with its name; by
+/// `crossref` no own field is replaced. Names are compared as Biber reads them: in any ASCII case, and `address`, `journal` or `school` as `location`,
 /// `journaltitle` or `institution`. An entry with `date` inherits no `year`, `month` or `day`, and one with `year` no `date`.
 ///
 /// **Text.** The inherited fields replace the last reference of their entry, and its other references are removed, with the text up to

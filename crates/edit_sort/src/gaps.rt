@@ -63,7 +63,8 @@ fn has_block_sign(text: &str) -> bool
     has_at_sign(text) || has_close_brace(text) || has_quote(text)
 }
 
-// Returns the comment in the text after the last blank line of a gap at the start of a run.
+// Returns the comment in `near`, the text after the last blank line of a gap at the start of a run: all of it except white space at its
+// start, or an empty text if a block may begin or end in it.
 fn near_comment(near: &str) -> &str
     ensures { result.now ≡ sorted.near_comment near.now }
 {

@@ -142,7 +142,7 @@ pub record IsExpansionCut (text : List ℕ) (rows : List (List IndexedPiece)) (i
   pub placed : IsPlaced text f
   pub pieces : AllByRecursion (IsPieceCut text) (field_expanded rows index f)
 
--- what holds of each field of some entries holds for their expansions
+-- each field of some entries meets `IsExpansionCut`, given the definitions before its entry
 abbrev pub AreExpansionsCut : List ℕ → List FieldReading → List (List IndexedPiece) → List EntryReading → Type 0
 AreExpansionsCut text definitions rows entries =
     AllByRecursion

@@ -167,7 +167,7 @@ fn definitions(
     Ok(new)
 }
 
-// Returns the collection of `texts`: a name for each, and its index.
+// Returns the collection of `texts`: the index of each, the names that the file defines for texts, and a name for each of `texts`.
 fn collection_of<'s>(
     alloc: Global,
     raw: &RawBibliography<'s>,
@@ -224,8 +224,8 @@ fn with_collection(
 }
 
 /// Returns the text of `document` with repeated values replaced by abbreviations. A text is collected if it is the value of at
-/// least `at_least` fields of entries, as one literal, and can be written between braces. An `at_least` of 0 or 1 counts as 2.
-/// Only fields with one of the names `fields` count, in any ASCII case.
+/// least `at_least` fields of entries, as one literal, and can be written between braces, also for BibTeX, which counts a brace
+/// after a backslash. An `at_least` of 0 or 1 counts as 2. Only fields with one of the names `fields` count, in any ASCII case.
 ///
 /// If a definition before the first entry has the text as its value, the text gets the name of this definition, as it is written
 /// there. The name has no other definition in any ASCII case, isn't a month's abbreviation and has no leading digit. Each other text

@@ -29,7 +29,7 @@ struct Names<'a, 's> {
 }
 
 // Sets the indices of the definitions from the index `from` on that begin before the byte offset `start`. Returns the index of the
-// first definition that doesn't.
+// first definition that doesn't, or the number of definitions.
 fn add_before(
     alloc: Global,
     indices: &mut Indices,

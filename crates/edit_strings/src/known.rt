@@ -61,7 +61,7 @@ fn has_digit_first(name: &str) -> bool
     }
 }
 
-// Returns whether `name` is no month's abbreviation, begins with no digit, and was counted once, given in lowercase too.
+// Returns whether `name` is no month's abbreviation, begins with no digit, and was counted once. `lowercase` is `name` in lowercase.
 fn is_counted_once(counts: &BTreeMap<String, usize>, name: &str, lowercase: &str) -> bool
     ensures { result ≡ (not (spec.is_month name.now) && not (spec.has_digit_first name.now) && (name_count_in counts.now lowercase.now == 1)) }
 {
@@ -103,7 +103,7 @@ fn reusable_text<'s>(
     Ok(single_text(&definition.value.v))
 }
 
-// Adds the name of `definition` for `text` to `known`, unless it has a name for this text or there is no text.
+// Adds the name of `definition` for `text` to `known`, unless `known` has a name for this text or there is no text.
 fn learn<'s>(
     known: &mut BTreeMap<&'s str, &'s str>,
     text: Option<&'s str>,

@@ -41,8 +41,9 @@ pub(crate) fn with_indices<'a, 's>(
     Ok(found)
 }
 
-// Returns the pieces of each definition with the indices of their definitions, which are before it. In `all`, each name has the index
-// of its last definition.
+// Returns the pieces of each definition, each with the index of its own definition, which comes earlier in the file. In `all`, each name
+// has the index of its last definition. Returns `EarlyUse` for the first definition that uses its own name, or a name before the name's
+// first definition.
 pub(crate) fn rows<'a, 's>(
     alloc: Global,
     all: &Indices,
