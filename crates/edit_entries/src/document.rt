@@ -215,10 +215,10 @@ impl<'s> RawDocument<'s> {
 
     /// Returns the text with the key `new` for the first entry with the key `old`, also in each reference to it. The references are in the
     /// fields `crossref`, `xref`, `xdata`, `entryset`, `related` and `set` of all entries: if the value is one text, each element of this
-    /// comma list is one. An element refers to the first entry that has exactly this key. An element of `crossref`, the only one of these fields that
-    /// BibTeX reads, can also refer to an entry by its key in another ASCII case: if BibTeX finds the entry by it, and Biber finds no
-    /// other entry by its field `ids`. A value that changes is written in braces. Joined values, abbreviations, and keys that are written
-    /// with TeX stay. The text stays if `new` is `old`.
+    /// comma list is one. An element refers to the first entry that has exactly this key. An element of `crossref`, the only one of these
+    /// fields that BibTeX reads, can also refer to an entry by its key in another ASCII case: if BibTeX finds the entry by it, and Biber
+    /// finds no other entry by its field `ids`. A value that changes is written in braces. Joined values, abbreviations, and keys that are
+    /// written with TeX stay. The text stays if `new` is `old`.
     ///
     /// # Errors
     ///

@@ -24,7 +24,7 @@ pub enum EditError {
     #[error("the text can't be the name of a field")]
     NotAName,
     /// The value can't be written in braces: a brace isn't closed or closes nothing, for this library or for BibTeX, which also counts a
-    /// brace after a backslash; or a backslash hides the last brace.
+    /// brace after a backslash; or a backslash at its end escapes the closing brace.
     #[error("the value can't be written in braces")]
     NotInBraces,
     /// The value can't be written without braces: it is neither a number nor the name of an abbreviation that is a month or is defined
