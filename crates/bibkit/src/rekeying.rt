@@ -48,8 +48,8 @@ fn parse_pattern(alloc: Global, pattern: &str) -> Result<KeyPattern, Stop> {
     }
 }
 
-// Returns whether an entry gets a new key: it is neither an `xdata`, which only other entries refer to, nor a `set`, which has no author,
-// year or title of its own.
+// Returns whether an entry gets a new key: it is neither an `xdata`, which only other entries refer to, nor a `set`, which groups other
+// entries.
 fn can_be_cited(entry: &RawEntry<'_>) -> bool {
     let kind = entry.kind.v;
     !kind.eq_ignore_ascii_case("xdata") && !kind.eq_ignore_ascii_case("set")

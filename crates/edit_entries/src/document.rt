@@ -103,7 +103,7 @@ impl<'s> RawDocument<'s> {
     ///
     /// # Errors
     ///
-    /// `UnknownKey` if no entry has the key; `NotAName` if the entry has no field with `name`, which can't be the name of a new field.
+    /// `UnknownKey` if no entry has the key; `NotAName` if the entry has no field with `name`, and `name` can't be that of a new field.
     /// If a field with `name` is missing or has another value: `NotInBraces` if a text can't be written in braces, for this library or for
     /// BibTeX, which also counts a brace after a backslash; `NotBare` if a value without braces is neither a number nor an abbreviation
     /// that is a month or is defined before the entry, in any ASCII case.

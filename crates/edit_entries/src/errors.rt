@@ -12,8 +12,8 @@ pub enum EditError {
     /// No entry has the key.
     #[error("no entry has the key")]
     UnknownKey,
-    /// A new key, or a name of an added entry, is the key of another entry, a name in the field `ids` of an entry, or another new key, in
-    /// any ASCII case.
+    /// A new key, or a name of an added entry, is a key that another entry keeps, a name in the field `ids` of an entry, or another new
+    /// key, in any ASCII case.
     #[error("an entry has the name already, as its key or in its field `ids`")]
     KeyIsThere,
     /// The text, a new key or the key of an added entry, can't be a new key: BibTeX, Biber or bibtool misreads it, a reference to it is
