@@ -1,4 +1,4 @@
-//! Variables that hold the text of one field.
+//! Variables with the text of one field.
 
 ghost use Rattle.std.specs.Prelude.{◌≡◌, ◌++◌, OnOk};
 ghost use Rattle.bib_csl.specs.Fields.{given};

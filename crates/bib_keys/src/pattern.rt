@@ -59,8 +59,8 @@ impl Model for KeyPattern {
 
 impl KeyPattern {
     /// Parses a pattern. A placeholder is `{author}`, `{title}` or `{year}`; the first two also in the forms `{Author}` and
-    /// `{AUTHOR}`, and with a number from 1 to 9, as `{author:3}`; the year also as `{year:2}`. All other characters stand for
-    /// themselves. The error is the first character that isn't allowed in a key, or the first opening brace that doesn't begin
+    /// `{AUTHOR}`, and with a number from 1 to 9, as `{author:3}`; the year also as `{year:2}`. All other characters are copied
+    /// to the key. The error is the first character that isn't allowed in a key, or the first opening brace that doesn't begin
     /// a placeholder, or out of memory.
     pub fn parse(alloc: Global, text: &str) -> Result<KeyPattern, PatternError>
         ensures found { IfOk result (λ pattern. IsPattern pattern text.now) }

@@ -61,8 +61,8 @@ impl Progress {
     }
 }
 
-// Returns the text of a file with its references `crossref` and `xdata` resolved by the rules of BibLaTeX. Returns `None` if the text has
-// no such references, or isn't accepted as a bibliography.
+// Returns the text of a file with its references `crossref` and `xdata` resolved by the rules of BibLaTeX. Returns `None` if that is the
+// same text, if an entry inherits from itself, or if the text isn't accepted as a bibliography.
 fn resolved_text(alloc: Global, text: &str) -> Result<Option<String>, AllocError> {
     let document = match RawDocument::parse(alloc, text) {
         Ok(document) => document,
@@ -95,7 +95,8 @@ fn is_accepted(alloc: Global, text: &str) -> Result<bool, AllocError> {
     }
 }
 
-// Returns the text whose entries are printed for a file's text. JSON has byte offsets of the file, so for JSON it is the same text.
+// Returns the text whose entries are printed instead of those of a file's text, or `None` if those are printed. JSON contains byte offsets
+// of the file, so for JSON the text isn't resolved.
 fn printed_text(alloc: Global, target: Target, text: &str) -> Result<Option<String>, AllocError> {
     match target {
         Target::Json => Ok(None),

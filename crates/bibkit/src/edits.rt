@@ -187,7 +187,7 @@ fn check_unchanged(rt: &HostRuntime, name: &str, bytes: &[u8]) -> Result<(), Sto
     Err(Stop::Said(said, 2))
 }
 
-/// Writes a text into a file with these bytes, unless it has these bytes itself. Fails if the file has other bytes by now.
+/// Writes the text `new` into a file that had these bytes, unless the text is the same. Fails if the file has other bytes by now.
 pub fn write_new(rt: &HostRuntime, name: &str, bytes: &[u8], new: &str) -> Result<(), Stop> {
     if new.as_bytes() == bytes {
         return Ok(());

@@ -26,8 +26,8 @@ pub struct Recoding {
     pub accents: Option<Form>,
 }
 
-// Returns the encoding of a file: that of its byte order mark, or else the given one. Fails with a message and status 2 if neither is
-// there, and the bytes aren't valid UTF-8.
+// Returns the encoding of a file: that of its byte order mark, or else the one in `recoding`, or else UTF-8 if the bytes are valid UTF-8.
+// Otherwise fails with a message and status 2.
 fn encoding_of(
     alloc: Global,
     name: &str,

@@ -48,14 +48,15 @@ fn parse_pattern(alloc: Global, pattern: &str) -> Result<KeyPattern, Stop> {
     }
 }
 
-// Returns whether a document can cite an entry: it isn't data of other entries.
+// Returns whether an entry gets a new key: it is neither an `xdata`, which only other entries refer to, nor a `set`, which groups other
+// entries.
 fn can_be_cited(entry: &RawEntry<'_>) -> bool {
     let kind = entry.kind.v;
     !kind.eq_ignore_ascii_case("xdata") && !kind.eq_ignore_ascii_case("set")
 }
 
-// Returns the new key of each entry, by its index. An entry that has this key already, that has none, or that can't be cited, gets no
-// new key.
+// Returns the new key of each entry, by its index. An entry that has this key already, that has an empty key, or that is an `xdata` or a
+// `set`, gets no new key.
 fn new_keys<'k>(
     alloc: Global,
     entries: &[Spanned<RawEntry<'_>>],
@@ -186,7 +187,7 @@ fn push_caught_in_field<'s>(
     Ok(())
 }
 
-// Returns the names to which an entry refers, which no entry has and which are new keys.
+// Returns the names to which an entry refers, which no entry has now and which are new keys.
 fn caught_names<'s>(
     alloc: Global,
     names: &Names,

@@ -37,11 +37,11 @@ pub struct Printed {
 /// An edit of the entries that meet conditions.
 #[derive(Clone, Copy)]
 pub enum SelectedEdit<'a> {
-    /// Edits a field of each.
+    /// Edits a field of each of these entries.
     Field(FieldEdit<'a>),
-    /// Removes the fields with this name from each.
+    /// Removes the fields with this name from each of these entries.
     Unset(&'a str),
-    /// Removes them.
+    /// Removes these entries.
     Remove,
 }
 
@@ -156,7 +156,8 @@ fn texts_of<'e>(edit: &FieldEdit<'e>) -> (&'e str, &'e str) {
     }
 }
 
-// Returns the texts of an edit of the selected entries: two of an edit of a field, or the name of a field that is removed.
+// Returns the texts of an edit of the selected entries: two for an edit of a field, one for the name of a field that is removed, and none
+// for the removal of the entries. A missing text is empty.
 fn texts_of_change<'e>(change: &SelectedEdit<'e>) -> (&'e str, &'e str) {
     match change {
         SelectedEdit::Field(edit) => texts_of(edit),
@@ -165,7 +166,7 @@ fn texts_of_change<'e>(change: &SelectedEdit<'e>) -> (&'e str, &'e str) {
     }
 }
 
-// Returns a value with this text, which is written in braces as `value` is.
+// Returns a value with this text, written in braces or without them, as `value` is.
 fn with_text<'e>(value: &FieldValue<'_>, text: &'e str) -> FieldValue<'e> {
     match value {
         FieldValue::Text(_) => FieldValue::Text(text),

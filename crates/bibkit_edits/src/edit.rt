@@ -133,8 +133,8 @@ pub enum Refusal {
         /// The index of the first such entry among those of the text, from 0.
         entry: usize,
     },
-    /// Any edit but [`Edit::Format`] is refused: the text has a text in quotes whose braces aren't balanced, as `"The {"}Big{"} one"`.
-    /// BibTeX and Biber read such a text and what follows it in another way.
+    /// Any edit except [`Edit::Format`] is refused: a field or a definition contains a text in quotes whose braces aren't balanced, such as
+    /// `"The {"}Big{"} one"`. BibTeX and Biber end such a text elsewhere, so they parse it and the text after it differently.
     UnbalancedQuotes {
         /// The index of the edit, from 0.
         index: usize,

@@ -247,7 +247,8 @@ fn edit_document(alloc: Global, document: &RawDocument<'_>, edit: &Edit<'_>) -> 
     }
 }
 
-// Returns whether an edit can't break a text in quotes of a document: no such text has unbalanced braces, or the edit copies the entry.
+// Returns whether an edit can't break a text in quotes of a document: no such text has unbalanced braces, or the edit is a format, which
+// copies an entry with such a text.
 fn is_safe(document: &RawDocument<'_>, edit: &Edit<'_>) -> bool
     ensures { result ≡ is_safe edit.now document.now }
 {

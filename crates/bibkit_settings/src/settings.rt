@@ -143,7 +143,7 @@ impl Settings {
         }
     }
 
-    /// Returns the request for `lint` with these settings. If `only` isn't set or empty, all codes except the ignored ones are reported.
+    /// Returns the request for `lint` with these settings. If `only` is empty or isn't set, all codes except the ignored ones are reported.
     /// If `color` is `Auto` or isn't set, `are_colors_shown` says whether lines are printed in colours. JSON has no colours. The request
     /// has no conditions.
     pub fn lint<'a>(

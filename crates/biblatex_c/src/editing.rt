@@ -1,4 +1,8 @@
 //! Calls that edit or format the text of a file.
+//!
+//! Each call returns `NotUtf8` if an argument isn't UTF-8, and `Refused` if a text isn't a file of the grammar. The calls that edit return
+//! `UnbalancedQuotes` if a field or a definition of the text contains a text in quotes whose braces aren't balanced, and `UnknownKey` if no
+//! entry has the key.
 
 ghost use Rattle.std.specs.Prelude.{◌≡◌, [], ◌∷◌, IfOk, IfErr, true, false};
 ghost use Rattle.std.specs.String.{string_bytes};
@@ -95,7 +99,8 @@ fn set_in(
 
 /// Writes the text with the field `name` of the first entry `key` set to `value`, in braces. If the field occurs several times, each
 /// occurrence is set. If the entry has no such field, the field is inserted before the others. A field that has this value already is
-/// unchanged.
+/// unchanged. Returns `NotAName` if the entry has no such field and `name` can't be the name of a new field, and `NotInBraces` if `value`
+/// can't be written in braces.
 #[unsafe(no_mangle)]
 pub extern "C" fn biblatex_set(
     alloc: Global,

@@ -28,7 +28,7 @@ pub enum Status {
     KeyIsThere,
     /// BibTeX, Biber or bibtool wouldn't read the new key, or the key of an added entry; or the old key is empty.
     NotAKey,
-    /// The text can't be a field name.
+    /// The text can't be the name of a new field.
     NotAName,
     /// The value, or a changed reference to a renamed entry, can't be written in braces.
     NotInBraces,
@@ -36,10 +36,10 @@ pub enum Status {
     DefinitionIsThere,
     /// The entry would have no field left.
     NoFieldLeft,
-    /// The value is neither a number nor an abbreviation that is defined before the entry.
+    /// The value is neither a number nor an abbreviation that is a month or is defined before the entry.
     NotBare,
-    /// The text to edit has a text in quotes whose braces aren't balanced, as `"The {"}Big{"} one"`: BibTeX and Biber read it and what
-    /// follows it in another way.
+    /// A field or a definition of the text to edit contains a text in quotes whose braces aren't balanced, such as `"The {"}Big{"} one"`.
+    /// BibTeX and Biber end such a text elsewhere, so they parse it and the text after it differently.
     UnbalancedQuotes,
 }
 

@@ -1,5 +1,5 @@
 -- Meaning: words of public contracts.
--- Braces as BibTeX, Biber and bibtool count them: a backslash hides no brace.
+-- Braces as BibTeX, Biber and bibtool count them: a brace after a backslash counts, too.
 use Rattle.std.specs.Prelude.{◌≡◌, ◌≤◌, ◌==◌, ◌&&◌, ℕ, zero, suc, Bool, true, not, nat_lt, List, filter, length, take}
 use Rattle.bib_text.specs.Characters as char
 

@@ -21,7 +21,7 @@ pub record IsReadPlaceless (says : FileReading) (text : List ℕ) : Type 0 where
 
 -- ---- what changes
 
--- a new value: its bytes, and the pieces that they read as
+-- a new value: its bytes, and the pieces that they are parsed as
 pub record NewValue : Type 0 where
   pub bytes : List ℕ
   pub pieces : List Piece
@@ -165,7 +165,7 @@ entry_changed e change = record e { kind = with_other_text e.kind change.kind; f
 abbrev pub file_changed : (EntryReading → EntryChange) → FileReading → FileReading
 file_changed changes says = record says { entries = map (λ e. entry_changed e (changes e)) says.entries }
 
--- a text is a document's with the changes of its entries, and reads so
+-- a text is a document's with the changes of its entries, and parses to its reading with these changes
 pub record IsChanged (changes : EntryReading → EntryChange) (d : Document) (text : List ℕ) : Type 0 where
   pub is : text ≡ text_changed changes d
   pub read : IsReadPlaceless (file_changed changes d.says) text

@@ -52,7 +52,7 @@ abbrev pub is_bare_number : List ℕ → Bool
 is_bare_number [] = false
 is_bare_number (b ∷ bs) = list_all is_ascii_digit (b ∷ bs)
 
--- the value as bytes, with the pieces that they read as
+-- the value as bytes, with the pieces that they are parsed as
 abbrev pub new_value : SetValue → NewValue
 new_value (SetValue.plain_text text) = braced_value text
 new_value (SetValue.bare_text text) = record {

@@ -103,7 +103,7 @@ impl<'s> RawDocument<'s> {
     ///
     /// # Errors
     ///
-    /// `UnknownKey` if no entry has the key; `NotAName` if the entry has no field with `name`, which can't be the name of a new field.
+    /// `UnknownKey` if no entry has the key; `NotAName` if the entry has no field with `name`, and `name` can't be that of a new field.
     /// If a field with `name` is missing or has another value: `NotInBraces` if a text can't be written in braces, for this library or for
     /// BibTeX, which also counts a brace after a backslash; `NotBare` if a value without braces is neither a number nor an abbreviation
     /// that is a month or is defined before the entry, in any ASCII case.
@@ -215,10 +215,10 @@ impl<'s> RawDocument<'s> {
 
     /// Returns the text with the key `new` for the first entry with the key `old`, also in each reference to it. The references are in the
     /// fields `crossref`, `xref`, `xdata`, `entryset`, `related` and `set` of all entries: if the value is one text, each element of this
-    /// comma list is one. An element refers to the first entry that has exactly this key. An element of `crossref`, the only one of these fields that
-    /// BibTeX reads, can also refer to an entry by its key in another ASCII case: if BibTeX finds the entry by it, and Biber finds no
-    /// other entry by its field `ids`. A value that changes is written in braces. Joined values, abbreviations, and keys that are written
-    /// with TeX stay. The text stays if `new` is `old`.
+    /// comma list is one. An element refers to the first entry that has exactly this key. An element of `crossref`, the only one of these
+    /// fields that BibTeX reads, can also refer to an entry by its key in another ASCII case: if BibTeX finds the entry by it, and Biber
+    /// finds no other entry by its field `ids`. A value that changes is written in braces. Joined values, abbreviations, and keys that are
+    /// written with TeX stay. The text stays if `new` is `old`.
     ///
     /// # Errors
     ///

@@ -12,8 +12,8 @@ pub enum EditError {
     /// No entry has the key.
     #[error("no entry has the key")]
     UnknownKey,
-    /// A new key, or a name of an added entry, is the key of another entry, a name in the field `ids` of an entry, or another new key, in
-    /// any ASCII case.
+    /// A new key, or a name of an added entry, is a key that another entry keeps, a name in the field `ids` of an entry, or another new
+    /// key, in any ASCII case.
     #[error("an entry has the name already, as its key or in its field `ids`")]
     KeyIsThere,
     /// The text, a new key or the key of an added entry, can't be a new key: BibTeX, Biber or bibtool misreads it, a reference to it is
@@ -24,7 +24,7 @@ pub enum EditError {
     #[error("the text can't be the name of a field")]
     NotAName,
     /// The value can't be written in braces: a brace isn't closed or closes nothing, for this library or for BibTeX, which also counts a
-    /// brace after a backslash; or a backslash hides the last brace.
+    /// brace after a backslash; or a backslash at its end escapes the closing brace.
     #[error("the value can't be written in braces")]
     NotInBraces,
     /// The value can't be written without braces: it is neither a number nor the name of an abbreviation that is a month or is defined

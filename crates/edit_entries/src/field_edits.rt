@@ -28,14 +28,14 @@ use std::collections::BTreeSet;
 /// An edit of a field of several entries at once.
 #[derive(Debug, Clone, Copy)]
 pub enum FieldEdit<'a> {
-    /// Each field with the name gets the value. An entry without one gets a new field.
+    /// Each field with the name gets the value. An entry with fields, but none with the name, gets a new one.
     Set {
         /// The name of the field.
         name: &'a str,
         /// The value.
         value: FieldValue<'a>,
     },
-    /// An entry without a field with the name gets a new one.
+    /// An entry with fields, but none with the name, gets a new one.
     Add {
         /// The name of the field.
         name: &'a str,

@@ -3,8 +3,9 @@
 //! An edit finds its stretch by the spans of the raw reading, and copies the text around it. The new text isn't parsed again: its reading
 //! is proved from the file grammar. The old and the new text have the same bytes before the stretch and after it; each such part is a
 //! *zone* (`ZoneFacts`). A rule of the grammar that holds in a zone of one text holds in the other, with its byte offsets moved
-//! (`GrammarFacts`, one lemma per rule). What mustn't follow a run (more white space, `%`) is only checked at the end of a zone. A file
-//! is split at an entry, and an entry at a field (`SplitFacts`); the parts are joined again around the new one (`EntryFacts`).
+//! (`GrammarFacts`, one lemma per rule). A condition on the character after a run (no white space, no `%`) is only checked at the end of
+//! a zone. A file is split at an entry, and an entry at a field (`SplitFacts`); the parts are joined again around the new one
+//! (`EntryFacts`).
 //!
 //! Several stretches are replaced in one pass over the text (`StretchFacts`). The reading is proved change by change, from the last to the
 //! first: the document agrees with the old one up to its last change (`AgreementFacts`), so the part before it keeps its byte offset

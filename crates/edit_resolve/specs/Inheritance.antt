@@ -1,5 +1,5 @@
 -- Meaning: words of public contracts.
--- The rules of inheritance of BibLaTeX: which field of an entry becomes which field of an entry that refers to it. They are those of
+-- The rules of inheritance of BibLaTeX: the name that a field of an entry gets in an entry that refers to it. They are those of
 -- biblatex.def of BibLaTeX 3.18b, which the BibLaTeX manual lists in its appendix on inheritance.
 use Rattle.std.specs.Prelude.{ℕ, Bool, true, false, not, ◌&&◌, if◌then◌else◌, is_some, List, [], ◌∷◌, codes, bytes_eq, Option, Some, None, unwrap_or}
 use Rattle.std.specs.Str.{str_to_ascii_lowercase}

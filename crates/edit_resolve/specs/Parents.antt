@@ -19,7 +19,7 @@ use Rattle.edit_resolve.specs.declared.parents.Parent.{Parent}
 
 -- ---- entries
 
--- the first of two indices that is there, if one is
+-- the first index, or the second one if the first is missing
 abbrev pub first_index : Option ℕ → Option ℕ → Option ℕ
 first_index (Some index) other = Some index
 first_index None other = other

@@ -213,7 +213,7 @@ fn own_fields<'a, 's>(
     Ok(own)
 }
 
-// Adds the fields that a parent offers.
+// Adds the fields that `parent` offers. `found` has the fields of each entry, and `kinds` the types.
 fn push_parent<'a, 's>(
     gathered: &mut Gathered<'a, 's>,
     alloc: Global,

@@ -26,13 +26,15 @@ use std::alloc::Global;
 /// `sorttitle`, `indextitle` and `indexsorttitle` aren't inherited. A part of a book inherits the author of the book also as `bookauthor`.
 /// Annotations and `ids`, `xref`, `related`, `label`, `options`, `shorthand`, `sortkey` and other fields of the parent itself aren't
 /// inherited, and all other fields keep their names. A field of an `xdata` parent takes the place of an own field with its name; by
-/// `crossref` no own field is replaced. Names are compared as Biber reads them: in any ASCII case, and `address`, `journal` or `school` as `location`,
-/// `journaltitle` or `institution`. An entry with `date` inherits no `year`, `month` or `day`, and one with `year` no `date`.
+/// `crossref` no own field is replaced. Names are compared as Biber reads them: in any ASCII case, and for example `address`, `journal` and
+/// `school` as `location`, `journaltitle` and `institution`. An entry with `date` inherits no `year`, `month` or `day`, and one with `year`
+/// no `date`.
 ///
 /// **Text.** The inherited fields replace the last reference of their entry, and its other references are removed, with the text up to
 /// the next field. Each value is written as its parent has it, with ` # ` between joined pieces. If nothing is inherited, the last
 /// reference is removed too, or kept if no field follows it. A field that takes the place of an own field is written there. A reference
-/// with a key that finds no entry is kept, and so is every other byte of the file.
+/// with a key that finds no entry is kept, and so is every other byte of the file. An entry whose references are all kept gets no other
+/// field.
 ///
 /// # Errors
 ///

@@ -16,7 +16,7 @@ pub enum Takes {
     Words,
     /// A required positional argument of one or more words, each of which may be several values separated by commas.
     WordsOrTexts,
-    /// The same, but required only if the option with this name is missing, which conflicts with it.
+    /// A positional argument like `WordsOrTexts`. It conflicts with the option with this name, and is required if that is missing.
     WordsOrTextsUnless(&'static str),
     /// An option that may be repeated: a condition on entries.
     Condition,
