@@ -50,7 +50,7 @@ fn parse_pattern(alloc: Global, pattern: &str) -> Result<KeyPattern, Stop> {
 
 // Returns whether an entry gets a new key: it is neither an `xdata`, which only other entries refer to, nor a `set`, which groups other
 // entries.
-fn can_be_cited(entry: &RawEntry<'_>) -> bool {
+fn gets_key(entry: &RawEntry<'_>) -> bool {
     let kind = entry.kind.v;
     !kind.eq_ignore_ascii_case("xdata") && !kind.eq_ignore_ascii_case("set")
 }
@@ -70,7 +70,7 @@ fn new_keys<'k>(
     'made: for (key, origin) in made.iter().zip(origins) {
         if let Some(entry) = entries.get(*origin) {
             let old = entry.v.key.v;
-            if !old.is_empty() && old != key.as_str() && can_be_cited(&entry.v) {
+            if !old.is_empty() && old != key.as_str() && gets_key(&entry.v) {
                 if let Some(place) = keys.get_mut(*origin) {
                     *place = Some(key.as_str());
                 }
