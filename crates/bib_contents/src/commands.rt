@@ -126,7 +126,8 @@ fn write_marked_letter(out: &mut String, letter: char, mark: char) -> Result<(),
     Ok(())
 }
 
-// Puts a mark on the last character of the text that begins at byte `start`. If that is empty, writes the mark alone.
+// Puts a mark on the last character of the text that begins at byte `start`. If that text is empty, writes the character
+// for a mark without a letter.
 fn mark_last(out: &mut String, start: usize, mark: char) -> Result<(), AllocError>
     requires { IsTrue (is_in_form Nfd (mark ∷ [])) }
     ensures { (base inside : List ℕ) → length (encode_utf8_all base) ≡ start →
