@@ -263,6 +263,7 @@ pub(crate) fn write_command(out: &mut String, name: &str, argument: &str) -> Res
     Ok(())
 }
 
+// The names of the symbols, each with the text that it is replaced by.
 static SYMBOLS: [(&str, &str); 70] = [
     ("LaTeX", "LaTeX"),
     ("TeX", "TeX"),
