@@ -319,7 +319,8 @@ impl<'m, 'f, 's> Expansion<'m, 'f, 's> {
         }
     }
 
-    // Starts to expand a name that isn't in the memo, or appends the name of a month.
+    // Starts to expand a name that isn't in the memo, or appends the name of a month. Returns an error if the name is neither
+    // defined nor that of a month.
     fn new_name(
         self,
         memo: &mut Memo<'s>,

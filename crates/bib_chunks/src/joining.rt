@@ -1,4 +1,4 @@
-//! Appends chunks and merges neighbours of one kind.
+//! Appends chunks and merges neighbours that are both normal or both verbatim.
 
 ghost use Rattle.std.specs.Prelude.{◌≡◌, ℕ, ◌≤◌, ◌++◌, OnOk, IfOk};
 ghost use Rattle.std.specs.Str.{chars};

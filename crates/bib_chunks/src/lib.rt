@@ -1,7 +1,8 @@
 //! Chunks of normal text, verbatim text and math, and the styled text that they form.
 //!
-//! `chunk` formats, cuts and writes chunks. `joining` appends chunks and merges neighbours of one kind. `lists` splits
-//! a comma list into its parts. `settling` decides whether written chunks parse back to the same styled text.
+//! `chunk` formats, cuts and writes chunks. `joining` appends chunks and merges neighbours that are both normal or both
+//! verbatim. `lists` splits a comma list in its styled text. `settling` decides whether written chunks parse back to the
+//! same styled text.
 #![tactic(auto)]
 
 pub mod chunk;

@@ -38,7 +38,7 @@ fn push_copy(chunks: &mut Chunks, chunk: &Chunk) -> Result<(), AllocError>
     Ok(())
 }
 
-// Appends a copy of a chunk with the span `0..0`, or merges it with the last chunk if both are of one kind.
+// Appends a copy of a chunk with the span `0..0`, or merges it with the last chunk if both are normal or both verbatim.
 fn add(chunks: &mut Chunks, chunk: &Chunk) -> Result<(), AllocError>
     ensures { OnOk result (chunks.new ≡ with_chunk chunks.old (at_start chunk.now)) }
 {
@@ -53,7 +53,8 @@ fn add(chunks: &mut Chunks, chunk: &Chunk) -> Result<(), AllocError>
     push_copy(chunks, chunk)
 }
 
-// Returns the chunks without those that are empty, with neighbours of one kind merged. Each has the span `0..0`.
+// Returns the chunks without empty normal and verbatim ones. Neighbours that are both normal or both verbatim are merged.
+// Each chunk has the span `0..0`.
 fn merge_neighbours(alloc: Global, chunks: ChunksRef<'_>) -> Result<Chunks, AllocError>
     ensures { IfOk result (λ all. all ≡ chunks_of (styled chunks.now)) }
 {
@@ -68,8 +69,8 @@ fn merge_neighbours(alloc: Global, chunks: ChunksRef<'_>) -> Result<Chunks, Allo
 
 /// Splits a comma list and returns its parts, each formatted by `format_styled`.
 ///
-/// The list is cut in its styled text: empty normal and verbatim chunks are ignored, and neighbours of one kind count
-/// as one chunk. The only error is out of memory.
+/// The list is cut in its styled text: empty normal and verbatim chunks are ignored, and neighbours that are both normal
+/// or both verbatim count as one chunk. The only error is out of memory.
 pub fn comma_texts(alloc: Global, chunks: ChunksRef<'_>) -> Result<Vec<Text>, AllocError>
     ensures { IfOk result (λ texts. texts.items ≡ comma_texts (styled chunks.now)) }
 {

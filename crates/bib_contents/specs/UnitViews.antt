@@ -33,7 +33,7 @@ text_unit_of (Copied c) = contents.ContentUnit.copied c
 text_unit_of (Command name space argument) = contents.ContentUnit.command (chars name.now) (chars space.now) (argument_of argument)
 text_unit_of (Other c) = contents.ContentUnit.other c
 
--- a unit
+-- the `ContentUnit` of a unit of the code
 abbrev pub unit_of : Unit → contents.ContentUnit
 unit_of (Shown unit) = text_unit_of unit
 unit_of (Applied name space inside) =

@@ -126,7 +126,8 @@ fn write_marked_letter(out: &mut String, letter: char, mark: char) -> Result<(),
     Ok(())
 }
 
-// Puts a mark on the last character of the text that begins at byte `start`. If that is empty, writes the mark alone.
+// Puts a mark on the last character of the text that begins at byte `start`. If that text is empty, writes the character
+// for a mark without a letter.
 fn mark_last(out: &mut String, start: usize, mark: char) -> Result<(), AllocError>
     requires { IsTrue (is_in_form Nfd (mark ∷ [])) }
     ensures { (base inside : List ℕ) → length (encode_utf8_all base) ≡ start →
@@ -262,6 +263,7 @@ pub(crate) fn write_command(out: &mut String, name: &str, argument: &str) -> Res
     Ok(())
 }
 
+// The names of the symbols, each with the text that it is replaced by.
 static SYMBOLS: [(&str, &str); 70] = [
     ("LaTeX", "LaTeX"),
     ("TeX", "TeX"),

@@ -36,7 +36,7 @@ pub(crate) enum ReadError {
 }
 
 impl SpecifiedKind {
-    // Returns the kind as a kind of type errors.
+    // Returns this specified kind as the kind of a type error.
     pub(crate) fn kind(self) -> TypeErrorKind
         ensures value { result ≡ error_kind_of self }
         ensures memory { result ≢ OutOfMemory }
@@ -55,7 +55,7 @@ impl SpecifiedKind {
 }
 
 impl UnspecifiedKind {
-    // Returns the kind as a kind of type errors.
+    // Returns this kind, which the definition doesn't specify, as the kind of a type error.
     pub(crate) fn kind(self) -> TypeErrorKind
         ensures memory { result ≢ OutOfMemory }
         ensures unread { IsUnreadKind result }

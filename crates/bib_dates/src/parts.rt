@@ -95,7 +95,8 @@ pub(crate) fn number(
     Ok((value(digits), following))
 }
 
-// Parses a number of one or two digits. If it isn't from `low` to `high`, the error is `reason`.
+// Parses a number of one or two digits, after white space. If it isn't from `low` to `high`, the error is `reason`. If there
+// are more digits or none, the error is `InvalidFormat`.
 #[tactic(auto, unfolding(crate::specs::Parts::small_number))]
 pub(crate) fn small_number(
     low: u8,

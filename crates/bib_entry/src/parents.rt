@@ -10,6 +10,7 @@ use bib_tables::type_error::TypeError;
 use bib_values::lists::read_strings;
 use std::alloc::{AllocError, Global};
 
+// Returns the text of `crossref`, and then the items of the comma-separated list `xref`.
 fn parents_of(alloc: Global, entry: &Entry) -> Result<Vec<String>, AllocError>
     ensures { IfOk result (λ names. map (λ s. string_bytes s) names.items ≡ parents_of entry.now) }
 {

@@ -77,7 +77,7 @@ pub fn spans(alloc: Global, raw: &[Spanned<RawEntry<'_>>]) -> Result<Vec<Span>, 
 /// name points to the last entry that claims it.
 ///
 /// The error is the first in the order of the file: a key that an earlier entry claimed (`DuplicateKey`, at the entry), or a
-/// field that can't be parsed.
+/// field that can't be parsed. The only other error is out of memory.
 pub fn load(alloc: Global, raw: RawBibliography<'_>) -> Result<(Vec<Entry>, Names), ParseError>
     ensures loaded { IfOk result (λ all. IsLoadedSoFar
         (definition_in (file_of raw.entry).abbreviations)

@@ -117,8 +117,9 @@ pub fn findings_in(
     sorted_by_place(found)
 }
 
-/// Returns all findings of a bibliography file, sorted by where they start. It recovers the file as
-/// `Bibliography::recover` does. Spans are in bytes of the text. Fails only if out of memory.
+/// Returns all findings of the text of a bibliography file, sorted by where they start. Recovers the text as
+/// `Bibliography::recover` does. Spans are in bytes of the text. The codes `UnreadBytes`, `MissingEntry` and `UnusedEntry`
+/// don't occur, because they are about the bytes of the file or about documents. Fails only if out of memory.
 pub fn findings(alloc: Global, text: &str) -> Result<Vec<Finding>, AllocError>
     ensures { IfOk result (λ found. AreFindings text.now found.items) }
 {

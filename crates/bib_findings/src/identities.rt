@@ -149,7 +149,8 @@ fn without_prefixes<'t>(text: &'t str, prefixes: &[&'static str]) -> &'t str
     text
 }
 
-/// Returns the DOI of an entry in lowercase, without the link before it; the empty text if it has none.
+/// Returns the DOI of an entry in lowercase, without braces, white space and the link before it; the empty text if the entry
+/// has none.
 pub(crate) fn doi(alloc: Global, said: &Spanned<RawEntry<'_>>) -> Result<String, AllocError>
     ensures { IfOk result (λ text. string_bytes text ≡ doi_of (entry_reading_of said.now)) }
 {
@@ -157,7 +158,7 @@ pub(crate) fn doi(alloc: Global, said: &Spanned<RawEntry<'_>>) -> Result<String,
     String::from_str(alloc, without_prefixes(text.as_str(), &DOI_PREFIXES))
 }
 
-/// Returns the ISBN of an entry without hyphens; the empty text if it has none.
+/// Returns the ISBN of an entry in lowercase, without hyphens, braces and white space; the empty text if the entry has none.
 pub(crate) fn isbn(alloc: Global, said: &Spanned<RawEntry<'_>>) -> Result<String, AllocError>
     ensures { IfOk result (λ text. string_bytes text ≡ isbn_of (entry_reading_of said.now)) }
 {
@@ -184,7 +185,7 @@ fn work_text(alloc: Global, title: &str, person: &str, year: &str) -> Result<Str
     format!(in alloc; "{title}{{{person}{{{year}")
 }
 
-/// Returns the words of the title of an entry, each followed by a space.
+/// Returns the words of the title of an entry in lowercase and without braces, each followed by a space.
 pub(crate) fn title(alloc: Global, said: &Spanned<RawEntry<'_>>) -> Result<String, AllocError>
     ensures { IfOk result (λ text. string_bytes text ≡ title_of (entry_reading_of said.now)) }
 {

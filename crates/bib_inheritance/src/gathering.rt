@@ -20,12 +20,14 @@ use std::collections::BTreeMap;
 // Offered fields by name. A field that is inserted later replaces an earlier one of the same name.
 type GatheredFields<'a> = BTreeMap<&'a str, &'a Chunks>;
 
+// Returns whether no entry inherits a field of this name.
 fn is_kept_back(name: &str) -> bool
     ensures { result ≡ is_one_of never_inherited name.now }
 {
     matches!(name, "title" | "addendum" | "note")
 }
 
+// Returns whether entries of this type are only containers of fields, which inherit any field.
 fn is_container(entry_type: &EntryType) -> bool
     ensures { result ≡ is_container entry_type.now }
 {

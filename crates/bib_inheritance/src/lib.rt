@@ -4,10 +4,10 @@
 //! equation is therefore an equation between lists of `EntryTexts`. It doesn't depend on the order of fields or on the
 //! borders of chunks. Own fields that an entry keeps have the same chunks as before.
 //!
-//! For one entry, `reference_names` finds the entries that it refers to. `offers` decides which field of a parent provides a
-//! missing field. `gathering` collects the fields that all references offer in a map, from the last reference to the first.
-//! `inheritable_date` finds the date that can be inherited, and `inheriting` copies the fields that the entry lacks. A
-//! repeated reference counts once.
+//! For one entry, `reference_names` finds the entries that it refers to. `offers` decides which field of such an entry
+//! provides a missing field. `gathering` collects the fields that all references offer in a map, from the last reference to
+//! the first, and copies those that the entry lacks. `inheritable_date` finds the date that can be inherited, and
+//! `inheriting` adds the copies and the date to the entry. A repeated reference counts once.
 //!
 //! For a bibliography, `reference_indices` builds the graph of references, and `turning` resolves the entries in topological
 //! order. An entry without references and without `xdata` is left unchanged. `dates` computes the date of an entry when

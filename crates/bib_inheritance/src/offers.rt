@@ -21,12 +21,14 @@ pub struct Reference<'a> {
     pub fields: &'a TextMap<Chunks>,
 }
 
+// Returns whether the type is `Periodical`.
 fn is_periodical(entry_type: &EntryType) -> bool
     ensures { result ≡ is_periodical entry_type.now }
 {
     matches!(entry_type, EntryType::Periodical)
 }
 
+// Returns the name of the title that a periodical offers for the title or subtitle of a journal, or `None` for another `name`.
 fn journal_title(name: &str) -> Option<&'static [&'static str]>
     ensures { option_map (λ names. texts names.now) result ≡ value_named journal_titles name.now }
 {
@@ -37,6 +39,7 @@ fn journal_title(name: &str) -> Option<&'static [&'static str]>
     }
 }
 
+// Returns the name of the title that an entry of a collection type offers for `name`, if this is a title of a book.
 fn book_title(name: &str) -> Option<&'static [&'static str]>
     ensures { option_map (λ names. texts names.now) result ≡ value_named book_titles name.now }
 {
@@ -48,6 +51,7 @@ fn book_title(name: &str) -> Option<&'static [&'static str]>
     }
 }
 
+// Returns the name of the title that an entry of a multi-volume type offers for `name`, if this is a main title.
 fn main_title(name: &str) -> Option<&'static [&'static str]>
     ensures { option_map (λ names. texts names.now) result ≡ value_named main_titles name.now }
 {

@@ -4,8 +4,8 @@ use Rattle.std.specs.Prelude.{◌≡◌, ℕ, Bool, true, false, not, ◌&&◌, 
 use Rattle.std.specs.List.{AllByRecursion}
 use Rattle.bib_text.specs.Characters as char
 
--- whether a backslash hides each quote of a text, and no backslash hides the byte after the text; `is_hidden`: a backslash hides its
--- first byte
+-- whether a backslash escapes each quote of a text, and no backslash escapes the byte after the text; `is_hidden`: a backslash
+-- escapes its first byte
 abbrev pub are_quotes_hidden : Bool → List ℕ → Bool
 are_quotes_hidden is_hidden [] = not is_hidden
 are_quotes_hidden true (b ∷ bs) = are_quotes_hidden false bs

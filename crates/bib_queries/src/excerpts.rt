@@ -25,7 +25,8 @@ use std::alloc::{AllocError, Global};
 pub struct TextAnswer {
     /// The text to print.
     pub text: String,
-    /// Whether the text has an entry, or a key for the request `Keys`. The text for `Cited` may have only preambles.
+    /// Whether the text has an entry, or a key for the request `Keys`. The text for `Cited` may have only definitions and
+    /// preambles.
     pub has_entry: bool,
 }
 

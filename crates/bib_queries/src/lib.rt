@@ -1,6 +1,6 @@
 //! Finds entries by key, by field or by the citations of a document, and returns their source text.
 //!
-//! It parses a file with `RawBibliography::recover`, so a file with errors has excerpts too. Excerpts are slices of its
+//! A file is parsed with `RawBibliography::recover`, so a file with errors has excerpts too. Excerpts are slices of its
 //! text: an entry is a block of the file grammar at its offset, and a definition is a field at its offset
 //! (`DefinitionFacts`).
 //!

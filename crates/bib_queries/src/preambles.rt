@@ -12,14 +12,14 @@ ghost use Rattle.bib_queries.specs.Preambles.{ArePreambles, CanBeQuoted, preambl
 use crate::lines::after_prefix;
 use std::alloc::AllocError;
 
-// Returns whether a quote at this byte isn't hidden by a backslash.
+// Returns whether this byte is a quote that no backslash escapes. `is_hidden`: a backslash escapes this byte.
 fn is_close(is_hidden: bool, byte: u8) -> bool
     ensures { result ≡ (not is_hidden && byte == char.quote) }
 {
     !is_hidden && byte == b'"'
 }
 
-// Returns whether this byte is a backslash that hides the next byte.
+// Returns whether this byte is a backslash that escapes the next byte. `is_hidden`: a backslash escapes this byte.
 fn hides_next(is_hidden: bool, byte: u8) -> bool
     ensures { result ≡ (not is_hidden && byte == char.backslash) }
 {

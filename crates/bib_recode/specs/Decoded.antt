@@ -11,7 +11,7 @@ use Rattle.bib_recode.specs.declared.decoding.DecodeError.TheVariants.{NotUtf8, 
 use Rattle.bib_recode.specs.declared.encoding.Encoding.{Encoding}
 use Rattle.bib_recode.specs.declared.encoding.Encoding.TheVariants.{Utf8, Utf16LittleEndian, Utf16BigEndian, Windows1252, Latin1}
 
--- `text` is UTF-8 of bytes without a byte order mark
+-- the bytes are valid UTF-8, and `text` is these bytes
 pub record IsUtf8Text (bytes text : List ℕ) : Type 0 where
   pub utf8 : IsUtf8 bytes
   pub is : text ≡ bytes

@@ -11,7 +11,7 @@ use Rattle.bib_recode.specs.declared.encoding.Encoding.TheVariants.{Utf8, Utf16L
 abbrev pub is_either : List ℕ → List ℕ → List ℕ → Bool
 is_either name first second = str_eq_ignore_ascii_case name first || str_eq_ignore_ascii_case name second
 
--- the encoding of a name
+-- the encoding with this name, in any ASCII case, or `None`
 abbrev pub encoding_named : List ℕ → Option Encoding
 encoding_named name =
     if is_either name (codes "utf-8") (codes "utf8") then Some Utf8

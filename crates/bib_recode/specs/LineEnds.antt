@@ -7,7 +7,7 @@ use Rattle.bib_text.specs.Characters as char
 use Rattle.bib_recode.specs.declared.line_ends.LineEnds.{LineEnds}
 use Rattle.bib_recode.specs.declared.line_ends.LineEnds.TheVariants.{Lf, CrLf}
 
--- the kind of line ends of a name
+-- the kind of line ends with this name, in any ASCII case, or `None`
 abbrev pub line_ends_named : List ℕ → Option LineEnds
 line_ends_named name =
     if str_eq_ignore_ascii_case name (codes "lf") then Some Lf else if str_eq_ignore_ascii_case name (codes "crlf") then Some CrLf else None

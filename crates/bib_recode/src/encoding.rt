@@ -87,7 +87,7 @@ pub fn marked_as(bytes: &[u8]) -> Option<Encoding>
     None
 }
 
-// Returns UTF-8 if bytes are valid UTF-8.
+// Returns UTF-8 if bytes are valid UTF-8, and `None` otherwise.
 fn if_utf8(bytes: &[u8]) -> Option<Encoding>
     ensures valid { IsUtf8 bytes.now → result ≡ Some Encoding.Utf8 }
     ensures invalid { ¬ (IsUtf8 bytes.now) → result ≡ None }

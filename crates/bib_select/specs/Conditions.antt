@@ -50,7 +50,7 @@ pub data QuestionReading : Type 0 where
   compares_field : List ℕ → Operator → QuestionReading
   compares_year : Comparison → QuestionReading
 
--- the subject that a token is
+-- the subject that a token names, or `None` for a sign
 abbrev pub subject_at : Placed → Option SubjectReading
 subject_at placed =
     if is_keyword (codes "type") placed.token then Some the_type
@@ -74,11 +74,11 @@ signed_value rows (word text) = None
 signed_value rows (quoted text) = None
 signed_value rows (sign text) = value_named rows text
 
--- the comparison that a token is
+-- the comparison of a token that is a sign, or `None` for any other token
 abbrev pub comparison_at : Placed → Option Comparison
 comparison_at placed = signed_value comparison_signs placed.token
 
--- the operator on texts that a token is: a sign, or the word `contains`
+-- the operator on texts of a token: a sign, or the word `contains`; `None` for any other token
 abbrev pub operator_at : Placed → Option Operator
 operator_at placed =
     if is_keyword (codes "contains") placed.token then Some Contains else signed_value operator_signs placed.token
@@ -89,7 +89,7 @@ type_question Is = Some is_type
 type_question IsNot = Some is_other_type
 type_question other = None
 
--- the question that a subject and the operator of a token are
+-- the question made of a subject and the operator of a token, or `None` if the token is no operator for the subject
 abbrev pub question_at : SubjectReading → Placed → Option QuestionReading
 question_at the_type placed = option_and_then type_question (operator_at placed)
 question_at the_key placed = option_map compares_key (operator_at placed)
@@ -100,7 +100,7 @@ question_at the_year placed = option_map compares_year (comparison_at placed)
 abbrev pub text_reading : Operator → ℕ → List ℕ → TextReading
 text_reading operator at text = record { operator = operator; text = text; at = at }
 
--- the test that a question and a text are; the text for a year is a decimal number
+-- the test made of a question and a text, or `None` if the question is about a year and the text is no decimal number
 abbrev pub answer_reading : QuestionReading → ℕ → List ℕ → Option TestReading
 answer_reading is_type at text = Some (of_type text)
 answer_reading is_other_type at text = Some (of_other_type text)
@@ -108,11 +108,11 @@ answer_reading (compares_key operator) at text = Some (key (text_reading operato
 answer_reading (compares_field name operator) at text = Some (field name (text_reading operator at text))
 answer_reading (compares_year comparison) at text = option_map (year comparison) (decimal_of text)
 
--- the test that a question and the text of a token are
+-- the test made of a question and the text of a token, or `None` if the token has no text that fits the question
 abbrev pub reading_at : QuestionReading → Placed → Option TestReading
 reading_at question placed = option_and_then (answer_reading question placed.at) (text_in_token placed.token)
 
--- what is missing after a question without a text that answers it
+-- the kind of the error for a question if no text that fits it follows
 abbrev pub missing_text : QuestionReading → SelectionErrorKind
 missing_text (compares_year comparison) = MissingYear
 missing_text other = MissingText
@@ -122,43 +122,43 @@ abbrev pub has_test : Segment → Result TestReading SelectionError
 has_test s =
     and_then (first_as (λ placed. text_in_token placed.token) MissingField s) (λ name. if_ended (has name) (without_first s))
 
--- the test that a question and the text after it are
+-- the test made of a question and the text in a segment, which must have no other token
 abbrev pub answer_test : QuestionReading → Segment → Result TestReading SelectionError
 answer_test question s =
     and_then (first_as (reading_at question) (missing_text question) s) (λ test. if_ended test (without_first s))
 
--- what is missing after a subject without an operator for it
+-- the kind of the error for a subject if no operator for it follows
 abbrev pub missing_operator : SubjectReading → SelectionErrorKind
 missing_operator the_type = MissingTypeOperator
 missing_operator the_year = MissingYearOperator
 missing_operator other = MissingOperator
 
--- the test that a subject and the operator and the text after it are
+-- the test made of a subject, and of the operator and the text in a segment, which must have no other token
 abbrev pub operator_test : SubjectReading → Segment → Result TestReading SelectionError
 operator_test subject s =
     and_then (first_as (question_at subject) (missing_operator subject) s) (λ question. answer_test question (without_first s))
 
--- the test that a subject, an operator and a text are
+-- the result of parsing all tokens of a segment as a test: a subject, an operator and a text
 abbrev pub subject_test : Segment → Result TestReading SelectionError
 subject_test s = and_then (first_as subject_at MissingTest s) (λ subject. operator_test subject (without_first s))
 
--- the test that all tokens of a segment are
+-- the result of parsing all tokens of a segment as a test
 abbrev pub test_reading : Segment → Result TestReading SelectionError
 test_reading s = if opens_with (codes "has") s then has_test (without_first s) else subject_test s
 
--- the term of a test
+-- the term of a parsed test, or the error of parsing it
 abbrev pub term_with : Bool → Result TestReading SelectionError → Result TermReading SelectionError
 term_with negated result = and_then result (λ test. Ok (record { negated = negated; test = test }))
 
--- the term that all tokens of a segment are: a test, or `not` and a test
+-- the result of parsing all tokens of a segment as a term: a test, or `not` and a test
 abbrev pub term_reading : Segment → Result TermReading SelectionError
 term_reading s =
     if opens_with (codes "not") s then term_with true (test_reading (without_first s)) else term_with false (test_reading s)
 
--- the alternative that a segment is: terms joined by `and`
+-- the result of parsing all tokens of a segment as an alternative: terms joined by `and`
 abbrev pub terms_reading : Segment → Result (List TermReading) SelectionError
 terms_reading s = try_map term_reading (segments_of (codes "and") s)
 
--- the condition that a segment is: alternatives joined by `or`
+-- the result of parsing all tokens of a segment as a condition: alternatives joined by `or`
 abbrev pub alternatives_reading : Segment → Result (List (List TermReading)) SelectionError
 alternatives_reading s = try_map terms_reading (segments_of (codes "or") s)

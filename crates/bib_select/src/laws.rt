@@ -9,8 +9,8 @@ ghost use Rattle.bib_select.specs.Segments.{Segment};
 ghost use Rattle.bib_select.specs.Tokens.{Placed, AreTokens};
 ghost use Rattle.bib_select.specs.declared.errors.SelectionError.{SelectionError};
 
-/// A text has one list of tokens, or one first quote that isn't closed. It is at most one condition. A condition has no error except
-/// those of its regular expressions.
+/// A text has at most one list of tokens, or at most one first quote that isn't closed, and not both. It is at most one condition.
+/// If it is a condition, parsing it has no error except those of its regular expressions and out of memory.
 pub fn a_text_is_one_condition()
     ensures tokens { (place : Place) (tokens others : Result (List Placed) ℕ) → AreTokens place tokens →
         AreTokens place others → tokens ≡ others }

@@ -90,7 +90,7 @@ pub(crate) enum Question<'s> {
     Year(Comparison),
 }
 
-// Returns the subject that a token is.
+// Returns the subject that a token names, or `None` for a sign.
 fn subject_at<'s>(placed: &Placed<'s>) -> Option<Subject<'s>>
     ensures { option_map subject_of result ≡ conditions.subject_at (placed_of placed.now) }
 {
@@ -107,7 +107,7 @@ fn subject_at<'s>(placed: &Placed<'s>) -> Option<Subject<'s>>
     Some(Subject::Field(name))
 }
 
-// Returns the comparison that a token is.
+// Returns the comparison of a token that is a sign, or `None` for any other token.
 fn comparison_at(placed: &Placed<'_>) -> Option<Comparison>
     ensures { result ≡ conditions.comparison_at (placed_of placed.now) }
 {
@@ -125,7 +125,7 @@ fn comparison_at(placed: &Placed<'_>) -> Option<Comparison>
     }
 }
 
-// Returns the operator on texts that a token is.
+// Returns the operator on texts of a token: a sign, or the word `contains`. Returns `None` for any other token.
 fn operator_at(placed: &Placed<'_>) -> Option<Operator>
     ensures { result ≡ conditions.operator_at (placed_of placed.now) }
 {
@@ -154,7 +154,7 @@ fn type_question(operator: Operator) -> Option<Question<'static>>
     }
 }
 
-// Returns the question that a subject and the operator of a token are.
+// Returns the question made of a subject and the operator of a token, or `None` if the token is no operator for the subject.
 fn question_at<'s>(subject: Subject<'s>, placed: &Placed<'_>) -> Option<Question<'s>>
     ensures { option_map question_of result ≡ conditions.question_at (subject_of subject.entry) (placed_of placed.now) }
 {
@@ -166,7 +166,7 @@ fn question_at<'s>(subject: Subject<'s>, placed: &Placed<'_>) -> Option<Question
     }
 }
 
-// Returns the test that a question and the text of a token are.
+// Returns the test made of a question and the text of a token, or `None` if the token has no text that fits the question.
 fn raw_test_at<'s>(question: Question<'s>, placed: &Placed<'s>) -> Option<RawTest<'s>>
     ensures { option_map test_reading_of result ≡ conditions.reading_at (question_of question.entry) (placed_of placed.now) }
 {
@@ -184,14 +184,14 @@ fn raw_test_at<'s>(question: Question<'s>, placed: &Placed<'s>) -> Option<RawTes
     }
 }
 
-// Returns the number that a text is in decimal digits, with or without a sign, if it fits in 64 bits.
+// Returns the number that a text spells in decimal digits, with or without a sign, if it fits in 64 bits.
 fn decimal(text: &str) -> Option<i64>
     ensures { result ≡ decimal_of text.now }
 {
     text.parse::<i64>().ok()
 }
 
-// Returns what is missing after a subject without an operator for it.
+// Returns the kind of the error for a subject if no operator for it follows.
 fn missing_operator(subject: Subject<'_>) -> SelectionErrorKind
     ensures { result ≡ conditions.missing_operator (subject_of subject.entry) }
 {
@@ -202,7 +202,7 @@ fn missing_operator(subject: Subject<'_>) -> SelectionErrorKind
     }
 }
 
-// Returns what is missing after a question without a text that answers it.
+// Returns the kind of the error for a question if no text that fits it follows.
 fn missing_text(question: Question<'_>) -> SelectionErrorKind
     ensures { result ≡ conditions.missing_text (question_of question.entry) }
 {
@@ -222,7 +222,7 @@ fn if_ended<'s>(test: RawTest<'s>, segment: Segment<'_, 's>) -> Result<RawTest<'
     Err(segment.error(SelectionErrorKind::MissingJoint))
 }
 
-// Returns the test that a question and the text after it are.
+// Returns the test made of a question and the text in a segment. The segment must have no other token.
 fn answer_test<'s>(
     question: Question<'s>,
     segment: Segment<'_, 's>,
@@ -239,7 +239,7 @@ fn answer_test<'s>(
     if_ended(test, segment.rest())
 }
 
-// Returns the test that a subject and the operator and the text after it are.
+// Returns the test made of a subject, and of the operator and the text in a segment. The segment must have no other token.
 fn operator_test<'s>(
     subject: Subject<'s>,
     segment: Segment<'_, 's>,
@@ -256,7 +256,7 @@ fn operator_test<'s>(
     answer_test(question, segment.rest())
 }
 
-// Returns the test that a subject, an operator and a text are.
+// Parses all tokens of a segment as a test: a subject, an operator and a text.
 fn subject_test<'s>(segment: Segment<'_, 's>) -> Result<RawTest<'s>, SelectionError>
     ensures { test_result result ≡ conditions.subject_test (segment_of segment.entry) }
 {
@@ -282,7 +282,7 @@ fn has_test<'s>(segment: Segment<'_, 's>) -> Result<RawTest<'s>, SelectionError>
     if_ended(RawTest::Has(name), segment.rest())
 }
 
-// Returns the test that all tokens of a segment are.
+// Parses all tokens of a segment as a test.
 fn test<'s>(segment: Segment<'_, 's>) -> Result<RawTest<'s>, SelectionError>
     ensures { test_result result ≡ conditions.test_reading (segment_of segment.entry) }
 {
@@ -292,7 +292,7 @@ fn test<'s>(segment: Segment<'_, 's>) -> Result<RawTest<'s>, SelectionError>
     subject_test(segment)
 }
 
-/// Returns the term that all tokens of a segment are: a test, or `not` and a test.
+/// Parses all tokens of a segment as a term: a test, or `not` and a test.
 pub(crate) fn term<'s>(segment: Segment<'_, 's>) -> Result<RawTerm<'s>, SelectionError>
     ensures { term_result result ≡ conditions.term_reading (segment_of segment.entry) }
 {

@@ -3,7 +3,7 @@
 ghost use Rattle.std.specs.Prelude.{◌≡◌, ◌≤◌, ◌-◌, drop, length, take};
 ghost use Rattle.bib_source.specs.Comparison.{BeginDifferently, EndDifferently, HaveCommonEnds, line_texts};
 
-// Two lists of lines without their common start and their common end.
+// Two lists of lines, cut into their common start, the lines of each list after it, and their common end.
 #[derive(Clone, Copy)]
 pub(crate) struct Ends<'s, 't> {
     pub(crate) start: &'s [&'t str],

@@ -178,7 +178,8 @@ fn near(new: &[&str], line: &str, start: usize, limit: usize) -> Option<usize> {
     None
 }
 
-// Returns for each line of the old text the index of its partner: that of `chain`, or an equal line near the last partner.
+// Returns for each line of the old text the index of its partner: that of `chain`, or else an equal line soon after the last
+// partner. A line without either has `None`.
 fn pair_lines(
     alloc: Global,
     old: &[&str],

@@ -12,6 +12,7 @@ pub record StandsIn (text : List ℕ) (p : Part) : Type 0 where
   pub size : p.end ≡ p.start + length p.text
   pub within : p.end ≤ length text
 
+-- a piece is the text in its span, which is in `text`
 abbrev pub PieceStandsIn : List ℕ → Piece → Type 0
 PieceStandsIn text (literal p) = StandsIn text p
 PieceStandsIn text (abbreviation p) = StandsIn text p

@@ -3,7 +3,8 @@
 --
 -- For each rule of the grammar in the mode `longest`, a definition states how it fails. It relates the place where the rule
 -- begins, the kind of the error, and the place where the error is reported. This is the first place where a required part
--- is missing. A part is missing if the character there fails its test, or the text ends (`Stops`).
+-- is missing, or the second point of a number. A part is missing if the character there fails its test, or the text ends
+-- (`Stops`). An unclosed brace or quote is reported at the end of the text.
 use Rattle.std.specs.Prelude.{◌≡◌, ℕ, ◌==◌, ◌||◌, ◌&&◌, not, Bool, true, List, length}
 use Rattle.std.specs.Char.{is_ascii_digit}
 use Rattle.bib_text.specs.Places.{Place, place, CharAt, Stops, Longest, AtEnd}

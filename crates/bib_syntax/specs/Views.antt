@@ -25,12 +25,14 @@ piece_at start end (Abbreviation s) = abbreviation (record { text = s.now; start
 abbrev pub piece_of : Spanned RawChunk → Piece
 piece_of s = piece_at s.span.start s.span.end s.v
 
+-- the reading of a field, or of the definition of an abbreviation
 abbrev pub field_of : Pair → FieldReading
 field_of p = record {
   name = part_of p.key;
   value = record { pieces = map piece_of p.value.v.items; start = p.value.span.start; end = p.value.span.end };
 }
 
+-- the reading of an entry with its span
 abbrev pub entry_reading_of : Spanned RawEntry → EntryReading
 entry_reading_of e = record {
   key = part_of e.v.key;

@@ -210,7 +210,7 @@ impl Clone for ParseErrorKind {
 /// A token of a bibliography file.
 #[derive(Debug, Clone, Copy, PartialEq, Eq)]
 pub enum Token {
-    /// The name of a field or an abbreviation, or the entry type or the key of an entry.
+    /// The name of a field or an abbreviation, or the name of a block, such as an entry type.
     Identifier,
     /// `{`
     OpeningBrace,

@@ -32,11 +32,13 @@ singular_of PluralFemale = SingularFemale
 singular_of PluralMale = SingularMale
 singular_of PluralNeuter = SingularNeuter
 
+-- whether a gender is female, in the singular or in the plural
 abbrev pub is_female : Gender → Bool
 is_female SingularFemale = true
 is_female PluralFemale = true
 is_female _ = false
 
+-- whether a gender is male, in the singular or in the plural
 abbrev pub is_male : Gender → Bool
 is_male SingularMale = true
 is_male PluralMale = true

@@ -29,11 +29,11 @@ fields names = words (codes names)
 abbrev pub core : Names
 core = fields "titleaddon subtitle url urldate doi eprint eprintclass eprinttype pubstate language addendum"
 
--- the same with `note` and `location`
+-- `core` with `note` and `location`
 abbrev pub base : Names
 base = codes "note" ∷ codes "location" ∷ core
 
--- the same only with `note`
+-- `core` with `note`
 abbrev pub base_without_location : Names
 base_without_location = codes "note" ∷ core
 
@@ -58,10 +58,12 @@ pub record Rules : Type 0 where
   pub pages : PagesChapterMode
   pub needs_date : Bool
 
+-- the rules with these parts, in the order of `Rules`
 abbrev pub rules : Names → Names → AuthorMode → PagesChapterMode → Bool → Rules
 rules required optional author pages needs_date =
     record { required = required; optional = optional; author = author; pages = pages; needs_date = needs_date }
 
+-- the rules of `Article` and `SuppPeriodical`
 abbrev pub article_rules : Rules
 article_rules =
     rules (fields "title journaltitle")
@@ -70,36 +72,42 @@ article_rules =
     "number series version volume annotator commentator translator origlanguage journalsubtitle issue issuetitle issuesubtitle eid issn")
     author.AuthorRequiredEditorOptional pages.PagesOptional true
 
+-- the rules of `InBook`, `BookInBook` and `SuppBook`
 abbrev pub in_book_rules : Rules
 in_book_rules =
     rules (fields "title publisher booktitle")
     (base ++ annotators ++ main_title ++ book_title ++ fields "bookauthor volume volumes part type series number edition isbn")
     author.OneRequired pages.OneRequired true
 
+-- the rules of `InCollection`, `SuppCollection` and `InReference`
 abbrev pub in_collection_rules : Rules
 in_collection_rules =
     rules (fields "title publisher booktitle")
     (base ++ annotators ++ main_title ++ book_title ++ fields "volume volumes part type series number edition isbn")
     author.BothRequired pages.BothOptional true
 
+-- the rules of `MastersThesis` and `PhdThesis`
 abbrev pub masters_thesis_rules : Rules
 masters_thesis_rules =
     rules (fields "title school")
     (base ++ fields "type")
     author.AuthorRequired pages.None true
 
+-- the rules of `Misc` and `Software`
 abbrev pub misc_rules : Rules
 misc_rules =
     rules (fields "title")
     (base_without_location ++ fields "howpublished organization type")
     author.OneRequired pages.None false
 
+-- the rules of `Collection` and `Reference`
 abbrev pub collection_rules : Rules
 collection_rules =
     rules (fields "title")
     (base ++ annotators ++ main_title ++ fields "edition number series part volume volumes isbn publisher pagetotal")
     author.EditorRequiredAuthorForbidden pages.BothOptional true
 
+-- the rules of `MvCollection`, `MvReference` and unknown types
 abbrev pub mv_collection_rules : Rules
 mv_collection_rules =
     rules (fields "title")
@@ -228,7 +236,7 @@ page_names pages.PagesRequired = fields "pages"
 abbrev pub fields_of_rules : Rules → Names
 fields_of_rules asked = asked.required ++ asked.optional ++ page_names asked.pages ++ author_names asked.author
 
--- the fields that an entry of a type can inherit from the entries that it refers to, except for those never inherited
+-- the fields that the rules of a type require or allow: an entry of the type can inherit them, unless they are in `never_inherited`
 abbrev pub inheritable : EntryType → Names
 inheritable type = fields_of_rules (rules_of type)
 

@@ -10,5 +10,6 @@ verbatim_fields =
     codes "file" ∷ codes "doi" ∷ codes "uri" ∷ codes "eprint" ∷ codes "verba" ∷ codes "verbb" ∷ codes "verbc" ∷ codes "pdf" ∷ codes "url"
     ∷ codes "urlraw" ∷ []
 
+-- whether `key` is exactly the name of a verbatim field
 abbrev pub is_verbatim_field : List ℕ → Bool
 is_verbatim_field key = list_any (bytes_eq key) verbatim_fields

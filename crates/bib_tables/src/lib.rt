@@ -2,9 +2,11 @@
 //! enumerations and languages. Also the errors of typed values.
 //!
 //! `mechanics` has the entry types. An entry type may contain a text, so the table of their names can't be a constant. It is
-//! a macro that expands to one `match` for each direction. `EntryType::new` first looks a name up without changing its case,
-//! so it doesn't allocate for common files. `types` has the enumerations. Languages are rows of a constant table, in the
-//! order of the variants. `fields` has the verbatim fields and the reference fields. `type_error` has the reasons why chunks aren't a value of a type.
+//! a macro that expands to a `match`, for example from types to names or from names to types. `EntryType::new` first looks a
+//! name up without changing its case, so it doesn't allocate for common files. `types` has the enumerations. Languages are
+//! rows of a constant table, in the order of the variants. `months` has the months. `dialects` maps the types and the names
+//! of fields of each dialect to those of the other. `fields` has the verbatim fields and the reference fields. `type_error`
+//! has the reasons why chunks aren't a value of a type.
 #![tactic(auto)]
 
 pub mod dialects;

@@ -254,6 +254,7 @@ impl EntryType {
         with_named_types!(known_or_misc, self)
     }
 
+    // Returns the named type with exactly this name or alias, or `None`.
     fn from_name_or_alias(name: &str) -> Option<Self>
         ensures { result ≡ entry_type_by_name_or_alias name.now }
     {
@@ -263,12 +264,14 @@ impl EntryType {
         Self::alias(name)
     }
 
+    // Returns the named type with exactly this name, or `None`.
     fn from_name(name: &str) -> Option<Self>
         ensures { result ≡ entry_type_named name.now }
     {
         with_named_types!(type_named, name)
     }
 
+    // Returns the named type with exactly this alias, or `None`.
     fn alias(name: &str) -> Option<Self>
         ensures { result ≡ value_named alias_names name.now }
     {

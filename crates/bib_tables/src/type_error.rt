@@ -12,8 +12,8 @@ use std::fmt;
 /// Why chunks couldn't be parsed as a value, and where.
 #[derive(Debug, Clone, PartialEq, Eq, Drop)]
 pub struct TypeError {
-    /// The span of the error, in bytes: that of the chunks, or of the white space that `parse_hyphen` or `parse_colon` consumed. It is
-    /// `0..0` for the kind `OutOfMemory`.
+    /// The span of the error, in bytes: that of the chunks, or of the white space that `parse_hyphen` or `parse_colon` consumed. For
+    /// a day after a month, it is that of the digits in the text of the month. It is `0..0` for the kind `OutOfMemory`.
     pub span: Span,
     /// The reason.
     pub kind: TypeErrorKind,
@@ -25,11 +25,11 @@ pub struct TypeError {
 pub enum TypeErrorKind {
     /// A range of dates has neither a start nor an end.
     UndefinedRange,
-    /// A day isn't from 1 to 31.
+    /// A day isn't from 1 to 31, or its month has no such day.
     DayOutOfRange,
     /// A month isn't from 1 to 12.
     MonthOutOfRange,
-    /// A text isn't a number or a list of numbers.
+    /// A text isn't a number or a list of numbers, or a number of a time is out of range.
     InvalidNumber,
     /// A number is missing.
     MissingNumber,

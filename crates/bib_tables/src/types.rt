@@ -68,6 +68,7 @@ impl Pagination {
         }
     }
 
+    // Returns the scheme with exactly this name, or `None`.
     fn from_name(text: &str) -> Option<Self>
         ensures { result ≡ pagination_named text.now }
     {
@@ -175,6 +176,7 @@ impl EditorType {
         }
     }
 
+    // Returns the role with exactly this name, or `None`.
     fn from_name(text: &str) -> Option<Self>
         ensures { result ≡ editor_type_named text.now }
     {
@@ -268,6 +270,7 @@ impl Gender {
         }
     }
 
+    // Returns the plural of a group: female if all are female, otherwise male if all are male, and otherwise neuter.
     fn group(list: &[Self]) -> Self
         ensures { result ≡ group_gender list.now }
     {

@@ -2,7 +2,7 @@
 //!
 //! Contracts see a `Scanner` as a *place*: a text and a byte offset. A grammar rule relates two places, and consecutive
 //! rules share a place. Proofs of other crates therefore rarely need facts about UTF-8 or about the ends of lists.
-//! `cursor` also ensures that its offset is a character boundary. Since other crates do arithmetic on offsets, it also
+//! `Scanner::cursor` also ensures that its offset is a character boundary. Since other crates do arithmetic on offsets, it also
 //! ensures that the text is shorter than 2^63 bytes. `Scanner::at` is public because the parser needs it in many
 //! functions. It doesn't move the scanner.
 //!

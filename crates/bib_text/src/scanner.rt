@@ -38,6 +38,7 @@ fn char_at(text: &str, at: usize) -> Option<char>
     text[at..].chars().next()
 }
 
+// Returns whether `byte` is `a`, `b` or `c`.
 fn is_one_of(byte: u8, a: u8, b: u8, c: u8) -> bool
     ensures { result ≡ is_byte3 a b c byte }
 {

@@ -107,7 +107,8 @@ impl Bibliography {
     /// Parses a bibliography file. Returns a bibliography if the text is accepted and memory suffices, and an error
     /// otherwise.
     ///
-    /// Each entry has its own fields except `xdata`, and the fields that it inherits from the entries that it refers to.
+    /// Each entry has its own fields except `xdata`, and the fields that it inherits from the entries that it refers to. If it
+    /// inherits a date, its own `month` and `day` are removed.
     ///
     /// If the file grammar doesn't accept the text, the error is a syntax error; otherwise the errors are those of
     /// `from_raw`. Spans are in bytes of the text. The span of an error lies in the text, except for an error of a date.
@@ -136,6 +137,8 @@ impl Bibliography {
     /// 3. An entry lacks a required date, and refers to an entry whose `year`, `month` and `day` can't be parsed
     /// (`ResolutionError`, at these fields). An entry lacks a required date if its type requires one, and it has neither
     /// `date` nor `year`.
+    ///
+    /// The only other error is out of memory.
     pub fn from_raw(alloc: Global, raw: RawBibliography<'_>) -> Result<Self, ParseError>
         ensures loaded { IfOk result (IsLoaded (file_of raw.entry)) }
         ensures refused { IfErr result (λ e. (e ≡ out_of_memory) ⊎

@@ -151,7 +151,8 @@ impl Bibliography {
     /// plain text. The edits and `convert` of `bibkit` preserve the source of a file instead.
     ///
     /// The sink receives the text of each entry whole, in one call. Only the text of one entry is allocated at a time. The
-    /// error `Refused` means that the sink refused a text: it has taken the texts before that one, and receives no others.
+    /// error `Refused` means that the sink refused a text: it has taken the texts before that one, and receives no others. The
+    /// error `OutOfMemory` means that memory ran out before a text: the sink has taken those before it, and receives no others.
     pub fn write_biblatex<K: Sink>(&self, alloc: Global, sink: &mut K) -> Result<(), WriteError>
         ensures written { OnOk result (Appends (K.taken sink.old) (K.taken sink.new)
             (entries_text biblatex_entry self.now.entries)) }

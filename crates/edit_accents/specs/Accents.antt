@@ -100,10 +100,12 @@ abbrev pub first_sign_passes : (Sign → Bool) → List Sign → Bool
 first_sign_passes test [] = false
 first_sign_passes test (s ∷ ss) = test s
 
+-- whether a sign is an opening brace
 abbrev pub is_opening : Sign → Bool
 is_opening Opening = true
 is_opening s = false
 
+-- whether a sign is a closing brace
 abbrev pub is_closing : Sign → Bool
 is_closing Closing = true
 is_closing s = false
@@ -178,7 +180,7 @@ abbrev pub only_beyond_ascii : Option ℕ → Option ℕ
 only_beyond_ascii None = None
 only_beyond_ascii (Some c) = character_if (is_beyond_ascii c) c
 
--- a character and a mark as one character beyond ASCII, if NFC has one; a mark on a dotless i is put on the letter i
+-- a character and a mark as one character beyond ASCII, if NFC has one; a mark on a dotless i or j is put on i or j
 abbrev pub composed : ℕ → ℕ → Option ℕ
 composed mark c = only_beyond_ascii (only_character (nfc (letter c ∷ mark ∷ [])))
 
@@ -214,7 +216,7 @@ accented_letter (Opening ∷ rest) = letter_in_braces rest
 accented_letter (Closing ∷ rest) = None
 accented_letter (Command ∷ rest) = None
 
--- the number of its signs
+-- the number of signs of the character on which an accent before these signs is put: three if it is in braces
 abbrev pub accented_count : List Sign → ℕ
 accented_count ss = if first_sign_passes is_opening ss then 3 else 1
 

@@ -16,15 +16,17 @@ open_count Accent = 0
 open_count Math = 0
 open_count (Address depth) = depth
 
--- the number of open braces after an opening and after a closing one, and whether a closing one may come
+-- the number of open braces after an opening brace, given the number before it
 abbrev pub depth_opened : Bool → ℕ → ℕ
 depth_opened true depth = depth
 depth_opened false depth = suc depth
 
+-- the number of open braces after a closing brace, given the number before it
 abbrev pub depth_closed : Bool → ℕ → ℕ
 depth_closed true depth = depth
 depth_closed false depth = depth - 1
 
+-- whether a closing brace may come: in quotes always, otherwise only if a brace is open
 abbrev pub can_close : Bool → ℕ → Bool
 can_close true depth = true
 can_close false depth = nat_lt 0 depth

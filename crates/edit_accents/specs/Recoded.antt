@@ -45,7 +45,7 @@ abbrev pub changes_piece : Form → Piece → Bool
 changes_piece form (literal p) = not (bytes_eq (text_recoded form p.text) p.text)
 changes_piece form (abbreviation p) = false
 
--- fields of other programs whose values are names or addresses that also stand elsewhere: groups of JabRef, groups and tags of Mendeley,
+-- fields of other programs whose values are names or addresses that also occur elsewhere: groups of JabRef, groups and tags of Mendeley,
 -- and the path of a file for BibDesk
 abbrev pub program_fields : List (List ℕ)
 program_fields = codes "groups" ∷ codes "mendeley-groups" ∷ codes "mendeley-tags" ∷ codes "local-url" ∷ []
@@ -74,6 +74,6 @@ value_recoded form text f =
 abbrev pub recoding : Form → List ℕ → Exchange
 recoding form text f = if changes_value form f then Some (value_recoded form text f) else None
 
--- a text is that of a document in whose entries the accents and letters are written in a form, and is read so
+-- a text is that of a document with the accents and letters in its entries written in a form, and parses to entries with these values
 abbrev pub IsRecoded : Form → Document → List ℕ → Type 0
 IsRecoded form d text = IsChanged (λ e. exchanges (recoding form d.text) e) d text

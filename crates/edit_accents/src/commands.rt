@@ -104,7 +104,7 @@ fn letter(c: char) -> char
     }
 }
 
-// Returns the only one of these characters.
+// Returns the only one of these characters, or `None` if there isn't exactly one.
 fn only_character(cs: &[char]) -> Option<char>
     ensures { result ≡ spec.only_character cs.now }
 {

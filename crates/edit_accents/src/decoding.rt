@@ -106,7 +106,7 @@ fn accented_letter(signs: &[Sign]) -> Option<char>
     }
 }
 
-// Returns the number of signs of that character.
+// Returns the number of signs of the character on which an accent before these signs is put: three if it is in braces.
 fn accented_count(signs: &[Sign]) -> usize
     ensures { result ≡ spec.accented_count signs.now }
 {

@@ -323,7 +323,8 @@ fn edits(
 }
 
 /// Returns the text of `document`, in whose entries accents and letters beyond ASCII are written in the form `form`: LaTeX commands become
-/// characters, or characters become LaTeX commands. The only error is out of memory.
+/// characters, or characters become LaTeX commands. Verbatim fields, fields with keys, math, and addresses and keys in commands stay the
+/// same. The only error is out of memory.
 pub fn recode(alloc: Global, document: &RawDocument<'_>, form: Form) -> Result<String, AllocError>
     ensures { IfOk result (λ new. IsRecoded form document.now (string_bytes new)) }
 {

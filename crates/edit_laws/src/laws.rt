@@ -83,9 +83,9 @@ pub fn set_is_read()
 
 /// After a field is unset, the entry with the key lacks this field before inheriting, and all other fields of the file are as they were.
 ///
-/// If the field isn't `ids`, a reference or a part of a date, the entry of a bibliography has it exactly if it inherits it. All other fields
-/// of the bibliography are then as they were, except in entries that can inherit from this one. The new text is then accepted if the old
-/// one is.
+/// If the field isn't `ids`, a reference or a part of a date, the entry of a bibliography has the field exactly if it inherits the
+/// field. All other fields of the bibliography are then as they were, except in entries that can inherit from this one. The new text
+/// is then accepted if the old one is.
 pub fn unset_is_read()
     ensures own { (d after : Document) (key name : List ℕ) (own others : List Entry) → FieldUnset d key name after → AreOwn d.says own
         → AreOwn after.says others → AreUnset own others key (str_to_ascii_lowercase name) }

@@ -1,10 +1,10 @@
-//! Code over the Rust crate `biblatex`, as it is written here.
+//! Code that used the Rust crate `biblatex`, ported to this library.
 
 use biblatex::{Bibliography, ChunksExt};
 use std::alloc::Global;
 use std::test::Fail;
 
-// A line for each entry: its authors, its title, and the names of its fields.
+// Returns a line for each entry: the family names of its authors, its title, and the names of its fields.
 fn lines(alloc: Global, src: &str) -> Result<Vec<String>, Fail> {
     let bibliography = Bibliography::parse(alloc, src)?;
     let mut lines = Vec::new(alloc);

@@ -354,8 +354,8 @@ fn after_cut(
 /// Cuts the chunks at the first `separator` in a normal chunk, and returns the chunks before and after it. Returns
 /// `None` if no normal chunk contains the character.
 ///
-/// The white space next to it in that chunk is removed. Both pieces of that chunk have the span of their text, counted
-/// in bytes from the start of the chunk. The only error is out of memory.
+/// The white space next to the separator in that chunk is removed. Both pieces of that chunk have the span of their text,
+/// counted in bytes from the start of the chunk. The only error is out of memory.
 pub fn cut_at(
     alloc: Global,
     chunks: ChunksRef<'_>,

@@ -19,7 +19,7 @@ use crate::raw::{Pair, ParseError, RawBibliography, RawEntry, Token};
 use bib_text::spanned::Spanned;
 use std::alloc::{AllocError, Global};
 
-// What a block is, by its name.
+// The kind of a block.
 pub(crate) enum BlockKind {
     Comment,
     Preamble,
@@ -34,6 +34,7 @@ pub fn is_word(name: &str, word: &str) -> bool
     name.eq_ignore_ascii_case(word)
 }
 
+// Returns the kind of a block with this name, which may be in any ASCII case.
 pub(crate) fn block_kind(name: &str) -> BlockKind
     ensures { block_kind_of result ≡ grammar.block_kind name.now }
 {

@@ -16,7 +16,7 @@ use bib_text::scanner::Scanner;
 use std::alloc::AllocError;
 use std::marker::Model;
 
-// A scanner, and the memo of its text if there is one.
+// A scanner, and the memo of its text if there is one. Methods without a comment call the method of `Scanner` with the same name.
 #[derive(Drop)]
 pub(crate) struct Reader<'s, 'm> {
     scanner: Scanner<'s>,

@@ -102,7 +102,8 @@ fn read_block<'s>(
     Ok(item)
 }
 
-// If there is a memo, adds to it that parsing fields from each of `starts` fails with `error`, unless that is out of memory.
+// Returns an error if `error` is out of memory. Otherwise adds to the memo, if there is one, that parsing fields from each of
+// `starts` fails with `error`.
 fn remember(memo: &mut Option<Memo>, starts: &[usize], error: &ParseError) -> Result<(), AllocError>
     ensures { OnOk result ((text : List ℕ) → (error.now ≢ out_of_memory → AllFail text error.now starts.now) →
         IfSome memo.old (IsMemoOf text) → IfSome memo.new (IsMemoOf text)) }

@@ -95,6 +95,7 @@ pub(crate) fn key<'s>(s: &mut Reader<'s, '_>) -> Spanned<&'s str>
     Spanned::new(text, start..s.cursor())
 }
 
+// Returns whether `c` is one of the digits `0` to `9`.
 fn is_digit(c: char) -> bool
     ensures { result ≡ is_ascii_digit c }
 {

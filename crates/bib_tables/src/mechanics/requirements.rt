@@ -170,6 +170,7 @@ impl EntryType {
         }
     }
 
+    // Returns the forbidden fields of the type, except for those that its rules for authors and pages forbid.
     fn forbidden_fields(&self) -> &'static [&'static str]
         ensures { texts result.now ≡ forbidden_fields_of self.now }
     {
@@ -212,6 +213,7 @@ pub struct Row {
 }
 
 impl Row {
+    // Returns the optional fields of the row, in the order of its groups.
     fn optional(&self, alloc: Global) -> Result<Vec<&'static str>, AllocError>
         ensures { IfOk result (λ names. texts names.items ≡ optional_of_row self.now) }
     {
