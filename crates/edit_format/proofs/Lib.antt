@@ -1,3 +1,4 @@
+pub mod BraceFacts
 pub mod ByteFacts
 pub mod ByteStepFacts
 pub mod ColumnFacts

@@ -1,7 +1,8 @@
 -- Names with their ASCII letters in lowercase.
 use Rattle.std.proofs.Common.{◌≡◌, inl, inr, ℕ, ◌+◌, ◌/◌, ◌≤◌, Bool, true, false, cond, List, [], ◌∷◌, ◌++◌, map, ltb, refl, sym, ap, ◌∙◌, subst, arith}
-use Rattle.std.specs.Prelude.{encode_utf8, bytes_eq}
-use Rattle.std.specs.Char.{to_ascii_lowercase}
+use Rattle.std.specs.Prelude.{encode_utf8, bytes_eq, ◌||◌}
+use Rattle.std.specs.Char.{is_ascii_uppercase, to_ascii_lowercase}
+use Rattle.std.specs.List.{list_any}
 use Rattle.std.specs.Str.{str_to_ascii_lowercase}
 use lib.Utf8.{encode, next}
 use Rattle.std.proofs.lemmas.Bool.{ltb-true, cases_lt}
@@ -11,6 +12,7 @@ use Rattle.std.proofs.lemmas.Str.{encode_ascii}
 use Rattle.std.proofs.lemmas.Str.Ascii.{lowercase_ascii, lowercase_is, lowercase-lowercase}
 use Rattle.bib_syntax.specs.Characters.{is_id_continue, is_id_start}
 use Rattle.bib_syntax.specs.Grammar.{BlockKind, block_kind}
+use Rattle.edit_format.proofs.BraceFacts.{neither}
 
 pub lower_lower : (xs : List ℕ) → str_to_ascii_lowercase (str_to_ascii_lowercase xs) ≡ str_to_ascii_lowercase xs
 lower_lower [] = refl
@@ -20,6 +22,25 @@ lower_lower (x ∷ xs) =
 
 pub lower_append : (xs ys : List ℕ) → str_to_ascii_lowercase (xs ++ ys) ≡ str_to_ascii_lowercase xs ++ str_to_ascii_lowercase ys
 lower_append xs ys = map-append to_ascii_lowercase xs ys
+
+-- a character that is no ASCII capital stays
+small_stays : (c : ℕ) → is_ascii_uppercase c ≡ false → to_ascii_lowercase c ≡ c
+small_stays c is = by_low (ltb c 65) refl
+  where
+    above : (b : Bool) → ltb 90 c ≡ b → (ltb c 65 ≡ false) → to_ascii_lowercase c ≡ c
+    above true high low = (lowercase_is c).2 (grind (arith, nat_tests, high))
+    above false high low = absurd (grind (arith, nat_tests, is, high, low))
+
+    by_low : (b : Bool) → ltb c 65 ≡ b → to_ascii_lowercase c ≡ c
+    by_low true low = (lowercase_is c).1 (grind (arith, nat_tests, low))
+    by_low false low = above (ltb 90 c) refl low
+
+-- a text without an ASCII capital is in lowercase
+pub lower_same : (xs : List ℕ) → list_any is_ascii_uppercase xs ≡ false → str_to_ascii_lowercase xs ≡ xs
+lower_same [] none = refl
+lower_same (x ∷ xs) none =
+    let both = neither (is_ascii_uppercase x) (list_any is_ascii_uppercase xs) none in
+    ap (λ y. y ∷ str_to_ascii_lowercase xs) (small_stays x both.0) ∙ ap (λ ys. x ∷ ys) (lower_same xs both.1)
 
 -- the kind of a block doesn't depend on the case of its name
 pub kind_lower : (name : List ℕ) → block_kind (str_to_ascii_lowercase name) ≡ block_kind name

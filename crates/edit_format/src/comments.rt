@@ -3,12 +3,15 @@
 ghost use Rattle.std.specs.Prelude.{◌≡◌, map};
 ghost use Rattle.std.specs.List.{list_any};
 ghost use Rattle.bib_syntax.specs.Views.{entry_reading_of, field_of, piece_of};
+ghost use Rattle.bib_text.specs.Characters as char;
 ghost use Rattle.edit_entries.specs.Cuts.{AreGapsCut, CanBeCut};
 ghost use Rattle.edit_format.specs.Formatted as styled;
+ghost use Rattle.memchr.specs.Find.{is_byte2};
 
 use bib_syntax::raw::{Pair, RawChunk, RawEntry};
 use bib_text::spanned::Spanned;
 use edit_entries::balance::is_balanced;
+use memchr::memchr2;
 
 // Returns whether `text` contains a percent sign between two offsets.
 fn has_percent(text: &str, start: usize, end: usize) -> bool
@@ -33,12 +36,19 @@ fn has_comment(text: &str, entry: &Spanned<RawEntry<'_>>) -> bool
     has_percent(text, start, entry.span.end)
 }
 
-// Returns whether a piece is a literal whose braces aren't balanced.
+// Returns whether a text contains a brace.
+fn has_brace(text: &str) -> bool
+    ensures { result ≡ list_any (is_byte2 char.open_brace char.close_brace) text.now }
+{
+    memchr2(b'{', b'}', text.as_bytes()).is_some()
+}
+
+// Returns whether a piece is a literal whose braces aren't balanced. Most literals contain none.
 fn is_unbalanced(piece: &Spanned<RawChunk<'_>>) -> bool
     ensures { result ≡ styled.is_unbalanced (piece_of piece.now) }
 {
     match piece.v {
-        RawChunk::Normal(text) => !is_balanced(text),
+        RawChunk::Normal(text) => has_brace(text) && !is_balanced(text),
         RawChunk::Abbreviation(_) => false,
     }
 }

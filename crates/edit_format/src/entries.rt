@@ -11,6 +11,7 @@ ghost use Rattle.edit_format.specs.Formatted.{entry_in_style, entry_laid_out};
 
 use crate::comments::is_copied;
 use crate::layout::Layout;
+use crate::lowercase::push_lowercase;
 use crate::order::push_fields;
 use crate::style::Style;
 use bib_syntax::raw::{Pair, RawEntry};
@@ -22,9 +23,8 @@ fn push_head(alloc: Global, new: &mut String, kind: &str, key: &str) -> Result<(
     ensures { OnOk result (string_bytes new.new ≡ string_bytes new.old ++
         (codes "@" ++ (str_to_ascii_lowercase kind.now ++ (codes "{" ++ key.now)))) }
 {
-    let kind = kind.to_ascii_lowercase(alloc)?;
     new.push_str("@")?;
-    new.push_str(kind.as_str())?;
+    push_lowercase(alloc, new, kind)?;
     new.push_str("{")?;
     new.push_str(key)?;
     Ok(())

@@ -9,6 +9,7 @@ ghost use Rattle.edit_format.specs.Formatted as styled;
 ghost use Rattle.edit_format.specs.Formatted.{elements_as_written, field_laid_out, spaces};
 
 use crate::layout::Layout;
+use crate::lowercase::push_lowercase;
 use crate::pieces::push_value;
 use crate::style::Style;
 use bib_syntax::raw::Pair;
@@ -67,9 +68,8 @@ fn push_line(
         styled.line_laid_out layout.now.style width next.now (field_of field.now).name.text
         (elements_as_written layout.now.style layout.now.text.now (field_of field.now))) }
 {
-    let name = field.key.v.to_ascii_lowercase(alloc)?;
     push_spaces(new, layout.style.indent)?;
-    new.push_str(name.as_str())?;
+    push_lowercase(alloc, new, field.key.v)?;
     push_spaces(new, width.saturating_sub(character_count(field.key.v)))?;
     push_value(new, layout, next, &field.value.v)?;
     Ok(())

@@ -17,6 +17,7 @@ pub mod formatting;
 mod gaps;
 pub mod laws;
 mod layout;
+mod lowercase;
 mod order;
 mod pieces;
 pub mod style;
