@@ -1,4 +1,4 @@
-use Rattle.std.proofs.Common.{◌∙◌, ap, sym}
+use Rattle.std.proofs.Common.{◌∙◌, ap}
 use Rattle.std.specs.List.{list_any}
 use Rattle.memchr.specs.Find.{is_byte2}
 use Rattle.edit_format.proofs.BraceFacts.{found_is}
