@@ -45,16 +45,18 @@ abbrev pub changes_piece : Form → Piece → Bool
 changes_piece form (literal p) = not (bytes_eq (text_recoded form p.text) p.text)
 changes_piece form (abbreviation p) = false
 
--- fields of other programs whose values are names or addresses that also occur elsewhere: groups of JabRef, groups and tags of Mendeley,
--- and the path of a file for BibDesk
-abbrev pub program_fields : List (List ℕ)
-program_fields = codes "groups" ∷ codes "mendeley-groups" ∷ codes "mendeley-tags" ∷ codes "local-url" ∷ []
+-- whether a field with a name is one of another program, whose value also occurs elsewhere: groups of JabRef, groups and tags of
+-- Mendeley, or the path of a file for BibDesk
+abbrev pub is_program_field : List ℕ → Bool
+is_program_field name =
+    str_eq_ignore_ascii_case name (codes "groups") || str_eq_ignore_ascii_case name (codes "mendeley-groups")
+    || str_eq_ignore_ascii_case name (codes "mendeley-tags") || str_eq_ignore_ascii_case name (codes "local-url")
 
 -- whether the value of a field with a name lists keys: of entries, of subjects, or those of other programs
 abbrev pub lists_keys : List ℕ → Bool
 lists_keys name =
     is_reference_field name || str_eq_ignore_ascii_case name (codes "ids") || str_eq_ignore_ascii_case name (codes "keywords")
-    || list_any (str_eq_ignore_ascii_case name) program_fields
+    || is_program_field name
 
 -- whether the value of a field may change: verbatim fields and fields with keys stay
 abbrev pub is_recodable_field : FieldReading → Bool

@@ -3,7 +3,7 @@
 ghost use Rattle.std.specs.Prelude.{◌≡◌, ◌++◌, ◌<◌, IfOk, OnOk, encode_utf8_all, length, map, slice_index_or};
 ghost use Rattle.std.specs.List.{AllByRecursion, list_any};
 ghost use Rattle.std.specs.Option.{option_map};
-ghost use Rattle.std.specs.Str.{chars, str_eq_ignore_ascii_case};
+ghost use Rattle.std.specs.Str.{chars};
 ghost use Rattle.std.specs.String.{string_bytes};
 ghost use Rattle.bib_syntax.specs.Views.{entry_reading_of, field_of, piece_of};
 ghost use Rattle.edit_entries.specs.Cuts.{IsPieceCut};
@@ -200,9 +200,9 @@ fn lent<'p, 's>(
     Ok(lent)
 }
 
-// Returns whether a field with a name has names or addresses for another program.
+// Returns whether a field with a name is one of another program, whose value also occurs elsewhere.
 fn is_program_field(name: &str) -> bool
-    ensures { result ≡ list_any (str_eq_ignore_ascii_case name.now) spec.program_fields }
+    ensures { result ≡ spec.is_program_field name.now }
 {
     name.eq_ignore_ascii_case("groups")
         || name.eq_ignore_ascii_case("mendeley-groups")

@@ -4,4 +4,4 @@ use Rattle.edit_accents.proofs.signs.begins_address.Given as goal
 
 -- the characters so far are letters, and no word begins at them
 abbrev pub invariant-letters : goal.invariant-letters
-invariant-letters l = begins_address l.text ≡ begins_address (drop l.at l.c-items)
+invariant-letters l = begins_address l.text ≡ begins_address (drop l.at l.text)
