@@ -377,6 +377,20 @@ printf '@misc{a, t={A}}\n@misc{b, crossref={a}, xdata = "c, a", note={a}}\n' >na
 run 'a key is renamed with its references' 0 $'@misc{z, t={A}}\n@misc{b, crossref={z}, xdata = {c, z}, note={a}}\n' rename a z -f naming.bib
 printf '@misc{a, note={A}, t={B}, NOTE={C}}\n' >twice.bib
 run 'a field that is there twice is taken out' 0 $'@misc{a, t={B}, }\n' unset a note -f twice.bib
+printf '@book{k,\n  author = {A},\n  %% about the title\n  title = {T},\n  %% about the year\n  year = 2000,\n}\n' >comments.bib
+run 'a field between two comments' 0 $'@book{k,\n  author = {A},\n  % about the title % about the year\n  year = 2000,\n}\n' unset k title -f comments.bib
+run 'the last field after a comment' 0 $'@book{k,\n  author = {A},\n  % about the title\n  title = {T},\n  % about the year\n}\n' unset k year -f comments.bib
+run 'a field before a comment' 0 $'@book{k,\n  % about the title\n  title = {T},\n  % about the year\n  year = 2000,\n}\n' unset k author -f comments.bib
+sed 's/$/\r/' comments.bib >comments_crlf.bib
+run 'a field between two comments, with CR LF' 0 $'@book{k,\r\n  author = {A},\r\n  % about the title % about the year\r\n  year = 2000,\r\n}\r\n' \
+    unset k title -f comments_crlf.bib
+run 'the last field after a comment, with CR LF' 0 $'@book{k,\r\n  author = {A},\r\n  % about the title\r\n  title = {T},\r\n  % about the year\r\n}\r\n' \
+    unset k year -f comments_crlf.bib
+printf '@book{k,\n  author = {A}, %% one\n  title = {T}, %% two\n  year = 2000 \n}\n' >beside.bib
+run 'a comment on the same line' 0 $'@book{k,\n  author = {A}, % one % two\n  year = 2000 \n}\n' unset k title -f beside.bib
+run 'a last field without a comma, after a comment' 0 $'@book{k,\n  author = {A}, % one\n  title = {T}, % two\n}\n' unset k year -f beside.bib
+printf '@book{k,\n  note = {A},\n  %% about the title\n  title = {T},\n  %% about the note\n  note = {B},\n  %% about the year\n  year = 2000,\n}\n' >notes.bib
+run 'several fields with the name, and comments' 0 $'@book{k,\n  title = {T},\n  % about the note\n  year = 2000,\n}\n' unset k note -f notes.bib
 run 'an entry is taken out' 0 $'@misc{b, title={x y}, author={Knuth, D.}, year={1984}}\n' remove a -f two.bib
 run 'all entries are taken out' 0 '' remove a b -f two.bib
 printf '@misc{c, title={C}}\n' >input
@@ -1274,6 +1288,7 @@ run_messages 'no edit' 2 $'bibkit: `edit` needs `--rename`, `--set`, `--add` or 
 run 'a field of all entries is removed' 0 $'@misc{a, author={B}}\n\n@misc{b, author={Knuth, D.}, year={1984}}\n' edit --unset title -f two.bib
 run 'fields of selected entries are removed after the other edits' 0 $'@misc{a, title={A}, author={B}}\n\n@misc{b, date={1984}}\n' \
     edit --where 'key = b' --unset title,author --rename year=date -f two.bib
+run 'a field between two comments, of all entries' 0 $'@book{k,\n  author = {A},\n  % about the title % about the year\n  year = 2000,\n}\n' edit --unset title -f comments.bib
 printf '@misc{a, note={x}, title={T}}\n@misc{c, Note={x}}\n' >lone.bib
 refuses 'all fields of an entry' 1 $'bibkit: lone.bib: `c`: `note`: the entry would have no field left\n' edit --unset note -f lone.bib
 refuses 'all fields of an entry, in two steps' 1 $'bibkit: two.bib: `author`: the entry would have no field left\n' edit --unset title,author -f two.bib

@@ -6,6 +6,7 @@ pub mod ByEntriesFacts
 pub mod ChangeListFacts
 pub mod ChangedFacts
 pub mod ChangesFacts
+mod CommentFacts
 pub mod CutFacts
 mod DefinitionFacts
 pub mod EditFacts

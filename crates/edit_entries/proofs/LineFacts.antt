@@ -20,11 +20,11 @@ use Rattle.bib_syntax.proofs.FileFacts.{ahead_head}
 use Rattle.edit_entries.specs.Changes.{IsTrimmed, value_end}
 use Rattle.edit_entries.specs.Documents.{Document, IsDocument}
 use Rattle.edit_entries.specs.Edits.{Edit, edited, moved_place, moved_entry, moved_field, moved_part}
-use Rattle.edit_entries.specs.Unset.{end_before, has_byte_at, line_edit}
+use Rattle.edit_entries.specs.Unset.{comma_end, end_before, has_byte_at, line_edit}
 use Rattle.edit_entries.proofs.EditFacts.{Fits, ascii_stands, before_frame, after_frame, moved_after, moved_before, zone_before, zone_after}
 use Rattle.edit_entries.proofs.ZoneFacts.{Frame, Inside, Zone, char_there, inside, inside_between, longest_there, part_there, there}
 use Rattle.edit_entries.proofs.GrammarFacts.{below_between, below_char, field_there, fields_there, gap_there, head_there}
-use Rattle.edit_entries.proofs.SplitFacts.{EntryBlock, FieldsAfter, FieldsBefore, ahead_fields_after, ahead_fields_before, ahead_file_before, block_of, split_fields, split_file}
+use Rattle.edit_entries.proofs.SplitFacts.{EntryBlock, EntrySplit, FieldSplit, FieldsAfter, FieldsBefore, ahead_fields_after, ahead_fields_before, ahead_file_before, block_of, split_fields, split_file}
 use Rattle.edit_entries.proofs.MovedFacts.{char_within}
 use Rattle.edit_entries.proofs.EntryFacts.{entry_edited_read, goes}
 use Rattle.edit_entries.proofs.RemovedFacts.{taken_out}
@@ -33,14 +33,14 @@ use Rattle.edit_entries.proofs.ValueFacts.{Stands, gap_stands, run_stands}
 
 -- ---- bytes and characters
 
-byte_drop : (text : List ℕ) (at c : ℕ) → has_byte_at text at c ≡ true → drop at text ≡ c ∷ drop (at + 1) text
+pub byte_drop : (text : List ℕ) (at c : ℕ) → has_byte_at text at c ≡ true → drop at text ≡ c ∷ drop (at + 1) text
 byte_drop [] at c is = absurd (cc)
 byte_drop (b ∷ bs) zero c is = let same : b ≡ c = grind (arith, nat_tests) in ap (λ x. x ∷ bs) same
 byte_drop (b ∷ bs) (suc at) c is =
     let next : suc at + 1 ≡ suc (at + 1) = omega arith in
     byte_drop bs at c is ∙ ap (λ n. c ∷ drop n (b ∷ bs)) (sym next)
 
-drop_byte : (text rest : List ℕ) (at c : ℕ) → drop at text ≡ c ∷ rest → has_byte_at text at c ≡ true
+pub drop_byte : (text rest : List ℕ) (at c : ℕ) → drop at text ≡ c ∷ rest → has_byte_at text at c ≡ true
 drop_byte [] rest zero c here = absurd (cc)
 drop_byte [] rest (suc at) c here = absurd (cc)
 drop_byte (b ∷ bs) rest zero c here = let same : b ≡ c = cc in grind (arith, nat_tests)
@@ -49,7 +49,7 @@ drop_byte (b ∷ bs) rest (suc at) c here = drop_byte bs rest at c here
 pub byte_char : (text : List ℕ) (at c : ℕ) → c < 128 → has_byte_at text at c ≡ true → CharAt (place text at) c (place text (at + 1))
 byte_char text at c small is = ascii_stands text (drop (at + 1) text) at c small (byte_drop text at c is)
 
-char_byte : {u v : Place} (c : ℕ) → c < 128 → CharAt u c v → has_byte_at u.text u.at c ≡ true
+pub char_byte : {u v : Place} (c : ℕ) → c < 128 → CharAt u c v → has_byte_at u.text u.at c ≡ true
 char_byte {u} {v} c small char =
     drop_byte u.text (drop v.at u.text) u.at c (char.here ∙ ap (λ bs. bs ++ drop v.at u.text) (encode_ascii c small))
 
@@ -59,7 +59,7 @@ run_none : {u v w : Place} {c : ℕ} → Run is_whitespace u v → CharAt u c w 
 run_none stop char dark = refl
 run_none (step first white rest) char dark = absurd (pass_clash is_whitespace first white char dark)
 
-run_stopped : {u v : Place} → Run is_whitespace u v → Stops is_whitespace u → u ≡ v
+pub run_stopped : {u v : Place} → Run is_whitespace u v → Stops is_whitespace u → u ≡ v
 run_stopped stop stops = refl
 run_stopped (step {v = w} {c = c} first white rest) stops = absurd (test_clash (is_whitespace c) white (stops c w first))
 
@@ -77,7 +77,7 @@ white_gap run (gap.line_comment white m white') =
 -- ---- the comma before a field
 
 -- fields with the gaps before them, from after a comma to after a later one
-data UpTo : Place → List FieldReading → Place → Type 0 where
+pub data UpTo : Place → List FieldReading → Place → Type 0 where
   nothing : {u : Place} → UpTo u [] u
   more : {u v w x y z : Place} {f : FieldReading} {fs : List FieldReading} → Gap longest u v → Field longest v f w → Gap longest w x
       → CharAt x 44 y → UpTo y fs z → UpTo u (f ∷ fs) z
@@ -105,10 +105,10 @@ up_to_there {f} z iu iv (UpTo.more gap field gap' comma others) =
     (char_there z c d comma) (up_to_there z d iv others)
 
 -- a gap, and fields after it
-record GapAndFields (u : Place) (fs : List FieldReading) (v : Place) : Type 0 where
-  start : Place
-  gap : Gap longest u start
-  fields : Fields longest start fs v
+pub record GapAndFields (u : Place) (fs : List FieldReading) (v : Place) : Type 0 where
+  pub start : Place
+  pub gap : Gap longest u start
+  pub fields : Fields longest start fs v
 
 joined : {u v w : Place} {fs gs : List FieldReading} → UpTo u fs v → GapAndFields v gs w → GapAndFields u (fs ++ gs) w
 joined UpTo.nothing rest = rest
@@ -116,20 +116,20 @@ joined (UpTo.more {v = start} gap field gap' comma others) rest =
     let more = joined others rest in
     record { start = start; gap = gap; fields = fields.more field gap' comma more.gap more.fields }
 
-last_end : ℕ → List FieldReading → ℕ
+pub last_end : ℕ → List FieldReading → ℕ
 last_end end [] = end
 last_end end (f ∷ fs) = last_end f.value.end fs
 
 -- where the key or the value before a field ends, and the comma after it
-record CommaBefore (u : Place) (fs : List FieldReading) (end : ℕ) (a : Place) : Type 0 where
-  from : Place
-  sign : Place
-  after : Place
-  is : from.at ≡ end
-  gap : Gap longest from sign
-  comma : CharAt sign 44 after
-  fields : UpTo u fs after
-  next : Gap longest after a
+pub record CommaBefore (u : Place) (fs : List FieldReading) (end : ℕ) (a : Place) : Type 0 where
+  pub from : Place
+  pub sign : Place
+  pub after : Place
+  pub is : from.at ≡ end
+  pub gap : Gap longest from sign
+  pub comma : CharAt sign 44 after
+  pub fields : UpTo u fs after
+  pub next : Gap longest after a
 
 comma_before : {k c u v a : Place} {fs : List FieldReading} (end : ℕ) → k.at ≡ end → Gap longest k c → CharAt c 44 u
     → Gap longest u v → FieldsBefore v fs a → CommaBefore u fs (last_end end fs) a
@@ -168,11 +168,11 @@ end_is e j (b ∷ before) following f whole index =
 -- ---- what is after the edit's stretch
 
 -- the fields after a byte offset of a text, and the gap before them
-record FieldsFrom (text : List ℕ) (at : ℕ) (fs : List FieldReading) (v : Place) : Type 0 where
-  from : Place
-  is : from.at ≡ at
-  same : from.text ≡ text
-  rest : GapAndFields from fs v
+pub record FieldsFrom (text : List ℕ) (at : ℕ) (fs : List FieldReading) (v : Place) : Type 0 where
+  pub from : Place
+  pub is : from.at ≡ at
+  pub same : from.text ≡ text
+  pub rest : GapAndFields from fs v
 
 fields_from : {u v w : Place} {fs : List FieldReading} (text : List ℕ) (f : FieldReading) → u ≡ place text f.value.end
     → Stops is_whitespace u → IsTrimmed text f → has_byte_at text f.value.end 37 ≡ false → (b : Bool)
@@ -210,7 +210,7 @@ fields_from text f here stops trimmed plain false is (FieldsAfter.more (gap.line
     let found = char_byte 37 (omega arith) (subst (λ p. CharAt p 37 m.inside) (sym same ∙ here) m.sign) in
     absurd (test_clash (has_byte_at text f.value.end 37) found plain)
 
-fields_stand : {u v w : Place} {fs : List FieldReading} → Fields longest u fs v → CharAt v 125 w → Stands u
+pub fields_stand : {u v w : Place} {fs : List FieldReading} → Fields longest u fs v → CharAt v 125 w → Stands u
 fields_stand (fields.none white) closes = run_stands white.run closes
 fields_stand (fields.last field gap) closes = record { char = field.name.first; next = field.name.second; here = field.name.here }
 fields_stand (fields.more field gap comma gap' rest) closes =
@@ -218,7 +218,7 @@ fields_stand (fields.more field gap comma gap' rest) closes =
 
 -- ---- the whole
 
--- an edit that removes a field and its line, in a document: the new text has the reading without it
+-- an edit that removes a field in a document: the new text has the reading without it
 pub record LineRemoved (d : Document) (k : ℕ) (e : EntryReading) (j : ℕ) (edit : Edit) : Type 0 where
   pub read : IsDocument (field_cut d k e j edit)
   pub past : e.key.end ≤ edit.start
@@ -227,19 +227,24 @@ pub record LineRemoved (d : Document) (k : ℕ) (e : EntryReading) (j : ℕ) (ed
   pub start_cut : IsCharBoundary d.text edit.start
   pub end_cut : IsCharBoundary d.text edit.end
 
-pub line_removed : (d : Document) (k : ℕ) (e : EntryReading) (j : ℕ) (f : FieldReading) → IsDocument d
-    → slice_get d.says.entries k ≡ Some e → slice_get e.fields j ≡ Some f → IsTrimmed d.text f
-    → has_byte_at d.text (end_before e j) 44 ≡ true → has_byte_at d.text f.value.end 37 ≡ false
-    → LineRemoved d k e j (line_edit d.text e j f)
-line_removed d k e j f read here there' trimmed comma plain =
+-- the gap that an edit leaves between the comma before a field and what is after the stretch
+abbrev pub LeftGap : (d : Document) (edit : Edit) (u v w : Place) → Type 0
+LeftGap d edit u v w =
+    Zone (before_frame edit d.text) → Zone (after_frame edit d.text) → Inside (before_frame edit d.text) u
+    → Inside (after_frame edit d.text) v → Inside (after_frame edit d.text) w → w.at < length d.text + 1
+    → Gap longest (goes edit d.text u) (goes edit d.text w)
+
+-- an edit from after the comma before a field to after its value
+pub cut_removed : (d : Document) (k : ℕ) (e : EntryReading) (j : ℕ) (f : FieldReading) (edit : Edit)
+    → (s : EntrySplit (place d.text 0) d.says e k) → (g : FieldSplit s.block.fields_start e.fields f j s.block.brace)
+    → {end : ℕ} → (c : CommaBefore s.block.after_comma g.before end g.start)
+    → (r : FieldsFrom d.text edit.end g.following s.block.brace) → c.after.at ≤ edit.start → edit.start < edit.end
+    → Border (place (edited edit d.text) edit.start) → IsCharBoundary d.text edit.start
+    → LeftGap d edit c.after r.from r.rest.start → LineRemoved d k e j edit
+cut_removed d k e j f edit s g {end} c r past some border start_cut gap =
     let text : List ℕ = d.text in
-    let s = split_file k e read here in
     let b = s.block in
-    let g = split_fields j f b.fields there' in
-    let edit : Edit = line_edit text e j f in
     let move = moved_place edit in
-    let new : List ℕ = edited edit text in
-    let name = g.field.name in
     let to_start = ahead_file_before s.first in
     let at_key = ahead_then to_start (ahead_head b.head) in
     let at_end = ahead_then at_key (ahead_run b.key.run) in
@@ -249,50 +254,9 @@ line_removed d k e j f read here there' trimmed comma plain =
     let at_value = ahead_then at_field (ahead_field g.field) in
     let at_brace = ahead_then at_value (ahead_fields_after g.rest) in
     let at_close = ahead_then at_brace (ahead_char b.closes) in
-    let key_gap = gap.white b.white (stops_at (λ c. c == 37) b.comma refl) in
-    let c = comma_before e.key.end (sym (ap (λ p. p.end) b.key_is)) key_gap b.comma b.gap g.first in
-    let ends : c.from.at ≡ end_before e j = c.is ∙ sym (end_is e j g.before g.following f g.whole g.index) in
     let up = ahead_up_to c.fields in
     let at_after = ahead_then at_comma up in
-    let from_text : c.from.text ≡ text =
-    sym ((ahead_then (ahead_gap c.gap) (ahead_char c.comma)).text) ∙ at_after.text in
-    let from_is : c.from ≡ place text (end_before e j) = same_place {u = c.from} {v = place text (end_before e j)} from_text ends in
-    let sign_is = gap_none c.gap (subst (λ p. CharAt p 44 (place text (end_before e j + 1))) (sym from_is)
-    (byte_char text (end_before e j) 44 (omega arith) comma)) refl refl in
-    let start_is : edit.start ≡ c.after.at =
-    omega (arith, c.comma.next, len_utf8_ascii 44 (omega arith), ap (λ p. p.at) sign_is, ends) in
-    let value_is : g.end ≡ place text f.value.end =
-    same_place {u = g.end} {v = place text f.value.end} at_value.text (sym g.field.ends) in
-    let r =
-    fields_from text f value_is (elements_stop g.field.elements).0 trimmed plain (has_byte_at text f.value.end 44) refl g.rest b.closes in
     let rest = r.rest in
-    let over_name =
-    ahead_then (ahead_run name.rest.run)
-    (ahead_then (ahead_run g.field.white.run)
-    (ahead_then (ahead_char g.field.sign) (ahead_run g.field.white'.run))) in
-    let value_past : f.value.start ≤ r.from.at =
-    omega (
-      arith,
-      r.is,
-      end_past text f (has_byte_at text f.value.end 44) (omega (
-        arith,
-        g.field.starts,
-        g.field.ends,
-        (ahead_elements g.field.elements).at,
-      )),
-    ) in
-    let some : edit.start < edit.end =
-    omega (
-      arith,
-      start_is,
-      r.is,
-      value_past,
-      g.field.starts,
-      over_name.at,
-      name.here.next,
-      (len_utf8_bounds name.first).0,
-      (ahead_gap c.next).at,
-    ) in
     let to_brace = ahead_then (ahead_gap rest.gap) (ahead_fields rest.fields) in
     let within : edit.end ≤ length text =
     omega (arith, r.is, to_brace.at, (ahead_char b.closes).at, char_within b.closes, ap length at_close.text) in
@@ -306,18 +270,6 @@ line_removed d k e j f read here there' trimmed comma plain =
     let below_brace = below_char jd b.closes in
     let below_fields = below_between (after_frame edit text) (ahead_fields rest.fields) below_brace in
     let opens = gap_stands rest.gap (fields_stand rest.fields b.closes).here in
-    let jn : Inside (after_frame edit text) opens.next =
-    inside z2 (opens.here.same ∙ r.same) (omega (arith, (ahead_char opens.here).at, r.is))
-    (omega (arith, char_within opens.here, ap length opens.here.same, ap length r.same)) in
-    let rest_goes : move r.from.at ≡ edit.start = omega (arith, moved_after edit r.from.at (omega (arith, r.is)), r.is) in
-    let after_goes : move c.after.at ≡ edit.start = moved_before edit c.after.at (omega (arith, start_is, some)) ∙ sym start_is in
-    let same : move r.from.at ≡ move c.after.at = rest_goes ∙ sym after_goes in
-    let border : Border (place new edit.start) =
-    inr (
-      opens.char,
-      goes edit text opens.next,
-      subst (λ n. CharAt (place new n) opens.char (goes edit text opens.next)) rest_goes (char_there z2 jr jn opens.here),
-    ) in
     let fits : Fits edit text = record { ordered = omega (arith, some); within = within; border = border } in
     let z1 = zone_before edit text fits in
     let from_comma = ahead_then (ahead_char b.comma) up in
@@ -328,15 +280,15 @@ line_removed d k e j f read here there' trimmed comma plain =
     record {
       text = at_after.text;
       start = omega arith;
-      end = omega (arith, start_is);
-      moved = ap (λ n. n + 0) (moved_before edit c.after.at (omega (arith, start_is, some)));
+      end = past;
+      moved = ap (λ n. n + 0) (moved_before edit c.after.at (omega (arith, past, some)));
     } in
     let iu : Inside (before_frame edit text) s.start =
     record {
       text = to_start.text;
       start = omega arith;
-      end = omega (arith, from_head.at, start_is);
-      moved = ap (λ n. n + 0) (moved_before edit s.start.at (omega (arith, from_head.at, start_is, some)));
+      end = omega (arith, from_head.at, past);
+      moved = ap (λ n. n + 0) (moved_before edit s.start.at (omega (arith, from_head.at, past, some)));
     } in
     let ia = inside_between z1 iu ix (ahead_head b.head) from_key in
     let ib = inside_between z1 ia ix (ahead_run b.key.run) from_white in
@@ -345,12 +297,11 @@ line_removed d k e j f read here there' trimmed comma plain =
     let frame = before_frame edit text in
     let comma_below = below_char id b.comma in
     let rest' : GapAndFields (goes edit text c.after) (map (moved_field move) g.following) (goes edit text b.brace) =
-    subst (λ n. GapAndFields (place new n) (map (moved_field move) g.following) (goes edit text b.brace)) same
-    (record {
+    record {
       start = goes edit text rest.start;
-      gap = gap_there z2 jr jf below_fields rest.gap;
+      gap = gap z1 z2 ix jr jf below_fields;
       fields = fields_there z2 jf jz below_brace rest.fields;
-    }) in
+    } in
     let all = joined (up_to_there z1 id ix c.fields) rest' in
     let listed : map (moved_field move) g.before ++ map (moved_field move) g.following ≡ remove (map (moved_field move) e.fields) j =
     sym (taken_out (moved_field move) g.before g.following f j g.index) ∙ ap (λ fs. remove (map (moved_field move) fs) j) (sym g.whole) in
@@ -375,13 +326,12 @@ line_removed d k e j f read here there' trimmed comma plain =
       ends = ap move b.ends;
     } in
     let key_end_is = ap (λ p. p.end) b.key_is in
-    let starts = gap_stands c.next name.here in
     record {
       read =
           entry_edited_read d edit k e e' fits s
           (omega (
             arith,
-            start_is,
+            past,
             (ahead_head b.head).at,
             (ahead_run b.key.run).at,
             (ahead_run b.white.run).at,
@@ -389,17 +339,161 @@ line_removed d k e j f read here there' trimmed comma plain =
             (len_utf8_bounds 44).0,
             up.at,
           )) (omega (arith, r.is, to_brace.at, (ahead_char b.closes).at)) (block_of block);
-      past = omega (arith, start_is, key_end_is, (ahead_run b.white.run).at, from_comma.at);
+      past = omega (arith, past, key_end_is, (ahead_run b.white.run).at, from_comma.at);
       some = some;
       within = omega (arith, r.is, to_brace.at, b.ends);
-      start_cut =
-          subst (λ n. IsCharBoundary text n) (sym start_is)
-          (subst (λ t. IsCharBoundary t c.after.at) at_after.text (char_boundary starts.here));
+      start_cut = start_cut;
       end_cut =
           subst (λ n. IsCharBoundary text n) r.is (subst (λ t. IsCharBoundary t r.from.at) r.same (char_boundary opens.here));
     }
+
+-- no character goes over the place where an edit without new bytes cuts a text
+pub border_left : (edit : Edit) (text : List ℕ) {fs : List FieldReading} {v w : Place} → edit.bytes ≡ [] → edit.start ≤ edit.end
+    → FieldsFrom text edit.end fs v → CharAt v 125 w → Border (place (edited edit text) edit.start)
+border_left edit text none ordered r closes =
+    let rest = r.rest in
+    let opens = gap_stands rest.gap (fields_stand rest.fields closes).here in
+    let size : edit.end < length text =
+    omega (
+      arith,
+      r.is,
+      opens.here.next,
+      (len_utf8_bounds opens.char).0,
+      char_within opens.here,
+      ap length opens.here.same,
+      ap length r.same,
+    ) in
+    let z2 = zone_after edit text ordered (omega (arith, size)) in
+    let jr : Inside (after_frame edit text) r.from = inside z2 r.same (omega (arith, r.is)) (omega (arith, r.is, size)) in
+    let jn : Inside (after_frame edit text) opens.next =
+    inside z2 (opens.here.same ∙ r.same) (omega (arith, (ahead_char opens.here).at, r.is))
+    (omega (arith, char_within opens.here, ap length opens.here.same, ap length r.same)) in
+    let rest_goes : moved_place edit r.from.at ≡ edit.start =
+    omega (arith, moved_after edit r.from.at (omega (arith, r.is)), r.is, ap length none) in
+    inr (
+      opens.char,
+      goes edit text opens.next,
+      subst (λ n. CharAt (place (edited edit text) n) opens.char (goes edit text opens.next)) rest_goes
+          (char_there z2 jr jn opens.here),
+    )
+
+-- where a field's comma ends
+pub comma_past : (text : List ℕ) (f : FieldReading) {u v : Place} → Field longest u f v → u.at < comma_end text f
+comma_past text f {u} field =
+    let over =
+    ahead_then (ahead_run field.name.rest.run)
+    (ahead_then (ahead_run field.white.run) (ahead_then (ahead_char field.sign) (ahead_run field.white'.run))) in
+    by_case (has_byte_at text f.value.end 44)
+    (omega (arith, field.name.here.next, (len_utf8_bounds field.name.first).0, over.at, field.starts))
+    (omega (arith, field.starts, field.ends, (ahead_elements field.elements).at))
   where
-    end_past : (text : List ℕ) (f : FieldReading) (b : Bool) → f.value.start ≤ f.value.end
-        → f.value.start ≤ cond b (f.value.end + 1) (value_end text f)
-    end_past text f true ordered = omega arith
-    end_past text f false ordered = omega arith
+    by_case : (b : Bool) → u.at < f.value.start → f.value.start ≤ f.value.end → u.at < cond b (f.value.end + 1) (value_end text f)
+    by_case true first last = omega (arith, first, last)
+    by_case false first last = omega (arith, first)
+
+-- the comma before a field
+pub record Preceded (d : Document) (k : ℕ) (e : EntryReading) (j : ℕ) (f : FieldReading) : Type 0 where
+  pub s : EntrySplit (place d.text 0) d.says e k
+  pub g : FieldSplit s.block.fields_start e.fields f j s.block.brace
+  pub c : CommaBefore s.block.after_comma g.before (last_end e.key.end g.before) g.start
+  pub from : c.from ≡ place d.text (end_before e j)
+  pub value : g.end ≡ place d.text f.value.end
+
+pub preceded : (d : Document) (k : ℕ) (e : EntryReading) (j : ℕ) (f : FieldReading) → IsDocument d
+    → slice_get d.says.entries k ≡ Some e → slice_get e.fields j ≡ Some f → Preceded d k e j f
+preceded d k e j f read here there' =
+    let text : List ℕ = d.text in
+    let s = split_file k e read here in
+    let b = s.block in
+    let g = split_fields j f b.fields there' in
+    let to_start = ahead_file_before s.first in
+    let at_key = ahead_then to_start (ahead_head b.head) in
+    let at_end = ahead_then at_key (ahead_run b.key.run) in
+    let at_before = ahead_then at_end (ahead_run b.white.run) in
+    let at_comma = ahead_then at_before (ahead_char b.comma) in
+    let at_field = ahead_then at_comma (ahead_then (ahead_gap b.gap) (ahead_fields_before g.first)) in
+    let at_value = ahead_then at_field (ahead_field g.field) in
+    let key_gap = gap.white b.white (stops_at (λ c. c == 37) b.comma refl) in
+    let c = comma_before e.key.end (sym (ap (λ p. p.end) b.key_is)) key_gap b.comma b.gap g.first in
+    let ends : c.from.at ≡ end_before e j = c.is ∙ sym (end_is e j g.before g.following f g.whole g.index) in
+    let at_after = ahead_then at_comma (ahead_up_to c.fields) in
+    let from_text : c.from.text ≡ text = sym ((ahead_then (ahead_gap c.gap) (ahead_char c.comma)).text) ∙ at_after.text in
+    record {
+      s = s;
+      g = g;
+      c = c;
+      from = same_place {u = c.from} {v = place text (end_before e j)} from_text ends;
+      value = same_place {u = g.end} {v = place text f.value.end} at_value.text (sym g.field.ends);
+    }
+
+-- a comma is before a field
+pub before_name : (d : Document) (k : ℕ) (e : EntryReading) (j : ℕ) (f : FieldReading) → IsDocument d
+    → slice_get d.says.entries k ≡ Some e → slice_get e.fields j ≡ Some f → end_before e j < f.name.start
+before_name d k e j f read here there' =
+    let a = preceded d k e j f read here there' in
+    omega (
+      arith,
+      ap (λ p. p.at) a.from,
+      (ahead_gap a.c.gap).at,
+      a.c.comma.next,
+      (len_utf8_bounds 44).0,
+      (ahead_gap a.c.next).at,
+      ap (λ p. p.start) a.g.field.name.reading,
+    )
+
+-- the comma before a field, and the fields after its comma
+pub record Surroundings (d : Document) (k : ℕ) (e : EntryReading) (j : ℕ) (f : FieldReading) : Type 0 where
+  pub s : EntrySplit (place d.text 0) d.says e k
+  pub g : FieldSplit s.block.fields_start e.fields f j s.block.brace
+  pub c : CommaBefore s.block.after_comma g.before (last_end e.key.end g.before) g.start
+  pub r : FieldsFrom d.text (comma_end d.text f) g.following s.block.brace
+  pub after : c.after ≡ place d.text (end_before e j + 1)
+
+pub surroundings : (d : Document) (k : ℕ) (e : EntryReading) (j : ℕ) (f : FieldReading) → IsDocument d
+    → slice_get d.says.entries k ≡ Some e → slice_get e.fields j ≡ Some f → IsTrimmed d.text f
+    → has_byte_at d.text (end_before e j) 44 ≡ true → has_byte_at d.text f.value.end 37 ≡ false → Surroundings d k e j f
+surroundings d k e j f read here there' trimmed comma plain =
+    let text : List ℕ = d.text in
+    let a = preceded d k e j f read here there' in
+    let c = a.c in
+    let sign_is = gap_none c.gap (subst (λ p. CharAt p 44 (place text (end_before e j + 1))) (sym a.from)
+    (byte_char text (end_before e j) 44 (omega arith) comma)) refl refl in
+    let from_sign : place text (end_before e j) ≡ c.sign = sym a.from ∙ sign_is in
+    record {
+      s = a.s;
+      g = a.g;
+      c = c;
+      r = fields_from text f a.value (elements_stop a.g.field.elements).0 trimmed plain (has_byte_at text f.value.end 44) refl a.g.rest
+          a.s.block.closes;
+      after =
+          same_place {u = c.after} {v = place text (end_before e j + 1)} (c.comma.same ∙ ap (λ p. p.text) (sym from_sign))
+          (omega (arith, c.comma.next, len_utf8_ascii 44 (omega arith), ap (λ p. p.at) from_sign));
+    }
+
+-- its own comma is in the entry
+pub comma_within : (d : Document) (k : ℕ) (e : EntryReading) (j : ℕ) (f : FieldReading) → IsDocument d
+    → slice_get d.says.entries k ≡ Some e → slice_get e.fields j ≡ Some f → IsTrimmed d.text f
+    → has_byte_at d.text (end_before e j) 44 ≡ true → has_byte_at d.text f.value.end 37 ≡ false → comma_end d.text f ≤ e.end
+comma_within d k e j f read here there' trimmed comma plain =
+    let a = surroundings d k e j f read here there' trimmed comma plain in
+    omega (arith, a.r.is, (ahead_gap a.r.rest.gap).at, (ahead_fields a.r.rest.fields).at, a.s.block.ends)
+
+pub line_removed : (d : Document) (k : ℕ) (e : EntryReading) (j : ℕ) (f : FieldReading) → IsDocument d
+    → slice_get d.says.entries k ≡ Some e → slice_get e.fields j ≡ Some f → IsTrimmed d.text f
+    → has_byte_at d.text (end_before e j) 44 ≡ true → has_byte_at d.text f.value.end 37 ≡ false
+    → LineRemoved d k e j (line_edit d.text e j f)
+line_removed d k e j f read here there' trimmed comma plain =
+    let text : List ℕ = d.text in
+    let edit : Edit = line_edit text e j f in
+    let a = surroundings d k e j f read here there' trimmed comma plain in
+    let start_is : a.c.after.at ≡ edit.start = ap (λ p. p.at) a.after in
+    let some : edit.start < edit.end = omega (arith, start_is, (ahead_gap a.c.next).at, comma_past text f a.g.field) in
+    let starts = gap_stands a.c.next a.g.field.name.here in
+    cut_removed d k e j f edit a.s a.g a.c a.r (omega (arith, start_is)) some
+    (border_left edit text refl (omega (arith, some)) a.r a.s.block.closes)
+    (subst (λ p. IsCharBoundary p.text p.at) a.after (char_boundary starts.here))
+    (λ z1 z2 ix jr jf below.
+    let after_goes = moved_before edit a.c.after.at (omega (arith, start_is, some)) in
+    let rest_goes = moved_after edit a.r.from.at (omega (arith, a.r.is)) in
+    let same : moved_place edit a.r.from.at ≡ moved_place edit a.c.after.at = omega (arith, after_goes, rest_goes, start_is, a.r.is) in
+    subst (λ n. Gap longest (place (edited edit text) n) (goes edit text a.r.rest.start)) same (gap_there z2 jr jf below a.r.rest.gap))

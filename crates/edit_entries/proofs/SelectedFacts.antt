@@ -1,23 +1,26 @@
 -- A field of the entries with selected keys is unset, from the last entry to the first.
 use Rattle.std.proofs.Common.{◌≡◌, ℕ, zero, suc, ◌+◌, ◌-◌, ◌<◌, ◌≤◌, Bool, true, false, cond, List, [], ◌∷◌, ◌++◌, length, map, take, refl, sym, ap, ◌∙◌, subst, arith, append_assoc, length-append, Option, Some, None}
-use Rattle.std.specs.Prelude.{◌==◌, ◌&&◌, ◌||◌, not, drop, slice_get, slice_set}
-use Rattle.std.specs.Char.{is_whitespace}
-use Rattle.std.specs.List.{flat_map, list_any}
+use Rattle.std.specs.Prelude.{◌==◌, ◌&&◌, codes, not, drop, slice_get, slice_set}
+use Rattle.std.specs.Char.{is_ascii_whitespace, is_whitespace}
+use Rattle.std.specs.List.{flat_map, list_any, prefix_len}
 use Rattle.std.specs.Option.{option_map_or}
 use Rattle.std.specs.Str.{IsUtf8, trim_end}
-use Rattle.bib_text.specs.Places.{Run, place}
+use Rattle.std.proofs.lemmas.List.{length-take}
+use Rattle.std.proofs.lemmas.List.Sums.{prefix_len-le-length}
+use Rattle.bib_text.specs.Places.{Run, between, place}
 use Rattle.bib_text.proofs.ListFacts.{get_here}
 use Rattle.bib_syntax.specs.Reading.{EntryReading, FieldReading, FileReading}
 use Rattle.edit_entries.specs.Changes.{IsTrimmed, value_end}
 use Rattle.edit_entries.specs.Cuts.{AreEntriesCut}
-use Rattle.edit_entries.specs.Documents.{Document, IsDocument, IsEdited, first_position, has_name}
+use Rattle.edit_entries.specs.Documents.{Document, IsDocument, IsEdited, field_limit, first_position, has_name}
 use Rattle.edit_entries.specs.EditList.{AreEditsInOrder}
 use Rattle.edit_entries.specs.Edits.{Edit, edited_all, moved_entry, placeless}
 use Rattle.edit_entries.specs.Selected.{FieldsUnset, unset_if_selected, without_if_selected, would_be_empty}
-use Rattle.edit_entries.specs.Unset.{edits_at, edits_from, end_before, has_byte_at, has_percent, is_uncommented, line_edit, removals, unset_edits, without_named}
+use Rattle.edit_entries.specs.Unset.{after_bytes, comma_end, commented_edit, edits_at, edits_from, end_before, feed_after, feed_before, has_byte_at, has_percent, is_line_space, is_no_line_feed, line_edit, line_end_at, or_removals, own_edit, sign_after, sign_before, unset_edits, without_named}
 use Rattle.edit_entries.proofs.AgreementFacts.{same_bytes, same_run}
 use Rattle.edit_entries.proofs.CutFacts.{document_cut}
 use Rattle.edit_entries.proofs.KeptFacts.{AreEditsWithin, IsFieldInside, edited_append, entry_inside, field_inside, front_kept, within_append, within_earlier, within_order}
+use Rattle.edit_entries.proofs.LineFacts.{before_name, comma_within}
 use Rattle.edit_entries.proofs.MadeFacts.{of_entries}
 use Rattle.edit_entries.proofs.TrimmedFacts.{trimmed_known}
 use Rattle.edit_entries.proofs.UnsetEntryFacts.{around, entry_unset}
@@ -30,6 +33,16 @@ get_take xs zero n less = absurd (omega (arith, less))
 get_take [] (suc at) n less = refl
 get_take (x ∷ xs) (suc at) zero less = refl
 get_take (x ∷ xs) (suc at) (suc n) less = get_take xs at n (omega (arith, less))
+
+after_within : (test : ℕ → Bool) (text : List ℕ) (start end most : ℕ) → start ≤ most → end ≤ most → after_bytes test text start end ≤ most
+after_within test text start end most first last =
+    omega (
+      arith,
+      first,
+      last,
+      prefix_len-le-length test (between (place text start) (place text end)),
+      length-take (end - start) (drop start text),
+    )
 
 module _ (x y : List ℕ) (e : EntryReading) (at : ℕ) (same : take at x ≡ take at y) (past : e.end < at) (key : e.key.end ≤ e.end)
     (inside : (j : ℕ) (f : FieldReading) → slice_get e.fields j ≡ Some f → IsFieldInside e f) where
@@ -50,15 +63,16 @@ module _ (x y : List ℕ) (e : EntryReading) (at : ℕ) (same : take at x ≡ ta
       by_case None is = key
       by_case (Some f) is = (inside j f is).end
 
-  uncommented_same : (j : ℕ) (f : FieldReading) → slice_get e.fields j ≡ Some f → is_uncommented x e j f ≡ is_uncommented y e j f
-  uncommented_same j f there =
-      let start : ℕ = end_before e j in
-      let at_field = inside j f there in
-      ap (λ b. b && not (has_percent x start f.name.start) && not (has_byte_at x f.value.end 37))
-      (byte_same start 44 (before_inside j))
-      ∙ ap (λ b. has_byte_at y start 44 && not b && not (has_byte_at x f.value.end 37))
-      (percent_same start f.name.start (before_inside j) (omega (arith, at_field.name, at_field.value, at_field.end)))
-      ∙ ap (λ b. has_byte_at y start 44 && not (has_percent y start f.name.start) && not b) (byte_same f.value.end 37 at_field.end)
+  limit_inside : (j : ℕ) → field_limit e j ≤ e.end
+  limit_inside j = by_case (slice_get e.fields (suc j)) refl
+    where
+      by_case : (o : Option FieldReading) → slice_get e.fields (suc j) ≡ o → option_map_or (λ f. f.name.start) o e.end ≤ e.end
+      by_case None is = omega arith
+      by_case (Some f) is = let at_field = inside (suc j) f is in omega (arith, at_field.name, at_field.value, at_field.end)
+
+  after_same : (test : ℕ → Bool) (start end : ℕ) → start ≤ e.end → end ≤ e.end → after_bytes test x start end ≡ after_bytes test y start end
+  after_same test start end first last =
+      ap (λ l. start + prefix_len test l) (same_bytes x y at start (end - start) same (omega (arith, first, last, past)))
 
   pub value_end_same : (j : ℕ) (f : FieldReading) → slice_get e.fields j ≡ Some f → value_end x f ≡ value_end y f
   value_end_same j f there =
@@ -66,21 +80,99 @@ module _ (x y : List ℕ) (e : EntryReading) (at : ℕ) (same : take at x ≡ ta
       ap (λ l. f.value.start + length (trim_end l))
       (same_bytes x y at f.value.start (f.value.end - f.value.start) same (omega (arith, at_field.value, at_field.end, past)))
 
-  line_same : (j : ℕ) (f : FieldReading) → slice_get e.fields j ≡ Some f → line_edit x e j f ≡ line_edit y e j f
-  line_same j f there =
-      let build : ℕ → Edit = λ (n : ℕ). record { start = end_before e j + 1; end = n; bytes = [] } in
-      ap (λ b. build (cond b (f.value.end + 1) (value_end x f))) (byte_same f.value.end 44 (inside j f there).end)
-      ∙ ap (λ n. build (cond (has_byte_at y f.value.end 44) (f.value.end + 1) n)) (value_end_same j f there)
+  comma_same : (j : ℕ) (f : FieldReading) → slice_get e.fields j ≡ Some f → comma_end x f ≡ comma_end y f
+  comma_same j f there =
+      ap (λ b. cond b (f.value.end + 1) (value_end x f)) (byte_same f.value.end 44 (inside j f there).end)
+      ∙ ap (cond (has_byte_at y f.value.end 44) (f.value.end + 1)) (value_end_same j f there)
 
-  pub unset_same : (name : List ℕ) → unset_edits x name e ≡ unset_edits y name e
-  unset_same name = by_place (first_position (has_name name) e.fields)
+  line_end_same : (n : ℕ) → n ≤ e.end → line_end_at x n ≡ line_end_at y n
+  line_end_same n within = ap (λ b. cond b (n - 1) n) (byte_same (n - 1) 13 (omega (arith, within)))
+
+  -- what the edit of a field after a comment depends on
+  abbrev chosen : EntryReading → ℕ → Bool → Bool → Bool → Bool → ℕ → ℕ → ℕ → ℕ → Option Edit
+  chosen e j sign feed next ends start from n q =
+      cond (sign && feed)
+      (cond next (Some (record { start = start; end = from; bytes = codes " " }))
+      (cond ((from == field_limit e j) && ends) (Some (record { start = n + 1; end = q + 1; bytes = [] })) None)) None
+
+  commented_same : (j : ℕ) (f : FieldReading) → slice_get e.fields j ≡ Some f → end_before e j < f.name.start → comma_end y f ≤ e.end
+      → commented_edit x e j f ≡ commented_edit y e j f
+  commented_same j f there before comma =
+      let at_field = inside j f there in
+      let name : f.name.start ≤ e.end = omega (arith, at_field.name, at_field.value, at_field.end) in
+      let limit = limit_inside j in
+      let s : ℕ = sign_before y e j f in
+      let n : ℕ = feed_before y e j f in
+      let from : ℕ = sign_after y e j f in
+      let q : ℕ = feed_after y e j f in
+      let s_in : s ≤ e.end =
+      omega (arith, after_within is_ascii_whitespace y (end_before e j + 1) f.name.start e.end (omega (arith, before, name)) name) in
+      let n_in : n ≤ e.end = after_within is_no_line_feed y s f.name.start e.end s_in name in
+      let from_in : from ≤ e.end = after_within is_ascii_whitespace y (comma_end y f) (field_limit e j) e.end comma limit in
+      let q_in : q ≤ e.end = after_within is_line_space y (comma_end y f) (field_limit e j) e.end comma limit in
+      let s_is : sign_before x e j f ≡ s =
+      after_same is_ascii_whitespace (end_before e j + 1) f.name.start (omega (arith, before, name)) name in
+      let n_is : feed_before x e j f ≡ n =
+      ap (λ m. after_bytes is_no_line_feed x m f.name.start) s_is ∙ after_same is_no_line_feed s f.name.start s_in name in
+      let from_is : sign_after x e j f ≡ from =
+      ap (λ m. after_bytes is_ascii_whitespace x m (field_limit e j)) (comma_same j f there)
+      ∙ after_same is_ascii_whitespace (comma_end y f) (field_limit e j) comma limit in
+      let q_is : feed_after x e j f ≡ q =
+      ap (λ m. after_bytes is_line_space x m (field_limit e j)) (comma_same j f there)
+      ∙ after_same is_line_space (comma_end y f) (field_limit e j) comma limit in
+      let byte : (m k c : ℕ) → m ≡ k → k ≤ e.end → has_byte_at x m c ≡ has_byte_at y k c =
+      λ (m k c : ℕ) (is : m ≡ k) (within : k ≤ e.end). ap (λ i. has_byte_at x i c) is ∙ byte_same k c within in
+      let start_is : line_end_at x (feed_before x e j f) ≡ line_end_at y n = ap (line_end_at x) n_is ∙ line_end_same n n_in in
+      all_same j _ _ _ _ _ _ _ _ _ _ _ _ _ _ _ _ (byte _ _ 37 s_is s_in) (byte _ _ 10 n_is n_in) (byte _ _ 37 from_is from_in)
+      (byte _ _ 10 q_is q_in) start_is from_is n_is q_is
+    where
+      all_same : (j : ℕ) (s1 s2 f1 f2 n1 n2 e1 e2 : Bool) (a1 a2 b1 b2 c1 c2 d1 d2 : ℕ) → s1 ≡ s2 → f1 ≡ f2 → n1 ≡ n2 → e1 ≡ e2
+          → a1 ≡ a2 → b1 ≡ b2 → c1 ≡ c2 → d1 ≡ d2 → chosen e j s1 f1 n1 e1 a1 b1 c1 d1 ≡ chosen e j s2 f2 n2 e2 a2 b2 c2 d2
+      all_same j s1 s2 f1 f2 n1 n2 e1 e2 a1 a2 b1 b2 c1 c2 d1 d2 s f n ends a b c d =
+          ap (λ i. chosen e j i f1 n1 e1 a1 b1 c1 d1) s ∙ ap (λ i. chosen e j s2 i n1 e1 a1 b1 c1 d1) f
+          ∙ ap (λ i. chosen e j s2 f2 i e1 a1 b1 c1 d1) n ∙ ap (λ i. chosen e j s2 f2 n2 i a1 b1 c1 d1) ends
+          ∙ ap (λ i. chosen e j s2 f2 n2 e2 i b1 c1 d1) a ∙ ap (λ i. chosen e j s2 f2 n2 e2 a2 i c1 d1) b
+          ∙ ap (λ i. chosen e j s2 f2 n2 e2 a2 b2 i d1) c ∙ ap (λ i. chosen e j s2 f2 n2 e2 a2 b2 c2 i) d
+
+  own_same : (j : ℕ) (f : FieldReading) → slice_get e.fields j ≡ Some f → end_before e j < f.name.start
+      → (has_byte_at y (end_before e j) 44 ≡ true → has_byte_at y f.value.end 37 ≡ false → comma_end y f ≤ e.end)
+      → own_edit x e j f ≡ own_edit y e j f
+  own_same j f there before comma =
+      let start : ℕ = end_before e j in
+      let at_field = inside j f there in
+      let name : f.name.start ≤ e.end = omega (arith, at_field.name, at_field.value, at_field.end) in
+      let inner : List ℕ → Option Edit =
+      λ (t : List ℕ). cond (has_percent t start f.name.start) (commented_edit t e j f) (Some (line_edit t e j f)) in
+      ap (λ b. cond (b && not (has_byte_at x f.value.end 37)) (inner x) None) (byte_same start 44 (before_inside j))
+      ∙ ap (λ b. cond (has_byte_at y start 44 && not b) (inner x) None) (byte_same f.value.end 37 at_field.end)
+      ∙ by_case (has_byte_at y start 44) (has_byte_at y f.value.end 37) refl refl (inner x) (inner y)
+      (λ c p.
+      ap (λ b. cond b (commented_edit x e j f) (Some (line_edit x e j f)))
+      (percent_same start f.name.start (before_inside j) name)
+      ∙ ap (λ o. cond (has_percent y start f.name.start) o (Some (line_edit x e j f))) (commented_same j f there before (comma c p))
+      ∙ ap (λ n. cond (has_percent y start f.name.start) (commented_edit y e j f) (Some (build j n))) (comma_same j f there))
+    where
+      build : ℕ → ℕ → Edit
+      build j n = record { start = end_before e j + 1; end = n; bytes = [] }
+
+      by_case : (a b : Bool) → has_byte_at y (end_before e j) 44 ≡ a → has_byte_at y f.value.end 37 ≡ b → (m n : Option Edit)
+          → (has_byte_at y (end_before e j) 44 ≡ true → has_byte_at y f.value.end 37 ≡ false → m ≡ n)
+          → cond (a && not b) m None ≡ cond (a && not b) n None
+      by_case true false c p m n same = same c p
+      by_case true true c p m n same = refl
+      by_case false b c p m n same = refl
+
+  pub unset_same : (name : List ℕ) → ((j : ℕ) (f : FieldReading) → slice_get e.fields j ≡ Some f → end_before e j < f.name.start)
+      → ((j : ℕ) (f : FieldReading) → slice_get e.fields j ≡ Some f → has_byte_at y (end_before e j) 44 ≡ true
+      → has_byte_at y f.value.end 37 ≡ false → comma_end y f ≤ e.end)
+      → unset_edits x name e ≡ unset_edits y name e
+  unset_same name before comma = by_place (first_position (has_name name) e.fields)
     where
       by_field : (j : ℕ) (o : Option FieldReading) → slice_get e.fields j ≡ o → edits_from x name e j o ≡ edits_from y name e j o
       by_field j None is = refl
       by_field j (Some f) is =
-          let more : Bool = list_any (has_name name) (drop (suc j) e.fields) in
-          ap (λ b. cond (more || not b) (removals name e 0 e.fields) (line_edit x e j f ∷ [])) (uncommented_same j f is)
-          ∙ ap (λ l. cond (more || not (is_uncommented y e j f)) (removals name e 0 e.fields) (l ∷ [])) (line_same j f is)
+          ap (λ o. or_removals name e (cond (list_any (has_name name) (drop (suc j) e.fields)) None o))
+          (own_same j f is (before j f is) (comma j f is))
 
       by_place : (o : Option ℕ) → edits_at x name e o ≡ edits_at y name e o
       by_place None = refl
@@ -152,7 +244,11 @@ module _ (d : Document) (selected : List ℕ → Bool) (name : List ℕ) (read :
       let x = entry_unset new a.before a.following e name more.read a.whole trimmed' in
       let own = entry_unset d before es e name read whole trimmed in
       let edits : unset_edits new.text name e ≡ unset_edits d.text name e =
-      unset_same new.text d.text e (e.end + 1) more.front past at_entry.key_end inside name in
+      unset_same new.text d.text e (e.end + 1) more.front past at_entry.key_end inside name
+      (λ (j : ℕ) (f : FieldReading) (there : slice_get e.fields j ≡ Some f). before_name d k e j f read here there)
+      (λ (j : ℕ) (f : FieldReading) (there : slice_get e.fields j ≡ Some f) (comma : has_byte_at d.text (end_before e j) 44 ≡ true)
+      (plain : has_byte_at d.text f.value.end 37 ≡ false).
+      comma_within d k e j f read here there (trimmed j f there) comma plain) in
       let small : at ≤ e.key.end = omega (arith, less, at_entry.kind_start, at_entry.kind, at_entry.key_start, at_entry.key) in
       record {
         after = x.after;

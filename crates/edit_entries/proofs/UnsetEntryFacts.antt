@@ -1,19 +1,21 @@
 -- An entry in which a field is unset.
 use Rattle.std.proofs.Common.{◌≡◌, ℕ, zero, suc, ◌<◌, Bool, true, false, cond, List, [], ◌∷◌, ◌++◌, length, drop, map, refl, sym, ap, ◌∙◌, subst, arith, Option, Some, None}
-use Rattle.std.specs.Prelude.{filter, not, ◌&&◌, ◌||◌, option_map, slice_get, slice_set}
+use Rattle.std.specs.Prelude.{filter, not, ◌&&◌, ◌||◌, ◌==◌, option_map, slice_get, slice_set}
 use Rattle.std.specs.List.{list_any, remove}
+use Rattle.std.proofs.lemmas.Bool.Decides.{nat_tests}
 use Rattle.std.proofs.lemmas.Option.{slice_get-map}
 use Rattle.bib_text.proofs.ListFacts.{get_here}
 use Rattle.bib_syntax.specs.Reading.{EntryReading, FieldReading}
 use Rattle.edit_entries.specs.Changes.{IsTrimmed}
-use Rattle.edit_entries.specs.Documents.{Document, HasEntry, IsDocument, IsEdited, entry_edited, first_position, has_name, have_only, next_index}
+use Rattle.edit_entries.specs.Documents.{Document, HasEntry, IsDocument, IsEdited, entry_edited, field_limit, first_position, has_name, have_only, next_index}
 use Rattle.edit_entries.specs.EditList.{AreEditsInOrder}
 use Rattle.edit_entries.specs.Edits.{Edit, edited_all, moved_entry, moved_field, moved_place, placeless}
-use Rattle.edit_entries.specs.Unset.{FieldUnset, edits_at, edits_from, end_before, has_byte_at, has_percent, is_uncommented, line_edit, removals, unset_edits, without_named}
+use Rattle.edit_entries.specs.Unset.{FieldUnset, edits_at, edits_from, end_before, feed_after, feed_before, has_byte_at, has_percent, joining_edit, line_edit, lines_edit, or_removals, own_edit, removals, sign_after, sign_before, unset_edits, without_named}
 use Rattle.edit_entries.proofs.AgreementFacts.{get_set_other}
 use Rattle.edit_entries.proofs.EditFacts.{moved_before}
 use Rattle.edit_entries.proofs.KeptFacts.{AreEditsWithin, entry_inside, entry_stays, within_earlier, within_order}
-use Rattle.edit_entries.proofs.LineFacts.{line_removed}
+use Rattle.edit_entries.proofs.CommentFacts.{joining_removed, lines_removed}
+use Rattle.edit_entries.proofs.LineFacts.{LineRemoved, line_removed}
 use Rattle.edit_entries.proofs.MadeFacts.{none_put, of_entries, put_alike}
 use Rattle.edit_entries.proofs.PutFacts.{put_at}
 use Rattle.edit_entries.proofs.RemovalFacts.{all_removed, removals_within, unnamed, with_fields}
@@ -100,13 +102,13 @@ only_left test (b ∷ bs) following x first passes none =
 
 -- ---- the edits
 
-pub edits_are : (text name : List ℕ) (e : EntryReading) (j : ℕ) (f : FieldReading) (several : Bool)
+pub edits_are : (text name : List ℕ) (e : EntryReading) (j : ℕ) (f : FieldReading) (more : Bool)
     → first_position (has_name name) e.fields ≡ Some j → slice_get e.fields j ≡ Some f
-    → (list_any (has_name name) (drop (suc j) e.fields) || not (is_uncommented text e j f)) ≡ several
-    → unset_edits text name e ≡ cond several (removals name e 0 e.fields) (line_edit text e j f ∷ [])
-edits_are text name e j f several first there is =
+    → list_any (has_name name) (drop (suc j) e.fields) ≡ more
+    → unset_edits text name e ≡ or_removals name e (cond more None (own_edit text e j f))
+edits_are text name e j f more first there is =
     ap (edits_at text name e) first ∙ ap (edits_from text name e j) there
-    ∙ ap (λ b. cond b (removals name e 0 e.fields) (line_edit text e j f ∷ [])) is
+    ∙ ap (λ b. or_removals name e (cond b None (own_edit text e j f))) is
 
 -- ---- an entry
 
@@ -119,11 +121,46 @@ pub record EntryUnset (d : Document) (before others : List EntryReading) (e : En
   pub within : AreEditsWithin d.text e.key.end e.end (unset_edits d.text name e)
   pub kept : (i : ℕ) (x : EntryReading) → i < length before → slice_get d.says.entries i ≡ Some x → slice_get after.says.entries i ≡ Some x
 
-three : (a b c : Bool) → (a && not b && not c) ≡ true → (a ≡ true) × (c ≡ false)
-three true false false is = (refl, refl)
-three true false true is = absurd (cc)
-three true true c is = absurd (cc)
-three false b c is = absurd (cc)
+equal : (m n : ℕ) → (m == n) ≡ true → m ≡ n
+equal m n is = grind (arith, nat_tests)
+
+-- an edit that removes a field and no comment
+own_removed : (d : Document) (k : ℕ) (e : EntryReading) (j : ℕ) (f : FieldReading) (edit : Edit) → IsDocument d
+    → slice_get d.says.entries k ≡ Some e → slice_get e.fields j ≡ Some f → IsTrimmed d.text f → own_edit d.text e j f ≡ Some edit
+    → LineRemoved d k e j edit
+own_removed d k e j f edit read here there trimmed is =
+    by_case (has_byte_at d.text (end_before e j) 44) (has_byte_at d.text f.value.end 37)
+    (has_percent d.text (end_before e j) f.name.start) (has_byte_at d.text (sign_before d.text e j f) 37)
+    (has_byte_at d.text (feed_before d.text e j f) 10) (has_byte_at d.text (sign_after d.text e j f) 37)
+    (sign_after d.text e j f == field_limit e j) (has_byte_at d.text (feed_after d.text e j f) 10) refl refl refl refl refl refl refl is
+  where
+    by_case : (comma plain percent sign feed next last ends : Bool) → has_byte_at d.text (end_before e j) 44 ≡ comma
+        → has_byte_at d.text f.value.end 37 ≡ plain → has_byte_at d.text (sign_before d.text e j f) 37 ≡ sign
+        → has_byte_at d.text (feed_before d.text e j f) 10 ≡ feed → has_byte_at d.text (sign_after d.text e j f) 37 ≡ next
+        → (sign_after d.text e j f == field_limit e j) ≡ last → has_byte_at d.text (feed_after d.text e j f) 10 ≡ ends
+        → cond (comma && not plain)
+        (cond percent
+        (cond (sign && feed)
+        (cond next (Some (joining_edit d.text e j f)) (cond (last && ends) (Some (lines_edit d.text e j f)) None)) None)
+        (Some (line_edit d.text e j f))) None
+        ≡ Some edit
+        → LineRemoved d k e j edit
+    by_case false plain percent sign feed next last ends c p s t n l m chosen = absurd (cc)
+    by_case true true percent sign feed next last ends c p s t n l m chosen = absurd (cc)
+    by_case true false false sign feed next last ends c p s t n l m chosen =
+        let same : line_edit d.text e j f ≡ edit = cc in
+        subst (λ x. LineRemoved d k e j x) same (line_removed d k e j f read here there trimmed c p)
+    by_case true false true false feed next last ends c p s t n l m chosen = absurd (cc)
+    by_case true false true true false next last ends c p s t n l m chosen = absurd (cc)
+    by_case true false true true true true last ends c p s t n l m chosen =
+        let same : joining_edit d.text e j f ≡ edit = cc in
+        subst (λ x. LineRemoved d k e j x) same (joining_removed d k e j f read here there trimmed c s t p n)
+    by_case true false true true true false false ends c p s t n l m chosen = absurd (cc)
+    by_case true false true true true false true false c p s t n l m chosen = absurd (cc)
+    by_case true false true true true false true true c p s t n l m chosen =
+        let same : lines_edit d.text e j f ≡ edit = cc in
+        let limit = equal (sign_after d.text e j f) (field_limit e j) l in
+        subst (λ x. LineRemoved d k e j x) same (lines_removed d k e j f read here there trimmed c s t p limit m)
 
 module _ (d : Document) (before others : List EntryReading) (e : EntryReading) (name : List ℕ) (read : IsDocument d)
     (whole : d.says.entries ≡ before ++ e ∷ others) (trimmed : (j : ℕ) (f : FieldReading) → slice_get e.fields j ≡ Some f
@@ -163,15 +200,11 @@ module _ (d : Document) (before others : List EntryReading) (e : EntryReading) (
         kept = all.kept;
       }
 
-  -- the only field with the name is removed with its line
-  one : (j : ℕ) (f : FieldReading) → first_position (has_name name) e.fields ≡ Some j → slice_get e.fields j ≡ Some f
-      → has_name name f ≡ true → list_any (has_name name) (drop (suc j) e.fields) ≡ false → is_uncommented d.text e j f ≡ true
-      → unset_edits d.text name e ≡ line_edit d.text e j f ∷ [] → EntryUnset d before others e name
-  one j f first there named none free edits =
-      let parts = three (has_byte_at d.text (end_before e j) 44) (has_percent d.text (end_before e j) f.name.start)
-      (has_byte_at d.text f.value.end 37) free in
-      let edit : Edit = line_edit d.text e j f in
-      let x = line_removed d k e j f read is_here there (trimmed j f there) parts.0 parts.1 in
+  -- the only field with the name is removed
+  one : (j : ℕ) (f : FieldReading) (edit : Edit) → first_position (has_name name) e.fields ≡ Some j → slice_get e.fields j ≡ Some f
+      → has_name name f ≡ true → list_any (has_name name) (drop (suc j) e.fields) ≡ false → LineRemoved d k e j edit
+      → unset_edits d.text name e ≡ edit ∷ [] → EntryUnset d before others e name
+  one j f edit first there named none x edits =
       let a = around e.fields j f there in
       let move = moved_place edit in
       let put_entry : List FieldReading → EntryReading = λ (fs : List FieldReading). with_fields (moved_entry move e) fs in
@@ -210,28 +243,23 @@ module _ (d : Document) (before others : List EntryReading) (e : EntryReading) (
   by_place (Some j) is =
       let found = passes_first (has_name name) e.fields j is in
       let f = found.0 in
-      let edits : unset_edits d.text name e ≡ edits_from d.text name e j (Some f) =
-      ap (edits_at d.text name e) is ∙ ap (edits_from d.text name e j) found.1 in
-      by_case j f is found.1 found.2 (list_any (has_name name) (drop (suc j) e.fields)) refl (is_uncommented d.text e j f) refl edits
+      let edits = edits_are d.text name e j f (list_any (has_name name) (drop (suc j) e.fields)) is found.1 refl in
+      by_case j f is found.1 found.2 (list_any (has_name name) (drop (suc j) e.fields)) refl (own_edit d.text e j f) refl edits
     where
       by_case : (j : ℕ) (f : FieldReading) → first_position (has_name name) e.fields ≡ Some j → slice_get e.fields j ≡ Some f
-          → has_name name f ≡ true → (more : Bool) → list_any (has_name name) (drop (suc j) e.fields) ≡ more → (free : Bool)
-          → is_uncommented d.text e j f ≡ free
+          → has_name name f ≡ true → (more : Bool) → list_any (has_name name) (drop (suc j) e.fields) ≡ more → (own : Option Edit)
+          → own_edit d.text e j f ≡ own
           → unset_edits d.text name e
-          ≡ cond (list_any (has_name name) (drop (suc j) e.fields) || not (is_uncommented d.text e j f)) (removals name e 0 e.fields)
-          (line_edit d.text e j f ∷ [])
+          ≡ or_removals name e (cond (list_any (has_name name) (drop (suc j) e.fields)) None (own_edit d.text e j f))
           → EntryUnset d before others e name
-      by_case j f first there named true more free uncommented edits =
-          several (edits ∙ ap (λ b. cond (b || not (is_uncommented d.text e j f)) (removals name e 0 e.fields)
-          (line_edit d.text e j f ∷ [])) more)
-      by_case j f first there named false more false uncommented edits =
+      by_case j f first there named true more own is edits =
+          several (edits ∙ ap (λ b. or_removals name e (cond b None (own_edit d.text e j f))) more)
+      by_case j f first there named false more None is edits =
           several
-          (edits ∙ ap (λ b. cond (b || not (is_uncommented d.text e j f)) (removals name e 0 e.fields) (line_edit d.text e j f ∷ [])) more
-          ∙ ap (λ b. cond (not b) (removals name e 0 e.fields) (line_edit d.text e j f ∷ [])) uncommented)
-      by_case j f first there named false more true uncommented edits =
-          one j f first there named more uncommented
-          (edits ∙ ap (λ b. cond (b || not (is_uncommented d.text e j f)) (removals name e 0 e.fields) (line_edit d.text e j f ∷ [])) more
-          ∙ ap (λ b. cond (not b) (removals name e 0 e.fields) (line_edit d.text e j f ∷ [])) uncommented)
+          (edits ∙ ap (λ b. or_removals name e (cond b None (own_edit d.text e j f))) more ∙ ap (or_removals name e) is)
+      by_case j f first there named false more (Some edit) is edits =
+          one j f edit first there named more (own_removed d k e j f edit read is_here there (trimmed j f there) is)
+          (edits ∙ ap (λ b. or_removals name e (cond b None (own_edit d.text e j f))) more ∙ ap (or_removals name e) is)
 
   pub entry_unset : EntryUnset d before others e name
   entry_unset = by_place (first_position (has_name name) e.fields) refl

@@ -42,7 +42,7 @@ field_removed d k e j f = field_cut d k e j (field_edit e j f)
 
 -- ---- what is left after a field
 
-limit_of : List FieldReading → ℕ → ℕ
+unfoldable pub limit_of : List FieldReading → ℕ → ℕ
 limit_of [] end = end
 limit_of (f ∷ fs) end = f.name.start
 
@@ -113,7 +113,7 @@ rest_fields (FieldsAfter.more gap comma gap' rest) closes =
     closes
 
 -- where they begin, by the entry's fields
-limit_is : (before following : List FieldReading) (f : FieldReading) (j end : ℕ) → length before ≡ j
+pub limit_is : (before following : List FieldReading) (f : FieldReading) (j end : ℕ) → length before ≡ j
     → option_map_or (λ g. g.name.start) (slice_get (before ++ f ∷ following) (suc j)) end ≡ limit_of following end
 unfolding limit_of
 limit_is [] [] f zero end index = refl

@@ -58,7 +58,7 @@ all_from P (x ∷ xs) zero d each =
     (each 0 (omega arith) (omega arith), all_from P xs zero d (λ k from below. each (suc k) (omega arith) (omega (arith, below))))
 all_from P (x ∷ xs) (suc i) d each = all_from P xs i d (λ k from below. each (suc k) (omega (arith, from)) (omega (arith, below)))
 
-white_ascii : (c : ℕ) → is_ascii_whitespace c ≡ true → (c < 128) × (is_whitespace c ≡ true)
+pub white_ascii : (c : ℕ) → is_ascii_whitespace c ≡ true → (c < 128) × (is_whitespace c ≡ true)
 white_ascii c white = (grind (arith, nat_tests), grind (arith, nat_tests))
 
 pub before_white : (text : List ℕ) (at : ℕ) → at ≤ length text → AreWhite (white_before text at)

@@ -1,16 +1,17 @@
 -- Meaning: words of public contracts.
 -- Unsetting a field of an entry: the bytes of the text that go, and the outcome.
-use Rattle.std.specs.Prelude.{◌≡◌, ℕ, zero, suc, ◌+◌, ◌==◌, ◌&&◌, ◌||◌, not, Bool, false, if◌then◌else◌, List, [], ◌∷◌, ◌++◌, drop, filter, Option, Some, None, slice_get, slice_set}
-use Rattle.std.specs.List.{list_any}
+use Rattle.std.specs.Prelude.{◌≡◌, ℕ, zero, suc, ◌+◌, ◌-◌, ◌==◌, ◌&&◌, not, Bool, false, if◌then◌else◌, List, [], ◌∷◌, ◌++◌, codes, drop, filter, Option, Some, None, slice_get, slice_set}
+use Rattle.std.specs.Char.{is_ascii_whitespace}
+use Rattle.std.specs.List.{list_any, prefix_len}
 use Rattle.std.specs.Option.{option_map_or}
 use Rattle.bib_text.specs.Characters as char
 use Rattle.bib_text.specs.Places.{between, place}
 use Rattle.bib_syntax.specs.Reading.{EntryReading, FieldReading}
 use Rattle.edit_entries.specs.Changes.{value_end}
-use Rattle.edit_entries.specs.Documents.{Document, HasEntry, field_edit, first_position, has_name, have_only}
+use Rattle.edit_entries.specs.Documents.{Document, HasEntry, field_edit, field_limit, first_position, has_name, have_only}
 use Rattle.edit_entries.specs.Edits.{Edit, edited_all, placeless}
 
--- ---- a field without comments
+-- ---- a field without a comment before it
 
 -- whether a text has a byte at a byte offset
 abbrev pub has_byte_at : List ℕ → ℕ → ℕ → Bool
@@ -25,20 +26,79 @@ end_before e (suc j) = option_map_or (λ f. f.value.end) (slice_get e.fields j) 
 abbrev pub has_percent : List ℕ → ℕ → ℕ → Bool
 has_percent text start end = list_any (λ b. b == char.percent) (between (place text start) (place text end))
 
--- whether a comma directly follows the span of the value or key before a field, no percent sign is between the comma and the field, and
--- none directly follows the span of its value: no comment is there then
-abbrev pub is_uncommented : List ℕ → EntryReading → ℕ → FieldReading → Bool
-is_uncommented text e j f =
-    has_byte_at text (end_before e j) char.comma && not (has_percent text (end_before e j) f.name.start)
-    && not (has_byte_at text f.value.end char.percent)
-
--- the byte offset after the comma of such a field, or where its value ends if it has none
+-- the byte offset after the comma of a field that has no comment directly after its value, or where its value ends if it has no comma
 abbrev pub comma_end : List ℕ → FieldReading → ℕ
 comma_end text f = if has_byte_at text f.value.end char.comma then f.value.end + 1 else value_end text f
 
--- the edit that removes such a field, with the white space before it and the comma after it: what is after its comma stays
+-- the edit that removes a field without a comment before it, with the white space before it and its comma: what is after its comma stays
 abbrev pub line_edit : List ℕ → EntryReading → ℕ → FieldReading → Edit
 line_edit text e j f = record { start = end_before e j + 1; end = comma_end text f; bytes = [] }
+
+-- ---- a field with a comment before it
+
+-- the first byte offset between two at which a byte fails a test, or the second one
+abbrev pub after_bytes : (ℕ → Bool) → List ℕ → ℕ → ℕ → ℕ
+after_bytes test text start end = start + prefix_len test (between (place text start) (place text end))
+
+-- whether a byte isn't a line feed
+abbrev pub is_no_line_feed : ℕ → Bool
+is_no_line_feed b = not (b == char.line_feed)
+
+-- whether a byte is ASCII white space other than a line feed
+abbrev pub is_line_space : ℕ → Bool
+is_line_space b = is_ascii_whitespace b && is_no_line_feed b
+
+-- the byte offset after the comma before a field and the ASCII white space after that comma
+abbrev pub sign_before : List ℕ → EntryReading → ℕ → FieldReading → ℕ
+sign_before text e j f = after_bytes is_ascii_whitespace text (end_before e j + 1) f.name.start
+
+-- the byte offset of the line feed that ends the comment before a field
+abbrev pub feed_before : List ℕ → EntryReading → ℕ → FieldReading → ℕ
+feed_before text e j f = after_bytes is_no_line_feed text (sign_before text e j f) f.name.start
+
+-- the byte offset after the comma of a field and the ASCII white space after that comma
+abbrev pub sign_after : List ℕ → EntryReading → ℕ → FieldReading → ℕ
+sign_after text e j f = after_bytes is_ascii_whitespace text (comma_end text f) (field_limit e j)
+
+-- the byte offset of the line feed that ends the line of a field's comma, if only white space follows the comma there
+abbrev pub feed_after : List ℕ → EntryReading → ℕ → FieldReading → ℕ
+feed_after text e j f = after_bytes is_line_space text (comma_end text f) (field_limit e j)
+
+-- the byte offset of the line end at a line feed: LF or CR LF
+abbrev pub line_end_at : List ℕ → ℕ → ℕ
+line_end_at text feed = if has_byte_at text (feed - 1) char.carriage_return then feed - 1 else feed
+
+-- the edit that removes a field between two comments: they become one line, since an entry can't have two comments in a row
+abbrev pub joining_edit : List ℕ → EntryReading → ℕ → FieldReading → Edit
+joining_edit text e j f =
+    record { start = line_end_at text (feed_before text e j f); end = sign_after text e j f; bytes = codes " " }
+
+-- the edit that removes the lines of a field after a comment, up to the line feed after its comma
+abbrev pub lines_edit : List ℕ → EntryReading → ℕ → FieldReading → Edit
+lines_edit text e j f = record { start = feed_before text e j f + 1; end = feed_after text e j f + 1; bytes = [] }
+
+-- the edit that removes a field after a comment. If another comment is after its comma, the two are joined. If only ASCII white space with
+-- a line feed is between its comma and the next field or the closing brace, its lines are removed.
+abbrev pub following_edit : List ℕ → EntryReading → ℕ → FieldReading → Option Edit
+following_edit text e j f =
+    if has_byte_at text (sign_after text e j f) char.percent then Some (joining_edit text e j f)
+    else if (sign_after text e j f == field_limit e j) && has_byte_at text (feed_after text e j f) char.line_feed
+    then Some (lines_edit text e j f)
+    else None
+
+-- the same, if a comment is before the field
+abbrev pub commented_edit : List ℕ → EntryReading → ℕ → FieldReading → Option Edit
+commented_edit text e j f =
+    if has_byte_at text (sign_before text e j f) char.percent && has_byte_at text (feed_before text e j f) char.line_feed
+    then following_edit text e j f
+    else None
+
+-- the edit that removes a field and no comment, if a comma is directly after the value before it, and no comment directly after its own
+abbrev pub own_edit : List ℕ → EntryReading → ℕ → FieldReading → Option Edit
+own_edit text e j f =
+    if has_byte_at text (end_before e j) char.comma && not (has_byte_at text f.value.end char.percent)
+    then (if has_percent text (end_before e j) f.name.start then commented_edit text e j f else Some (line_edit text e j f))
+    else None
 
 -- ---- the fields with a name
 
@@ -51,22 +111,24 @@ abbrev pub removals : List ℕ → EntryReading → ℕ → List FieldReading �
 removals name e index [] = []
 removals name e index (f ∷ rest) = removal name e index f ++ removals name e (suc index) rest
 
--- the edits that unset a field; the first one with the name is at this index. If no other field has the name, and no comment is there,
--- it is removed with its line (`line_edit`).
+-- an edit, or those that remove each field with a name up to the next field or the closing brace
+abbrev pub or_removals : List ℕ → EntryReading → Option Edit → List Edit
+or_removals name e None = removals name e 0 e.fields
+or_removals name e (Some edit) = edit ∷ []
+
+-- the edits that unset the first field with a name, at this index
 abbrev pub edits_from : List ℕ → List ℕ → EntryReading → ℕ → Option FieldReading → List Edit
 edits_from text name e j None = []
 edits_from text name e j (Some f) =
-    if list_any (has_name name) (drop (suc j) e.fields) || not (is_uncommented text e j f)
-    then removals name e 0 e.fields
-    else line_edit text e j f ∷ []
+    or_removals name e (if list_any (has_name name) (drop (suc j) e.fields) then None else own_edit text e j f)
 
 -- the same, by the index of the first field with the name, if there is one
 abbrev pub edits_at : List ℕ → List ℕ → EntryReading → Option ℕ → List Edit
 edits_at text name e None = []
 edits_at text name e (Some j) = edits_from text name e j (slice_get e.fields j)
 
--- the edits that unset the fields of an entry with a name. A field is removed up to the next field or the closing brace, with the comments
--- there, if a comment is directly before it or after its value, or if several fields have the name.
+-- the edits that unset the fields of an entry with a name. The only field with the name is removed without a comment, if there is an edit
+-- that does it. Otherwise each field with the name is removed up to the next field or the closing brace.
 abbrev pub unset_edits : List ℕ → List ℕ → EntryReading → List Edit
 unset_edits text name e = edits_at text name e (first_position (has_name name) e.fields)
 

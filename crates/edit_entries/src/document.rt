@@ -127,10 +127,17 @@ impl<'s> RawDocument<'s> {
     /// Returns the text without a field of an entry: each field with `name`, in any ASCII case, of the first entry with `key` is removed.
     /// Returns the same text if the entry lacks the field.
     ///
-    /// A field is removed with the white space before it and its comma: with its line, if it has one. So comments of other fields and the
-    /// closing brace stay where they are. There are exceptions: several fields have the name; a comment is between the field and the value
-    /// or key before it, or between its value and its comma; white space is between the key and its comma, before the first field. Then
-    /// each field with the name is removed up to the next field or the closing brace, with the comments between them.
+    /// The only field with the name is removed with its comma and the white space before it. Comments before the field and after its comma
+    /// stay. If both are there, they become one line. If only the comment before the field is there, the field is removed with its lines,
+    /// so the closing brace keeps its column.
+    ///
+    /// In these cases the text from the name up to the next field or the closing brace is removed, with a comment in it:
+    ///
+    /// - Several fields have the name.
+    /// - A comment is directly after the value of the field, or of the field before it.
+    /// - The field is the first one, and white space is between the key and the comma.
+    /// - A comment is before the field, and the next field or the closing brace is on the line of its comma.
+    /// - A comment is before the field, and the white space before the comment or after the field's comma isn't ASCII.
     ///
     /// # Errors
     ///

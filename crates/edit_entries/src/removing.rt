@@ -1,9 +1,9 @@
 //! Removes entries and fields.
 
-ghost use Rattle.std.specs.Prelude.{◌≡◌, ◌+◌, ◌-◌, ◌^◌, ◌++◌, ◌≤◌, ◌<◌, ℕ, [], ◌∷◌, IfOk, IfSome, OnOk, length, map};
+ghost use Rattle.std.specs.Prelude.{◌≡◌, ◌+◌, ◌-◌, ◌^◌, ◌++◌, ◌≤◌, ◌<◌, ℕ, [], ◌∷◌, IfOk, IfSome, OnOk, length, map, option_map};
 ghost use Rattle.std.specs.Bool.{OnTrue};
-ghost use Rattle.std.specs.Char.{is_whitespace};
-ghost use Rattle.std.specs.List.{AllByRecursion, list_all};
+ghost use Rattle.std.specs.Char.{is_ascii_whitespace, is_whitespace};
+ghost use Rattle.std.specs.List.{AllByRecursion, list_all, prefix_len};
 ghost use Rattle.std.specs.Str.{IsCharBoundary};
 ghost use Rattle.std.specs.String.{string_bytes};
 ghost use Rattle.bib_text.specs.Places.{Longest};
@@ -148,7 +148,8 @@ pub(crate) fn have_only(fields: &[Pair<'_>], name: &str) -> bool
 
 // Returns the bytes between two byte offsets of a text.
 fn stretch(text: &str, start: usize, end: usize) -> &[u8]
-    ensures { result.now ≡ places.between (places.place text.now start) (places.place text.now end) }
+    ensures is { result.now ≡ places.between (places.place text.now start) (places.place text.now end) }
+    ensures bound { start + length result.now < 2 ^ 64 }
 {
     let bytes = text.as_bytes();
     let end = end.min(bytes.len());
@@ -184,20 +185,8 @@ fn end_before(entry: &Spanned<RawEntry<'_>>, index: usize) -> usize
     entry.v.fields[index - 1].value.span.end
 }
 
-// Returns whether a comma directly follows the span of the value or key before a field, no percent sign is between the comma and the
-// field, and none directly follows the span of its value: no comment is there then.
-fn is_uncommented(text: &str, entry: &Spanned<RawEntry<'_>>, index: usize, field: &Pair<'_>) -> bool
-    requires { index < length (entry_reading_of entry.now).fields }
-    ensures is { result ≡ unset.is_uncommented text.now (entry_reading_of entry.now) index (field_of field.now) }
-    ensures bound { OnTrue result (unset.end_before (entry_reading_of entry.now) index < 2 ^ 64 - 1) }
-{
-    let start = end_before(entry, index);
-    has_byte(text, start, b',')
-        && !has_percent(text, start, field.key.span.start)
-        && !has_byte(text, field.value.span.end, b'%')
-}
-
-// Returns the byte offset after the comma of a field without comments, or where its value ends if it has none.
+// Returns the byte offset after the comma of a field that has no comment directly after its value, or where its value ends if it has no
+// comma.
 fn comma_end(text: &str, field: &Pair<'_>) -> usize
     requires { IsPlaced text.now (field_of field.now) }
     ensures { result ≡ unset.comma_end text.now (field_of field.now) }
@@ -206,6 +195,144 @@ fn comma_end(text: &str, field: &Pair<'_>) -> usize
         return field.value.span.end + 1;
     }
     value_end(text, field)
+}
+
+// Returns the number of bytes of white space at the start.
+fn white_len(bytes: &[u8]) -> usize
+    ensures { result ≡ prefix_len is_ascii_whitespace bytes.now }
+{
+    bytes.iter().take_while(|b| b.is_ascii_whitespace()).count()
+}
+
+// Returns the number of bytes before the first line feed.
+fn line_len(bytes: &[u8]) -> usize
+    ensures { result ≡ prefix_len unset.is_no_line_feed bytes.now }
+{
+    bytes.iter().take_while(|b| **b != b'\n').count()
+}
+
+// Returns the number of bytes of white space at the start, up to the first line feed.
+fn blank_len(bytes: &[u8]) -> usize
+    ensures { result ≡ prefix_len unset.is_line_space bytes.now }
+{
+    bytes
+        .iter()
+        .take_while(|b| b.is_ascii_whitespace() && **b != b'\n')
+        .count()
+}
+
+// Returns the byte offset after the white space at the start of the text between two byte offsets.
+fn white_end(text: &str, start: usize, end: usize) -> usize
+    ensures { result ≡ unset.after_bytes is_ascii_whitespace text.now start end }
+{
+    start + white_len(stretch(text, start, end))
+}
+
+// Returns the byte offset of the first line feed between two byte offsets, or the second one.
+fn line_feed(text: &str, start: usize, end: usize) -> usize
+    ensures { result ≡ unset.after_bytes unset.is_no_line_feed text.now start end }
+{
+    start + line_len(stretch(text, start, end))
+}
+
+// Returns the byte offset after the white space at the start of the text between two byte offsets, up to its first line feed.
+fn blank_end(text: &str, start: usize, end: usize) -> usize
+    ensures { result ≡ unset.after_bytes unset.is_line_space text.now start end }
+{
+    start + blank_len(stretch(text, start, end))
+}
+
+// Returns the byte offset of the line end at a line feed: LF or CR LF.
+fn line_end_at(text: &str, feed: usize) -> usize
+    ensures { result ≡ unset.line_end_at text.now feed }
+{
+    let before = feed.saturating_sub(1);
+    if has_byte(text, before, b'\r') { before } else { feed }
+}
+
+// Returns the edit that removes a field after a comment whose line feed is at a byte offset: it joins the comment and the next one, or
+// removes the lines of the field.
+fn following_edit(
+    alloc: Global,
+    text: &str,
+    entry: &Spanned<RawEntry<'_>>,
+    index: usize,
+    field: &Pair<'_>,
+    feed: usize,
+) -> Result<Option<Edit>, AllocError>
+    requires index { index < length (entry_reading_of entry.now).fields }
+    requires placed { IsPlaced text.now (field_of field.now) }
+    requires feed { feed ≡ unset.feed_before text.now (entry_reading_of entry.now) index (field_of field.now) }
+    requires bound { feed < 2 ^ 64 - 1 }
+    ensures { IfOk result (λ found. option_map edit_of found ≡ unset.following_edit text.now (entry_reading_of entry.now) index (field_of field.now)) }
+{
+    let comma = comma_end(text, field);
+    let limit = field_limit(entry, index);
+    let sign = white_end(text, comma, limit);
+    if has_byte(text, sign, b'%') {
+        return Ok(Some(Edit {
+            start: line_end_at(text, feed),
+            end: sign,
+            text: String::from_str(alloc, " ")?,
+        }));
+    }
+    let end = blank_end(text, comma, limit);
+    if sign != limit || !has_byte(text, end, b'\n') {
+        return Ok(None);
+    }
+    Ok(Some(Edit {
+        start: feed + 1,
+        end: end + 1,
+        text: String::new(alloc),
+    }))
+}
+
+// Returns the edit that removes a field after a comment, if there is one.
+fn commented_edit(
+    alloc: Global,
+    text: &str,
+    entry: &Spanned<RawEntry<'_>>,
+    index: usize,
+    field: &Pair<'_>,
+) -> Result<Option<Edit>, AllocError>
+    requires index { index < length (entry_reading_of entry.now).fields }
+    requires placed { IsPlaced text.now (field_of field.now) }
+    requires bound { unset.end_before (entry_reading_of entry.now) index < 2 ^ 64 - 1 }
+    ensures { IfOk result (λ found. option_map edit_of found ≡ unset.commented_edit text.now (entry_reading_of entry.now) index (field_of field.now)) }
+{
+    let name = field.key.span.start;
+    let sign = white_end(text, end_before(entry, index) + 1, name);
+    let feed = line_feed(text, sign, name);
+    if !has_byte(text, sign, b'%') || !has_byte(text, feed, b'\n') {
+        return Ok(None);
+    }
+    following_edit(alloc, text, entry, index, field, feed)
+}
+
+// Returns the edit that removes a field and no comment, if there is one.
+fn own_edit(
+    alloc: Global,
+    text: &str,
+    entry: &Spanned<RawEntry<'_>>,
+    index: usize,
+    field: &Pair<'_>,
+) -> Result<Option<Edit>, AllocError>
+    requires index { index < length (entry_reading_of entry.now).fields }
+    requires placed { IsPlaced text.now (field_of field.now) }
+    ensures { IfOk result (λ found. option_map edit_of found ≡ unset.own_edit text.now (entry_reading_of entry.now) index (field_of field.now)) }
+{
+    let start = end_before(entry, index);
+    if !has_byte(text, start, b',') || has_byte(text, field.value.span.end, b'%') {
+        return Ok(None);
+    }
+    if has_percent(text, start, field.key.span.start) {
+        return commented_edit(alloc, text, entry, index, field);
+    }
+    Ok(Some(Edit {
+        start: start + 1,
+        end: comma_end(text, field),
+        text: String::new(alloc),
+    }))
 }
 
 // Returns the index of the first of these fields with a name, in any ASCII case.
@@ -240,14 +367,10 @@ pub(crate) fn unset_edits(
     if has_field(&fields[index + 1..], name) {
         return removals(alloc, entry, name);
     }
-    if !is_uncommented(text, entry, index, field) {
+    let Some(edit) = own_edit(alloc, text, entry, index, field)? else {
         return removals(alloc, entry, name);
-    }
-    edits.push(Edit {
-        start: end_before(entry, index) + 1,
-        end: comma_end(text, field),
-        text: String::new(alloc),
-    })?;
+    };
+    edits.push(edit)?;
     Ok(edits)
 }
 

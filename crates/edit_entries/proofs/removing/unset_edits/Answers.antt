@@ -1,15 +1,14 @@
-use Rattle.std.proofs.Common.{◌≡◌, ◌+◌, ◌-◌, ◌<◌, ℕ, suc, Bool, true, false, cond, List, [], ◌∷◌, ◌++◌, Some, take, drop, get_or, length, map, refl, sym, ap, ◌∙◌, subst, arith}
-use Rattle.std.specs.Prelude.{IfOk, ◌||◌, not, slice_get}
+use Rattle.std.proofs.Common.{◌≡◌, ◌+◌, ◌-◌, ◌<◌, ℕ, suc, Bool, true, false, cond, List, [], ◌∷◌, ◌++◌, Option, Some, None, take, drop, get_or, length, map, refl, sym, ap, ◌∙◌, subst, arith}
+use Rattle.std.specs.Prelude.{IfOk, option_map, slice_get}
 use Rattle.std.specs.List.{list_any}
 use Rattle.std.proofs.lemmas.List.{drop-map, length-drop, take_all}
-use Rattle.bib_syntax.specs.Reading.{EntryReading, FieldReading}
+use Rattle.bib_syntax.specs.Reading.{EntryReading}
 use Rattle.bib_syntax.specs.Views.{entry_reading_of, field_of}
 use Rattle.bib_syntax.specs.declared.raw.Pair.{Pair}
 use Rattle.edit_entries.specs.Documents.{first_position, has_name}
 use Rattle.edit_entries.specs.EditList.{edit_of}
-use Rattle.edit_entries.specs.Edits.{Edit}
 use Rattle.edit_entries.specs.Placed.{IsPlaced}
-use Rattle.edit_entries.specs.Unset.{comma_end, end_before, is_uncommented, line_edit, removals, unset_edits}
+use Rattle.edit_entries.specs.Unset.{or_removals, own_edit, unset_edits}
 use Rattle.edit_entries.specs.declared.editing.Edit as editing
 use Rattle.edit_entries.proofs.AllFacts.{all_there}
 use Rattle.edit_entries.proofs.PositionFacts.{slice_get-map}
@@ -34,54 +33,57 @@ module _ (text name : List ℕ) (e : EntryReading) (xs items : List Pair) (j : �
   first_is : first_position (has_name name) e.fields ≡ Some j
   first_is = sym (first ∙ ap (first_position (has_name name)) fields_are)
 
-  chosen : (p : Pair) → p ≡ get_or xs j p → (more free several : Bool)
+  chosen : (p : Pair) → p ≡ get_or xs j p → (more : Bool)
       → list_any (has_name name) (map field_of (take (length xs - (j + 1)) (drop (j + 1) xs))) ≡ more
-      → (more ≡ false → is_uncommented text e j (field_of p) ≡ free) → (more || not free) ≡ several
-      → unset_edits text name e ≡ cond several (removals name e 0 e.fields) (line_edit text e j (field_of p) ∷ [])
-  chosen p is true free several named uncommented all =
-      edits_are text name e j (field_of p) several first_is (there p is)
-      (ap (λ b. b || not (is_uncommented text e j (field_of p))) (sym (ap (list_any (has_name name)) rest_is) ∙ named) ∙ all)
-  chosen p is false free several named uncommented all =
-      edits_are text name e j (field_of p) several first_is (there p is)
-      (ap (λ b. b || not (is_uncommented text e j (field_of p))) (sym (ap (list_any (has_name name)) rest_is) ∙ named)
-      ∙ ap not (uncommented refl) ∙ all)
+      → unset_edits text name e ≡ or_removals name e (cond more None (own_edit text e j (field_of p)))
+  chosen p is more named =
+      edits_are text name e j (field_of p) more first_is (there p is) (sym (ap (list_any (has_name name)) rest_is) ∙ named)
 
-pushed : (old new : List editing.Edit) (x : editing.Edit) (edit : Edit) → new ≡ old ++ x ∷ [] → old ≡ [] → edit_of x ≡ edit
-    → map edit_of new ≡ edit ∷ []
-pushed old new x edit is none same = ap (map edit_of) (is ∙ ap (λ l. l ++ x ∷ []) none) ∙ ap (λ y. y ∷ []) same
+  -- the edits, if no other field has the name
+  alone : (p : Pair) → p ≡ get_or xs j p
+      → list_any (has_name name) (map field_of (take (length xs - (j + 1)) (drop (j + 1) xs))) ≡ false
+      → (own same : Option editing.Edit) → option_map edit_of own ≡ own_edit text e j (field_of p) → own ≡ same
+      → unset_edits text name e ≡ or_removals name e (option_map edit_of same)
+  alone p is none own same edit found =
+      chosen p is false none ∙ ap (or_removals name e) (sym edit) ∙ ap (λ o. or_removals name e (option_map edit_of o)) found
 
-line_is : (text : List ℕ) (e : EntryReading) (j : ℕ) (f : FieldReading) (start end : ℕ) (bytes : List ℕ) → start ≡ end_before e j
-    → end ≡ comma_end text f → bytes ≡ []
-    → record { start = start + 1; end = end; bytes = bytes } ≡ line_edit text e j f
-line_is text e j f start end bytes first last none =
-    let build : ℕ → ℕ → List ℕ → Edit = λ (m n : ℕ) (bs : List ℕ). record { start = m + 1; end = n; bytes = bs } in
-    ap (λ m. build m end bytes) first ∙ ap (λ n. build (end_before e j) n bytes) last ∙ ap (build (end_before e j) (comma_end text f)) none
+pushed : (old new : List editing.Edit) (x : editing.Edit) → new ≡ old ++ x ∷ [] → old ≡ [] → map edit_of new ≡ edit_of x ∷ []
+pushed old new x is none = ap (map edit_of) (is ∙ ap (λ l. l ++ x ∷ []) none)
 
 pub returns-then-has_field : goal.returns-then-has_field
 returns-then-has_field c =
     let e : EntryReading = entry_reading_of c.args.entry.now in
-    let xs = c.as_slice-fields.result.now in
     let several =
     chosen c.args.text.now c.args.name.now e c.as_slice-fields.result.now c.args.entry.now.v.fields.items c.in-Some.index
     c.as_slice-fields.ensures.value refl c.in-Some.ensures.is c.in-Some.ensures.bound c.index-fields-index.result c.index-fields-index.is
-    true false true (sym c.has_field.ensures ∙ c.if-has_field.true) (λ same. absurd (cc)) refl in
+    true (sym c.has_field.ensures ∙ c.if-has_field.true) in
     subst (λ l. IfOk c.removals.result (λ edits. map edit_of edits.items ≡ l)) (sym several) c.removals.ensures
 
-pub comma_end-requires : goal.comma_end-requires
-comma_end-requires c =
+pub own_edit-requires-clause-placed : goal.own_edit-requires-clause-placed
+own_edit-requires-clause-placed c =
     let e : EntryReading = entry_reading_of c.args.entry.now in
     all_there (IsPlaced c.args.text.now) e.fields c.in-Some.index (field_of c.index-fields-index.result) c.requires
     (there c.args.text.now c.args.name.now e c.as_slice-fields.result.now c.args.entry.now.v.fields.items c.in-Some.index
     c.as_slice-fields.ensures.value refl c.in-Some.ensures.is c.in-Some.ensures.bound c.index-fields-index.result c.index-fields-index.is)
 
+no_edit : (o : Option editing.Edit) → ((x : editing.Edit) → o ≡ Some x → ⊥) → o ≡ None
+no_edit None none = refl
+no_edit (Some x) none = absurd (none x refl)
+
+pub returns-in_default-2 : goal.returns-in_default-2
+returns-in_default-2 c =
+    let all =
+    alone c.args.text.now c.args.name.now (entry_reading_of c.args.entry.now) c.as_slice-fields.result.now
+    c.args.entry.now.v.fields.items c.in-Some.index c.as_slice-fields.ensures.value refl c.in-Some.ensures.is c.in-Some.ensures.bound
+    c.index-fields-index.result c.index-fields-index.is (sym c.has_field.ensures ∙ c.if-has_field.false) c.in_ok-edit.field-0 None
+    c.in_ok-edit.ensures (no_edit c.in_ok-edit.field-0 c.in_default-2.not-Some) in
+    subst (λ l. IfOk c.removals-in_default-2.result (λ edits. map edit_of edits.items ≡ l)) (sym all) c.removals-in_default-2.ensures
+
 pub returns : goal.returns
 returns c =
-    let e : EntryReading = entry_reading_of c.args.entry.now in
-    let lines =
-    chosen c.args.text.now c.args.name.now e c.as_slice-fields.result.now c.args.entry.now.v.fields.items c.in-Some.index
-    c.as_slice-fields.ensures.value refl c.in-Some.ensures.is c.in-Some.ensures.bound c.index-fields-index.result c.index-fields-index.is
-    false true false (sym c.has_field.ensures ∙ c.if-has_field.false)
-    (λ same. sym c.is_uncommented.ensures.is ∙ c.if-not-is_uncommented.false) refl in
-    pushed _ _ _ _ c.in_ok-push.ensures.items c.new-edits.ensures.items
-    (line_is c.args.text.now e c.in-Some.index (field_of c.index-fields-index.result) _ _ _ c.end_before.ensures c.comma_end.ensures
-    c.new.ensures.bytes) ∙ sym lines
+    pushed c.new-edits.result.items c.push.new.self.items c.in-Some-2.edit c.in_ok-push.ensures.items c.new-edits.ensures.items
+    ∙ sym
+    (alone c.args.text.now c.args.name.now (entry_reading_of c.args.entry.now) c.as_slice-fields.result.now
+    c.args.entry.now.v.fields.items c.in-Some.index c.as_slice-fields.ensures.value refl c.in-Some.ensures.is c.in-Some.ensures.bound
+    c.index-fields-index.result c.index-fields-index.is (sym c.has_field.ensures ∙ c.if-has_field.false) c.in_ok-edit.field-0
+    (Some c.in-Some-2.edit) c.in_ok-edit.ensures c.in-Some-2.is)
