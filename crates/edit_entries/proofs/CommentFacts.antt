@@ -38,15 +38,15 @@ bytes_run : (bytes test : ℕ → Bool) → ((b : ℕ) → bytes b ≡ true → 
 bytes_run bytes test each text [] rest at here =
     let same : at ≡ at + 0 = omega arith in subst (λ n. Run test (place text at) (place text n)) same stop
 bytes_run bytes test each text (x ∷ xs) rest at here =
-    by_case (bytes x) refl (λ small. bytes_run bytes test each text xs rest (at + 1) (rest_stands text (xs ++ rest) at x here))
+    by_case (bytes x) refl (bytes_run bytes test each text xs rest (at + 1) (rest_stands text (xs ++ rest) at x here))
   where
-    by_case : (b : Bool) → bytes x ≡ b → (x < 128 → Run test (place text (at + 1)) (place text (at + 1 + prefix_len bytes xs)))
+    by_case : (b : Bool) → bytes x ≡ b → Run test (place text (at + 1)) (place text (at + 1 + prefix_len bytes xs))
         → Run test (place text at) (place text (at + cond b (1 + prefix_len bytes xs) 0))
     by_case true is others =
         let next : at + 1 + prefix_len bytes xs ≡ at + (1 + prefix_len bytes xs) = omega arith in
         let passes = each x is in
         step (ascii_stands text (xs ++ rest) at x passes.0 here) passes.1
-        (subst (λ n. Run test (place text (at + 1)) (place text n)) next (others passes.0))
+        (subst (λ n. Run test (place text (at + 1)) (place text n)) next others)
     by_case false is others =
         let same : at ≡ at + 0 = omega arith in subst (λ n. Run test (place text at) (place text n)) same stop
 
