@@ -11,8 +11,7 @@ use Rattle.bib_file_entries.proofs.LoadingFacts.{AllZip-reverse}
 use Rattle.bib_file_entries.specs.Bibliography.{claims}
 use Rattle.bib_file_entries.specs.Loaded.{AreEntries, name_of}
 use Rattle.bib_inheritance.specs.EntryTexts.{fields_of}
-use Rattle.bib_syntax.specs.Reading.{EntryReading, FieldReading, FileReading, Piece}
-use Rattle.bib_syntax.specs.Reading.Piece.{abbreviation, literal}
+use Rattle.bib_syntax.specs.Reading.{EntryReading, FieldReading, FileReading}
 use Rattle.bib_tables.specs.EntryType.{entry_type_of}
 use Rattle.bib_tables.specs.ReferenceFields.{is_reference_field}
 use Rattle.biblatex.specs.Resolved.{AreOwn}
@@ -24,6 +23,8 @@ use Rattle.edit_format.proofs.LowerFacts.{lower_lower}
 use Rattle.edit_laws.proofs.AlikeFacts.{AreAlikeFields, DefineAlike, FoundAlike, alike_mean, definitions_alike, find_alike}
 use Rattle.edit_laws.proofs.DifferFacts.{get_of_map}
 use Rattle.edit_laws.proofs.FieldFacts.{found_passes}
+use Rattle.edit_laws.proofs.LeadChangeFacts.{pieces_placeless}
+use Rattle.edit_laws.proofs.LeadListFacts.{zip_self}
 use Rattle.edit_laws.proofs.ReadAlikeFacts.{abbreviations_alike, pieces_alike}
 use Rattle.edit_laws.proofs.TextFacts.{found_text, texts_of_entry_are}
 use Rattle.edit_laws.specs.Renamed.{IsKeyRenamed}
@@ -45,10 +46,6 @@ zip_set R (a ∷ xs) [] k y z all here becomes = absurd all
 zip_set R (a ∷ xs) (b ∷ ys) zero y z all here becomes = let same : b ≡ y = cc in (becomes a (subst (R a) same all.0), all.1)
 zip_set R (a ∷ xs) (b ∷ ys) (suc k) y z all here becomes = (all.0, zip_set R xs ys k y z all.1 here becomes)
 
-zip_self : {A : Type 0} (R : A → A → Type 0) (xs : List A) → ((x : A) → R x x) → AllZip R xs xs
-zip_self R [] itself = tt
-zip_self R (x ∷ xs) itself = (itself x, zip_self R xs itself)
-
 -- ---- readings
 
 -- a field has the same name, and the same value if it isn't a reference field
@@ -67,11 +64,6 @@ record IsEntryKept (keys : ℕ → Option (List ℕ)) (e g : EntryReading) : Typ
 record IsFileKept (keys : ℕ → Option (List ℕ)) (said tells : FileReading) : Type 0 where
   entries : AllZip (IsEntryKept keys) said.entries tells.entries
   abbreviations : map (moved_field (λ at. 0)) said.abbreviations ≡ map (moved_field (λ at. 0)) tells.abbreviations
-
-pieces_placeless : (move : ℕ → ℕ) (ps : List Piece) → map (moved_piece (λ n. 0)) (map (moved_piece move) ps) ≡ map (moved_piece (λ n. 0)) ps
-pieces_placeless move [] = refl
-pieces_placeless move (literal p ∷ ps) = ap (λ xs. moved_piece (λ n. 0) (literal p) ∷ xs) (pieces_placeless move ps)
-pieces_placeless move (abbreviation p ∷ ps) = ap (λ xs. moved_piece (λ n. 0) (abbreviation p) ∷ xs) (pieces_placeless move ps)
 
 field_moved : (move : ℕ → ℕ) (f g : FieldReading) → IsFieldKept f g → IsFieldKept f (moved_field move g)
 field_moved move f g kept = record {

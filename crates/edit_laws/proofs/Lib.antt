@@ -8,6 +8,13 @@ pub mod DifferFacts
 pub mod FieldFacts
 pub mod FoundFacts
 pub mod KeyFacts
+pub mod LeadChangeFacts
+pub mod LeadFacts
+pub mod LeadListFacts
+pub mod LeadNameFacts
+pub mod LeadOrderFacts
+pub mod LeadSplitFacts
+pub mod LeadTextFacts
 pub mod LiftFacts
 pub mod MovedFacts
 pub mod NumberFacts

@@ -15,13 +15,13 @@ ghost use Rattle.bib_syntax.specs.declared.raw.ParseError.{ParseError};
 ghost use Rattle.bib_tables.specs.Requirements.{is_one_of};
 ghost use Rattle.biblatex.specs.Headline.{IsAcceptedText, IsBibliographyOf, IsErrorOf};
 ghost use Rattle.biblatex.specs.Resolved.{AreOwn};
-ghost use Rattle.edit_entries.specs.References.{KeysRenamed};
+ghost use Rattle.edit_entries.specs.References.{KeyRenamed, KeysRenamed};
 ghost use Rattle.edit_entries.specs.Setting.{FieldSet, SetValue};
 ghost use Rattle.edit_entries.specs.Unset.{FieldUnset};
 ghost use Rattle.edit_laws.specs.Alike.{AreAlike};
 ghost use Rattle.edit_laws.specs.DefinedAlike.{AreDefinedAlike};
 ghost use Rattle.edit_laws.specs.OneField.{AreAlikeExcept, AreSet, AreUnset, CanBeFieldContents, HasFieldContents, IsInherited, linked_names, lost_names, text_of_value};
-ghost use Rattle.edit_laws.specs.Renamed.{IsKeyRenamed};
+ghost use Rattle.edit_laws.specs.Renamed.{AreEarlierRenamed, HaveGivenKeys, HaveSameReferences, IsKeyRenamed};
 ghost use Rattle.edit_laws.specs.SameEntries.{AreClaimsDistinct, HaveSameEntries, described};
 ghost use Rattle.edit_laws.specs.WithoutEntry.{AreWithout, IsUnreferenced, IsBibliographyWithout};
 ghost use Rattle.edit_sort.specs.Sorted.{IsReadSorted};
@@ -130,4 +130,18 @@ pub fn sorted_is_alike()
 pub fn renamed_keeps_fields()
     ensures { (d after : Document) (keys : ℕ → Option (List ℕ)) (own others : List Entry) → KeysRenamed d keys after → AreOwn d.says own
         → AreOwn after.says others → AllZip (IsKeyRenamed keys) own others }
+{}
+
+/// After entries get new keys, each entry has its new key, or its old one if it gets none. Each reference leads to the entry that it led to:
+/// if a name in a reference field means an entry, the name in its place means the entry with the same index. This is about values that are
+/// one literal. A name that means no entry isn't covered, since it can be a new key.
+///
+/// References have a premise: if an entry gets a new key, each earlier entry with the same key gets one too. This is so if the first entry
+/// with a key gets another one.
+pub fn renamed_leads_alike()
+    ensures keys { (d after : Document) (keys : ℕ → Option (List ℕ)) → IsDocument d → KeysRenamed d keys after
+        → HaveGivenKeys keys d after }
+    ensures references { (d after : Document) (keys : ℕ → Option (List ℕ)) → IsDocument d → KeysRenamed d keys after
+        → AreEarlierRenamed d.says.entries keys → HaveSameReferences d after }
+    ensures one { (d after : Document) (old new : List ℕ) → IsDocument d → KeyRenamed d old new after → HaveSameReferences d after }
 {}

@@ -11,6 +11,9 @@
 //! (`TextFacts`, `ReplacedFacts`). The inheritance equation has one solution, and an entry depends only on those that it leads to
 //! (`SolutionFacts`, `DifferFacts`). If an entry is removed or moved, each index of the new file has the entry of an old index
 //! (`MovedFacts`, `RemovedFacts`, `SortedFacts`).
+//!
+//! Keys and values begin at byte offsets of their own (`LeadOrderFacts`). So each change of a key or a reference changes the one that its
+//! definition names (`LeadChangeFacts`), and each name leads to the entry that it led to (`LeadNameFacts`, `LeadFacts`).
 #![tactic(auto)]
 
 pub mod laws;
