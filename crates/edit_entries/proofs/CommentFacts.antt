@@ -162,7 +162,7 @@ commented {a} {b} {c} text at end (gap.line_comment {v = v} {w = w} white m whit
     let first = runs_same white.run white.stops (white_after text at end) (stops_at is_whitespace percent refl) in
     let m' : LineComment (place text s) w = subst (λ p. LineComment p w) first m in
     let later : s < n = by_place s n (omega arith) (λ same. let clash : 37 ≡ 10 = byte_same text s 37 10 sign
-        (subst (λ i. has_byte_at text i 10 ≡ true) (sym same) feed) in absurd (omega (arith, clash))) in
+    (subst (λ i. has_byte_at text i 10 ≡ true) (sym same) feed) in absurd (omega (arith, clash))) in
     let inside_at : m'.inside.at ≡ s + 1 = m'.sign.next ∙ ap (λ i. s + i) (len_utf8_ascii 37 (omega arith)) in
     let w_text : w.text ≡ text = (ahead_then (ahead_char m'.sign) (ahead_run m'.line.run)).text in
     let w_past : s < w.at = omega (arith, inside_at, (ahead_run m'.line.run).at) in
@@ -190,7 +190,7 @@ commented {a} {b} {c} text at end (gap.line_comment {v = v} {w = w} white m whit
   where
     by_place : (i k : ℕ) → i ≤ k → (i ≡ k → i < k) → i < k
     by_place i k ordered differs =
-        elim (cases_lt i k) [ | inl before ↦ before | inr past ↦ differs (omega (arith, ordered, past)) ]
+        elim (cases_lt i k) [ inl before ↦ before | inr past ↦ differs (omega (arith, ordered, past)) ]
 
     by_order : {n : ℕ} → (n < w.at) ⊎ (w.at ≤ n) → (w.at < n) ⊎ (n ≤ w.at) → (n < w.at → ⊥) → (w.at < n → ⊥) → w.text ≡ text
         → w ≡ place text n

@@ -247,7 +247,11 @@ fn line_end_at(text: &str, feed: usize) -> usize
     ensures { result ≡ unset.line_end_at text.now feed }
 {
     let before = feed.saturating_sub(1);
-    if has_byte(text, before, b'\r') { before } else { feed }
+    if has_byte(text, before, b'\r') {
+        before
+    } else {
+        feed
+    }
 }
 
 // Returns the edit that removes a field after a comment whose line feed is at a byte offset: it joins the comment and the next one, or
