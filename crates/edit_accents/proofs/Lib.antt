@@ -5,5 +5,6 @@ pub mod FitFacts
 pub mod GrammarFacts
 pub mod NameFacts
 pub mod PieceFacts
+pub mod ReadBackFacts
 pub mod RecodedFacts
 pub mod ReducedFacts
