@@ -1,3 +1,4 @@
+pub mod ComposedFacts
 pub mod ElementFacts
 pub mod EncodedFacts
 pub mod EncodedSteps

@@ -26,6 +26,7 @@ use Rattle.edit_accents.specs.declared.signs.Sign.TheVariants.{Command, Opening,
 use Rattle.edit_accents.specs.declared.signs.Stretch.{Stretch}
 use Rattle.edit_accents.specs.declared.signs.Stretch.TheVariants.{Text, Accent}
 use Rattle.edit_accents.specs.declared.writing.Spot.TheVariants.{Free}
+use Rattle.edit_accents.proofs.ComposedFacts.{IsOneInNfc, one_from_two}
 use Rattle.edit_accents.proofs.EncodedFacts.{letter_dull}
 use Rattle.edit_accents.proofs.FitFacts.{dull_sign}
 
@@ -279,30 +280,6 @@ on_letter name mark b d text accent command gives beyond =
     made : composed mark b ≡ Some d
     made = composed_is mark b d (same_letter b not_dotless (λ same. omega (arith, same, reads.low))) gives beyond
 
--- the command for an accent on any letter becomes the composed character
-on_base : (name mark b d : ℕ) (command : List ℕ) → IsAccentName name mark → accent_on (Some name) b ≡ Some command
-    → nfc (b ∷ mark ∷ []) ≡ d ∷ [] → is_beyond_ascii d ≡ true → with_characters (in_braces command) ≡ d ∷ []
-on_base name mark b d command accent is gives beyond = by_test (is_put_on name b) is
-  where
-    by_found : (found : Option (List ℕ)) → letter_command b ≡ found → accent_with name found ≡ Some command
-        → with_characters (in_braces command) ≡ d ∷ []
-    by_found None same with_text = cc
-    by_found (Some text) same with_text =
-        let spelled : accent_command name text ≡ command = cc in
-        subst (λ t. with_characters (in_braces t) ≡ d ∷ []) spelled
-        (on_letter name mark b d text accent (letter_among common_names letters_read b text same) gives beyond)
-
-    by_letter : (t : Bool) → is_ascii_alphabetic b ≡ t → accent_with name (cond t (Some (b ∷ [])) (letter_command b)) ≡ Some command
-        → with_characters (in_braces command) ≡ d ∷ []
-    by_letter true letters with_text =
-        let spelled : accent_command name (b ∷ []) ≡ command = cc in
-        subst (λ t. with_characters (in_braces t) ≡ d ∷ []) spelled (on_ascii name mark b d accent letters gives beyond)
-    by_letter false other with_text = by_found (letter_command b) refl with_text
-
-    by_test : (t : Bool) → cond t (accent_with name (base_text b)) None ≡ Some command → with_characters (in_braces command) ≡ d ∷ []
-    by_test true with_text = by_letter (is_ascii_alphabetic b) refl with_text
-    by_test false with_text = cc
-
 -- ---- forms of one character
 
 -- a character below the first one that may change in a form is in this form
@@ -322,42 +299,90 @@ beyond_from_two c d b mark two is = by_range (nat_lt d 128) refl
         let clash : d ∷ [] ≡ b ∷ mark ∷ [] = sym one ∙ ap nfd (sym is) ∙ nfd-nfc (c ∷ []) ∙ two in
         cc
 
+-- a letter with a mark is one character beyond ASCII, the NFC of another one
+record IsPair (c b mark : ℕ) : Type 0 where
+  one : ℕ
+  composes : nfc (b ∷ mark ∷ []) ≡ one ∷ []
+  beyond : is_beyond_ascii one ≡ true
+  same : one ∷ [] ≡ nfc (c ∷ [])
+
+-- a letter below U+0200 with a mark is one character if another one decomposes into both
+pair_of : (c b mark : ℕ) → nfd (c ∷ []) ≡ b ∷ mark ∷ [] → b < 0x200 → IsPair c b mark
+pair_of c b mark two low =
+    let known : IsOneInNfc c = one_from_two c b mark two low in
+    record {
+      one = known.one;
+      composes = ap nfc (sym two) ∙ nfc-nfd (c ∷ []) ∙ known.is;
+      beyond = beyond_from_two c known.one b mark two known.is;
+      same = sym known.is;
+    }
+
+-- an ASCII letter is below U+0200
+letter_low : (b : ℕ) → is_ascii_alphabetic b ≡ true → b < 0x200
+letter_low b is = grind (arith, nat_tests)
+
 -- ---- the law
 
--- the command for a letter with a mark becomes the NFC of the character
-accented_read : (c d : ℕ) (cs command : List ℕ) → nfd (c ∷ []) ≡ cs → nfc (c ∷ []) ≡ d ∷ [] → accented cs ≡ Some command
-    → with_characters (in_braces command) ≡ d ∷ []
-accented_read c d [] command two gives is = cc
-accented_read c d (b ∷ []) command two gives is = cc
-accented_read c d (b ∷ mark ∷ []) command two gives is = by_name (accent_name mark) refl is
+-- the command for an accent on a letter becomes the NFC of the character that decomposes into both
+on_base : (c b mark name : ℕ) (command : List ℕ) → IsAccentName name mark → nfd (c ∷ []) ≡ b ∷ mark ∷ []
+    → accent_on (Some name) b ≡ Some command → with_characters (in_braces command) ≡ nfc (c ∷ [])
+on_base c b mark name command accent two is = by_test (is_put_on name b) is
+  where
+    by_found : (found : Option (List ℕ)) → letter_command b ≡ found → accent_with name found ≡ Some command
+        → with_characters (in_braces command) ≡ nfc (c ∷ [])
+    by_found None same with_text = cc
+    by_found (Some text) same with_text =
+        let spelled : accent_command name text ≡ command = cc in
+        let known : IsLetterCommand b text = letter_among common_names letters_read b text same in
+        let reads : IsReadLetter known.name b = known.is_read in
+        let pair : IsPair c b mark = pair_of c b mark two reads.low in
+        ap (λ t. with_characters (in_braces t)) (sym spelled) ∙ on_letter name mark b pair.one text accent known pair.composes pair.beyond
+        ∙ pair.same
+
+    by_letter : (t : Bool) → is_ascii_alphabetic b ≡ t → accent_with name (cond t (Some (b ∷ [])) (letter_command b)) ≡ Some command
+        → with_characters (in_braces command) ≡ nfc (c ∷ [])
+    by_letter true letters with_text =
+        let spelled : accent_command name (b ∷ []) ≡ command = cc in
+        let pair : IsPair c b mark = pair_of c b mark two (letter_low b letters) in
+        ap (λ t. with_characters (in_braces t)) (sym spelled) ∙ on_ascii name mark b pair.one accent letters pair.composes pair.beyond
+        ∙ pair.same
+    by_letter false other with_text = by_found (letter_command b) refl with_text
+
+    by_test : (t : Bool) → cond t (accent_with name (base_text b)) None ≡ Some command
+        → with_characters (in_braces command) ≡ nfc (c ∷ [])
+    by_test true with_text = by_letter (is_ascii_alphabetic b) refl with_text
+    by_test false with_text = cc
+
+-- the command for the decomposition of a character becomes the NFC of this character
+accented_read : (c : ℕ) (cs command : List ℕ) → nfd (c ∷ []) ≡ cs → accented cs ≡ Some command
+    → with_characters (in_braces command) ≡ nfc (c ∷ [])
+accented_read c [] command two is = cc
+accented_read c (b ∷ []) command two is = cc
+accented_read c (b ∷ mark ∷ []) command two is = by_name (accent_name mark) refl is
   where
     by_name : (found : Option ℕ) → accent_name mark ≡ found → accent_on found b ≡ Some command
-        → with_characters (in_braces command) ≡ d ∷ []
+        → with_characters (in_braces command) ≡ nfc (c ∷ [])
     by_name None same on_it = cc
-    by_name (Some name) same on_it =
-        on_base name mark b d command (accent_of_mark accents accents_read mark name same) on_it
-        (ap nfc (sym two) ∙ nfc-nfd (c ∷ []) ∙ gives) (beyond_from_two c d b mark two gives)
-accented_read c d (b ∷ mark ∷ more ∷ others) command two gives is = cc
+    by_name (Some name) same on_it = on_base c b mark name command (accent_of_mark accents accents_read mark name same) two on_it
+accented_read c (b ∷ mark ∷ more ∷ others) command two is = cc
 
--- the command for a letter becomes the NFC of the letter
-letter_read : (c d : ℕ) (command : List ℕ) → letter_command c ≡ Some command → nfc (c ∷ []) ≡ d ∷ []
-    → with_characters (in_braces command) ≡ d ∷ []
-letter_read c d command is gives =
+-- the command for a letter becomes the NFC of this letter
+letter_read : (c : ℕ) (command : List ℕ) → letter_command c ≡ Some command → with_characters (in_braces command) ≡ nfc (c ∷ [])
+letter_read c command is =
     let known : IsLetterCommand c command = letter_among common_names letters_read c command is in
     let reads : IsReadLetter known.name c = known.is_read in
-    ap (λ t. with_characters (in_braces t)) known.spelled ∙ reads.alone ∙ sym (stays_alone Nfc c (omega (arith, reads.low))) ∙ gives
+    ap (λ t. with_characters (in_braces t)) known.spelled ∙ reads.alone ∙ sym (stays_alone Nfc c (omega (arith, reads.low)))
 
--- the command for a character becomes the NFC of this character, if that is one character
-pub read_back : (c d : ℕ) (command : List ℕ) → command_for c ≡ Some command → nfc (c ∷ []) ≡ d ∷ []
-    → with_characters (in_braces command) ≡ d ∷ []
-read_back c d command is gives = by_range (is_beyond_ascii c) is
+-- the command for a character becomes the NFC of this character
+pub read_back : (c : ℕ) (command : List ℕ) → command_for c ≡ Some command → with_characters (in_braces command) ≡ nfc (c ∷ [])
+read_back c command is = by_range (is_beyond_ascii c) is
   where
     by_letter : (found : Option (List ℕ)) → letter_command c ≡ found → option_or found (accented (nfd (c ∷ []))) ≡ Some command
-        → with_characters (in_braces command) ≡ d ∷ []
-    by_letter None same from_mark = accented_read c d (nfd (c ∷ [])) command refl gives from_mark
-    by_letter (Some text) same from_letter = letter_read c d command (same ∙ from_letter) gives
+        → with_characters (in_braces command) ≡ nfc (c ∷ [])
+    by_letter None same from_mark = accented_read c (nfd (c ∷ [])) command refl from_mark
+    by_letter (Some text) same from_letter = letter_read c command (same ∙ from_letter)
 
     by_range : (t : Bool) → cond t (option_or (letter_command c) (accented (nfd (c ∷ [])))) None ≡ Some command
-        → with_characters (in_braces command) ≡ d ∷ []
+        → with_characters (in_braces command) ≡ nfc (c ∷ [])
     by_range true found = by_letter (letter_command c) refl found
     by_range false found = cc
