@@ -21,7 +21,7 @@ IsNeutral text = (q : Bool) (d : ℕ) (cs : List ℕ) → text_fits q false d (t
 
 -- ---- letters
 
-letter_dull : (c : ℕ) → is_ascii_alphabetic c ≡ true → IsDull c
+pub letter_dull : (c : ℕ) → is_ascii_alphabetic c ≡ true → IsDull c
 letter_dull c is = record {
   no_slash = λ same. test_clash (is_ascii_alphabetic c) is (ap is_ascii_alphabetic same);
   no_quote = λ same. test_clash (is_ascii_alphabetic c) is (ap is_ascii_alphabetic same);

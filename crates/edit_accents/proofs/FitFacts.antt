@@ -56,7 +56,7 @@ slash_fit q d Math ss is = is
 slash_fit q d Accent ss is = is
 slash_fit q d (Address depth) ss is = is
 
-dull_sign : (c : ℕ) (stretch : Stretch) → IsDull c → sign_of stretch c ≡ Plain c
+pub dull_sign : (c : ℕ) (stretch : Stretch) → IsDull c → sign_of stretch c ≡ Plain c
 dull_sign c stretch dull =
     ap (λ x. cond x Opening (cond (c == 125) Closing (cond (c == 92 && reads_commands stretch) Command (Plain c))))
     (ne_eqb c 123 dull.no_open)

@@ -1,3 +1,4 @@
+pub mod ComposedFacts
 pub mod ElementFacts
 pub mod EncodedFacts
 pub mod EncodedSteps
@@ -5,5 +6,6 @@ pub mod FitFacts
 pub mod GrammarFacts
 pub mod NameFacts
 pub mod PieceFacts
+pub mod ReadBackFacts
 pub mod RecodedFacts
 pub mod ReducedFacts

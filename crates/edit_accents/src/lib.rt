@@ -15,6 +15,7 @@
 mod commands;
 mod decoding;
 mod encoding;
+pub mod laws;
 pub mod recoding;
 pub mod signs;
 pub mod writing;
