@@ -114,7 +114,7 @@ ReadingFails text UnbalancedQuotes = HasUnbalancedQuotes text
 ReadingFails text OutOfMemory = ⊤
 ReadingFails text _ = ⊥
 
--- no edit is made of `text`, with this status: `NotUtf8` only if it isn't UTF-8, or else one with which it isn't read
+-- no edit is made of `text`, with this status: `NotUtf8` only if it isn't UTF-8, or one of `ReadingFails`
 abbrev pub DocumentFails : List ℕ → Status → Type 0
 DocumentFails text NotUtf8 = IsUtf8 text → ⊥
 DocumentFails text why = ReadingFails text why

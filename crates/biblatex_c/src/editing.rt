@@ -1,8 +1,8 @@
 //! Calls that edit or format the text of a file.
 //!
 //! Each call returns `NotUtf8` if an argument isn't UTF-8, and `Refused` if a text isn't a file of the grammar. The calls that edit return
-//! `UnbalancedQuotes` if a field or a definition of the text contains a text in quotes whose braces aren't balanced, and `UnknownKey` if no
-//! entry has the key.
+//! `UnbalancedQuotes` if a field or a definition of the text contains a text in quotes whose braces aren't balanced. Those for one entry
+//! return `UnknownKey` if no entry has the key.
 
 ghost use Rattle.std.specs.Prelude.{◌≡◌, [], ◌∷◌, IfOk, IfErr, true, false};
 ghost use Rattle.std.specs.String.{string_bytes};

@@ -75,17 +75,31 @@ stretch_after_text c rest =
     else if c == char.backslash && begins_accent rest then Accent
     else Text
 
+-- the brackets around an optional argument
+abbrev pub open_bracket : ℕ
+open_bracket = 91
+
+abbrev pub close_bracket : ℕ
+close_bracket = 93
+
+-- the stretch after a character of the name or the arguments of a command with an address or a key, with `depth` open braces. A bracket
+-- before the braces begins an optional argument, which counts as a brace up to its closing bracket.
+abbrev pub stretch_after_address : ℕ → ℕ → Stretch
+stretch_after_address depth c =
+    if c == char.open_brace then Address (suc depth)
+    else if c == char.close_brace then address_closed depth
+    else if c == open_bracket && depth == 0 then Address 1
+    else if c == close_bracket && depth == 1 then Address 0
+    else Address depth
+
 -- the stretch after a character that no backslash escapes, which the rest of the text follows. A dollar sign begins and ends math. The
--- argument of an accent may come after white space and braces. An address or a key begins with the name of its command, and ends with the
--- first closing brace for which no brace is open.
+-- argument of an accent may come after white space and braces. An address or a key begins with the name of its command, and ends with its
+-- first argument in braces.
 abbrev pub stretch_after : Stretch → ℕ → List ℕ → Stretch
 stretch_after Text c rest = stretch_after_text c rest
 stretch_after Accent c rest = if c == char.open_brace || is_whitespace c then Accent else stretch_after_text c rest
 stretch_after Math c rest = if c == char.dollar then Text else Math
-stretch_after (Address depth) c rest =
-    if c == char.open_brace then Address (suc depth)
-    else if c == char.close_brace then address_closed depth
-    else Address depth
+stretch_after (Address depth) c rest = stretch_after_address depth c
 
 -- the signs of a text that begins in a stretch; the flag says whether a backslash escapes its first character
 abbrev pub signs : Stretch → Bool → List ℕ → List Sign

@@ -52,15 +52,15 @@ is_program_field name =
     str_eq_ignore_ascii_case name (codes "groups") || str_eq_ignore_ascii_case name (codes "mendeley-groups")
     || str_eq_ignore_ascii_case name (codes "mendeley-tags") || str_eq_ignore_ascii_case name (codes "local-url")
 
--- whether the value of a field with a name lists keys: of entries, of subjects, or those of other programs
-abbrev pub lists_keys : List ℕ → Bool
-lists_keys name =
+-- whether the value of a field with a name lists keys of entries or of subjects, or is one of another program
+abbrev pub is_kept_field : List ℕ → Bool
+is_kept_field name =
     is_reference_field name || str_eq_ignore_ascii_case name (codes "ids") || str_eq_ignore_ascii_case name (codes "keywords")
     || is_program_field name
 
 -- whether the value of a field may change: verbatim fields and fields with keys stay
 abbrev pub is_recodable_field : FieldReading → Bool
-is_recodable_field f = not (is_verbatim_field (str_to_ascii_lowercase f.name.text)) && not (lists_keys f.name.text)
+is_recodable_field f = not (is_verbatim_field (str_to_ascii_lowercase f.name.text)) && not (is_kept_field f.name.text)
 
 -- whether the value of a field changes: it may, and a piece does
 abbrev pub changes_value : Form → FieldReading → Bool

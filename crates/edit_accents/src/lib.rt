@@ -5,8 +5,8 @@
 //! accent is put on a character that an inner command became, without recursion, and each sign is looked at a bounded number of times. At
 //! last the signs are written (`writing`): the braces around a character are kept only where a command may take them as its argument.
 //!
-//! For commands, each character is examined by itself (`encoding`): whether a letter has a command, or is by its canonical decomposition
-//! another letter with the mark of one accent.
+//! For commands, each character of text becomes one (`encoding`) if it is a letter with a command, or if its canonical decomposition is an
+//! ASCII letter or such a letter, and the mark of one accent. Its stretch and the next character decide whether it stays.
 //!
 //! Each changed value is one edit of the text (`recoding`). The new text isn't parsed again. `fit` in specs/Balance.antt tests the
 //! braces and quotes of signs. Each step keeps the result of this test, so the new literals can be written with their delimiters.

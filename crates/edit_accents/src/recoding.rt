@@ -210,9 +210,9 @@ fn is_program_field(name: &str) -> bool
         || name.eq_ignore_ascii_case("local-url")
 }
 
-// Returns whether the value of a field with a name lists keys: of entries, of subjects, or those of other programs.
-fn lists_keys(name: &str) -> bool
-    ensures { result ≡ spec.lists_keys name.now }
+// Returns whether the value of a field with a name lists keys of entries or of subjects, or is one of another program.
+fn is_kept_field(name: &str) -> bool
+    ensures { result ≡ spec.is_kept_field name.now }
 {
     is_reference_field(name)
         || name.eq_ignore_ascii_case("ids")
@@ -225,7 +225,7 @@ fn is_recodable(alloc: Global, field: &Pair<'_>) -> Result<bool, AllocError>
     ensures { IfOk result (λ b. b ≡ spec.is_recodable_field (field_of field.now)) }
 {
     let name = field.key.v.to_ascii_lowercase(alloc)?;
-    Ok(!is_verbatim_field(&name) && !lists_keys(field.key.v))
+    Ok(!is_verbatim_field(&name) && !is_kept_field(field.key.v))
 }
 
 // Returns the new bytes of a value with these pieces.

@@ -141,7 +141,7 @@ fn stretch_after_accent(c: char, rest: &[char]) -> Stretch
     }
 }
 
-// Returns the stretch after a character of an address or a key with `depth` open braces.
+// Returns the stretch after a character of the name or the arguments of a command with an address or a key, with `depth` open braces.
 fn after_address(depth: usize, c: char) -> Stretch
     requires { depth < 2 ^ 63 }
     ensures after { (rest : List ℕ) → result ≡ spec.stretch_after (Address depth) c rest }
@@ -152,6 +152,12 @@ fn after_address(depth: usize, c: char) -> Stretch
     }
     if c == '}' {
         return address_closed(depth);
+    }
+    if c == '[' && depth == 0 {
+        return Stretch::Address(1);
+    }
+    if c == ']' && depth == 1 {
+        return Stretch::Address(0);
     }
     Stretch::Address(depth)
 }

@@ -15,13 +15,13 @@ use std::alloc::{AllocError, Global};
 /// The place in a text before a sign.
 #[derive(Debug, Clone, Copy, PartialEq, Eq)]
 pub enum Spot {
-    /// No command is before it.
+    /// No command directly before it can take it as its argument.
     Free,
     /// It is after the backslash of a command.
     Begun,
     /// It is after a letter in the name of a command.
     Word,
-    /// It is after the name of an accent, or after white space after the name of a command.
+    /// It is after the name of an accent that is no letter, or after white space after the name of a command.
     Waits,
     /// It is after a closing brace, a star or a closing bracket, after which a command may have an argument.
     Closed,

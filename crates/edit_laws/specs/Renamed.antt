@@ -22,19 +22,19 @@ pub record IsKeyRenamed (keys : ℕ → Option (List ℕ)) (one other : Entry) :
 
 -- ---- raw readings
 
--- the key of the entry at each index is the new key for this index, or the old key if there is none
+-- where both documents have an entry at an index, the second one has the new key for this index, or the old key if there is none
 abbrev pub HaveGivenKeys : (ℕ → Option (List ℕ)) → Document → Document → Type 0
 HaveGivenKeys keys d after =
     (index : ℕ) (one other : EntryReading) → slice_get d.says.entries index ≡ Some one → slice_get after.says.entries index ≡ Some other
     → other.key.text ≡ unwrap_or (keys index) one.key.text
 
--- if an element of a comma list in a field means one of some entries, another element means the entry with the same index of others
+-- if `element` of a comma list in a field means one of `entries`, `new` means the one of `others` at the same index
 abbrev pub MeansSameEntry : List EntryReading → List EntryReading → List ℕ → List ℕ → List ℕ → Type 0
 MeansSameEntry entries others field element new =
     (index : ℕ) → meant_index entries field (trim element) ≡ Some index → meant_index others field (trim new) ≡ Some index
 
--- a field of some entries and a field of others have the same name. If it is a reference field and the first value is one literal, the
--- other value is one literal with as many elements, and each of them means the same entry.
+-- the field `one` of `entries` and the field `other` of `others` have the same name. If they are reference fields and the value of `one` is
+-- one literal, the value of `other` is one with as many elements, and each means the entry at the same index.
 pub record HasSameReferences (entries others : List EntryReading) (one other : FieldReading) : Type 0 where
   pub name : other.name.text ≡ one.name.text
   pub value : (p : Part) → is_reference_field one.name.text ≡ true → one.value.pieces ≡ literal p ∷ []

@@ -136,8 +136,8 @@ pub fn renamed_keeps_fields()
 /// if a name in a reference field means an entry, the name in its place means the entry with the same index. This is about values that are
 /// one literal. A name that means no entry isn't covered, since it can be a new key.
 ///
-/// References have a premise: if an entry gets a new key, each earlier entry with the same key gets one too. This is so if the first entry
-/// with a key gets another one.
+/// References have a premise: if an entry gets a new key, each earlier entry with the same key gets one too. This is so if, of several
+/// entries with one key, only the first gets a new one, as `rename` and `rekey` do.
 pub fn renamed_leads_alike()
     ensures keys { (d after : Document) (keys : ℕ → Option (List ℕ)) → IsDocument d → KeysRenamed d keys after
         → HaveGivenKeys keys d after }

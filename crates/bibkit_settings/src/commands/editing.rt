@@ -239,7 +239,7 @@ A file that isn't UTF-8 and has no byte order mark requires --from. utf-16 is li
 Examples:
   bibkit recode --from windows-1252 --line-ends lf --file refs.bib --write
   bibkit recode --accents characters --file refs.bib
-  bibkit recode --accents commands --file refs.bib >ascii.bib
+  bibkit recode --accents commands --file refs.bib >latex.bib
 
 Status: 0 done, 1 the file isn't in this encoding or --accents finds an error in it, 2 no encoding or wrong usage, or a file or the output failed, 3 out of memory";
 
