@@ -81,8 +81,8 @@ uint32_t biblatex_fmt(const uint8_t *text, size_t length, uint8_t *out, size_t c
 
 /* Writes the text with a field of the first entry with the key set to `value`, in braces and without escapes. If several fields
    have the name, each is set. A new field comes before the others. The braces of `value` must balance, also those after a
-   backslash. This call and the next five change no other byte. Each of them returns BIBLATEX_UNBALANCED_QUOTES for a text that
-   contains a text in quotes with unbalanced braces, such as "The {"}Big{"} one". */
+   backslash. This call and the next five change no byte of other entries. Each of them returns BIBLATEX_UNBALANCED_QUOTES for a text
+   that contains a text in quotes with unbalanced braces, such as "The {"}Big{"} one". */
 uint32_t biblatex_set(const uint8_t *text, size_t length, const uint8_t *key, size_t key_length, const uint8_t
     *name, size_t name_length, const uint8_t *value, size_t value_length, uint8_t *out, size_t capacity,
     size_t *size);
@@ -93,7 +93,8 @@ uint32_t biblatex_set_bare(const uint8_t *text, size_t length, const uint8_t *ke
     *name, size_t name_length, const uint8_t *value, size_t value_length, uint8_t *out, size_t capacity,
     size_t *size);
 
-/* Writes the text without a field of an entry. Returns BIBLATEX_NO_FIELD_LEFT if this would remove all its fields. */
+/* Writes the text without a field of an entry, its comma and the white space before it. docs/BIBKIT.md says which comments stay. Returns
+   BIBLATEX_NO_FIELD_LEFT if this would remove all fields of the entry. */
 uint32_t biblatex_unset(const uint8_t *text, size_t length, const uint8_t *key, size_t key_length, const
     uint8_t *name, size_t name_length, uint8_t *out, size_t capacity, size_t *size);
 
@@ -110,7 +111,8 @@ uint32_t biblatex_remove(const uint8_t *text, size_t length, const uint8_t *key,
 /* Writes the text, and `added` after it on a new line. If the first line of the text ends with \r\n, so do the added lines.
    Returns BIBLATEX_KEY_IS_THERE if an entry of `added` has the key of another entry, or a name in its field `ids`, in any ASCII case,
    BIBLATEX_NOT_A_KEY if BibTeX, Biber or bibtool wouldn't read the key of an added entry, BIBLATEX_DEFINITION_IS_THERE if `added`
-   defines an abbreviation of the text with another value, and BIBLATEX_UNBALANCED_QUOTES also for a text in quotes of `added`. */
+   defines an abbreviation of the text with another value, and BIBLATEX_UNBALANCED_QUOTES also if `added` contains a text in quotes with
+   unbalanced braces. */
 uint32_t biblatex_add(const uint8_t *text, size_t length, const uint8_t *added, size_t added_length, uint8_t *out, size_t capacity,
     size_t *size);
 
