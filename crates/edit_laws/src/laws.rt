@@ -132,9 +132,9 @@ pub fn renamed_keeps_fields()
         → AreOwn after.says others → AllZip (IsKeyRenamed keys) own others }
 {}
 
-/// After entries get new keys, each entry has its new key, or its old one if it gets none. Each reference leads to the entry that it led to:
-/// if a name in a reference field means an entry, the name in its place means the entry with the same index. This is about values that are
-/// one literal. A name that means no entry isn't covered, since it can be a new key.
+/// After entries get new keys, each entry has its new key, or its old one if it gets none. Each reference leads to the entry that it led
+/// to: if a name in a reference field means an entry, the name in its place means the entry with the same index. This is about values that
+/// are one literal. A name that means no entry isn't covered, since it can be a new key.
 ///
 /// References have a premise: if an entry gets a new key, each earlier entry with the same key gets one too. This is so if, of several
 /// entries with one key, only the first gets a new one, as `rename` and `rekey` do.
