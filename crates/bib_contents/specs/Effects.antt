@@ -13,14 +13,14 @@ use Rattle.bib_text.specs.Characters as char
 abbrev pub before_argument : Effect → List ℕ → List ℕ
 before_argument (Mark mark) name = []
 before_argument (Symbol text) name = []
-before_argument Copyright name = 169 ∷ []
+before_argument Copyright name = char.copyright_sign ∷ []
 before_argument Unknown name = char.backslash ∷ (name ++ char.open_brace ∷ [])
 
 -- the text of a command with this name and this argument
 abbrev pub effect_text : Effect → List ℕ → List ℕ → List ℕ
 effect_text (Mark mark) name argument = with_mark mark argument
 effect_text (Symbol text) name argument = chars text.now
-effect_text Copyright name argument = 169 ∷ argument
+effect_text Copyright name argument = char.copyright_sign ∷ argument
 effect_text Unknown name argument = char.backslash ∷ (name ++ char.open_brace ∷ (argument ++ char.close_brace ∷ []))
 
 -- if the effect is a mark, that doesn't decompose (NFD); if it is a symbol, that is UTF-8

@@ -2,11 +2,17 @@
 -- Unicode code points of the characters with a meaning in files, names and dates.
 use Rattle.std.specs.Prelude.{ℕ}
 
+abbrev pub tab : ℕ
+tab = 9
+
 abbrev pub line_feed : ℕ
 line_feed = 10
 
 abbrev pub carriage_return : ℕ
 carriage_return = 13
+
+abbrev pub escape : ℕ
+escape = 27
 
 abbrev pub space : ℕ
 space = 32
@@ -101,8 +107,14 @@ upper_x = 88
 abbrev pub upper_z : ℕ
 upper_z = 90
 
+abbrev pub open_bracket : ℕ
+open_bracket = 91
+
 abbrev pub backslash : ℕ
 backslash = 92
+
+abbrev pub close_bracket : ℕ
+close_bracket = 93
 
 abbrev pub circumflex : ℕ
 circumflex = 94
@@ -160,6 +172,9 @@ close_brace = 125
 
 abbrev pub tilde : ℕ
 tilde = 126
+
+abbrev pub copyright_sign : ℕ
+copyright_sign = 169
 
 abbrev pub acute : ℕ
 acute = 180

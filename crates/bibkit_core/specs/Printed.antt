@@ -5,6 +5,7 @@ use Rattle.std.specs.Fmt.{decimal}
 use Rattle.serde_json.specs.Data.{Data}
 use Rattle.serde_json.specs.Written.{compact_text}
 use Rattle.bib_source.specs.declared.positions.Position.{Position}
+use Rattle.bib_text.specs.Characters as char
 use Rattle.bib_findings.specs.Codes.{code_name, severity_name, severity_of}
 use Rattle.bib_findings.specs.declared.codes.Severity.{Severity}
 use Rattle.bib_findings.specs.declared.codes.Severity.TheVariants.{Error, Warning}
@@ -62,16 +63,16 @@ counts_line tally = codes "errors: " ++ (decimal tally.errors ++ (codes ", warni
 
 -- the escape sequence for bold
 abbrev pub bold_type : List ℕ
-bold_type = 27 ∷ codes "[1m"
+bold_type = char.escape ∷ codes "[1m"
 
 -- the escape sequence for the colour of a severity
 abbrev pub color : Severity → List ℕ
-color Error = 27 ∷ codes "[1;31m"
-color Warning = 27 ∷ codes "[1;33m"
+color Error = char.escape ∷ codes "[1;31m"
+color Warning = char.escape ∷ codes "[1;33m"
 
 -- the escape sequence that resets colour and bold
 abbrev pub plain_type : List ℕ
-plain_type = 27 ∷ codes "[0m"
+plain_type = char.escape ∷ codes "[0m"
 
 -- the file name, the line and the column in bold
 abbrev pub colored_place : List ℕ → Position → List ℕ

@@ -75,21 +75,14 @@ stretch_after_text c rest =
     else if c == char.backslash && begins_accent rest then Accent
     else Text
 
--- the brackets around an optional argument
-abbrev pub open_bracket : ℕ
-open_bracket = 91
-
-abbrev pub close_bracket : ℕ
-close_bracket = 93
-
 -- the stretch after a character of the name or the arguments of a command with an address or a key, with `depth` open braces. A bracket
 -- before the braces begins an optional argument, which counts as a brace up to its closing bracket.
 abbrev pub stretch_after_address : ℕ → ℕ → Stretch
 stretch_after_address depth c =
     if c == char.open_brace then Address (suc depth)
     else if c == char.close_brace then address_closed depth
-    else if c == open_bracket && depth == 0 then Address 1
-    else if c == close_bracket && depth == 1 then Address 0
+    else if c == char.open_bracket && depth == 0 then Address 1
+    else if c == char.close_bracket && depth == 1 then Address 0
     else Address depth
 
 -- the stretch after a character that no backslash escapes, which the rest of the text follows. A dollar sign begins and ends math. The

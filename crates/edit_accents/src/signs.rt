@@ -35,7 +35,8 @@ pub enum Stretch {
     Accent,
     /// Math.
     Math,
-    /// The name of a command, and the address or the key that is its argument, with the number of open braces.
+    /// The name of a command, its optional arguments, and the address or the key that is its argument, with the number of open braces. An
+    /// optional argument before them counts as one.
     Address(usize),
 }
 

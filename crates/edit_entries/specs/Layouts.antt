@@ -21,7 +21,7 @@ after_equals text f = after_first (λ b. eqb b char.equals) (sign_text text f)
 
 -- whether a byte is a space or a tab
 abbrev pub is_blank_byte : ℕ → Bool
-is_blank_byte b = b == char.space || b == 9
+is_blank_byte b = b == char.space || b == char.tab
 
 -- the bytes from the start of a field's name to its equals sign
 abbrev pub sign_column : List ℕ → FieldReading → ℕ
