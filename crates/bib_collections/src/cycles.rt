@@ -105,7 +105,8 @@ struct Searches {
 fn set_root(roots: &mut [Option<usize>], indices: &[usize], root: usize)
     requires indices { All (λ r. r < length roots.old) indices.now }
     ensures length { length roots.new ≡ length roots.old }
-    ensures set { (index : ℕ) → (root_at roots.new index ≡ root_at roots.old index) ⊎ ((root_at roots.new index ≡ Some root) × Contains indices.now index) }
+    ensures set { (index : ℕ) → (root_at roots.new index ≡ root_at roots.old index)
+        ⊎ ((root_at roots.new index ≡ Some root) × Contains indices.now index) }
 {
     for r in indices {
         roots[*r] = Some(root);

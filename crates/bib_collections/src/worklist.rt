@@ -135,8 +135,10 @@ fn release(
     requires below { All (λ w. w < length missing.old) waiting.now }
     requires enough { (p : ℕ) → p < length missing.old → times p waiting.now ≤ missing_at missing.old p }
     ensures length { length missing.new ≡ length missing.old }
-    ensures missing { OnOk result ((p : ℕ) → p < length missing.old → missing_at missing.new p + times p waiting.now ≡ missing_at missing.old p) }
-    ensures ready { OnOk result ((p : ℕ) → times p ready.new.items + (if missing_at missing.old p == 0 then 1 else 0) ≡ times p ready.old.items + (if missing_at missing.new p == 0 then 1 else 0)) }
+    ensures missing { OnOk result ((p : ℕ) → p < length missing.old → missing_at missing.new p + times p waiting.now ≡
+        missing_at missing.old p) }
+    ensures ready { OnOk result ((p : ℕ) → times p ready.new.items + (if missing_at missing.old p == 0 then 1 else 0) ≡
+        times p ready.old.items + (if missing_at missing.new p == 0 then 1 else 0)) }
     ensures fewer { OnOk result (sum missing.new + length ready.new.items ≤ sum missing.old + length ready.old.items) }
 {
     for w in waiting {

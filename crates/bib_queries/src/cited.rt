@@ -46,7 +46,8 @@ fn push_used_if<'s>(
     entry: &Spanned<RawEntry<'s>>,
     has_mark: bool,
 ) -> Result<(), AllocError>
-    ensures { OnOk result (text_list names.new ≡ text_list names.old ++ (if has_mark then used_in_entry (entry_reading_of entry.now) else [])) }
+    ensures { OnOk result (text_list names.new ≡ text_list names.old
+        ++ (if has_mark then used_in_entry (entry_reading_of entry.now) else [])) }
 {
     if has_mark {
         return push_used_in_fields(names, &entry.v.fields);
@@ -77,7 +78,8 @@ fn used_definitions(
     all: bool,
 ) -> Result<Vec<bool>, AllocError>
     ensures { IfOk result (λ found. AreMarks
-        (IsCited (used_in_entries (with_marks marks.now (file_of raw.now).entries)) all (map definition_node (file_of raw.now).abbreviations))
+        (IsCited (used_in_entries (with_marks marks.now (file_of raw.now).entries)) all
+        (map definition_node (file_of raw.now).abbreviations))
         (length (file_of raw.now).abbreviations) found.items) }
 {
     if all {

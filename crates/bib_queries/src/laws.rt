@@ -29,6 +29,7 @@ pub fn used_are_defined()
 pub fn definitions_are_defined()
     ensures { (names : List (List ℕ)) (all : Bool) (text printed : List ℕ) (says : FileReading)
         (skipped : List SkippedBlock) (has_entry : Bool) (h : IsExcerpt names all text says skipped printed has_entry) →
-        (first second : ℕ) (name : List ℕ) → IsMarked h.definition_marks first → RefersTo (map definition_node says.abbreviations) first name →
+        (first second : ℕ) (name : List ℕ) → IsMarked h.definition_marks first →
+        RefersTo (map definition_node says.abbreviations) first name →
         HasName (map definition_node says.abbreviations) second name → IsMarked h.definition_marks second }
 {}

@@ -99,9 +99,11 @@ fn mark_name(
 ) -> Result<(), AllocError>
     requires { (other : List ℕ) → All (λ index. index < length marks.old) (holders_in holders.old other) }
     ensures length { length marks.new ≡ length marks.old }
-    ensures marks { OnOk result (Marks (Contains (holders_in holders.old name.now)) marks.old pending.old.items marks.new pending.new.items) }
+    ensures marks { OnOk result (Marks (Contains
+        (holders_in holders.old name.now)) marks.old pending.old.items marks.new pending.new.items) }
     ensures all { OnOk result (All (IsMarked marks.new) (holders_in holders.old name.now)) }
-    ensures left { (other : List ℕ) → holders_in holders.new other ≡ (if bytes_eq name.now other then [] else holders_in holders.old other) }
+    ensures left { (other : List ℕ) → holders_in holders.new other ≡
+        (if bytes_eq name.now other then [] else holders_in holders.old other) }
 {
     let indices = take_indices(alloc, holders, name);
     mark_all(&indices, marks, pending)
@@ -117,7 +119,8 @@ fn mark_names(
 ) -> Result<(), AllocError>
     requires { (other : List ℕ) → All (λ index. index < length marks.old) (holders_in holders.old other) }
     ensures length { length marks.new ≡ length marks.old }
-    ensures marks { OnOk result (Marks (AreHoldersIn holders.old (map (λ n. n.now) names.now)) marks.old pending.old.items marks.new pending.new.items) }
+    ensures marks { OnOk result (Marks (AreHoldersIn holders.old
+        (map (λ n. n.now) names.now)) marks.old pending.old.items marks.new pending.new.items) }
     ensures expands { OnOk result (LooksUp holders.old (map (λ n. n.now) names.now) marks.new holders.new) }
 {
     'names: for name in names {
@@ -132,7 +135,8 @@ pub(crate) fn mark_needed(
     names: &[&str],
     links: &[Links<'_>],
 ) -> Result<Vec<bool>, AllocError>
-    ensures { IfOk result (λ marks. AreMarks (IsNeeded (map (λ n. n.now) names.now) (map node_of links.now)) (length links.now) marks.items) }
+    ensures { IfOk result (λ marks. AreMarks (IsNeeded (map (λ n. n.now) names.now) (map node_of links.now))
+        (length links.now) marks.items) }
 {
     let mut holders = holders(alloc, links)?;
     let mut marks = vec![in alloc; false; links.len()]?;

@@ -33,7 +33,8 @@ fn common_end(old: &[&str], new: &[&str]) -> usize
     ensures in_old { result ≤ length old.now }
     ensures in_new { result ≤ length new.now }
     ensures same { line_texts (drop (length old.now - result) old.now) ≡ line_texts (drop (length new.now - result) new.now) }
-    ensures longest { EndDifferently (line_texts (take (length old.now - result) old.now)) (line_texts (take (length new.now - result) new.now)) }
+    ensures longest { EndDifferently (line_texts (take (length old.now - result) old.now))
+        (line_texts (take (length new.now - result) new.now)) }
 {
     let limit = old.len().min(new.len());
     'lines: for index in 0..limit {

@@ -104,7 +104,8 @@ pub fn print_entries<K: Sink>(
     bibliography: &Bibliography,
     output: &mut K,
 ) -> Result<bool, ConvertError>
-    ensures printed { IfOk result (λ is_still. Appends (K.taken output.old) (K.taken output.new) (texts_after target is_first bibliography.now.entries)) }
+    ensures printed { IfOk result (λ is_still. Appends (K.taken output.old) (K.taken output.new)
+        (texts_after target is_first bibliography.now.entries)) }
     ensures next { IfOk result (λ is_still. is_still ≡ is_first_after target is_first bibliography.now.entries) }
     ensures failed { IfErr result (EntryFails K.refusals output.old output.new) }
 {

@@ -133,7 +133,8 @@ fn print_unread(
     invalid: Option<usize>,
 ) -> Result<(), AllocError>
     ensures { OnOk result (IsAdded (ArePrinted lint.now.style origin.now.name.now origin.now.bytes.now
-        (selected_findings lint.now.selection (findings_of_no_entry lint.now.conditions.items (unread_findings invalid)))) printed.old printed.new) }
+        (selected_findings lint.now.selection
+        (findings_of_no_entry lint.now.conditions.items (unread_findings invalid)))) printed.old printed.new) }
 {
     let found = unread_findings(alloc, invalid)?;
     let kept = findings_of_no_entry(alloc, &lint.conditions, found);

@@ -120,7 +120,8 @@ fn collect_texts(
     fields: &[&str],
     at_least: usize,
 ) -> Result<String, EditError>
-    ensures made { IfOk result (λ new. IsEdited (AreTextsCollected (map (λ name. name.now) fields.now) at_least document.now) (string_bytes new)) }
+    ensures made { IfOk result (λ new. IsEdited (AreTextsCollected (map (λ name. name.now) fields.now) at_least document.now)
+        (string_bytes new)) }
     ensures refused { IfErr result (λ why. why ≡ OutOfMemory) }
 {
     Ok(collect(alloc, document, fields, at_least)?)

@@ -86,7 +86,8 @@ fn set_in(
     value: &[u8],
     is_bare: bool,
 ) -> Result<String, Status>
-    ensures made { IfOk result (λ edited. IsEditedText (λ d. FieldSet d key.now name.now (spec.value_with is_bare value.now)) text.now (string_bytes edited)) }
+    ensures made { IfOk result (λ edited. IsEditedText (λ d. FieldSet d key.now name.now (spec.value_with is_bare value.now)) text.now
+        (string_bytes edited)) }
     ensures fails { IfErr result (EditFails (λ d why. SetIsRefused d key.now name.now (spec.value_with is_bare value.now) why)
         text.now (key.now ∷ name.now ∷ value.now ∷ [])) }
 {
@@ -112,7 +113,8 @@ pub extern "C" fn biblatex_set(
     size: &mut usize,
 ) -> u32
     ensures { IsNumberedEnd (IsEditedText (λ d. FieldSet d key.now name.now (spec.value_with false value.now)) text.now)
-        (EditFails (λ d why. SetIsRefused d key.now name.now (spec.value_with false value.now) why) text.now (key.now ∷ name.now ∷ value.now ∷ []))
+        (EditFails (λ d why. SetIsRefused d key.now name.now (spec.value_with false value.now) why) text.now
+        (key.now ∷ name.now ∷ value.now ∷ []))
         out.old size.old out.new size.new result }
 {
     end(set_in(alloc, text, key, name, value, false), out, size).number()
@@ -131,7 +133,8 @@ pub extern "C" fn biblatex_set_bare(
     size: &mut usize,
 ) -> u32
     ensures { IsNumberedEnd (IsEditedText (λ d. FieldSet d key.now name.now (spec.value_with true value.now)) text.now)
-        (EditFails (λ d why. SetIsRefused d key.now name.now (spec.value_with true value.now) why) text.now (key.now ∷ name.now ∷ value.now ∷ []))
+        (EditFails (λ d why. SetIsRefused d key.now name.now (spec.value_with true value.now) why) text.now
+        (key.now ∷ name.now ∷ value.now ∷ []))
         out.old size.old out.new size.new result }
 {
     end(set_in(alloc, text, key, name, value, true), out, size).number()

@@ -37,10 +37,12 @@ pub(crate) fn changes_of(
     fields: &[Pair<'_>],
 ) -> Result<Changes, AllocError>
     ensures defines { IfOk result (λ changes. changes.defines ≡ defines) }
-    ensures names { IfOk result (λ changes. lent_names changes.names.items ≡ spec.free_names (map field_of fields.now) (spec.other_names dialect kind.now)) }
+    ensures names { IfOk result (λ changes. lent_names changes.names.items ≡
+        spec.free_names (map field_of fields.now) (spec.other_names dialect kind.now)) }
     ensures printed { IfOk result (λ changes. printed_of changes.printed ≡ spec.printed_type dialect kind.now (map field_of fields.now)) }
     ensures divides { IfOk result (λ changes. changes.divides ≡ spec.divides_date dialect (map field_of fields.now)) }
-    ensures joined { IfOk result (λ changes. option_map string_bytes changes.joined ≡ spec.joined_date dialect defines text.now (map field_of fields.now)) }
+    ensures joined { IfOk result (λ changes. option_map string_bytes changes.joined ≡
+        spec.joined_date dialect defines text.now (map field_of fields.now)) }
 {
     Ok(Changes {
         defines,

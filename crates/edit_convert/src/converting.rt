@@ -36,7 +36,8 @@ fn push_part_edit(
     part: &Spanned<&str>,
     other: Option<&str>,
 ) -> Result<(), AllocError>
-    ensures { OnOk result (map edit_of edits.new.items ≡ map edit_of edits.old.items ++ part_edits (part_of part.now) (lent_text other.entry)) }
+    ensures { OnOk result (map edit_of edits.new.items ≡ map edit_of edits.old.items
+        ++ part_edits (part_of part.now) (lent_text other.entry)) }
 {
     let Some(text) = other else {
         return Ok(());
@@ -60,7 +61,8 @@ fn push_date_edit(
     requires { IsPlaced text.now (field_of field.now) }
     ensures { (following : List FieldReading) → OnOk result (map edit_of edits.new.items ≡ map edit_of edits.old.items ++
         edits_of_field text.now (field_of field.now) following
-        (field_change text.now (field_of field.now) following (spec.first_replacement changes.now.defines None None None (date_if_divided changes.now.divides (field_of field.now))))) }
+        (field_change text.now (field_of field.now) following
+        (spec.first_replacement changes.now.defines None None None (date_if_divided changes.now.divides (field_of field.now))))) }
 {
     let Some(sides) = date_to_divide(alloc, changes.divides, field)? else {
         return Ok(());
@@ -80,7 +82,8 @@ fn push_removal(
     field: &Pair<'_>,
     following: &[Pair<'_>],
 ) -> Result<(), AllocError>
-    ensures { OnOk result (map edit_of edits.new.items ≡ map edit_of edits.old.items ++ removal_edits (field_of field.now) (map field_of following.now)) }
+    ensures { OnOk result (map edit_of edits.new.items ≡ map edit_of edits.old.items
+        ++ removal_edits (field_of field.now) (map field_of following.now)) }
 {
     let [next, ..] = following else {
         return Ok(());
@@ -179,7 +182,9 @@ fn push_value_edit(
     requires { IsPlaced text.now (field_of field.now) }
     ensures { OnOk result (map edit_of edits.new.items ≡ map edit_of edits.old.items ++
         edits_of_field text.now (field_of field.now) (map field_of following.now)
-        (field_change text.now (field_of field.now) (map field_of following.now) (spec.first_replacement changes.now.defines None None (spec.type_if_named (printed_of changes.now.printed) (field_of field.now)) (date_if_divided changes.now.divides (field_of field.now))))) }
+        (field_change text.now (field_of field.now) (map field_of following.now)
+        (spec.first_replacement changes.now.defines None None (spec.type_if_named (printed_of changes.now.printed) (field_of field.now))
+        (date_if_divided changes.now.divides (field_of field.now))))) }
 {
     match type_if_named(changes.printed, field) {
         Some(printed) => push_type_edit(edits, alloc, text, printed.text, field, following),
@@ -245,8 +250,10 @@ fn push_pending_edit(
     requires { IsPlaced text.now (field_of field.now) }
     ensures edits { OnOk result (map edit_of edits.new.items ≡ map edit_of edits.old.items ++
         edits_of_field text.now (field_of field.now) (map field_of following.now)
-        (pending_change text.now (field_of field.now) (lent_text pending.entry) (map field_of following.now) (replacement_by changes.now (field_of field.now)))) }
-    ensures left { IfOk result (λ left. lent_text left ≡ pending_after (lent_text pending.entry) (replacement_by changes.now (field_of field.now))) }
+        (pending_change text.now (field_of field.now) (lent_text pending.entry) (map field_of following.now)
+        (replacement_by changes.now (field_of field.now)))) }
+    ensures left { IfOk result (λ left. lent_text left ≡
+        pending_after (lent_text pending.entry) (replacement_by changes.now (field_of field.now))) }
 {
     let Some(value) = pending else {
         push_field_edit(edits, alloc, text, changes, field, following)?;
@@ -270,7 +277,8 @@ fn push_field_edits(
     fields: &[Pair<'_>],
 ) -> Result<(), AllocError>
     requires { AllByRecursion (IsPlaced text.now) (map field_of fields.now) }
-    ensures { OnOk result (map edit_of edits.new.items ≡ map edit_of edits.old.items ++ change_edits changes.now (lent_text missing.entry) text.now (map field_of fields.now)) }
+    ensures { OnOk result (map edit_of edits.new.items ≡ map edit_of edits.old.items
+        ++ change_edits changes.now (lent_text missing.entry) text.now (map field_of fields.now)) }
 {
     let mut pending = missing;
     'fields: for (at, field) in fields.iter().enumerate() {
@@ -308,7 +316,8 @@ fn new_type(
     missing: Option<&'static str>,
     fields: &[Pair<'_>],
 ) -> Result<Option<&'static str>, AllocError>
-    ensures { IfOk result (λ name. lent_text name ≡ spec.type_for dialect kind.now (printed_of changes.now.printed) (lent_text missing.entry)
+    ensures { IfOk result (λ name. lent_text name ≡
+        spec.type_for dialect kind.now (printed_of changes.now.printed) (lent_text missing.entry)
         (spec.keeps_one (replacement_by changes.now) (map field_of fields.now))) }
 {
     if let Some(printed) = changes.printed {
@@ -330,7 +339,8 @@ fn push_entry_edits(
     entry: &Spanned<RawEntry<'_>>,
 ) -> Result<(), AllocError>
     requires { AllByRecursion (IsPlaced text.now) (entry_reading_of entry.now).fields }
-    ensures { OnOk result (map edit_of edits.new.items ≡ map edit_of edits.old.items ++ conversion_edits dialect defines text.now (entry_reading_of entry.now)) }
+    ensures { OnOk result (map edit_of edits.new.items ≡ map edit_of edits.old.items
+        ++ conversion_edits dialect defines text.now (entry_reading_of entry.now)) }
 {
     let kind = EntryType::new(alloc, entry.v.kind.v)?;
     let fields = &entry.v.fields;
@@ -350,7 +360,8 @@ fn edits(
     entries: &[Spanned<RawEntry<'_>>],
 ) -> Result<Vec<Edit>, AllocError>
     requires { AllByRecursion (λ e. AllByRecursion (IsPlaced text.now) e.fields) (map entry_reading_of entries.now) }
-    ensures { IfOk result (λ made. map edit_of made.items ≡ edits_of_entries (conversion dialect defines text.now) text.now (map entry_reading_of entries.now)) }
+    ensures { IfOk result (λ made. map edit_of made.items ≡
+        edits_of_entries (conversion dialect defines text.now) text.now (map entry_reading_of entries.now)) }
 {
     let mut edits = Vec::new(alloc);
     'entries: for entry in entries {

@@ -230,7 +230,8 @@ fn push_month(
     prefix: &str,
     month: Option<Month>,
 ) -> Result<(), AllocError>
-    ensures { OnOk result (string_bytes out.new ≡ string_bytes out.old ++ more_field_texts (codes " ") (spec.month_fields defines (prefix.now ++ codes "month") month)) }
+    ensures { OnOk result (string_bytes out.new ≡ string_bytes out.old
+        ++ more_field_texts (codes " ") (spec.month_fields defines (prefix.now ++ codes "month") month)) }
 {
     let Some(month) = month else {
         return Ok(());
@@ -247,7 +248,8 @@ fn push_month(
 
 // Adds the field of a day after another field, if there is a day.
 fn push_day(out: &mut String, prefix: &str, day: Option<&str>) -> Result<(), AllocError>
-    ensures { OnOk result (string_bytes out.new ≡ string_bytes out.old ++ more_field_texts (codes " ") (spec.day_fields (prefix.now ++ codes "day") (lent_text day.entry))) }
+    ensures { OnOk result (string_bytes out.new ≡ string_bytes out.old
+        ++ more_field_texts (codes " ") (spec.day_fields (prefix.now ++ codes "day") (lent_text day.entry))) }
 {
     let Some(day) = day else {
         return Ok(());
@@ -263,7 +265,9 @@ fn push_side(
     prefix: &str,
     side: &Side<'_>,
 ) -> Result<(), AllocError>
-    ensures { OnOk result (string_bytes out.new ≡ string_bytes out.old ++ (new_field_text (side_year (names_after prefix.now) (side_as_written side.now)) ++ more_field_texts (codes " ") (more_fields defines (names_after prefix.now) (side_as_written side.now)))) }
+    ensures { OnOk result (string_bytes out.new ≡ string_bytes out.old
+        ++ (new_field_text (side_year (names_after prefix.now) (side_as_written side.now))
+        ++ more_field_texts (codes " ") (more_fields defines (names_after prefix.now) (side_as_written side.now)))) }
 {
     push_braced(out, prefix, "year", side.year)?;
     push_month(out, defines, prefix, side.month)?;

@@ -296,7 +296,8 @@ fn allowed_date(
     text: &str,
     fields: &[Pair<'_>],
 ) -> Result<Option<String>, AllocError>
-    ensures { IfOk result (λ date. option_map string_bytes date ≡ conversions.joined_date Biblatex defines text.now (map field_of fields.now)) }
+    ensures { IfOk result (λ date. option_map string_bytes date ≡
+        conversions.joined_date Biblatex defines text.now (map field_of fields.now)) }
 {
     if !has_parts_once(fields) || !keep_comments(text, fields) {
         return Ok(None);
@@ -312,7 +313,8 @@ pub(crate) fn joined_date(
     text: &str,
     fields: &[Pair<'_>],
 ) -> Result<Option<String>, AllocError>
-    ensures { IfOk result (λ date. option_map string_bytes date ≡ conversions.joined_date dialect defines text.now (map field_of fields.now)) }
+    ensures { IfOk result (λ date. option_map string_bytes date ≡
+        conversions.joined_date dialect defines text.now (map field_of fields.now)) }
 {
     match dialect {
         Dialect::Biblatex => allowed_date(alloc, defines, text, fields),

@@ -92,7 +92,8 @@ pub(crate) fn replaced_names(
     kind: &EntryType,
     fields: &[Pair<'_>],
 ) -> Result<Vec<(&'static str, &'static str)>, AllocError>
-    ensures { IfOk result (λ names. lent_names names.items ≡ spec.free_names (map field_of fields.now) (spec.other_names dialect kind.now)) }
+    ensures { IfOk result (λ names. lent_names names.items ≡
+        spec.free_names (map field_of fields.now) (spec.other_names dialect kind.now)) }
 {
     let names = other_names(dialect, kind);
     let mut free = Vec::new(alloc);

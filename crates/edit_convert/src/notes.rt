@@ -139,11 +139,17 @@ fn rules_of(
 ) -> Result<Rules, AllocError>
     ensures dialect { IfOk result (λ rules. rules.dialect ≡ dialect) }
     ensures defines { IfOk result (λ rules. rules.changes.defines ≡ defines) }
-    ensures names { IfOk result (λ rules. lent_names rules.names.now ≡ conversions.other_names dialect (entry_type_of entry.now.kind.v.now)) }
-    ensures free { IfOk result (λ rules. lent_names rules.changes.names.items ≡ conversions.free_names (map field_of entry.now.fields.items) (conversions.other_names dialect (entry_type_of entry.now.kind.v.now))) }
-    ensures printed { IfOk result (λ rules. printed_of rules.changes.printed ≡ conversions.printed_type dialect (entry_type_of entry.now.kind.v.now) (map field_of entry.now.fields.items)) }
-    ensures divides { IfOk result (λ rules. rules.changes.divides ≡ conversions.divides_date dialect (map field_of entry.now.fields.items)) }
-    ensures joined { IfOk result (λ rules. option_map string_bytes rules.changes.joined ≡ conversions.joined_date dialect defines text.now (map field_of entry.now.fields.items)) }
+    ensures names { IfOk result (λ rules. lent_names rules.names.now ≡
+        conversions.other_names dialect (entry_type_of entry.now.kind.v.now)) }
+    ensures free { IfOk result (λ rules. lent_names rules.changes.names.items ≡
+        conversions.free_names (map field_of entry.now.fields.items)
+        (conversions.other_names dialect (entry_type_of entry.now.kind.v.now))) }
+    ensures printed { IfOk result (λ rules. printed_of rules.changes.printed ≡
+        conversions.printed_type dialect (entry_type_of entry.now.kind.v.now) (map field_of entry.now.fields.items)) }
+    ensures divides { IfOk result (λ rules. rules.changes.divides ≡
+        conversions.divides_date dialect (map field_of entry.now.fields.items)) }
+    ensures joined { IfOk result (λ rules. option_map string_bytes rules.changes.joined ≡
+        conversions.joined_date dialect defines text.now (map field_of entry.now.fields.items)) }
 {
     let kind = EntryType::new(alloc, entry.kind.v)?;
     let changes = changes_of(alloc, dialect, defines, text, &kind, &entry.fields)?;
@@ -239,7 +245,8 @@ fn push_field_notes(
     index: usize,
     fields: &[Pair<'_>],
 ) -> Result<(), AllocError>
-    ensures { OnOk result (notes.new.items ≡ notes.old.items ++ indexed (λ j f. note_at index j (rules_note rules.now f)) 0 (map field_of fields.now)) }
+    ensures { OnOk result (notes.new.items ≡ notes.old.items
+        ++ indexed (λ j f. note_at index j (rules_note rules.now f)) 0 (map field_of fields.now)) }
 {
     'fields: for (at, field) in fields.iter().enumerate() {
         push_note(notes, index, at, field_note(alloc, rules, field)?)?;
@@ -257,7 +264,8 @@ fn push_entry_notes(
     index: usize,
     entry: &Spanned<RawEntry<'_>>,
 ) -> Result<(), AllocError>
-    ensures { OnOk result (notes.new.items ≡ notes.old.items ++ spec.entry_notes dialect defines text.now index (entry_reading_of entry.now)) }
+    ensures { OnOk result (notes.new.items ≡ notes.old.items
+        ++ spec.entry_notes dialect defines text.now index (entry_reading_of entry.now)) }
 {
     let rules = rules_of(alloc, dialect, defines, text, &entry.v)?;
     push_field_notes(notes, alloc, &rules, index, &entry.v.fields)
@@ -271,7 +279,8 @@ fn entry_notes(
     text: &str,
     entries: &[Spanned<RawEntry<'_>>],
 ) -> Result<Vec<Note>, AllocError>
-    ensures { IfOk result (λ notes. notes.items ≡ indexed (spec.entry_notes dialect defines text.now) 0 (map entry_reading_of entries.now)) }
+    ensures { IfOk result (λ notes. notes.items ≡
+        indexed (spec.entry_notes dialect defines text.now) 0 (map entry_reading_of entries.now)) }
 {
     let mut notes = Vec::new(alloc);
     'entries: for (index, entry) in entries.iter().enumerate() {

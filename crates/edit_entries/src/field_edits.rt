@@ -111,7 +111,8 @@ fn push_field_first(
     requires signs { AllByRecursion (IsSignPlaced text.now) (map field_of fields.now) }
     requires written { written.now ≡ (setting.new_value (value_of value)).bytes }
     ensures { OnOk result (map edit_of edits.new.items ≡ map edit_of edits.old.items ++
-        edits_of_fields text.now (map field_of fields.now) (new_field_first text.now name.now (value_of value.entry) (map field_of fields.now)).fields) }
+        edits_of_fields text.now (map field_of fields.now)
+        (new_field_first text.now name.now (value_of value.entry) (map field_of fields.now)).fields) }
 {
     let [first, ..] = fields else {
         return Ok(());

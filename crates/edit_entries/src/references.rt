@@ -109,7 +109,8 @@ fn renamed_text(
     field: &str,
     pieces: &[Spanned<RawChunk<'_>>],
 ) -> Result<Option<String>, AllocError>
-    ensures { IfOk result (λ text. option_map string_bytes text ≡ references.renamed_text (name_for names.now field.now) (map piece_of pieces.now)) }
+    ensures { IfOk result (λ text. option_map string_bytes text ≡
+        references.renamed_text (name_for names.now field.now) (map piece_of pieces.now)) }
 {
     match pieces {
         [piece] => match piece.v {

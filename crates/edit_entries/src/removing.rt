@@ -97,7 +97,8 @@ fn push_removal(
     name: &str,
 ) -> Result<(), AllocError>
     requires { index < length (entry_reading_of entry.now).fields }
-    ensures { OnOk result (map edit_of edits.new.items ≡ map edit_of edits.old.items ++ unset.removal name.now (entry_reading_of entry.now) index (field_of field.now)) }
+    ensures { OnOk result (map edit_of edits.new.items ≡ map edit_of edits.old.items
+        ++ unset.removal name.now (entry_reading_of entry.now) index (field_of field.now)) }
 {
     if !is_word(field.key.v, name) {
         return Ok(());
@@ -117,7 +118,8 @@ fn removals(
     entry: &Spanned<RawEntry<'_>>,
     name: &str,
 ) -> Result<Vec<Edit>, AllocError>
-    ensures { IfOk result (λ edits. map edit_of edits.items ≡ unset.removals name.now (entry_reading_of entry.now) 0 (entry_reading_of entry.now).fields) }
+    ensures { IfOk result (λ edits. map edit_of edits.items ≡
+        unset.removals name.now (entry_reading_of entry.now) 0 (entry_reading_of entry.now).fields) }
 {
     let mut edits = Vec::new(alloc);
     'fields: for (index, field) in entry.v.fields.iter().enumerate() {
@@ -268,7 +270,8 @@ fn following_edit(
     requires placed { IsPlaced text.now (field_of field.now) }
     requires feed { feed ≡ unset.feed_before text.now (entry_reading_of entry.now) index (field_of field.now) }
     requires bound { feed < 2 ^ 64 - 1 }
-    ensures { IfOk result (λ found. option_map edit_of found ≡ unset.following_edit text.now (entry_reading_of entry.now) index (field_of field.now)) }
+    ensures { IfOk result (λ found. option_map edit_of found ≡
+        unset.following_edit text.now (entry_reading_of entry.now) index (field_of field.now)) }
 {
     let comma = comma_end(text, field);
     let limit = field_limit(entry, index);
@@ -302,7 +305,8 @@ fn commented_edit(
     requires index { index < length (entry_reading_of entry.now).fields }
     requires placed { IsPlaced text.now (field_of field.now) }
     requires bound { unset.end_before (entry_reading_of entry.now) index < 2 ^ 64 - 1 }
-    ensures { IfOk result (λ found. option_map edit_of found ≡ unset.commented_edit text.now (entry_reading_of entry.now) index (field_of field.now)) }
+    ensures { IfOk result (λ found. option_map edit_of found ≡
+        unset.commented_edit text.now (entry_reading_of entry.now) index (field_of field.now)) }
 {
     let name = field.key.span.start;
     let sign = white_end(text, end_before(entry, index) + 1, name);
@@ -323,7 +327,8 @@ fn own_edit(
 ) -> Result<Option<Edit>, AllocError>
     requires index { index < length (entry_reading_of entry.now).fields }
     requires placed { IsPlaced text.now (field_of field.now) }
-    ensures { IfOk result (λ found. option_map edit_of found ≡ unset.own_edit text.now (entry_reading_of entry.now) index (field_of field.now)) }
+    ensures { IfOk result (λ found. option_map edit_of found ≡
+        unset.own_edit text.now (entry_reading_of entry.now) index (field_of field.now)) }
 {
     let start = end_before(entry, index);
     if !has_byte(text, start, b',') || has_byte(text, field.value.span.end, b'%') {
@@ -387,7 +392,8 @@ pub(crate) fn without_fields(
 ) -> Result<String, AllocError>
     requires placed { AllByRecursion (IsPlaced text.now) (entry_reading_of entry.now).fields }
     requires ordered { AreEditsInOrder text.now 0 (unset.unset_edits text.now name.now (entry_reading_of entry.now)) }
-    ensures { IfOk result (λ new. string_bytes new ≡ edits.edited_all (unset.unset_edits text.now name.now (entry_reading_of entry.now)) text.now) }
+    ensures { IfOk result (λ new. string_bytes new ≡
+        edits.edited_all (unset.unset_edits text.now name.now (entry_reading_of entry.now)) text.now) }
 {
     let edits = unset_edits(alloc, text, entry, name)?;
     edited_all(alloc, text, &edits)

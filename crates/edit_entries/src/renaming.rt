@@ -31,7 +31,8 @@ fn push_value_edit(
     braced: String,
 ) -> Result<(), AllocError>
     requires { IsPlaced text.now (field_of field.now) }
-    ensures edits { OnOk result (map edit_of edits.new.items ≡ map edit_of edits.old.items ++ record (value_edit text.now (field_of field.now) []) { bytes = string_bytes braced } ∷ []) }
+    ensures edits { OnOk result (map edit_of edits.new.items ≡ map edit_of edits.old.items
+        ++ record (value_edit text.now (field_of field.now) []) { bytes = string_bytes braced } ∷ []) }
     ensures white { OnOk result ((value : List ℕ) → EndsInWhite text.now (Change.value (field_of field.now) value)) }
 {
     let end = value_end(text, field);
@@ -53,11 +54,15 @@ fn push_reference_edit(
 ) -> Result<(), EditError>
     requires { IsPlaced text.now (field_of field.now) }
     ensures edits { OnOk result (map edit_of edits.new.items ≡
-        map edit_of edits.old.items ++ map (change_edit text.now) (value_change (field_of field.now) (renamed_value (name_for names.now) (field_of field.now)))) }
-    ensures can { OnOk result (AllByRecursion CanBeMade (value_change (field_of field.now) (renamed_value (name_for names.now) (field_of field.now)))) }
-    ensures white { OnOk result (AllByRecursion (EndsInWhite text.now) (value_change (field_of field.now) (renamed_value (name_for names.now) (field_of field.now)))) }
+        map edit_of edits.old.items ++ map (change_edit text.now)
+        (value_change (field_of field.now) (renamed_value (name_for names.now) (field_of field.now)))) }
+    ensures can { OnOk result (AllByRecursion CanBeMade
+        (value_change (field_of field.now) (renamed_value (name_for names.now) (field_of field.now)))) }
+    ensures white { OnOk result (AllByRecursion (EndsInWhite text.now)
+        (value_change (field_of field.now) (renamed_value (name_for names.now) (field_of field.now)))) }
     ensures refused { IfErr result (λ e. (e ≡ OutOfMemory) ⊎
-        ((e ≡ NotInBraces) × (AllByRecursion CanBeMade (value_change (field_of field.now) (renamed_value (name_for names.now) (field_of field.now))) → ⊥))) }
+        ((e ≡ NotInBraces) × (AllByRecursion CanBeMade
+        (value_change (field_of field.now) (renamed_value (name_for names.now) (field_of field.now))) → ⊥))) }
 {
     match references::renamed_value(alloc, names, field)? {
         Some(value) => {
@@ -98,7 +103,8 @@ fn push_key_edit(
     new: Option<&str>,
 ) -> Result<(), AllocError>
     ensures { OnOk result ((text : List ℕ) → map edit_of edits.new.items ≡
-        map edit_of edits.old.items ++ map (change_edit text) (key_change (option_map (λ k. k.now) new.entry) (entry_reading_of entry.now))) }
+        map edit_of edits.old.items ++ map (change_edit text)
+        (key_change (option_map (λ k. k.now) new.entry) (entry_reading_of entry.now))) }
 {
     let Some(new) = new else {
         return Ok(());
@@ -123,8 +129,10 @@ fn renaming_edits(
     requires keys { (k : ℕ) (new : List ℕ) → k < length entries.now → key_for names.now.keys k ≡ Some new → CanBeKey new }
     ensures edits { IfOk result (λ edits. map edit_of edits.items ≡
         map (change_edit text.now) (renaming (name_for names.now) (key_for names.now.keys) 0 (map entry_reading_of entries.now))) }
-    ensures can { OnOk result (AllByRecursion CanBeMade (renaming (name_for names.now) (key_for names.now.keys) 0 (map entry_reading_of entries.now))) }
-    ensures white { OnOk result (AllByRecursion (EndsInWhite text.now) (renaming (name_for names.now) (key_for names.now.keys) 0 (map entry_reading_of entries.now))) }
+    ensures can { OnOk result (AllByRecursion CanBeMade
+        (renaming (name_for names.now) (key_for names.now.keys) 0 (map entry_reading_of entries.now))) }
+    ensures white { OnOk result (AllByRecursion (EndsInWhite text.now)
+        (renaming (name_for names.now) (key_for names.now.keys) 0 (map entry_reading_of entries.now))) }
     ensures refused { IfErr result (λ e. (e ≡ OutOfMemory) ⊎ ((e ≡ NotInBraces) ×
         (AllByRecursion CanBeMade (renaming (name_for names.now) (key_for names.now.keys) 0 (map entry_reading_of entries.now)) → ⊥))) }
 {
@@ -149,7 +157,8 @@ pub(crate) fn with_new_keys(
     ensures text { IfOk result (λ made. string_bytes made ≡
         spec.edited_all (map (change_edit text.now) (key_renaming (key_for keys.entry) (map entry_reading_of entries.now))) text.now) }
     ensures can { OnOk result (AllByRecursion CanBeMade (key_renaming (key_for keys.entry) (map entry_reading_of entries.now))) }
-    ensures white { OnOk result (AllByRecursion (EndsInWhite text.now) (key_renaming (key_for keys.entry) (map entry_reading_of entries.now))) }
+    ensures white { OnOk result (AllByRecursion (EndsInWhite text.now)
+        (key_renaming (key_for keys.entry) (map entry_reading_of entries.now))) }
     ensures refused { IfErr result (λ e. (e ≡ OutOfMemory) ⊎ ((e ≡ NotInBraces) ×
         (AllByRecursion CanBeMade (key_renaming (key_for keys.entry) (map entry_reading_of entries.now)) → ⊥))) }
 {

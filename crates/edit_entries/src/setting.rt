@@ -99,7 +99,8 @@ pub(crate) fn push_values(
     requires placed { AllByRecursion (IsPlaced text.now) (map field_of fields.now) }
     requires written { written.now ≡ (spec.new_value (value_of value)).bytes }
     ensures { OnOk result (map edit_of edits.new.items ≡ map edit_of edits.old.items ++
-        edits_of_fields text.now (map field_of fields.now) (map (spec.set_change name.now (value_of value.entry)) (map field_of fields.now))) }
+        edits_of_fields text.now (map field_of fields.now)
+        (map (spec.set_change name.now (value_of value.entry)) (map field_of fields.now))) }
 {
     'fields: for field in fields {
         push_new_value(edits, alloc, text, field, name, value, written)?;
@@ -118,7 +119,8 @@ fn with_values(
 ) -> Result<String, EditError>
     requires { CanBeSetIn text.now (entry_reading_of entry.now) name.now (value_of value) }
     ensures text { IfOk result (λ new. string_bytes new ≡ edits.edited_all
-        (edits_of_entry text.now (entry_reading_of entry.now) (spec.values_set name.now (value_of value.entry) (entry_reading_of entry.now))) text.now) }
+        (edits_of_entry text.now (entry_reading_of entry.now)
+        (spec.values_set name.now (value_of value.entry) (entry_reading_of entry.now))) text.now) }
     ensures can { OnOk result (list_any (spec.has_other_value name.now (value_of value.entry)) (entry_reading_of entry.now).fields ≡ true →
         IsWritableAt (map field_of definitions.now) (entry_reading_of entry.now).start (value_of value.entry)) }
     ensures refused { IfErr result (λ e. (e ≡ OutOfMemory) ⊎ ((e ≡ unfit_error (value_of value.entry))
@@ -201,7 +203,8 @@ fn with_field_before(
     requires signs { AllByRecursion (IsSignPlaced text.now) (map field_of fields.now) }
     requires written { written.now ≡ (spec.new_value (value_of value)).bytes }
     ensures { IfOk result (λ new. string_bytes new ≡ edits.edited (name_edit (field_of first.now)
-        (field_before (spec.field_with_value name.now (value_of value.entry)) (layouts.new_sign text.now name.now (field_of first.now) (map field_of fields.now))
+        (field_before (spec.field_with_value name.now (value_of value.entry))
+        (layouts.new_sign text.now name.now (field_of first.now) (map field_of fields.now))
         (spec.white_before text.now (field_of first.now).name.start))) text.now) }
 {
     let start = first.key.span.start;

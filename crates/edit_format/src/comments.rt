@@ -23,7 +23,8 @@ fn has_percent(text: &str, start: usize, end: usize) -> bool
 
 // Returns whether an entry contains a percent sign outside of its fields: between its key, its fields and its closing brace.
 fn has_comment(text: &str, entry: &Spanned<RawEntry<'_>>) -> bool
-    requires { AreGapsCut text.now (entry_reading_of entry.now).key.end (entry_reading_of entry.now).fields (entry_reading_of entry.now).end }
+    requires { AreGapsCut text.now (entry_reading_of entry.now).key.end (entry_reading_of entry.now).fields
+        (entry_reading_of entry.now).end }
     ensures { result ≡ styled.has_comment text.now (entry_reading_of entry.now) }
 {
     let mut start = entry.v.key.span.end;
@@ -79,7 +80,8 @@ fn have_unbalanced(fields: &[Pair<'_>]) -> bool
 
 // Returns whether an entry is copied: it contains a comment, or a literal whose braces aren't balanced.
 pub(crate) fn is_copied(text: &str, entry: &Spanned<RawEntry<'_>>) -> bool
-    requires { AreGapsCut text.now (entry_reading_of entry.now).key.end (entry_reading_of entry.now).fields (entry_reading_of entry.now).end }
+    requires { AreGapsCut text.now (entry_reading_of entry.now).key.end (entry_reading_of entry.now).fields
+        (entry_reading_of entry.now).end }
     ensures { result ≡ styled.is_copied text.now (entry_reading_of entry.now) }
 {
     has_comment(text, entry) || have_unbalanced(&entry.v.fields)

@@ -97,7 +97,8 @@ pub(crate) fn push_fields(
 ) -> Result<(), AllocError>
     requires { AllByRecursion (ArePiecesCut layout.now.text.now) (map field_of fields.now) }
     ensures { OnOk result (string_bytes new.new ≡ string_bytes new.old ++
-        flat_map (field_laid_out layout.now.line_end.now layout.now.style layout.now.text.now (styled.padded_width layout.now.style (map field_of fields.now)))
+        flat_map (field_laid_out layout.now.line_end.now layout.now.style layout.now.text.now
+        (styled.padded_width layout.now.style (map field_of fields.now)))
         (ordered.in_order (ordered.order_of layout.now.style) (map field_of fields.now))) }
 {
     let width = padded_width(&layout.style, fields);

@@ -52,7 +52,8 @@ pub(crate) fn push_value(
 ) -> Result<(), AllocError>
     requires { AllByRecursion (IsPieceCut layout.now.text.now) (map piece_of pieces.now) }
     ensures { OnOk result (string_bytes new.new ≡ string_bytes new.old ++
-        value_laid_out (codes " = ") next.now (map (piece_as_written layout.now.style.delimiters layout.now.text.now) (map piece_of pieces.now))) }
+        value_laid_out (codes " = ") next.now
+        (map (piece_as_written layout.now.style.delimiters layout.now.text.now) (map piece_of pieces.now))) }
 {
     let mut is_first = true;
     'pieces: for piece in pieces {

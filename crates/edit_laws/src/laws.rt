@@ -42,7 +42,8 @@ pub fn formatted_is_alike()
 /// of chunks. Each name of the text has the same definition by the rule of the expansion, the last one before the use in any ASCII case,
 /// and by the rule of the library, the last one in the file with exactly this name.
 pub fn expanded_is_alike()
-    ensures accepted { (d : Document) (text : List ℕ) (e : ParseError) → IsDocument d → IsExpanded d text → AreDefinedAlike d.says → IsAcceptedText d.text
+    ensures accepted { (d : Document) (text : List ℕ) (e : ParseError) → IsDocument d → IsExpanded d text → AreDefinedAlike d.says →
+        IsAcceptedText d.text
         → IsErrorOf text e → ⊥ }
     ensures alike { (d : Document) (text : List ℕ) (one other : Bibliography) → IsDocument d → IsExpanded d text → AreDefinedAlike d.says
         → IsBibliographyOf d.text one → IsBibliographyOf text other → AreAlike one other }

@@ -30,7 +30,8 @@ fn push_removal(
     field: &Pair<'_>,
     following: &[Pair<'_>],
 ) -> Result<(), AllocError>
-    ensures { OnOk result (map edit_of edits.new.items ≡ map edit_of edits.old.items ++ removal_edits (field_of field.now) (map field_of following.now)) }
+    ensures { OnOk result (map edit_of edits.new.items ≡ map edit_of edits.old.items
+        ++ removal_edits (field_of field.now) (map field_of following.now)) }
 {
     let [next, ..] = following else {
         return Ok(());
@@ -221,7 +222,8 @@ pub(crate) fn edits(
     requires length { length fields.now ≡ length file.now.entries.now }
     requires along { AreAlong (readings file.now) (fields_at fields.now) }
     requires cut { AreFieldsCut text.now (readings file.now) }
-    ensures { IfOk result (λ made. map edit_of made.items ≡ edits_of_entries (resolution text.now (readings file.now)) text.now (readings file.now)) }
+    ensures { IfOk result (λ made. map edit_of made.items ≡
+        edits_of_entries (resolution text.now (readings file.now)) text.now (readings file.now)) }
 {
     let mut edits = Vec::new(alloc);
     'entries: for (index, entry) in file.entries.iter().enumerate() {

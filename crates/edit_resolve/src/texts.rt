@@ -68,7 +68,8 @@ fn push_next(
     named: &Named<'_, '_>,
 ) -> Result<(), AllocError>
     requires { ArePiecesCut text.now (named_of named.now).field }
-    ensures { OnOk result (string_bytes new.new ≡ string_bytes new.old ++ more_field_texts white.now (new_field text.now (named_of named.now) ∷ [])) }
+    ensures { OnOk result (string_bytes new.new ≡ string_bytes new.old
+        ++ more_field_texts white.now (new_field text.now (named_of named.now) ∷ [])) }
 {
     new.push_str(",")?;
     new.push_str(white)?;

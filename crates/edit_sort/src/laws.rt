@@ -44,7 +44,8 @@ pub fn runs_stay()
 
 /// In a run, an entry that a `crossref` of another entry names comes after that entry, unless it is on a cycle of references or after one.
 pub fn parents_follow()
-    ensures { (d : Document) (places : List ℕ) (order : List Item) (i j : ℕ) (parent child : Item) → AreEntriesInOrder (items d places) order →
+    ensures { (d : Document) (places : List ℕ) (order : List Item) (i j : ℕ) (parent child : Item) →
+        AreEntriesInOrder (items d places) order →
         slice_get order i ≡ Some parent → slice_get order j ≡ Some child → child.run ≡ parent.run →
         refers_to parent.entry.key.text child.entry ≡ true → (IsAfterCycle d.says.entries parent.entry → ⊥) → j < i }
 {}

@@ -45,7 +45,8 @@ fn laid_out(
     requires as_many { length spaces.now ≡ length order.now }
     requires cut { AllByRecursion (IsEntryOfItemCut text.now) (map item_reading_of order.now) }
     requires end { IsCharBoundary text.now end }
-    ensures { IfOk result (λ new. string_bytes new ≡ items_laid_out text.now (map (λ s. s.now) spaces.now) (map item_reading_of order.now) (drop end text.now)) }
+    ensures { IfOk result (λ new. string_bytes new ≡
+        items_laid_out text.now (map (λ s. s.now) spaces.now) (map item_reading_of order.now) (drop end text.now)) }
 {
     let mut new = String::new(alloc);
     'order: for (index, item) in order.iter().enumerate() {

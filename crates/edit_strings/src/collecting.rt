@@ -60,7 +60,9 @@ fn push_edit(
     requires below { IsBelow (length collection.now.names.items) (index_in collection.now.indices) }
     requires cut { IsFieldCut text.now (field_of field.now) }
     ensures { OnOk result (map edit_of edits.new.items ≡ map edit_of edits.old.items ++
-        value_edits text.now (field_of field.now) ((collection_by (lent_texts fields.now) (index_in collection.now.indices) (string_texts collection.now.names.items)) (field_of field.now))) }
+        value_edits text.now (field_of field.now)
+        ((collection_by (lent_texts fields.now) (index_in collection.now.indices) (string_texts collection.now.names.items))
+        (field_of field.now))) }
 {
     let Some(value) = named_text(fields, field) else {
         return Ok(());
@@ -88,7 +90,8 @@ fn push_edits(
     requires below { IsBelow (length collection.now.names.items) (index_in collection.now.indices) }
     requires cut { AllByRecursion (IsFieldCut text.now) (map field_of among.now) }
     ensures { OnOk result (map edit_of edits.new.items ≡ map edit_of edits.old.items ++
-        field_edits (collection_by (lent_texts fields.now) (index_in collection.now.indices) (string_texts collection.now.names.items)) text.now (map field_of among.now)) }
+        field_edits (collection_by (lent_texts fields.now) (index_in collection.now.indices)
+        (string_texts collection.now.names.items)) text.now (map field_of among.now)) }
 {
     'fields: for field in among {
         push_edit(edits, alloc, text, fields, collection, field)?;
@@ -108,7 +111,8 @@ fn edits(
     requires below { IsBelow (length collection.now.names.items) (index_in collection.now.indices) }
     requires cut { AreAllFieldsCut text.now (map entry_reading_of entries.now) }
     ensures { IfOk result (λ made. map edit_of made.items ≡ edit_of first ∷
-        entry_edits (collection_by (lent_texts fields.now) (index_in collection.now.indices) (string_texts collection.now.names.items)) text.now (map entry_reading_of entries.now)) }
+        entry_edits (collection_by (lent_texts fields.now) (index_in collection.now.indices)
+        (string_texts collection.now.names.items)) text.now (map entry_reading_of entries.now)) }
 {
     let mut edits = Vec::new(alloc);
     edits.push(first)?;
@@ -204,7 +208,8 @@ fn with_collection(
     ensures { IfOk result (λ new. string_bytes new ≡
         with_lines (record { text = text.now; says = file_of raw.now })
         (definition_lines (file_of raw.now) (line_end_of text.now) (string_texts collection.now.names.items) (lent_texts texts.now))
-        (text_changed (exchanges (spec.collection (lent_texts fields.now) (lent_texts texts.now) (string_texts collection.now.names.items))) (record { text = text.now; says = file_of raw.now }))) }
+        (text_changed (exchanges (spec.collection (lent_texts fields.now) (lent_texts texts.now)
+        (string_texts collection.now.names.items))) (record { text = text.now; says = file_of raw.now }))) }
 {
     let lines = definitions(
         alloc,

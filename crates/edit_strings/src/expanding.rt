@@ -68,7 +68,8 @@ fn push_expansion<'a, 's>(
     requires below { IsBelow (length names.now.rows.items) (lowercase_index_in indices.now) }
     requires cut { IsExpansionCut names.now.text.now (rows_of names.now.rows.items) (lowercase_index_in indices.now) (field_of field.now) }
     ensures { OnOk result (map edit_of edits.new.items ≡ map edit_of edits.old.items ++
-        value_edits names.now.text.now (field_of field.now) (expansion_by names.now.text.now (rows_of names.now.rows.items) (lowercase_index_in indices.now) (field_of field.now))) }
+        value_edits names.now.text.now (field_of field.now)
+        (expansion_by names.now.text.now (rows_of names.now.rows.items) (lowercase_index_in indices.now) (field_of field.now))) }
 {
     if !has_defined(alloc, indices, &field.value.v)? {
         return Ok(());
@@ -94,9 +95,11 @@ fn push_expansions<'a, 's>(
 ) -> Result<(), AllocError>
     requires ordered { AreOrdered (rows_of names.now.rows.items) }
     requires below { IsBelow (length names.now.rows.items) (lowercase_index_in indices.now) }
-    requires cut { AllByRecursion (IsExpansionCut names.now.text.now (rows_of names.now.rows.items) (lowercase_index_in indices.now)) (map field_of fields.now) }
+    requires cut { AllByRecursion (IsExpansionCut names.now.text.now (rows_of names.now.rows.items) (lowercase_index_in indices.now))
+        (map field_of fields.now) }
     ensures { OnOk result (map edit_of edits.new.items ≡ map edit_of edits.old.items ++
-        field_edits (expansion_by names.now.text.now (rows_of names.now.rows.items) (lowercase_index_in indices.now)) names.now.text.now (map field_of fields.now)) }
+        field_edits (expansion_by names.now.text.now (rows_of names.now.rows.items) (lowercase_index_in indices.now)) names.now.text.now
+        (map field_of fields.now)) }
 {
     'fields: for field in fields {
         push_expansion(edits, alloc, names, indices, field)?;
@@ -113,9 +116,11 @@ fn expansions<'a, 's>(
     requires rows { AreRows (map field_of names.now.definitions.now) (length names.now.definitions.now) (rows_of names.now.rows.items) }
     requires definitions { (end : ℕ) × BeginBetween 0 end (map field_of names.now.definitions.now) }
     requires entries { AreFrom 0 (map entry_reading_of entries.now) }
-    requires cut { AreExpansionsCut names.now.text.now (map field_of names.now.definitions.now) (rows_of names.now.rows.items) (map entry_reading_of entries.now) }
+    requires cut { AreExpansionsCut names.now.text.now (map field_of names.now.definitions.now) (rows_of names.now.rows.items)
+        (map entry_reading_of entries.now) }
     ensures { IfOk result (λ edits. map edit_of edits.items ≡
-        each_edits (entry_expansion names.now.text.now (map field_of names.now.definitions.now) (rows_of names.now.rows.items)) names.now.text.now (map entry_reading_of entries.now)) }
+        each_edits (entry_expansion names.now.text.now (map field_of names.now.definitions.now)
+        (rows_of names.now.rows.items)) names.now.text.now (map entry_reading_of entries.now)) }
 {
     let mut edits = Vec::new(alloc);
     let mut indices = BTreeMap::new(alloc);

@@ -63,7 +63,8 @@ fn has_digit_first(name: &str) -> bool
 
 // Returns whether `name` is no month's abbreviation, begins with no digit, and was counted once. `lowercase` is `name` in lowercase.
 fn is_counted_once(counts: &BTreeMap<String, usize>, name: &str, lowercase: &str) -> bool
-    ensures { result ≡ (not (spec.is_month name.now) && not (spec.has_digit_first name.now) && (name_count_in counts.now lowercase.now == 1)) }
+    ensures { result ≡ (not (spec.is_month name.now) && not (spec.has_digit_first name.now)
+        && (name_count_in counts.now lowercase.now == 1)) }
 {
     !is_month(name) && !has_digit_first(name) && name_count(counts, lowercase) == 1
 }

@@ -49,7 +49,8 @@ impl Taken {
         alloc: Global,
         pieces: &[Spanned<RawChunk<'_>>],
     ) -> Result<(), AllocError>
-        ensures { OnOk result ((other : List ℕ) → is_taken self.new other ≡ (is_one_in_any_case (element_names (map piece_of pieces.now)) other || is_taken self.old other)) }
+        ensures { OnOk result ((other : List ℕ) → is_taken self.new other ≡
+            (is_one_in_any_case (element_names (map piece_of pieces.now)) other || is_taken self.old other)) }
     {
         'pieces: for piece in pieces {
             if let RawChunk::Abbreviation(name) = piece.v {
@@ -65,7 +66,8 @@ impl Taken {
         alloc: Global,
         definitions: &[Pair<'_>],
     ) -> Result<(), AllocError>
-        ensures { OnOk result ((other : List ℕ) → is_taken self.new other ≡ (is_one_in_any_case (definition_names (map field_of definitions.now)) other || is_taken self.old other)) }
+        ensures { OnOk result ((other : List ℕ) → is_taken self.new other ≡
+            (is_one_in_any_case (definition_names (map field_of definitions.now)) other || is_taken self.old other)) }
     {
         'definitions: for definition in definitions {
             self.take(alloc, definition.key.v)?;
@@ -76,7 +78,8 @@ impl Taken {
 
     // Adds the names that fields use.
     fn take_fields(&mut self, alloc: Global, fields: &[Pair<'_>]) -> Result<(), AllocError>
-        ensures { OnOk result ((other : List ℕ) → is_taken self.new other ≡ (is_one_in_any_case (used_names (map field_of fields.now)) other || is_taken self.old other)) }
+        ensures { OnOk result ((other : List ℕ) → is_taken self.new other ≡
+            (is_one_in_any_case (used_names (map field_of fields.now)) other || is_taken self.old other)) }
     {
         'fields: for field in fields {
             self.take_elements(alloc, &field.value.v)?;
@@ -90,7 +93,9 @@ impl Taken {
         alloc: Global,
         entries: &[Spanned<RawEntry<'_>>],
     ) -> Result<(), AllocError>
-        ensures { OnOk result ((other : List ℕ) → is_taken self.new other ≡ (is_one_in_any_case (flat_map (λ e. used_names e.fields) (map entry_reading_of entries.now)) other || is_taken self.old other)) }
+        ensures { OnOk result ((other : List ℕ) → is_taken self.new other ≡
+            (is_one_in_any_case (flat_map (λ e. used_names e.fields) (map entry_reading_of entries.now)) other
+            || is_taken self.old other)) }
     {
         'entries: for entry in entries {
             self.take_fields(alloc, &entry.v.fields)?;
@@ -100,7 +105,8 @@ impl Taken {
 
     // Returns the names that a file defines or uses.
     pub(crate) fn of_file(alloc: Global, raw: &RawBibliography<'_>) -> Result<Taken, AllocError>
-        ensures { IfOk result (λ taken. (other : List ℕ) → is_taken taken other ≡ is_one_in_any_case (names_of_file (file_of raw.now)) other) }
+        ensures { IfOk result (λ taken. (other : List ℕ) → is_taken taken other ≡
+            is_one_in_any_case (names_of_file (file_of raw.now)) other) }
     {
         let mut taken = Taken {
             names: BTreeSet::new(alloc),

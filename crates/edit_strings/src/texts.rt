@@ -53,7 +53,8 @@ fn push_texts<'s>(
     names: &[&str],
     fields: &[Pair<'s>],
 ) -> Result<(), AllocError>
-    ensures { OnOk result (lent_texts texts.new.items ≡ lent_texts texts.old.items ++ spec.field_texts (lent_texts names.now) (map field_of fields.now)) }
+    ensures { OnOk result (lent_texts texts.new.items ≡ lent_texts texts.old.items
+        ++ spec.field_texts (lent_texts names.now) (map field_of fields.now)) }
 {
     'fields: for field in fields {
         if let Some(text) = named_text(names, field) {

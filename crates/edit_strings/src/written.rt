@@ -30,7 +30,8 @@ pub(crate) fn with_indices<'a, 's>(
     indices: &Indices,
     pieces: &'a [Spanned<RawChunk<'s>>],
 ) -> Result<Vec<Indexed<'a, 's>>, AllocError>
-    ensures { IfOk result (λ found. indexed_back found.items ≡ map (with_index (lowercase_index_in indices.now)) (map piece_of pieces.now)) }
+    ensures { IfOk result (λ found. indexed_back found.items ≡
+        map (with_index (lowercase_index_in indices.now)) (map piece_of pieces.now)) }
 {
     let mut found = Vec::with_capacity(alloc, pieces.len())?;
     'pieces: for piece in pieces {
