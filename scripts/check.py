@@ -246,9 +246,9 @@ def check_words():
 
 
 def check_characters():
-    """Definitions and contracts name the characters that they compare with or prepend (CODE)."""
+    """Definitions and contracts name the characters that they compare with or prepend (CODE). Codes below 10 are digits elsewhere."""
     characters = CRATES / "bib_text" / "specs" / "Characters.antt"
-    names = {int(code): name for name, code in NAMED.findall(characters.read_text())}
+    names = {int(code): name for name, code in NAMED.findall(characters.read_text()) if int(code) > 9}
     for file in sorted([*CRATES.glob("*/specs/*.antt"), *CRATES.glob("*/src/**/*.rt")]):
         if file == characters:
             continue
