@@ -6,6 +6,7 @@ ghost use Rattle.bib_entry.specs.Fields.{GetsValue, GetsEitherValue, GetsChunks,
 
 mod aliases;
 mod bibtex;
+mod identifiers;
 mod people;
 mod supplements;
 mod titles;

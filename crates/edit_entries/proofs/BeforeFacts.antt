@@ -20,7 +20,7 @@ use Rattle.edit_entries.proofs.ElementFacts.{Ending, identifier_until}
 use Rattle.edit_entries.proofs.EntryFacts.{goes}
 use Rattle.edit_entries.proofs.GrammarFacts.{below_between, below_char, elements_there}
 use Rattle.edit_entries.proofs.KindFacts.{IsWithin}
-use Rattle.edit_entries.proofs.MadeFacts.{IsPut}
+use Rattle.edit_entries.proofs.FieldMadeFacts.{IsPut}
 use Rattle.edit_entries.proofs.MovedFacts.{char_within}
 use Rattle.edit_entries.proofs.NewFieldFacts.{CanBePut, IsSign, signed_read}
 use Rattle.edit_entries.proofs.PartFacts.{IsIn}

@@ -16,7 +16,8 @@ use Rattle.edit_entries.proofs.AllFacts.{OfFields, all_placed, fields_weaker}
 use Rattle.edit_entries.proofs.BeforeFacts.{preceded_put}
 use Rattle.edit_entries.proofs.EditFacts.{moved_before}
 use Rattle.edit_entries.proofs.FieldNameFacts.{name_exchanged_read, name_stretch, with_name}
-use Rattle.edit_entries.proofs.MadeFacts.{IsPut, Made, MadeFrom, field_gone, field_made, kind_made, less_made, less_made_from, of_entries, stays_made}
+use Rattle.edit_entries.proofs.FieldMadeFacts.{IsPut, field_gone, field_made}
+use Rattle.edit_entries.proofs.MadeFacts.{Made, MadeFrom, kind_made, less_made, less_made_from, of_entries, stays_made}
 use Rattle.edit_entries.proofs.NewFieldFacts.{CanBePut, IsSign, divided_put}
 use Rattle.edit_entries.proofs.NewValueFacts.{CanBeRead}
 use Rattle.edit_entries.proofs.PartFacts.{AreEntriesIn, AreFieldsIn, IsIn, edits_in_order, file_in}

@@ -16,6 +16,7 @@ pub mod EntriesRemovedFacts
 pub mod EntryChangeFacts
 pub mod EntryFacts
 pub mod FieldEditFacts
+pub mod FieldMadeFacts
 pub mod FieldNameFacts
 mod FitFacts
 mod IndexFacts

@@ -29,7 +29,7 @@ use Rattle.edit_entries.specs.Changes.{IsTrimmed, field_stretch, NewField, field
 use Rattle.edit_entries.proofs.NewValueFacts.{CanBeRead, after_ending, run_ending}
 use Rattle.edit_entries.proofs.ElementStandsFacts.{element_stands}
 use Rattle.edit_entries.proofs.KindFacts.{IsWithin}
-use Rattle.edit_entries.proofs.MadeFacts.{IsPut}
+use Rattle.edit_entries.proofs.FieldMadeFacts.{IsPut}
 use Rattle.edit_entries.proofs.PutFacts.{Begins, NewFields, fields_put, fields_put_read, new_opens}
 use Rattle.edit_entries.proofs.NameStandsFacts.{name_stands}
 

@@ -15,7 +15,8 @@ use Rattle.edit_entries.proofs.EditFacts.{moved_after, moved_before}
 use Rattle.edit_entries.proofs.AgreementFacts.{field_stays, get_set_other, get_set_same}
 use Rattle.edit_entries.proofs.KeptFacts.{AreEditsWithin, entry_inside, entry_stays, field_inside, within_earlier}
 use Rattle.edit_entries.proofs.UnsetFacts.{ends_before, field_removed, field_removed_read, fields_placed, limit_past}
-use Rattle.edit_entries.proofs.MadeFacts.{none_put, of_entries, put_alike}
+use Rattle.edit_entries.proofs.FieldMadeFacts.{none_put}
+use Rattle.edit_entries.proofs.MadeFacts.{of_entries, put_alike}
 
 -- ---- lists without one of their elements
 

@@ -16,7 +16,8 @@ use Rattle.edit_entries.proofs.EditFacts.{moved_before}
 use Rattle.edit_entries.proofs.KeptFacts.{AreEditsWithin, entry_inside, entry_stays, within_earlier, within_order}
 use Rattle.edit_entries.proofs.CommentFacts.{joining_removed, lines_removed}
 use Rattle.edit_entries.proofs.LineFacts.{LineRemoved, line_removed}
-use Rattle.edit_entries.proofs.MadeFacts.{none_put, of_entries, put_alike}
+use Rattle.edit_entries.proofs.FieldMadeFacts.{none_put}
+use Rattle.edit_entries.proofs.MadeFacts.{of_entries, put_alike}
 use Rattle.edit_entries.proofs.PutFacts.{put_at}
 use Rattle.edit_entries.proofs.RemovalFacts.{all_removed, removals_within, unnamed, with_fields}
 use Rattle.edit_entries.proofs.UnsetFacts.{field_cut}

@@ -10,7 +10,7 @@ use Rattle.edit_entries.specs.Documents.{Document, IsDocument, entry_edited}
 use Rattle.edit_entries.specs.Edits.{Edit, moved_entry, moved_field, moved_piece, moved_place}
 use Rattle.edit_entries.proofs.AgreementFacts.{agrees_before, same_run}
 use Rattle.edit_entries.proofs.EditFacts.{moved_before}
-use Rattle.edit_entries.proofs.MadeFacts.{IsPut}
+use Rattle.edit_entries.proofs.FieldMadeFacts.{IsPut}
 use Rattle.edit_entries.proofs.NewValueFacts.{CanBeRead, value_exchanged, with_pieces}
 use Rattle.edit_entries.proofs.PartFacts.{IsIn}
 use Rattle.edit_entries.proofs.PutFacts.{put_at}

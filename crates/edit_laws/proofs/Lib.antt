@@ -4,6 +4,7 @@ pub mod ExchangedFacts
 pub mod ExpandedFacts
 pub mod AcceptedFacts
 pub mod DateFacts
+pub mod DefinedFacts
 pub mod DifferFacts
 pub mod FieldFacts
 pub mod FoundFacts
@@ -24,7 +25,9 @@ pub mod ReorderedFacts
 pub mod ReplacedFacts
 pub mod SetFacts
 pub mod SolutionFacts
+pub mod SortedErrorFacts
 pub mod SortedFacts
 pub mod SwapFacts
 pub mod TextFacts
 pub mod UnsetFacts
+pub mod UsedNameFacts

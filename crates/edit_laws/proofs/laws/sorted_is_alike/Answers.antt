@@ -3,7 +3,8 @@ use Rattle.bib_syntax.proofs.FileFacts.{file_same}
 use Rattle.bib_syntax.proofs.ModeFacts.{file_any}
 use Rattle.biblatex.specs.Headline.{IsErrorOf}
 use Rattle.biblatex.specs.Resolved.{AreOwn, IsAccepted, IsFirstErrorOf, IsLoaded}
-use Rattle.edit_laws.proofs.SortedFacts.{distinct_same, permuted_own, same_entries, sorted_accepted, sorted_read}
+use Rattle.edit_laws.proofs.SortedErrorFacts.{sorted_accepted}
+use Rattle.edit_laws.proofs.SortedFacts.{distinct_same, permuted_own, same_entries, sorted_read}
 use Rattle.edit_laws.proofs.laws.sorted_is_alike.Goals as goal
 
 pub returns-clause-own : goal.returns-clause-own
