@@ -62,7 +62,7 @@ PROMISED = {
     "`is_settled` always says yes, or always no":
         ["bib_chunks/is-settled-always", "bib_chunks/is-settled-never", "biblatex/bibliography-is-settled-always",
          "biblatex/bibliography-is-settled-never"],
-    "`remove` leaves later indices as they are": ["bib_collections/remove-leaves-later-places"],
+    "`remove` leaves later indices as they are": ["biblatex/remove-leaves-later-indices"],
     "`insert` appends on a present name": ["biblatex/insert-appends-on-a-present-name"],
     "a list of people is cut at `and` inside a word": ["bib_chunks/and-cut-inside-a-word"],
     "a shared parent is resolved anew on each use": ["bib_inheritance/shared-parent-resolved-anew"],
