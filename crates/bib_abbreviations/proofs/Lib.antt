@@ -1,3 +1,5 @@
 pub mod AbbreviationFacts
 pub mod ExpansionFacts
 pub mod LawFacts
+pub mod MemoFacts
+pub mod PieceFacts

@@ -3,6 +3,8 @@ mod IdentityFacts
 mod ListFacts
 mod MarkFacts
 mod NameFacts
+mod NotedFacts
 mod SeenFacts
 mod RecoveredFacts
+mod SharedFacts
 mod WordFacts

@@ -3,6 +3,7 @@ mod DateFacts
 mod ObjectFacts
 mod PageFacts
 mod PeopleFacts
+mod PlainFacts
 mod ReadingFacts
 mod ScanFacts
 mod TagFacts

@@ -5,4 +5,5 @@ pub mod CutFacts
 pub mod LineFacts
 pub mod SpacedFacts
 pub mod SurviveFacts
+pub mod TextFacts
 pub mod WordFacts

@@ -1,3 +1,4 @@
+pub mod AnyFacts
 pub mod BraceFacts
 pub mod ClosingFacts
 pub mod ErrorFacts

@@ -9,7 +9,7 @@ use Rattle.bib_collections.specs.Sorted.{ByText}
 use Rattle.bib_syntax.specs.Errors.{Refuses, out_of_memory}
 use Rattle.bib_syntax.specs.Grammar.{IsFile, IsRawReading}
 use Rattle.bib_syntax.proofs.FileFacts.{file_same}
-use Rattle.bib_syntax.proofs.ModeFacts.{file_any}
+use Rattle.bib_syntax.proofs.AnyFacts.{file_any}
 use Rattle.bib_syntax.specs.Reading.{EntryReading, FileReading}
 use Rattle.bib_syntax.specs.Views.{entry_reading_of}
 use Rattle.bib_syntax.specs.declared.raw.ParseError.{ParseError}

@@ -3,7 +3,7 @@ use Rattle.std.proofs.Common.{◌≡◌, ◌⊎◌, ℕ, List, [], ◌∷◌, �
 use Rattle.std.specs.Prelude.{if◌then◌else◌}
 use Rattle.std.specs.List.{AllByRecursion}
 use Rattle.std.specs.Str.{chars}
-use Rattle.bib_abbreviations.proofs.ExpansionFacts.{evaluates_append}
+use Rattle.bib_abbreviations.proofs.MemoFacts.{evaluates_append}
 use Rattle.bib_abbreviations.specs.Abbreviations.{Definitions, Evaluates, HoldsName, HoldsText, IsReadable, Reaches}
 use Rattle.bib_abbreviations.specs.Abbreviations.{Evaluates as evaluates, Reaches as reaches}
 use Rattle.bib_chunks.specs.Styled.{Atom}

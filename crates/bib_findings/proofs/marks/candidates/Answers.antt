@@ -5,7 +5,7 @@ use Rattle.bib_syntax.specs.Reading.{EntryReading}
 use Rattle.bib_syntax.specs.Views.{entry_reading_of}
 use Rattle.bib_findings.specs.Duplicates.{entries_at}
 use Rattle.bib_findings.specs.Marks.{AreMetMarks, chosen, listed, listed_all, marks_of}
-use Rattle.bib_findings.proofs.MarkFacts.{as_many_entries, chosen_entries, chosen_within, in_range, listed_marks, on_result}
+use Rattle.bib_findings.proofs.NotedFacts.{as_many_entries, chosen_entries, chosen_within, in_range, listed_marks, on_result}
 use Rattle.bib_findings.proofs.marks.candidates.Goals as goal
 
 pub chosen-requires : goal.chosen-requires

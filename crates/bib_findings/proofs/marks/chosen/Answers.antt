@@ -1,5 +1,5 @@
 use Rattle.std.proofs.Common.{◌++◌, [], ◌∷◌, ap, sym, ◌∙◌, cond, append-nil, get_or}
-use Rattle.bib_findings.proofs.MarkFacts.{chosen_next}
+use Rattle.bib_findings.proofs.NotedFacts.{chosen_next}
 use Rattle.bib_findings.proofs.marks.chosen.Goals.{then-has_shared+in_ok-push, else-has_shared}
 use Rattle.bib_findings.proofs.marks.chosen.Goals as goal
 

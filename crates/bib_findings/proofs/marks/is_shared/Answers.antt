@@ -2,7 +2,7 @@ use Rattle.std.proofs.Common.{ap, sym, ◌∙◌, false}
 use Rattle.std.specs.Option.{option_to_list, unwrap_or}
 use Rattle.std.specs.List.{list_any}
 use Rattle.bib_findings.specs.Marks.{is_repeated}
-use Rattle.bib_findings.proofs.MarkFacts.{looked_up}
+use Rattle.bib_findings.proofs.NotedFacts.{looked_up}
 use Rattle.bib_findings.proofs.marks.is_shared.Goals as goal
 
 pub returns-in-Some : goal.returns-in-Some

@@ -1,4 +1,4 @@
-use Rattle.bib_findings.proofs.MarkFacts.{noted_next}
+use Rattle.bib_findings.proofs.NotedFacts.{noted_next}
 use Rattle.bib_findings.proofs.marks.met_marks.Goals as goal
 
 pub marks-preserved : goal.marks-preserved

@@ -4,7 +4,7 @@ use Rattle.std.specs.BTreeMap.{get}
 use Rattle.std.specs.Option.{option_to_list}
 use Rattle.std.specs.Ordering.{nat_cmp}
 use Rattle.bib_findings.specs.Marks.{AreMetMarks}
-use Rattle.bib_findings.proofs.MarkFacts.{noted_again, noted_once}
+use Rattle.bib_findings.proofs.NotedFacts.{noted_again, noted_once}
 use Rattle.bib_findings.proofs.marks.note.Goals as goal
 
 pub returns-in_ok-insert-2 : goal.returns-in_ok-insert-2

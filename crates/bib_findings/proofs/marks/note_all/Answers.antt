@@ -1,5 +1,5 @@
 use Rattle.std.specs.Option.{option_to_list}
-use Rattle.bib_findings.proofs.MarkFacts.{noted_all}
+use Rattle.bib_findings.proofs.NotedFacts.{noted_all}
 use Rattle.bib_findings.proofs.marks.note_all.Goals as goal
 
 pub returns : goal.returns

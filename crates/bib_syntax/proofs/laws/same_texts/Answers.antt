@@ -1,4 +1,5 @@
-use Rattle.bib_syntax.proofs.ModeFacts.{file_any, file_longest}
+use Rattle.bib_syntax.proofs.AnyFacts.{file_any}
+use Rattle.bib_syntax.proofs.ModeFacts.{file_longest}
 use Rattle.bib_syntax.proofs.laws.same_texts.Goals as goal
 
 pub returns : goal.returns

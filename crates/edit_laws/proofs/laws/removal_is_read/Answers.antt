@@ -1,6 +1,6 @@
 use Rattle.std.proofs.Common.{subst}
 use Rattle.bib_syntax.proofs.FileFacts.{file_same}
-use Rattle.bib_syntax.proofs.ModeFacts.{file_any}
+use Rattle.bib_syntax.proofs.AnyFacts.{file_any}
 use Rattle.biblatex.specs.Headline.{IsErrorOf}
 use Rattle.biblatex.specs.Resolved.{IsAccepted, IsFirstErrorOf, IsLoaded}
 use Rattle.edit_laws.proofs.RemovedFacts.{bibliography_without, removed_accepted, removed_own, removed_read, unreferenced_same}

@@ -2,7 +2,7 @@ use Rattle.std.proofs.Common.{ap, map, refl, sym, cond, ◌∙◌}
 use Rattle.std.proofs.lemmas.List.{take_all}
 use Rattle.std.proofs.lemmas.Map.Text.{btree_map_updates_str}
 use Rattle.std.specs.Prelude.{bytes_eq}
-use Rattle.bib_abbreviations.proofs.ExpansionFacts.{lookup_sorted}
+use Rattle.bib_abbreviations.proofs.PieceFacts.{lookup_sorted}
 use Rattle.bib_syntax.specs.Views.{field_of, piece_of}
 use Rattle.edit_orders.specs.Fields.{file_definition}
 use Rattle.edit_orders.proofs.FieldFacts.{defined_more}

@@ -1,6 +1,6 @@
 use Rattle.std.proofs.lemmas.Result.{err_from_is_err_and}
 use Rattle.bib_abbreviations.specs.Expanding.{known_to}
-use Rattle.bib_abbreviations.proofs.ExpansionFacts.{text_says, text_refused, text_placed}
+use Rattle.bib_abbreviations.proofs.PieceFacts.{text_says, text_refused, text_placed}
 use Rattle.bib_abbreviations.proofs.abbreviations.Expansion.expand.Goals as goal
 
 pub returns-in_err-contents-clause-refused : goal.returns-in_err-contents-clause-refused

@@ -4,7 +4,8 @@ use Rattle.std.proofs.lemmas.Result.{err_from_is_err_and}
 use Rattle.bib_chunks.specs.Styled.{styled}
 use Rattle.bib_abbreviations.specs.Expanding.{known_to, chunks_between, Expands}
 use Rattle.bib_syntax.specs.Views.{piece_of}
-use Rattle.bib_abbreviations.proofs.ExpansionFacts.{sound_within, expands_opened, error_opened, said_after}
+use Rattle.bib_abbreviations.proofs.ExpansionFacts.{sound_within}
+use Rattle.bib_abbreviations.proofs.PieceFacts.{expands_opened, error_opened, said_after}
 use Rattle.bib_abbreviations.proofs.abbreviations.Expansion.expand_name.Goals as goal
 
 pub take-requires : goal.take-requires

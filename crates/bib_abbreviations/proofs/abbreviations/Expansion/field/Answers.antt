@@ -1,6 +1,6 @@
 use Rattle.std.proofs.Common.{◌∙◌, arith}
 use Rattle.std.proofs.lemmas.Result.{err_from_is_err_and}
-use Rattle.bib_abbreviations.proofs.ExpansionFacts.{read_all, read_none, read_step, read_stop}
+use Rattle.bib_abbreviations.proofs.PieceFacts.{read_all, read_none, read_step, read_stop}
 use Rattle.bib_abbreviations.proofs.abbreviations.Expansion.field.Goals as goal
 
 pub pieces-init : goal.pieces-init

@@ -1,7 +1,7 @@
 use Rattle.std.proofs.Common.{map, take, []}
 use Rattle.bib_abbreviations.specs.Expanding.{IsSound, known_to}
 use Rattle.bib_syntax.specs.Views.{piece_of}
-use Rattle.bib_abbreviations.proofs.ExpansionFacts.{IsRead}
+use Rattle.bib_abbreviations.proofs.PieceFacts.{IsRead}
 use Rattle.bib_abbreviations.proofs.abbreviations.Expansion.field.Given as goal
 
 abbrev pub invariant-pieces : goal.invariant-pieces

@@ -1,7 +1,7 @@
 use Rattle.std.proofs.Common.{refl, inr, sym}
 use Rattle.bib_abbreviations.specs.Abbreviations.{IsFirstError as first_error}
 use Rattle.bib_abbreviations.specs.Expanding.{part_at}
-use Rattle.bib_abbreviations.proofs.ExpansionFacts.{expands_again}
+use Rattle.bib_abbreviations.proofs.MemoFacts.{expands_again}
 use Rattle.bib_abbreviations.proofs.abbreviations.Expansion.name.Goals as goal
 
 pub repeat-requires-clause-ordered : goal.repeat-requires-clause-ordered

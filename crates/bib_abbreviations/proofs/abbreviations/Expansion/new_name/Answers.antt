@@ -3,7 +3,7 @@ use Rattle.bib_chunks.specs.declared.chunk.Chunk.{Chunk}
 use Rattle.bib_text.specs.declared.spanned.Spanned.{Spanned}
 use Rattle.bib_abbreviations.specs.Abbreviations.{IsFirstError as first_error}
 use Rattle.bib_abbreviations.specs.Expanding.{known_to, part_at}
-use Rattle.bib_abbreviations.proofs.ExpansionFacts.{expands_month}
+use Rattle.bib_abbreviations.proofs.MemoFacts.{expands_month}
 use Rattle.bib_abbreviations.proofs.abbreviations.Expansion.new_name.Goals as goal
 
 pub returns-in-Some-clause-taken : goal.returns-in-Some-clause-taken

@@ -1,6 +1,7 @@
 use Rattle.std.proofs.Common.{reverse, arith}
 use Rattle.std.proofs.lemmas.Result.{err_from_is_err_and}
-use Rattle.bib_abbreviations.proofs.ExpansionFacts.{expanding_first, expanding_done, sound_done, expanding_closed, expanding_opened, expanding_said, expanding_refused, sound_within, less_opened, less_closed}
+use Rattle.bib_abbreviations.proofs.ExpansionFacts.{expanding_first, expanding_done, sound_done, expanding_closed, expanding_opened, expanding_said, sound_within}
+use Rattle.bib_abbreviations.proofs.PieceFacts.{expanding_refused, less_opened, less_closed}
 use Rattle.bib_contents.proofs.StackFacts.{no_elements, reversed_push}
 use Rattle.bib_abbreviations.proofs.abbreviations.Expansion.run.Goals as goal
 

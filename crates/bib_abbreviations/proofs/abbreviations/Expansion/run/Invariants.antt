@@ -1,7 +1,8 @@
 use Rattle.std.proofs.Common.{◌+◌, suc, length}
 use Rattle.std.proofs.Common.{reverse}
 use Rattle.bib_abbreviations.specs.Expanding.{known_to}
-use Rattle.bib_abbreviations.proofs.ExpansionFacts.{IsExpanding, weight, unmet, met_in, entries_of}
+use Rattle.bib_abbreviations.proofs.MemoFacts.{IsExpanding}
+use Rattle.bib_abbreviations.proofs.PieceFacts.{weight, unmet, met_in, entries_of}
 use Rattle.bib_abbreviations.proofs.abbreviations.Expansion.run.Given as goal
 
 abbrev pub invariant-frames : goal.invariant-frames

@@ -1,7 +1,7 @@
 use Rattle.std.proofs.Common.{◌∙◌, ap, ◌++◌}
 use Rattle.std.proofs.lemmas.Result.{err_from_is_err_and}
 use Rattle.bib_abbreviations.specs.Expanding.{known_to}
-use Rattle.bib_abbreviations.proofs.ExpansionFacts.{expands_text, unread_reported}
+use Rattle.bib_abbreviations.proofs.MemoFacts.{expands_text, unread_reported}
 use Rattle.bib_abbreviations.proofs.abbreviations.Expansion.text.Goals as goal
 
 pub returns-in_err-contents-clause-refused : goal.returns-in_err-contents-clause-refused

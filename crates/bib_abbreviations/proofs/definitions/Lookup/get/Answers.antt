@@ -1,7 +1,7 @@
 use Rattle.std.proofs.Common.{ap, map, ◌∙◌}
 use Rattle.std.specs.Option.{option_map}
 use Rattle.bib_syntax.specs.Views.{piece_of}
-use Rattle.bib_abbreviations.proofs.ExpansionFacts.{lookup_sorted}
+use Rattle.bib_abbreviations.proofs.PieceFacts.{lookup_sorted}
 use Rattle.bib_abbreviations.proofs.definitions.Lookup.get.Goals as goal
 
 pub returns-in-Sorted : goal.returns-in-Sorted

@@ -7,7 +7,8 @@ use Rattle.bib_syntax.specs.Views.{file_of}
 use Rattle.bib_syntax.proofs.FileFailureFacts.{file_unread}
 use Rattle.bib_syntax.proofs.ErrorFacts.{reported_from}
 use Rattle.bib_syntax.proofs.FieldFacts.{refuses_from}
-use Rattle.bib_syntax.proofs.ModeFacts.{file_any, file_longest}
+use Rattle.bib_syntax.proofs.AnyFacts.{file_any}
+use Rattle.bib_syntax.proofs.ModeFacts.{file_longest}
 use Rattle.bib_syntax.proofs.raw.BiblatexParser.parse.Goals as goal
 
 -- a place with the offset 0 is the start of its text
