@@ -2,8 +2,8 @@
 set -l commands lint keys get select grep cited stats fmt convert resolve set unset rename rekey edit remove add strings recode help
 set -l edits set unset rename rekey edit remove add strings
 set -l codes unread-bytes syntax unread-field unknown-abbreviation circular-abbreviation duplicate-key circular-reference \
-    unread-date missing-field superfluous-field malformed-field unknown-field unknown-reference likely-duplicate missing-entry \
-    unused-entry
+    unread-date unknown-type missing-field superfluous-field malformed-field not-a-number unknown-field foreign-field \
+    unknown-reference likely-duplicate missing-entry unused-entry
 set -l fields author editor title subtitle booktitle journaltitle journal series edition volume number pages publisher location address \
     institution school organization date year month doi isbn issn url urldate note keywords abstract crossref
 

@@ -30,7 +30,7 @@ install -D -m 644 -t "$share/man/man1" docs/bibkit.1
 install -D -m 644 completions/bibkit.bash "$share/bash-completion/completions/bibkit"
 install -D -m 644 -t "$share/fish/vendor_completions.d" completions/bibkit.fish
 install -D -m 644 -t "$share/zsh/site-functions" completions/_bibkit
-install -D -m 644 -t "$share/doc" docs/LIBRARY.md docs/BIBKIT.md docs/DIFFERENCES.md docs/CSL.md docs/entries.schema.json
+install -D -m 644 -t "$share/doc" docs/LIBRARY.md docs/BIBKIT.md docs/DIFFERENCES.md docs/DECISIONS.md docs/CSL.md docs/entries.schema.json
 install -D -m 644 -t "$top" LICENSE
 bash python/build.sh "$library"
 install -D -m 644 -t "$top/python" python/pyproject.toml python/setup.py python/README.md

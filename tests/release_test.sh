@@ -1,7 +1,7 @@
 #!/usr/bin/env bash
 # Unpacks an archive of release.sh in an empty folder, and tries all that is in it: release_test.sh ARCHIVE
 # Runs both programs, compiles and runs the example in C of docs/LIBRARY.md, runs its example in Python, and checks the sums, the
-# manual page and the completions.
+# manual page, the links between documents and the completions.
 set -u
 export LC_ALL=C
 archive=$(realpath "$1")
@@ -41,6 +41,16 @@ block() {
         inside && $0 == fence { shown = 1 }' share/doc/LIBRARY.md
 }
 
+# whether each link of a document leads to a file that is there
+links() {
+    local link found=1
+    while read -r link; do
+        found=0
+        [ -f "share/doc/$link" ] || { echo "no share/doc/$link"; return 1; }
+    done < <(grep -ohE '\]\([A-Za-z./][^)#:]*[)#]' share/doc/*.md | sed 's/^](//; s/[)#]$//' | sort -u)
+    return "$found"
+}
+
 tar -xzf "$archive"
 cd biblatex-* || exit 1
 top=$PWD
@@ -64,6 +74,7 @@ holds 'bibkit --version' prints "bibkit ${top##*-}" bin/bibkit --version
 holds 'bibkit lint' bin/bibkit lint --only syntax refs.bib
 holds 'bibkit convert' bin/bibkit convert --to csl refs.bib
 holds 'the manual page' grep -q '^\.TH' share/man/man1/bibkit.1
+holds 'the links between documents' links
 holds 'completions of bash' bash -n share/bash-completion/completions/bibkit
 holds 'completions of fish and zsh' test -s share/fish/vendor_completions.d/bibkit.fish -a -s share/zsh/site-functions/_bibkit
 if holds 'a C compiler, gcc' command -v gcc; then

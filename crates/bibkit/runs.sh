@@ -147,7 +147,7 @@ run 'no other code' 0 $'errors: 0, warnings: 0\n' lint --only syntax,duplicate-k
 run 'a code that is left out' 0 $'errors: 0, warnings: 0\n' lint --ignore missing-field one.bib
 run 'two options that leave codes out' 0 $'errors: 0, warnings: 0\n' lint --ignore syntax --ignore missing-field one.bib
 run 'a code that is asked for and left out' 0 $'errors: 0, warnings: 0\n' lint --only missing-field --ignore missing-field one.bib
-run 'two files' 1 $'broken.bib:1:7: warning: a: missing author [missing-field]\nbroken.bib:3:1: error: expected comma [syntax]\n'"$lines_of_one"$'errors: 1, warnings: 4\n' lint broken.bib one.bib
+run 'two files' 1 $'broken.bib:1:7: warning: a: missing year [missing-field]\nbroken.bib:3:1: error: expected comma [syntax]\n'"$lines_of_one"$'errors: 1, warnings: 4\n' lint broken.bib one.bib
 cp one.bib input
 run 'standard input' 1 "${lines_of_one//one.bib/-}"$'errors: 0, warnings: 3\n' lint
 run 'standard input by its name, after a file' 1 "$lines_of_one${lines_of_one//one.bib/-}"$'errors: 0, warnings: 6\n' lint one.bib -
@@ -169,20 +169,27 @@ holds 'quotes and backslashes in JSON' python3 -c 'import json, sys; found = jso
 for code in unread-bytes syntax unread-field circular-abbreviation duplicate-key circular-reference missing-entry; do
     run_start "the meaning of $code" 0 "$code (error): " lint --explain $code no-file.bib
 done
-for code in unknown-abbreviation unread-date missing-field superfluous-field malformed-field unknown-field unknown-reference likely-duplicate unused-entry; do
+for code in unknown-abbreviation unread-date unknown-type missing-field superfluous-field malformed-field unknown-field unknown-reference likely-duplicate unused-entry; do
     run_start "the meaning of $code" 0 "$code (warning): " lint --explain $code no-file.bib
 done
-run 'the whole meaning of a code' 0 'superfluous-field (warning): An entry of this type has no use for this field, or it contradicts another one. Remove it, or change the type of the entry.
+for code in not-a-number foreign-field; do
+    run_start "the meaning of $code" 0 "$code (info): " lint --explain $code no-file.bib
+done
+run 'the whole meaning of a code' 0 'superfluous-field (warning): An entry of this type must not have this field. Remove it, or change the type of the entry.
 ' lint --explain superfluous-field
 run 'a meaning of no code' 2 '' lint --explain no-code
 
 # bytes that are not UTF-8
 printf '@misc{a, title={\xe9t\xe9}}\n' >latin.bib
 run 'bytes that are not UTF-8' 1 $'latin.bib:1:17: error: not UTF-8 from here on, so the file is read as Windows-1252 [unread-bytes]\nerrors: 1, warnings: 0\n' lint --ignore missing-field latin.bib
-run 'they are the first finding' 1 $'latin.bib:1:17: error: not UTF-8 from here on, so the file is read as Windows-1252 [unread-bytes]\nlatin.bib:1:7: warning: a: missing author [missing-field]\nerrors: 1, warnings: 1\n' lint latin.bib
+run 'they are the first finding' 1 $'latin.bib:1:17: error: not UTF-8 from here on, so the file is read as Windows-1252 [unread-bytes]\nlatin.bib:1:7: warning: a: missing year [missing-field]\nerrors: 1, warnings: 1\n' lint latin.bib
 run 'entries of them' 0 $'@misc{a, title={\xc3\xa9t\xc3\xa9}}\n' get a latin.bib
 printf '@misc{a,\n title={\xc3\xa9}, author={\xc3\xa9 \xc3\xa9}, nofield={}, year={2000}}\n' >columns.bib
-run 'columns are characters' 1 $'columns.bib:2:27: warning: a: unknown field nofield [unknown-field]\nerrors: 0, warnings: 1\n' lint columns.bib
+run 'columns are characters' 1 $'columns.bib:2:27: warning: a: unknown field `nofield` [unknown-field]\nerrors: 0, warnings: 1\n' lint columns.bib
+printf '@misc{a, title={A}, year={2000}, volume={12A}, owner={me}}\n' >infos.bib
+run 'findings that are information' 0 $'infos.bib:1:34: info: a: malformed volume: invalid number [not-a-number]\ninfos.bib:1:48: info: field owner of another program, 1 time [foreign-field]\nerrors: 0, warnings: 0, info: 2\n' lint infos.bib
+"$program" lint --format json infos.bib >output
+holds 'information in JSON' python3 -c 'import json, sys; found = json.load(open("output")); sys.exit([it["severity"] for it in found] != ["info", "info"])'
 
 # entries
 run 'keys' 0 $'a\nb\n' keys two.bib
@@ -1241,13 +1248,13 @@ for command in keys 'get a' lint; do
     run_messages "a condition of $command that ends too early" 2 $'bibkit: --where `year >`: expected a year at byte 6\n' $command --where 'year >' two.bib
     run "a condition of $command that ends too early: nothing is printed" 2 '' $command --where 'year >' two.bib
 done
-run 'findings about selected entries' 1 $'broken.bib:1:7: warning: a: missing author [missing-field]\nerrors: 0, warnings: 1\n' lint --where 'key = a' broken.bib
+run 'findings about selected entries' 1 $'broken.bib:1:7: warning: a: missing year [missing-field]\nerrors: 0, warnings: 1\n' lint --where 'key = a' broken.bib
 run 'no findings about selected entries' 0 $'errors: 0, warnings: 0\n' lint --where 'key = z' broken.bib
 run 'findings about selected entries of two files' 1 "$lines_of_one"$'errors: 0, warnings: 3\n' lint --where 'type = article' broken.bib one.bib
 run 'selected findings about selected entries' 0 $'errors: 0, warnings: 0\n' lint --where 'key = a' --only syntax broken.bib
-run 'findings about selected entries of a file that is not UTF-8' 1 $'latin.bib:1:7: warning: a: missing author [missing-field]\nerrors: 0, warnings: 1\n' lint --where $'title = "\xc3\xa9"' latin.bib
+run 'findings about selected entries of a file that is not UTF-8' 1 $'latin.bib:1:7: warning: a: missing year [missing-field]\nerrors: 0, warnings: 1\n' lint --where $'title = "\xc3\xa9"' latin.bib
 run 'findings about selected entries in JSON' 1 '[
-{"file":"broken.bib","line":1,"column":7,"severity":"warning","code":"missing-field","message":"a: missing author"}
+{"file":"broken.bib","line":1,"column":7,"severity":"warning","code":"missing-field","message":"a: missing year"}
 ]
 ' lint --format json --where 'key = a' broken.bib
 run 'no findings about selected entries in JSON' 0 $'[\n]\n' lint --format json --where 'key = z' broken.bib

@@ -139,9 +139,8 @@ class Linting(unittest.TestCase):
     def test_all_that_is_wrong(self) -> None:
         finding = biblatex.Finding
         wanted = [
-            finding(8, 3, "warning", "unknown-field", "church1936: unknown field note2; is note meant?"),
-            finding(11, 7, "warning", "missing-field", "knuth1984: missing publisher"),
-            finding(15, 3, "warning", "malformed-field", "knuth1984: malformed volume: invalid number"),
+            finding(8, 3, "warning", "unknown-field", "church1936: unknown field `note2`"),
+            finding(15, 3, "info", "not-a-number", "knuth1984: malformed volume: invalid number"),
             finding(21, 3, "error", "syntax", "expected comma"),
         ]
         self.assertEqual(biblatex.lint(REFERENCES), wanted)

@@ -1,4 +1,4 @@
-//! The examples of docs/LIBRARY.md that the crate `guide` doesn't have, each as a test.
+//! The Rattle examples of docs/LIBRARY.md, each as a test, except for the first one and the three in the crate `guide`.
 
 use biblatex::{
     Bibliography, BibliographyRecovery, DateValue, Entry, EntryType, ParseError, PermissiveType,

@@ -1,21 +1,28 @@
 -- Findings that are appended to others.
-use Rattle.std.proofs.Common.{◌≡◌, ℕ, List, [], ◌∷◌, ◌++◌, ◌+◌, ◌<◌, length, get_or, take, map, Result, Ok, Err, OnOk, refl, sym, ap, ◌∙◌, append_assoc, append-nil, subst, arith}
+use Rattle.std.proofs.Common.{◌≡◌, ℕ, Bool, true, false, cond, List, [], ◌∷◌, ◌++◌, ◌+◌, ◌<◌, length, get_or, take, map, Result, Ok, Err, OnOk, refl, sym, ap, ◌∙◌, append_assoc, append-nil, subst, arith}
 use Rattle.std.specs.Prelude.{codes, slice_get, Some}
-use Rattle.std.specs.List.{All}
-use Rattle.std.proofs.lemmas.List.{map_more, take_more}
-use Rattle.std.proofs.lemmas.List.Elements.{All-get_or}
+use Rattle.std.specs.List.{All, filter}
+use Rattle.std.proofs.lemmas.List.{map-append, take_more}
+use Rattle.std.proofs.lemmas.List.Elements.{All-get_or, filter-append}
 use Rattle.bib_text.specs.declared.spanned.Spanned.{Spanned}
 use Rattle.bib_syntax.specs.Views.{entry_reading_of}
 use Rattle.bib_syntax.specs.declared.raw.RawEntry.{RawEntry}
 use Rattle.bib_findings.proofs.ListFacts.{get_mapped, more}
 use Rattle.bib_tables.specs.declared.type_error.TypeError.{TypeError}
-use Rattle.bib_entry.specs.Reports.{AreMalformed, missing_of, superfluous_of}
+use Rattle.bib_entry.specs.Reports.{AreMalformed}
 use Rattle.bib_entry.specs.declared.entry.Entry.{Entry}
 use Rattle.bib_tables.specs.Requirements.{Names}
 use Rattle.bib_syntax.specs.Reading.{EntryReading}
 use Rattle.bib_findings.specs.Adding.{Adds}
-use Rattle.bib_findings.specs.Entries.{AreOfEach, AreOfReport, field_finding, malformed_finding, report_findings}
-use Rattle.bib_findings.specs.Findings.{AreFindingsIn, AreOfEntry, AreSortedByPlace}
+use Rattle.bib_findings.specs.Demands.{missing_fields}
+use Rattle.bib_findings.specs.Entries.{AreOfEach, field_finding}
+use Rattle.bib_findings.specs.Reported.{AreOfReport, is_reported_field, malformed_finding, malformed_findings, report_findings, superfluous_fields}
+use Rattle.bib_findings.specs.Types.{AreOfType}
+use Rattle.bib_findings.specs.Duplicates.{duplicates, entries_at}
+use Rattle.bib_findings.specs.Findings.{AreBetween, AreFindingsIn, AreOfEntry, AreSortedByPlace}
+use Rattle.bib_findings.specs.Foreign.{foreign_findings}
+use Rattle.bib_findings.specs.References.{AreReferences}
+use Rattle.bib_collections.specs.Sorted.{ByText}
 use Rattle.bib_findings.specs.Errors.{block_finding, error_finding}
 use Rattle.bib_syntax.specs.declared.raw.ParseError.{ParseError}
 use Rattle.bib_syntax.specs.declared.raw.recovery.SkippedBlock.{SkippedBlock}
@@ -25,14 +32,42 @@ use Rattle.bib_findings.specs.Names.{AreOfUnknown}
 use Rattle.bib_findings.specs.declared.codes.Code.TheVariants.{MissingField, SuperfluousField}
 use Rattle.bib_findings.specs.declared.finding.Finding.{Finding}
 
--- appending the finding of the next item extends the findings of the first items by it
-pub mapped_next : {A : Type 0} (f : A → Finding) (items : List A) (index : ℕ) (item : A) (old mid new : List Finding)
-    (finding : Finding) → index < length items → item ≡ get_or items index item
-    → mid ≡ old ++ map f (take index items) → new ≡ mid ++ finding ∷ [] → finding ≡ f item → new ≡ old ++ map f (take (index + 1) items)
-mapped_next f items index item old mid new finding within is before more of_item =
-    more ∙ ap (λ l. l ++ finding ∷ []) before ∙ append_assoc old (map f (take index items)) (finding ∷ [])
-    ∙ ap (λ one. old ++ (map f (take index items) ++ one ∷ [])) (of_item ∙ ap f is)
-    ∙ ap (λ l. old ++ l) (sym (map_more f items index item within))
+-- the findings of the first malformed fields and of the next one
+malformed_more : (said : EntryReading) (errors : List (List ℕ × TypeError)) (index : ℕ) (item : List ℕ × TypeError)
+    → index < length errors → item ≡ get_or errors index item
+    → malformed_findings said (take (index + 1) errors)
+    ≡ malformed_findings said (take index errors) ++ malformed_findings said (item ∷ [])
+malformed_more said errors index item within is =
+    let reported : List ℕ × TypeError → Bool = λ e. is_reported_field said e.0 in
+    ap (malformed_findings said) (take_more errors index item within ∙ ap (λ e. take index errors ++ e ∷ []) (sym is))
+    ∙ ap (map (malformed_finding said)) (filter-append reported (take index errors) (item ∷ []))
+    ∙ map-append (malformed_finding said) (filter reported (take index errors)) (filter reported (item ∷ []))
+
+-- appending the finding of the next malformed field, if its error is reported, extends the findings of the first ones by it
+pub reported_next : (said : EntryReading) (errors : List (List ℕ × TypeError)) (index : ℕ) (item : List ℕ × TypeError)
+    (old mid new : List Finding) (finding : Finding) → index < length errors → item ≡ get_or errors index item
+    → mid ≡ old ++ malformed_findings said (take index errors)
+    → is_reported_field said item.0 ≡ true → new ≡ mid ++ finding ∷ [] → finding ≡ malformed_finding said item
+    → new ≡ old ++ malformed_findings said (take (index + 1) errors)
+reported_next said errors index item old mid new finding within is before reported more of_item =
+    let one : malformed_findings said (item ∷ []) ≡ malformed_finding said item ∷ [] =
+    ap (λ b. map (malformed_finding said) (cond b (item ∷ []) [])) reported in
+    more ∙ ap (λ l. l ++ finding ∷ []) before ∙ append_assoc old (malformed_findings said (take index errors)) (finding ∷ [])
+    ∙ ap (λ f. old ++ (malformed_findings said (take index errors) ++ f ∷ [])) of_item
+    ∙ ap (λ l. old ++ (malformed_findings said (take index errors) ++ l)) (sym one)
+    ∙ ap (λ l. old ++ l) (sym (malformed_more said errors index item within is))
+
+-- if the error of the next malformed field isn't reported, the findings of the first ones stay
+pub unreported_next : (said : EntryReading) (errors : List (List ℕ × TypeError)) (index : ℕ) (item : List ℕ × TypeError)
+    (old mid : List Finding) → index < length errors → item ≡ get_or errors index item
+    → mid ≡ old ++ malformed_findings said (take index errors)
+    → is_reported_field said item.0 ≡ false → mid ≡ old ++ malformed_findings said (take (index + 1) errors)
+unreported_next said errors index item old mid within is before unreported =
+    let none : malformed_findings said (item ∷ []) ≡ [] = ap (λ b. map (malformed_finding said) (cond b (item ∷ []) [])) unreported in
+    before
+    ∙ ap (λ l. old ++ l) (sym (append-nil (malformed_findings said (take index errors))))
+    ∙ ap (λ l. old ++ (malformed_findings said (take index errors) ++ l)) (sym none)
+    ∙ ap (λ l. old ++ l) (sym (malformed_more said errors index item within is))
 
 -- appending three lists in turn appends their concatenation
 added_thrice : (old one two new a b c : List Finding) → one ≡ old ++ a → two ≡ one ++ b → new ≡ two ++ c → new ≡ old ++ (a ++ (b ++ c))
@@ -43,38 +78,43 @@ added_thrice old one two new a b c first second third =
 abbrev parts : EntryReading → Names → Names → List (List ℕ × TypeError) → List Finding
 parts said missing superfluous errors =
     map (field_finding said MissingField (codes "missing")) missing
-    ++ (map (field_finding said SuperfluousField (codes "superfluous")) superfluous ++ map (malformed_finding said) errors)
+    ++ (map (field_finding said SuperfluousField (codes "superfluous")) superfluous ++ malformed_findings said errors)
 
 -- appending the findings of the three parts of a report adds the findings of the report
-pub report_added : {E U : Type 0} (said : EntryReading) (entry : Entry) (missing superfluous : Names)
+pub report_added : {E U : Type 0} (said : EntryReading) (entry : Entry) (missing : Names)
     (errors listed : List (List ℕ × TypeError)) (old one two new : List Finding) (r : Result U E)
-    → missing ≡ missing_of entry → superfluous ≡ superfluous_of entry → errors ≡ listed → AreMalformed entry listed
+    → missing ≡ missing_fields said entry → errors ≡ listed → AreMalformed entry listed
     → one ≡ old ++ map (field_finding said MissingField (codes "missing")) missing
-    → two ≡ one ++ map (field_finding said SuperfluousField (codes "superfluous")) superfluous
-    → OnOk r (new ≡ two ++ map (malformed_finding said) errors) → OnOk r (Adds (AreOfReport said entry) old new)
-report_added said entry missing superfluous errors listed old one two new (Ok u) lacks forbids same_errors malformed first second third =
-    record {
-      added = report_findings said entry listed;
-      are = record { errors = listed; malformed = malformed; are = refl };
-      new_is =
-          added_thrice old one two new _ _ _ first second third
-          ∙ ap (λ names. old ++ parts said names superfluous errors) lacks
-          ∙ ap (λ names. old ++ parts said (missing_of entry) names errors) forbids
-          ∙ ap (λ all. old ++ parts said (missing_of entry) (superfluous_of entry) all) same_errors;
-    }
-report_added said entry missing superfluous errors listed old one two new (Err x) lacks forbids same_errors malformed first second third =
-    tt
-
--- appending the findings of a report and then those of unknown fields adds the findings of the entry
-pub entry_added : {E U : Type 0} (said : EntryReading) (entry : Entry) (old mid new : List Finding) (r : Result U E)
-    → Adds (AreOfReport said entry) old mid
-    → OnOk r (Adds (AreOfUnknown said) mid new) → OnOk r (Adds (AreOfEntry said entry) old new)
-entry_added said entry old mid new (Ok u) first second = record {
-  added = first.added ++ second.added;
-  are = record { of_report = first.added; report = first.are; of_unknown = second.added; unknown = second.are; are = refl };
-  new_is = second.new_is ∙ ap (λ l. l ++ second.added) first.new_is ∙ append_assoc old first.added second.added;
+    → two ≡ one ++ map (field_finding said SuperfluousField (codes "superfluous")) (superfluous_fields entry)
+    → OnOk r (new ≡ two ++ malformed_findings said errors) → OnOk r (Adds (AreOfReport said entry) old new)
+report_added said entry missing errors listed old one two new (Ok u) lacks same_errors malformed first second third = record {
+  added = report_findings said entry listed;
+  are = record { errors = listed; malformed = malformed; are = refl };
+  new_is =
+      added_thrice old one two new _ _ _ first second third
+      ∙ ap (λ names. old ++ parts said names (superfluous_fields entry) errors) lacks
+      ∙ ap (λ all. old ++ parts said (missing_fields said entry) (superfluous_fields entry) all) same_errors;
 }
-entry_added said entry old mid new (Err x) first second = tt
+report_added said entry missing errors listed old one two new (Err x) lacks same_errors malformed first second third = tt
+
+-- appending the finding of a type, those of a report and those of unknown fields in turn adds the findings of the entry
+pub entry_added : {E U : Type 0} (said : EntryReading) (entry : Entry) (old one two new : List Finding) (r : Result U E)
+    → Adds (AreOfType said) old one → Adds (AreOfReport said entry) one two
+    → OnOk r (Adds (AreOfUnknown said) two new) → OnOk r (Adds (AreOfEntry said entry) old new)
+entry_added said entry old one two new (Ok u) first second third = record {
+  added = first.added ++ (second.added ++ third.added);
+  are = record {
+    of_type = first.added;
+    type = first.are;
+    of_report = second.added;
+    report = second.are;
+    of_unknown = third.added;
+    unknown = third.are;
+    are = refl;
+  };
+  new_is = added_thrice old one two new first.added second.added third.added first.new_is second.new_is third.new_is;
+}
+entry_added said entry old one two new (Err x) first second third = tt
 
 -- the findings of entries, followed by those of one more entry, are the findings of all of them
 each_more : (Are : EntryReading → Entry → List Finding → Type 0) (said : List EntryReading) (indices : List ℕ)
@@ -137,6 +177,20 @@ pub added_in_order : (none one two three new a b c d : List Finding) → none �
 added_in_order none one two three new a b c d empty first second third fourth =
     let start : one ≡ a = first ∙ ap (λ l. l ++ a) empty in
     added_thrice one two three new b c d second third fourth ∙ ap (λ l. l ++ (b ++ (c ++ d))) start
+
+-- appending the findings of references, of likely duplicates and of foreign fields in turn to an empty list makes those between entries
+pub between_are : (names : ByText ℕ) (said : List EntryReading) (origins : List ℕ) (own : List Entry) (none one two new : List Finding)
+    → none ≡ [] → Adds (AreOfEach (AreReferences names) said origins own) none one
+    → two ≡ one ++ duplicates (entries_at said origins) → new ≡ two ++ foreign_findings (entries_at said origins)
+    → AreBetween names said origins own new
+between_are names said origins own none one two new empty references alike foreign = record {
+  of_keys = references.added;
+  keys = references.are;
+  are =
+      added_thrice none one two new references.added (duplicates (entries_at said origins)) (foreign_findings (entries_at said origins))
+      references.new_is alike foreign
+      ∙ ap (λ l. l ++ (references.added ++ (duplicates (entries_at said origins) ++ foreign_findings (entries_at said origins)))) empty;
+}
 
 -- the sorted findings of all parts are the findings of the recovered file
 pub sorted_are : {E : Type 0} (skipped : List SkippedBlock) (errors : List ParseError) (said : List EntryReading)

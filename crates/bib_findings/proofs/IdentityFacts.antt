@@ -1,8 +1,6 @@
--- Removing the prefix of a DOI.
-use Rattle.std.proofs.Common.{◌≡◌, ℕ, Bool, true, false, List, [], ◌∷◌, ◌+◌, ◌<◌, length, get_or, drop, map, Option, Some, None, refl, sym, ap, ◌∙◌, subst, arith, cond, suc, nat_eq}
-use Rattle.std.specs.Prelude.{reverse, option_map}
-use mathlib.Core.List.{reverse_aux}
-use Rattle.std.specs.List.{find, starts_with}
+-- Removing the prefix of a DOI, and comparing fields.
+use Rattle.std.proofs.Common.{◌≡◌, ℕ, Bool, true, false, List, ◌∷◌, ◌+◌, ◌<◌, ◌||◌, length, get_or, drop, map, None, sym, ap, ◌∙◌, subst, arith, cond, suc, nat_eq}
+use Rattle.std.specs.List.{list_any, starts_with}
 use Rattle.std.specs.Str.Pattern.{FindsTextPrefix, StripsPrefix}
 use Rattle.std.specs.Str.{IsCharBoundary}
 use Rattle.std.proofs.Math.Seq.{drop-cons}
@@ -10,7 +8,7 @@ use Rattle.std.proofs.lemmas.Str.Pattern.{starts_text}
 use denote.Ref.{Bor}
 use Rattle.bib_findings.specs.Identities.{without_prefixes}
 
--- the texts of borrowed prefixes
+-- borrowed texts, such as prefixes and the names of fields
 abbrev pub spelled : List (Bor (List ℕ)) → List (List ℕ)
 spelled = map (λ p. p.now)
 
@@ -48,3 +46,18 @@ prefix_gone text prefixes index prefix within before lacks =
     let begins : false ≡ starts_with nat_eq text p = starts_text false p text lacks in
     before ∙ ap (without_prefixes text) (from_index prefixes index prefix within)
     ∙ sym (ap (λ b. cond b (drop (length p) text) (without_prefixes text (spelled (drop (index + 1) prefixes)))) begins)
+
+-- if the text at `index` doesn't pass, it depends on those after it whether one passes
+pub any_gone : (test : List ℕ → Bool) (texts : List (Bor (List ℕ))) (index : ℕ) (text : Bor (List ℕ)) (whole : Bool)
+    → index < length texts → whole ≡ list_any test (spelled (drop index texts)) → test (get_or texts index text).now ≡ false
+    → whole ≡ list_any test (spelled (drop (index + 1) texts))
+any_gone test texts index text whole within so_far fails =
+    so_far ∙ ap (list_any test) (from_index texts index text within)
+    ∙ ap (λ b. b || list_any test (spelled (drop (index + 1) texts))) fails
+
+-- if the text at `index` passes, one passes
+pub any_here : (test : List ℕ → Bool) (texts : List (Bor (List ℕ))) (index : ℕ) (text : Bor (List ℕ)) (whole : Bool)
+    → index < length texts → whole ≡ list_any test (spelled (drop index texts)) → test (get_or texts index text).now ≡ true → whole ≡ true
+any_here test texts index text whole within so_far passes =
+    so_far ∙ ap (list_any test) (from_index texts index text within)
+    ∙ ap (λ b. b || list_any test (spelled (drop (index + 1) texts))) passes

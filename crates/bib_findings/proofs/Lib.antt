@@ -1,10 +1,16 @@
 mod AddingFacts
+mod DemandFacts
+mod CountedFacts
+mod CountedIndexFacts
+mod ForeignFacts
 mod IdentityFacts
 mod ListFacts
 mod MarkFacts
 mod NameFacts
+mod NearestFacts
 mod NotedFacts
 mod SeenFacts
 mod RecoveredFacts
 mod SharedFacts
+mod TypeFacts
 mod WordFacts

@@ -1,17 +1,19 @@
 -- The entries with a mark that occurs more than once have the findings of all entries.
-use Rattle.std.proofs.Common.{◌≡◌, ℕ, Bool, true, false, List, [], ◌∷◌, ◌++◌, ◌+◌, ◌<◌, ◌≤◌, ◌||◌, Some, None, refl, sym, ap, ◌∙◌, append_assoc, append-nil, subst, arith, cond, nat_eq}
+use Rattle.std.proofs.Common.{◌≡◌, ℕ, Bool, true, false, not, List, [], ◌∷◌, ◌++◌, ◌+◌, ◌<◌, ◌≤◌, ◌||◌, refl, sym, ap, ◌∙◌, append_assoc, append-nil, subst, arith, cond, nat_eq}
 use mathlib.Core.Logic.{⊎_elim}
-use Rattle.std.specs.Prelude.{count_by, find}
-use Rattle.std.specs.List.{All, filter, list_any}
+use Rattle.std.specs.Prelude.{count_by, find, slice_get, take}
+use Rattle.std.specs.List.{All, cons_option, filter, filter_map, list_any}
 use Rattle.std.specs.Option.{option_map_or}
 use Rattle.std.proofs.lemmas.Bool.Decides.{nat_tests}
 use Rattle.std.proofs.lemmas.Grind.{flat_map-append}
-use Rattle.std.proofs.lemmas.List.Elements.{All-cons, All-head, All-nil, All-tail}
+use Rattle.std.proofs.lemmas.List.Elements.{All-cons, All-head, All-nil, All-tail, All-weaker, filter-append}
 use Rattle.std.proofs.lemmas.List.Sums.{sum_by-append, sum_by-cons}
+use Rattle.bib_tables.specs.Requirements.{Names}
 use Rattle.bib_syntax.specs.Reading.{EntryReading}
-use Rattle.bib_findings.specs.Duplicates.{duplicate_after, duplicate_finding, duplicates, duplicates_after}
-use Rattle.bib_findings.specs.Identities.{has_any, identities}
-use Rattle.bib_findings.specs.Marks.{has_repeated, is_repeated, listed, listed_all, mark, marks_of, may_share}
+use Rattle.bib_findings.specs.Duplicates.{duplicate_after, duplicate_finding, duplicates, duplicates_after, most_compared, same_by}
+use Rattle.bib_findings.specs.Identities.{are_told_apart, has_identity, identities}
+use Rattle.bib_findings.specs.Marks.{has_repeated, is_repeated, listed, listed_all, marks_of, may_share}
+use Rattle.bib_findings.specs.declared.finding.Finding.{Finding}
 use Rattle.std.proofs.lemmas.Bool.{or_cases}
 use Rattle.bib_findings.proofs.SharedFacts.{numbers_alike, or_left, or_right, HasMark, share_mark}
 
@@ -70,7 +72,8 @@ twice one before between rest first second here there =
 -- if two entries share an identity, both have a mark that occurs more than once
 pub both_kept : (before between rest : List EntryReading) (first second : EntryReading) (all : List ℕ)
     → all ≡ listed_all (before ++ first ∷ (between ++ second ∷ rest))
-    → has_any (identities second) first ≡ true → (has_repeated all (marks_of first) ≡ true) × (has_repeated all (marks_of second) ≡ true)
+    → list_any (λ id. has_identity id first) (identities second) ≡ true
+    → (has_repeated all (marks_of first) ≡ true) × (has_repeated all (marks_of second) ≡ true)
 both_kept before between rest first second all is shares =
     let s = share_mark first second shares in
     let repeated : is_repeated all s.mark ≡ true =
@@ -79,10 +82,14 @@ both_kept before between rest first second all is shares =
       any_passes (is_repeated all) s.mark (listed (marks_of second)) s.of_other repeated,
     )
 
+-- whether an entry has one of some identities
+abbrev HasOneOf : Names → EntryReading → Type 0
+HasOneOf ids said = list_any (λ id. has_identity id said) ids ≡ true
+
 -- whether both entries have a mark that occurs more than once, if they share an identity
 abbrev Covers : List ℕ → EntryReading → EntryReading → Type 0
 Covers all said one =
-    has_any (identities said) one ≡ true
+    HasOneOf (identities said) one
     → (has_repeated all (marks_of one) ≡ true) × (has_repeated all (marks_of said) ≡ true)
 
 abbrev AreCovered : List ℕ → List EntryReading → EntryReading → Type 0
@@ -96,53 +103,72 @@ covered before (one ∷ earlier) rest said all is =
     (covered (before ++ one ∷ []) earlier rest said all
     (is ∙ ap listed_all (sym (append_assoc before (one ∷ []) (earlier ++ said ∷ rest)))))
 
--- the first item that passes a test is the same among the kept items, if all items that pass are kept
-find_kept : (test keep : EntryReading → Bool) (items : List EntryReading)
-    → All (λ one. test one ≡ true → keep one ≡ true) items → find test (filter keep items) ≡ find test items
-find_kept test keep [] kept = refl
-find_kept test keep (item ∷ items) kept =
-    by (find_kept test keep items (All-tail (λ one. test one ≡ true → keep one ≡ true) item items kept)) (keep item) (test item) refl refl
+-- the items that pass a test are the same among the kept items, if all items that pass are kept
+filter_kept : (test keep : EntryReading → Bool) (items : List EntryReading)
+    → All (λ one. test one ≡ true → keep one ≡ true) items → filter test (filter keep items) ≡ filter test items
+filter_kept test keep [] kept = refl
+filter_kept test keep (item ∷ items) kept =
+    by (filter_kept test keep items (All-tail (λ one. test one ≡ true → keep one ≡ true) item items kept)) (keep item) (test item) refl refl
   where
-    by : find test (filter keep items) ≡ find test items → (k t : Bool) → keep item ≡ k → test item ≡ t
-        → find test (cond (keep item) (item ∷ filter keep items) (filter keep items))
-        ≡ cond (test item) (Some item) (find test items)
+    by : filter test (filter keep items) ≡ filter test items → (k t : Bool) → keep item ≡ k → test item ≡ t
+        → filter test (cond (keep item) (item ∷ filter keep items) (filter keep items))
+        ≡ cond (test item) (item ∷ filter test items) (filter test items)
     by rest true t is passes =
-        ap (λ b. find test (cond b (item ∷ filter keep items) (filter keep items))) is
-        ∙ ap (cond (test item) (Some item)) rest
+        ap (λ b. filter test (cond b (item ∷ filter keep items) (filter keep items))) is
+        ∙ ap (λ l. cond (test item) (item ∷ l) l) rest
     by rest false true is passes =
         absurd
         (let clash : false ≡ true =
         sym is ∙ All-head (λ one. test one ≡ true → keep one ≡ true) item items kept passes in
         cc)
     by rest false false is fails =
-        ap (λ b. find test (cond b (item ∷ filter keep items) (filter keep items))) is ∙ rest
-        ∙ ap (λ b. cond b (Some item) (find test items)) (sym fails)
+        ap (λ b. filter test (cond b (item ∷ filter keep items) (filter keep items))) is ∙ rest
+        ∙ ap (λ b. cond b (item ∷ filter test items) (filter test items)) (sym fails)
 
-find_none : (test : EntryReading → Bool) (items : List EntryReading) → All (λ one. test one ≡ true → true ≡ false) items
-    → find test items ≡ None
-find_none test [] none = refl
-find_none test (item ∷ items) none =
-    by (find_none test items (All-tail (λ one. test one ≡ true → true ≡ false) item items none)) (test item) refl
+-- if no item passes a test, none is left
+filter_none : (test : EntryReading → Bool) (items : List EntryReading) → All (λ one. test one ≡ true → true ≡ false) items
+    → filter test items ≡ []
+filter_none test [] none = refl
+filter_none test (item ∷ items) none =
+    by (filter_none test items (All-tail (λ one. test one ≡ true → true ≡ false) item items none)) (test item) refl
   where
-    by : find test items ≡ None → (t : Bool) → test item ≡ t → cond (test item) (Some item) (find test items) ≡ None
+    by : filter test items ≡ [] → (t : Bool) → test item ≡ t → cond (test item) (item ∷ filter test items) (filter test items) ≡ []
     by rest true passes = absurd (let clash : true ≡ false = All-head (λ one. test one ≡ true → true ≡ false) item items none passes in cc)
-    by rest false fails = ap (λ b. cond b (Some item) (find test items)) fails ∙ rest
+    by rest false fails = ap (λ b. cond b (item ∷ filter test items) (filter test items)) fails ∙ rest
 
-weaken : {P Q : EntryReading → Type 0} → ((one : EntryReading) → P one → Q one) → (items : List EntryReading) → All P items → All Q items
-weaken {P} {Q} f [] all = All-nil Q
-weaken {P} {Q} f (item ∷ items) all =
-    All-cons Q item items (f item (All-head P item items all)) (weaken f items (All-tail P item items all))
+-- what follows from having one of some identities follows from having the first, and from having one of the others
+of_first : (P : EntryReading → Type 0) (id : List ℕ) (ids : Names) (items : List EntryReading)
+    → All (λ one. HasOneOf (id ∷ ids) one → P one) items → All (λ one. has_identity id one ≡ true → P one) items
+of_first P id ids items all =
+    All-weaker (λ one. HasOneOf (id ∷ ids) one → P one) (λ one. has_identity id one ≡ true → P one)
+    (λ one follows has. follows (or_left (has_identity id one) (list_any (λ i. has_identity i one) ids) has)) items all
 
-filter_append : (keep : EntryReading → Bool) (items more : List EntryReading)
-    → filter keep (items ++ more) ≡ filter keep items ++ filter keep more
-filter_append keep [] more = refl
-filter_append keep (item ∷ items) more =
-    ap (λ l. cond (keep item) (item ∷ l) l) (filter_append keep items more)
-    ∙ elim (keep item) as
-    (λ b.
-    cond b (item ∷ (filter keep items ++ filter keep more)) (filter keep items ++ filter keep more)
-    ≡ cond b (item ∷ filter keep items) (filter keep items) ++ filter keep more)
-    [ true ↦ refl | false ↦ refl ]
+-- the same for the others
+of_others : (P : EntryReading → Type 0) (id : List ℕ) (ids : Names) (items : List EntryReading)
+    → All (λ one. HasOneOf (id ∷ ids) one → P one) items → All (λ one. HasOneOf ids one → P one) items
+of_others P id ids items all =
+    All-weaker (λ one. HasOneOf (id ∷ ids) one → P one) (λ one. HasOneOf ids one → P one)
+    (λ one follows has. follows (or_right (has_identity id one) (list_any (λ i. has_identity i one) ids) has)) items all
+
+-- if all entries with one of these identities are kept, the entries that are found by the identities are the same among the kept ones
+same_kept : (said : EntryReading) (keep : EntryReading → Bool) (ids : Names) (earlier : List EntryReading)
+    → All (λ one. HasOneOf ids one → keep one ≡ true) earlier
+    → filter_map (same_by (filter keep earlier) said) ids ≡ filter_map (same_by earlier said) ids
+same_kept said keep [] earlier kept = refl
+same_kept said keep (id ∷ ids) earlier kept =
+    ap (λ l. cons_option (find (λ other. not (are_told_apart said other)) (take most_compared l))
+    (filter_map (same_by (filter keep earlier) said) ids))
+    (filter_kept (has_identity id) keep earlier (of_first (λ one. keep one ≡ true) id ids earlier kept))
+    ∙ ap (cons_option (same_by earlier said id)) (same_kept said keep ids earlier (of_others (λ one. keep one ≡ true) id ids earlier kept))
+
+-- if no entry has one of these identities, none is found by them
+same_none : (said : EntryReading) (ids : Names) (earlier : List EntryReading)
+    → All (λ one. HasOneOf ids one → true ≡ false) earlier → filter_map (same_by earlier said) ids ≡ []
+same_none said [] earlier none = refl
+same_none said (id ∷ ids) earlier none =
+    ap (λ l. cons_option (find (λ other. not (are_told_apart said other)) (take most_compared l)) (filter_map (same_by earlier said) ids))
+    (filter_none (has_identity id) earlier (of_first (λ one. true ≡ false) id ids earlier none))
+    ∙ same_none said ids earlier (of_others (λ one. true ≡ false) id ids earlier none)
 
 -- the findings of the entries with a mark that occurs more than once are the findings of all entries
 kept_duplicates : (all : List ℕ) (earlier rest : List EntryReading) → all ≡ listed_all (earlier ++ rest)
@@ -154,55 +180,39 @@ kept_duplicates all earlier (said ∷ rest) is =
     (kept_duplicates all (earlier ++ said ∷ []) rest
     (is ∙ ap listed_all (sym (append_assoc earlier (said ∷ []) rest)))) (has_repeated all (marks_of said)) refl
   where
+    keep : EntryReading → Bool
+    keep one = has_repeated all (marks_of one)
+
     cover : AreCovered all earlier said
     cover = covered [] earlier rest said all is
 
-    by : duplicates_after (filter (λ one. has_repeated all (marks_of one)) (earlier ++ said ∷ []))
-        (filter (λ one. has_repeated all (marks_of one)) rest) ≡ duplicates_after (earlier ++ said ∷ []) rest
-        → (k : Bool) → has_repeated all (marks_of said) ≡ k
-        → duplicates_after (filter (λ one. has_repeated all (marks_of one)) earlier)
-        (cond (has_repeated all (marks_of said)) (said ∷ filter (λ one. has_repeated all (marks_of one)) rest)
-        (filter (λ one. has_repeated all (marks_of one)) rest))
+    finding : List EntryReading → List Finding
+    finding found = option_map_or (λ first. duplicate_finding said first ∷ []) (slice_get found 0) []
+
+    by : duplicates_after (filter keep (earlier ++ said ∷ [])) (filter keep rest) ≡ duplicates_after (earlier ++ said ∷ []) rest
+        → (k : Bool) → keep said ≡ k
+        → duplicates_after (filter keep earlier) (cond (keep said) (said ∷ filter keep rest) (filter keep rest))
         ≡ duplicate_after earlier said ++ duplicates_after (earlier ++ said ∷ []) rest
     by next true kept =
-        ap
-        (λ b.
-        duplicates_after (filter (λ one. has_repeated all (marks_of one)) earlier)
-        (cond b (said ∷ filter (λ one. has_repeated all (marks_of one)) rest)
-        (filter (λ one. has_repeated all (marks_of one)) rest))) kept
-        ∙ ap
-        (λ o.
-        option_map_or (λ first. duplicate_finding said first ∷ []) o []
-        ++ duplicates_after (filter (λ one. has_repeated all (marks_of one)) earlier ++ said ∷ [])
-        (filter (λ one. has_repeated all (marks_of one)) rest))
-        (find_kept (has_any (identities said)) (λ one. has_repeated all (marks_of one)) earlier
-        (weaken {P = Covers all said}
-        {Q = λ one. has_any (identities said) one ≡ true → has_repeated all (marks_of one) ≡ true}
+        ap (λ b. duplicates_after (filter keep earlier) (cond b (said ∷ filter keep rest) (filter keep rest))) kept
+        ∙ ap (λ l. finding l ++ duplicates_after (filter keep earlier ++ said ∷ []) (filter keep rest))
+        (same_kept said keep (identities said) earlier
+        (All-weaker (Covers all said) (λ one. HasOneOf (identities said) one → keep one ≡ true)
         (λ one c shares. (c shares).0) earlier cover))
-        ∙ ap
-        (λ l.
-        duplicate_after earlier said
-        ++ duplicates_after l (filter (λ one. has_repeated all (marks_of one)) rest))
-        (sym
-        (filter_append (λ one. has_repeated all (marks_of one)) earlier (said ∷ [])
-        ∙ ap (λ b. filter (λ one. has_repeated all (marks_of one)) earlier ++ cond b (said ∷ []) []) kept))
+        ∙ ap (λ l. duplicate_after earlier said ++ duplicates_after l (filter keep rest))
+        (sym (filter-append keep earlier (said ∷ []) ∙ ap (λ b. filter keep earlier ++ cond b (said ∷ []) []) kept))
         ∙ ap (λ l. duplicate_after earlier said ++ l) next
     by next false left =
-        ap
-        (λ b.
-        duplicates_after (filter (λ one. has_repeated all (marks_of one)) earlier)
-        (cond b (said ∷ filter (λ one. has_repeated all (marks_of one)) rest)
-        (filter (λ one. has_repeated all (marks_of one)) rest))) left
-        ∙ ap (λ l. duplicates_after l (filter (λ one. has_repeated all (marks_of one)) rest))
+        ap (λ b. duplicates_after (filter keep earlier) (cond b (said ∷ filter keep rest) (filter keep rest))) left
+        ∙ ap (λ l. duplicates_after l (filter keep rest))
         (sym
-        (filter_append (λ one. has_repeated all (marks_of one)) earlier (said ∷ [])
-        ∙ ap (λ b. filter (λ one. has_repeated all (marks_of one)) earlier ++ cond b (said ∷ []) []) left
-        ∙ append-nil (filter (λ one. has_repeated all (marks_of one)) earlier)))
+        (filter-append keep earlier (said ∷ []) ∙ ap (λ b. filter keep earlier ++ cond b (said ∷ []) []) left
+        ∙ append-nil (filter keep earlier)))
         ∙ next
-        ∙ ap (λ o. option_map_or (λ first. duplicate_finding said first ∷ []) o [] ++ duplicates_after (earlier ++ said ∷ []) rest)
+        ∙ ap (λ l. finding l ++ duplicates_after (earlier ++ said ∷ []) rest)
         (sym
-        (find_none (has_any (identities said)) earlier
-        (weaken {P = Covers all said} {Q = λ one. has_any (identities said) one ≡ true → true ≡ false}
+        (same_none said (identities said) earlier
+        (All-weaker (Covers all said) (λ one. HasOneOf (identities said) one → true ≡ false)
         (λ one c shares. sym (c shares).1 ∙ left) earlier cover)))
 
 -- the findings of the entries that may share an identity are those of all entries

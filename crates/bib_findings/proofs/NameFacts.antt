@@ -1,92 +1,44 @@
--- The nearest of the known names, and the findings of unknown fields.
-use Rattle.std.proofs.Common.{◌≡◌, ℕ, Bool, true, false, not, List, [], ◌∷◌, ◌++◌, ◌+◌, ◌<◌, ◌≤◌, length, get_or, take, map, Option, Some, None, refl, sym, ap, ◌∙◌, append_assoc, append-nil, subst, arith, cond}
-use Rattle.std.specs.List.{AllZip}
-use Rattle.std.proofs.lemmas.List.{map_more}
-use Rattle.std.proofs.lemmas.List.Elements.{All-nil, All-cons, All-append, All-push, All-same, All-weaker, filter-append}
+-- The findings of unknown fields, and the cache of field names.
+use Rattle.std.proofs.Common.{◌≡◌, ℕ, Bool, true, false, not, ◌&&◌, List, [], ◌∷◌, ◌++◌, ◌+◌, ◌<◌, ◌≤◌, length, get_or, take, map, Option, Some, None, refl, sym, ap, ◌∙◌, append_assoc, append-nil, subst, arith, cond}
+use Rattle.std.specs.Borrow.{Bor}
+use Rattle.std.specs.List.{AllZip, after_first, before_first, position_or_len}
+use Rattle.std.proofs.lemmas.List.{drop_all, map_more}
+use Rattle.std.proofs.lemmas.List.Elements.{filter-append}
 use Rattle.std.proofs.lemmas.Slice.Eq.{bytes_eq-Decides}
 use Rattle.std.specs.Map.{update}
-use Rattle.std.specs.Prelude.{bytes_eq}
-use Rattle.bib_tables.specs.Requirements.{Names}
+use Rattle.std.specs.Prelude.{MatchOption, ◌==◌, bytes_eq}
+use Rattle.bib_text.specs.Characters as char
 use Rattle.bib_syntax.specs.Reading.{FieldReading}
 use Rattle.bib_syntax.specs.Views.{field_of}
 use Rattle.bib_syntax.specs.declared.raw.Pair.{Pair}
 use Rattle.bib_findings.specs.Adding.{Adds}
+use Rattle.bib_findings.specs.Foreign.{is_foreign}
 use Rattle.bib_findings.specs.Met.{AreFieldNames, IsFieldName}
-use Rattle.bib_findings.specs.Names.{AreUnknownOf, IsNearest, IsOfUnknown, distance, is_known_field, most_edits, unknown_among}
+use Rattle.bib_findings.specs.Names.{AreUnknownOf, IsOfUnknown, annotated_name, is_annotation_mark, is_known_field, is_unknown_field, unknown_among}
 use Rattle.bib_findings.specs.declared.names.FieldName.{FieldName}
 use Rattle.bib_findings.specs.declared.finding.Finding.{Finding}
 
--- the distance of the nearest name so far, or the least distance that is too great if there is none
-abbrev pub least_edits : List ℕ → Option (List ℕ) → ℕ
-least_edits name None = most_edits + 1
-least_edits name (Some known) = distance name known
-
--- a name that is nearer than the nearest one so far is the nearest one
-pub nearer_next : (seen : Names) (name known : List ℕ) (nearest : Option (List ℕ)) (least : ℕ)
-    → IsNearest seen name nearest → least ≡ least_edits name nearest
-    → distance name known < least → IsNearest (seen ++ known ∷ []) name (Some known)
-nearer_next seen name known None least none is nearer = record {
-  before = seen;
-  after = [];
-  is_there = refl;
-  near = omega arith;
-  farther =
-      All-weaker (λ other. most_edits < distance name other) (λ other. distance name known < distance name other)
-      (λ other far. omega arith) seen none;
-  as_far = All-nil _;
-}
-nearer_next seen name known (Some best) least first is nearer =
-    let P : List ℕ → Type 0 = λ other. distance name known < distance name other in
-    let here : distance name known < distance name best = omega arith in
-    record {
-      before = seen;
-      after = [];
-      is_there = refl;
-      near = omega (arith, first.near);
-      farther = All-same P seen (first.before ++ best ∷ first.after) first.is_there
-          (All-append P first.before (best ∷ first.after)
-          (All-weaker (λ other. distance name best < distance name other) P (λ other far. omega arith) first.before first.farther)
-          (All-cons P best first.after here
-          (All-weaker (λ other. distance name best ≤ distance name other) P (λ other far. omega arith) first.after
-          first.as_far)));
-      as_far = All-nil _;
-    }
-
--- the nearest name so far stays the nearest one if the next name isn't nearer
-pub nearest_stays : (seen : Names) (name known : List ℕ) (nearest : Option (List ℕ)) (least : ℕ)
-    → IsNearest seen name nearest → least ≡ least_edits name nearest
-    → least ≤ distance name known → IsNearest (seen ++ known ∷ []) name nearest
-nearest_stays seen name known None least none is far = All-push (λ other. most_edits < distance name other) seen known none (omega arith)
-nearest_stays seen name known (Some best) least first is far = record {
-  before = first.before;
-  after = first.after ++ known ∷ [];
-  is_there = ap (λ l. l ++ known ∷ []) first.is_there ∙ append_assoc first.before (best ∷ first.after) (known ∷ []);
-  near = first.near;
-  farther = first.farther;
-  as_far = All-push (λ other. distance name best ≤ distance name other) first.after known first.as_far (omega arith);
-}
-
--- the list of a single field contains an unknown field exactly if BibLaTeX doesn't know its name
-of_one : (field : FieldReading) (known : Bool) → is_known_field field.name.text ≡ known
-    → unknown_among (field ∷ []) ≡ cond (not known) (field ∷ []) []
-of_one field known is = ap (λ known. cond (not known) (field ∷ []) []) is
+-- the list of a single field contains an unknown field exactly if its name is unknown
+of_one : (field : FieldReading) (unknown : Bool) → is_unknown_field field.name.text ≡ unknown
+    → unknown_among (field ∷ []) ≡ cond unknown (field ∷ []) []
+of_one field unknown is = ap (λ unknown. cond unknown (field ∷ []) []) is
 
 -- appending the finding of an unknown field adds the findings of this field
 pub unknown_alone : (key : List ℕ) (field : FieldReading) (old new : List Finding) (finding : Finding)
-    → is_known_field field.name.text ≡ false → new ≡ old ++ finding ∷ [] → IsOfUnknown key field finding
+    → is_unknown_field field.name.text ≡ true → new ≡ old ++ finding ∷ [] → IsOfUnknown key field finding
     → Adds (AreUnknownOf key (field ∷ [])) old new
 unknown_alone key field old new finding unknown more found = record {
   added = finding ∷ [];
-  are = subst (λ l. AllZip (IsOfUnknown key) l (finding ∷ [])) (sym (of_one field false unknown)) (found, tt);
+  are = subst (λ l. AllZip (IsOfUnknown key) l (finding ∷ [])) (sym (of_one field true unknown)) (found, tt);
   new_is = more;
 }
 
 -- a known field adds no finding
-pub known_alone : (key : List ℕ) (field : FieldReading) (old : List Finding) → is_known_field field.name.text ≡ true
+pub known_alone : (key : List ℕ) (field : FieldReading) (old : List Finding) → is_unknown_field field.name.text ≡ false
     → Adds (AreUnknownOf key (field ∷ [])) old old
 known_alone key field old known = record {
   added = [];
-  are = subst (λ l. AllZip (IsOfUnknown key) l []) (sym (of_one field true known)) tt;
+  are = subst (λ l. AllZip (IsOfUnknown key) l []) (sym (of_one field false known)) tt;
   new_is = sym (append-nil old);
 }
 
@@ -107,7 +59,7 @@ fields_next key fields index field old mid new within is before more =
     let all : map field_of (take (index + 1) fields) ≡ so_far ++ field_of field ∷ [] =
     map_more field_of fields index field within ∙ ap (λ one. so_far ++ field_of one ∷ []) (sym is) in
     let cut : unknown_among (map field_of (take (index + 1) fields)) ≡ unknown_among so_far ++ unknown_among (field_of field ∷ []) =
-    ap unknown_among all ∙ filter-append (λ f. not (is_known_field f.name.text)) so_far (field_of field ∷ []) in
+    ap unknown_among all ∙ filter-append (λ f. is_unknown_field f.name.text) so_far (field_of field ∷ []) in
     record {
       added = before.added ++ more.added;
       are = subst (λ l. AllZip (IsOfUnknown key) l (before.added ++ more.added)) (sym cut)
@@ -137,3 +89,48 @@ names_more old new name is before this updates other found_is found =
 -- an empty cache is correct
 pub names_none : (noted : List ℕ → Option FieldName) → ((name : List ℕ) → noted name ≡ None) → AreFieldNames noted
 names_none noted none name is found = absurd (let clash : None ≡ Some is = sym (none name) ∙ found in cc)
+
+-- a name that is neither known nor used by other programs is unknown
+pub unknown_by : (name : List ℕ) → is_known_field name ≡ false → is_foreign name ≡ false → is_unknown_field name ≡ true
+unknown_by name known foreign = ap (λ b. not b && not (is_foreign name)) known ∙ ap not foreign
+
+-- the part of a name before a plus sign is the name without its mark if an annotation mark follows
+pub annotated_with : (name field mark : List ℕ) → field ≡ before_first (λ b. b == char.plus) name
+    → mark ≡ after_first (λ b. b == char.plus) name → is_annotation_mark mark ≡ true → field ≡ annotated_name name
+annotated_with name field mark field_is mark_is marks =
+    field_is
+    ∙ sym
+    (ap (λ b. cond b (before_first (λ b. b == char.plus) name) name) (ap is_annotation_mark (sym mark_is) ∙ marks))
+
+-- a name is unchanged if no annotation mark follows its first plus sign
+pub annotated_without : (name mark : List ℕ) → mark ≡ after_first (λ b. b == char.plus) name → is_annotation_mark mark ≡ false
+    → name ≡ annotated_name name
+annotated_without name mark mark_is none =
+    sym (ap (λ b. cond b (before_first (λ b. b == char.plus) name) name) (ap is_annotation_mark (sym mark_is) ∙ none))
+
+-- a name without a plus sign is unchanged
+pub annotated_none : (name : List ℕ) → position_or_len (λ b. b == char.plus) name ≡ length name → name ≡ annotated_name name
+annotated_none name none =
+    annotated_without name []
+    (sym (drop_all (position_or_len (λ b. b == char.plus) name + 1) name (let past : length name ≤ _ = omega (arith, none) in past)))
+    refl
+
+-- what `split_once` says of a name at its first plus sign
+abbrev SplitAtPlus : List ℕ → Option (Bor (List ℕ) × Bor (List ℕ)) → Type 0
+SplitAtPlus name r =
+    MatchOption r (position_or_len (λ b. b == char.plus) name ≡ length name)
+    (λ x.
+    (position_or_len (λ b. b == char.plus) name < length name) × (x.0.now ≡ before_first (λ b. b == char.plus) name)
+    × (x.1.now ≡ after_first (λ b. b == char.plus) name))
+
+-- `split_once` of std cuts a name at its first plus sign
+pub split_here : (name : List ℕ) (r : Option (Bor (List ℕ) × Bor (List ℕ))) (x : Bor (List ℕ) × Bor (List ℕ)) → r ≡ Some x
+    → SplitAtPlus name r
+    → (position_or_len (λ b. b == char.plus) name < length name) × (x.0.now ≡ before_first (λ b. b == char.plus) name)
+    × (x.1.now ≡ after_first (λ b. b == char.plus) name)
+split_here name r x is says = subst (SplitAtPlus name) is says
+
+-- `split_once` of std cuts no name without a plus sign
+pub split_not : (name : List ℕ) (r : Option (Bor (List ℕ) × Bor (List ℕ))) → r ≡ None → SplitAtPlus name r
+    → position_or_len (λ b. b == char.plus) name ≡ length name
+split_not name r is says = subst (SplitAtPlus name) is says

@@ -1,274 +1,30 @@
--- The identities of the entries so far, and the first entry that has one of some identities.
-use Rattle.std.proofs.Common.{◌≡◌, ℕ, Bool, true, false, List, [], ◌∷◌, ◌++◌, ◌+◌, ◌<◌, ◌≤◌, ◌||◌, length, get_or, take, map, suc, zero, Option, Some, None, Result, Ok, Err, OnOk, refl, sym, ap, ◌∙◌, append_assoc, append-nil, subst, arith, cond}
-use Rattle.std.specs.Prelude.{IfSome, String, bytes_eq, find, is_some, min, slice_get}
+-- The identities of the entries so far, with the first entries that have them, and the findings of likely duplicates.
+use Rattle.std.proofs.Common.{◌≡◌, ℕ, Bool, true, false, not, List, [], ◌∷◌, ◌++◌, ◌+◌, ◌<◌, ◌==◌, ◌||◌, ◌≤◌, length, get_or, take, drop, map, suc, min, codes, Option, Some, None, Result, Ok, Err, OnOk, refl, sym, ap, ◌∙◌, append_assoc, append-nil, subst, arith, cond}
+use Rattle.std.specs.Prelude.{IfSome, String, bytes_eq, find, is_some, nat_lt, option_and_then, slice_get}
 use Rattle.std.specs.Global.{Global}
-use Rattle.std.proofs.lemmas.List.Elements.{All-get_or, All-head, All-tail}
 use Rattle.std.specs.Bool.{one_answer}
+use Rattle.std.specs.Option.{UnwrapsOrElse}
+use Rattle.std.specs.Vec.{vec_len}
 use Rattle.std.specs.Map.{update}
+use Rattle.std.specs.List.{All, cons_option, filter, filter_map, list_any}
 use Rattle.std.specs.String.{string_bytes}
-use Rattle.std.proofs.lemmas.List.{map_more, map-append, take_more}
+use Rattle.std.specs.declared.vec.Vec.{Vec}
+use Rattle.std.proofs.Math.Seq.{drop-cons}
+use Rattle.std.proofs.lemmas.Bool.Decides.{nat_tests}
+use Rattle.std.proofs.lemmas.List.{length-append, length-take, take-append-le, take_all, take_more}
+use Rattle.std.proofs.lemmas.List.Elements.{All-get_or, All-head, All-push, All-tail, filter-append, filter_map-append}
 use Rattle.std.proofs.lemmas.List.Folds.{list_any-append}
 use Rattle.std.proofs.lemmas.Slice.Eq.{bytes_eq-Decides}
-use Rattle.std.specs.List.{All, cons_option, list_any, position_from}
-use Rattle.std.specs.Option.{option_map_or, option_or}
 use Rattle.bib_tables.specs.Requirements.{Names}
 use Rattle.bib_text.specs.declared.spanned.Spanned.{Spanned}
 use Rattle.bib_syntax.specs.Reading.{EntryReading}
 use Rattle.bib_syntax.specs.Views.{entry_reading_of}
 use Rattle.bib_syntax.specs.declared.raw.RawEntry.{RawEntry}
-use Rattle.bib_findings.specs.Duplicates.{duplicate_after, duplicate_finding, duplicates_after, entries_at}
-use Rattle.bib_findings.specs.Identities.{has_any, has_identity, identities}
-use Rattle.bib_findings.specs.Seen.{HasFirst, duplicate_at, least_of, lesser, remembered}
+use Rattle.bib_findings.specs.Duplicates.{duplicate_after, duplicate_finding, duplicates_after, entries_at, most_compared, same_by, same_work}
+use Rattle.bib_findings.specs.Identities.{are_told_apart, doi_of, has_identity, identities, identity, isbn_of, work_of}
+use Rattle.bib_findings.specs.Seen.{AreFirstWith, AreThere, alike_among, alike_by, first_alike, remembered, same_finding, stored_indices, with_entry_index}
 use Rattle.bib_findings.proofs.ListFacts.{get_mapped, given_more}
-
-pub lesser_none : (one : Option ℕ) → lesser one None ≡ one
-lesser_none None = refl
-lesser_none (Some one) = refl
-
-min_assoc : (a b c : ℕ) → min (min a b) c ≡ min a (min b c)
-min_assoc a b c = omega arith
-
-pub lesser_assoc : (one other third : Option ℕ) → lesser (lesser one other) third ≡ lesser one (lesser other third)
-lesser_assoc None other third = refl
-lesser_assoc (Some a) None third = refl
-lesser_assoc (Some a) (Some b) None = refl
-lesser_assoc (Some a) (Some b) (Some c) = ap Some (min_assoc a b c)
-
--- the least index of identities and one more is the lesser of the least index before and the index of that one
-pub least_more : (index_of : List ℕ → Option ℕ) (ids : Names) (id : List ℕ)
-    → least_of index_of (ids ++ id ∷ []) ≡ lesser (least_of index_of ids) (index_of id)
-least_more index_of [] id = lesser_none (index_of id)
-least_more index_of (first ∷ ids) id =
-    ap (lesser (index_of first)) (least_more index_of ids id) ∙ sym (lesser_assoc (index_of first) (least_of index_of ids) (index_of id))
-
--- whether an index, if there is one, is at least `start`
-abbrev pub IsFrom : ℕ → Option ℕ → Type 0
-IsFrom start None = Unit {0}
-IsFrom start (Some index) = start ≤ index
-
-from_weaker : (start : ℕ) (index : Option ℕ) → IsFrom (start + 1) index → IsFrom start index
-from_weaker start None from = tt
-from_weaker start (Some index) from = omega arith
-
-position_is_from : {A : Type 0} (test : A → Bool) (start : ℕ) (items : List A) → IsFrom start (position_from test start items)
-position_is_from test start [] = tt
-position_is_from test start (item ∷ items) =
-    elim (test item) as (λ passes. IsFrom start (cond passes (Some start) (position_from test (start + 1) items)))
-    [ true ↦ omega arith | false ↦ from_weaker start (position_from test (start + 1) items) (position_is_from test (start + 1) items) ]
-
-lesser_here : (start : ℕ) (other : Option ℕ) → IsFrom start other → lesser (Some start) other ≡ Some start
-lesser_here start None from = refl
-lesser_here start (Some index) from = let least : min start index ≡ start = omega arith in ap Some least
-
-lesser_there : (start : ℕ) (one : Option ℕ) → IsFrom start one → lesser one (Some start) ≡ Some start
-lesser_there start None from = refl
-lesser_there start (Some index) from = let least : min index start ≡ start = omega arith in ap Some least
-
-either_here : (p r : Bool) (start : ℕ) (one other : Option ℕ) → IsFrom start one → IsFrom start other
-    → lesser (cond p (Some start) one) (cond r (Some start) other) ≡ cond (p || r) (Some start) (lesser one other)
-either_here true true start one other from more = lesser_here start (Some start) (omega arith)
-either_here true false start one other from more = lesser_here start other more
-either_here false true start one other from more = lesser_there start one from
-either_here false false start one other from more = refl
-
--- the first position at which one of two tests passes is the lesser of the first positions of the two tests
-position_either : {A : Type 0} (p r : A → Bool) (start : ℕ) (items : List A)
-    → lesser (position_from p start items) (position_from r start items) ≡ position_from (λ item. p item || r item) start items
-position_either p r start [] = refl
-position_either p r start (item ∷ items) =
-    either_here (p item) (r item) start (position_from p (start + 1) items) (position_from r (start + 1) items)
-    (from_weaker start (position_from p (start + 1) items) (position_is_from p (start + 1) items))
-    (from_weaker start (position_from r (start + 1) items) (position_is_from r (start + 1) items))
-    ∙ ap (cond (p item || r item) (Some start)) (position_either p r (start + 1) items)
-
-position_none : {A : Type 0} (start : ℕ) (items : List A) → position_from (λ _. false) start items ≡ None
-position_none start [] = refl
-position_none start (item ∷ items) = position_none (start + 1) items
-
--- if each identity has the index of the first entry that has it, the least index of some identities is that of the first entry that
--- has one of them
-pub least_is_first : (index_of : List ℕ → Option ℕ) (entries : List EntryReading) (ids : Names) → HasFirst index_of entries
-    → least_of index_of ids ≡ position_from (has_any ids) 0 entries
-least_is_first index_of entries [] first = sym (position_none 0 entries)
-least_is_first index_of entries (id ∷ ids) first =
-    ap (λ index. lesser index (least_of index_of ids)) (first id)
-    ∙ ap (lesser (position_from (has_identity id) 0 entries)) (least_is_first index_of entries ids first)
-    ∙ position_either (has_identity id) (has_any ids) 0 entries
-
--- whether `index` is in range and contains the first item that passes the test
-pub record IsFoundAt {A : Type 0} (test : A → Bool) (items : List A) (index : ℕ) : Type 0 where
-  pub within : index < length items
-  pub found : find test items ≡ slice_get items index
-
-abbrev FoundFrom : {A : Type 0} → (A → Bool) → List A → ℕ → Option ℕ → Type 0
-FoundFrom test items start None = find test items ≡ None
-FoundFrom test items start (Some index) = (count : ℕ) × (index ≡ start + count) × IsFoundAt test items count
-
-found_later : {A : Type 0} (test : A → Bool) (item : A) (items : List A) (start : ℕ) (index : Option ℕ)
-    → FoundFrom test items (start + 1) index
-    → test item ≡ false → FoundFrom test (item ∷ items) start index
-found_later test item items start None none fails = ap (λ passes. cond passes (Some item) (find test items)) fails ∙ none
-found_later test item items start (Some index) later fails = (
-  suc later.0,
-  omega (arith, later.1),
-  record {
-    within = omega (arith, later.2.within);
-    found = ap (λ passes. cond passes (Some item) (find test items)) fails ∙ later.2.found;
-  },
-)
-
-found_here : {A : Type 0} (test : A → Bool) (item : A) (items : List A) (start : ℕ) → test item ≡ true
-    → FoundFrom test (item ∷ items) start (Some start)
-found_here test item items start passes =
-    (0, omega arith, record { within = omega arith; found = ap (λ passes. cond passes (Some item) (find test items)) passes })
-
-found_step : {A : Type 0} (test : A → Bool) (item : A) (items : List A) (start : ℕ) (passes : Bool) (index : Option ℕ) → test item ≡ passes
-    → FoundFrom test items (start + 1) index → FoundFrom test (item ∷ items) start (cond passes (Some start) index)
-found_step test item items start true index is later = found_here test item items start is
-found_step test item items start false index is later = found_later test item items start index later is
-
-position_finds : {A : Type 0} (test : A → Bool) (start : ℕ) (items : List A) → FoundFrom test items start (position_from test start items)
-position_finds test start [] = refl
-position_finds test start (item ∷ items) =
-    found_step test item items start (test item) (position_from test (start + 1) items) refl
-    (position_finds test (start + 1) items)
-
--- if no position passes, no item is found
-pub none_found : {A : Type 0} (test : A → Bool) (items : List A) → position_from test 0 items ≡ None → find test items ≡ None
-none_found test items none = subst (FoundFrom test items 0) none (position_finds test 0 items)
-
--- if a position passes first, the item at it is the one that is found
-pub one_found : {A : Type 0} (test : A → Bool) (items : List A) (index : ℕ) → position_from test 0 items ≡ Some index
-    → IsFoundAt test items index
-one_found test items index some =
-    let at : FoundFrom test items 0 (Some index) = subst (FoundFrom test items 0) some (position_finds test 0 items) in
-    let same : at.0 ≡ index = omega (arith, at.1) in
-    subst (IsFoundAt test items) same at.2
-
--- the first position that passes in a list with one more item: the first one before, or else the last one if that item passes
-position_more_from : {A : Type 0} (test : A → Bool) (start : ℕ) (items : List A) (item : A)
-    → position_from test start (items ++ item ∷ [])
-    ≡ option_or (position_from test start items) (cond (test item) (Some (start + length items)) None)
-position_more_from test start [] item = ap (λ at. cond (test item) (Some at) None) (let same : start ≡ start + 0 = omega arith in same)
-position_more_from test start (first ∷ items) item =
-    ap (cond (test first) (Some start)) (position_more_from test (start + 1) items item
-    ∙ ap (λ at. option_or (position_from test (start + 1) items) (cond (test item) (Some at) None))
-    (let same : start + 1 + length items ≡ start + suc (length items) = omega arith in same))
-    ∙ elim (test first) as
-    (λ passes.
-    cond passes (Some start)
-    (option_or (position_from test (start + 1) items)
-    (cond (test item) (Some (start + suc (length items))) None))
-    ≡ option_or (cond passes (Some start) (position_from test (start + 1) items))
-    (cond (test item) (Some (start + suc (length items))) None))
-    [ true ↦ refl | false ↦ refl ]
-
--- if the identities of one more entry are stored with its index, each identity still has the index of the first entry that has it
-pub first_more : (old new : List ℕ → Option ℕ) (entries : List EntryReading) (entry : EntryReading) (index : ℕ)
-    → HasFirst old entries → index ≡ length entries
-    → ((id : List ℕ) → new id ≡ remembered (identities entry) index id (old id)) → HasFirst new (entries ++ entry ∷ [])
-first_more old new entries entry index first is more id =
-    more id ∙ ap (λ had. option_or had (cond (has_identity id entry) (Some index) None)) (first id)
-    ∙ ap (λ at. option_or (position_from (has_identity id) 0 entries) (cond (has_identity id entry) (Some at) None))
-    (is ∙ (let same : length entries ≡ 0 + length entries = omega arith in same))
-    ∙ sym (position_more_from (has_identity id) 0 entries entry)
-
--- the findings of a list with one more entry are those of the list, followed by that of this entry
-pub duplicates_more : (earlier entries : List EntryReading) (entry : EntryReading)
-    → duplicates_after earlier (entries ++ entry ∷ []) ≡ duplicates_after earlier entries ++ duplicate_after (earlier ++ entries) entry
-duplicates_more earlier [] entry =
-    append-nil (duplicate_after earlier entry) ∙ ap (λ before. duplicate_after before entry) (sym (append-nil earlier))
-duplicates_more earlier (first ∷ entries) entry =
-    ap (λ l. duplicate_after earlier first ++ l) (duplicates_more (earlier ++ first ∷ []) entries entry
-    ∙ ap (λ before. duplicates_after (earlier ++ first ∷ []) entries ++ duplicate_after before entry)
-    (append_assoc earlier (first ∷ []) entries))
-    ∙ sym
-    (append_assoc (duplicate_after earlier first) (duplicates_after (earlier ++ first ∷ []) entries)
-    (duplicate_after (earlier ++ first ∷ entries) entry))
-
--- after one more identity, the least index is the lesser of the one before and the index of this identity
-pub least_next : (index_of : List ℕ → Option ℕ) (ids : List (String Global)) (index : ℕ) (id : String Global)
-    (least found new : Option ℕ) → index < length ids → id ≡ get_or ids index id
-    → least ≡ least_of index_of (map string_bytes (take index ids)) → new ≡ lesser least found → found ≡ index_of (string_bytes id)
-    → new ≡ least_of index_of (map string_bytes (take (index + 1) ids))
-least_next index_of ids index id least found new within is so_far next here =
-    let seen : Names = map string_bytes (take index ids) in
-    next ∙ ap (λ o. lesser o found) so_far ∙ ap (lesser (least_of index_of seen)) here ∙ sym (least_more index_of seen (string_bytes id))
-    ∙ ap (least_of index_of) (sym (map_more string_bytes ids index id within ∙ ap (λ one. seen ++ string_bytes one ∷ []) (sym is)))
-
-swapped : (one other : List ℕ) → bytes_eq one other ≡ bytes_eq other one
-swapped one other =
-    let here = bytes_eq-Decides one other in
-    one_answer (bytes_eq one other) (bytes_eq other one) here
-    (λ e. sym ((bytes_eq-Decides other one).0 e), λ e. (bytes_eq-Decides other one).1 (sym e))
-
-remembered_by : (had : Option ℕ) (index : ℕ) (before here : Bool) (seen new : Option ℕ)
-    → seen ≡ option_or had (cond before (Some index) None) → new ≡ cond here (Some index) seen
-    → (here ≡ true → seen ≡ None) → new ≡ option_or had (cond (before || (here || false)) (Some index) None)
-remembered_by None index true true seen new is next none = next
-remembered_by None index false true seen new is next none = next
-remembered_by None index true false seen new is next none = next ∙ is
-remembered_by None index false false seen new is next none = next ∙ is
-remembered_by (Some i) index before true seen new is next none = absurd (let clash : Some i ≡ None = sym is ∙ none refl in cc)
-remembered_by (Some i) index before false seen new is next none = next ∙ is
-
--- storing an identity that had no index stores one more of the identities
-pub remembered_new : (old seen new : List ℕ → Option ℕ) (done : List (String Global)) (name : String Global) (index : ℕ)
-    → ((id : List ℕ) → seen id ≡ remembered (map string_bytes done) index id (old id)) → seen (string_bytes name) ≡ None
-    → ((id : List ℕ) → new id ≡ update bytes_eq seen (string_bytes name) (Some index) id)
-    → (id : List ℕ) → new id ≡ remembered (map string_bytes (done ++ name ∷ [])) index id (old id)
-remembered_new old seen new done name index before none next id =
-    let ids : Names = map string_bytes done in
-    let same : bytes_eq (string_bytes name) id ≡ bytes_eq id (string_bytes name) = swapped (string_bytes name) id in
-    remembered_by (old id) index (list_any (bytes_eq id) ids) (bytes_eq id (string_bytes name)) (seen id) (new id) (before id)
-    (next id ∙ ap (λ b. cond b (Some index) (seen id)) same)
-    (λ here. ap seen ((bytes_eq-Decides id (string_bytes name)).0 here) ∙ none)
-    ∙ ap (λ b. option_or (old id) (cond b (Some index) None))
-    (sym
-    (ap (list_any (bytes_eq id)) (map-append string_bytes done (name ∷ []))
-    ∙ list_any-append (bytes_eq id) ids (string_bytes name ∷ [])))
-
-had_by : (had : Option ℕ) (index : ℕ) (before here : Bool) (seen : Option ℕ) → seen ≡ option_or had (cond before (Some index) None)
-    → (here ≡ true → is_some seen ≡ true) → seen ≡ option_or had (cond (before || (here || false)) (Some index) None)
-had_by None index true here seen is some = is
-had_by None index false true seen is some = absurd (let clash : true ≡ false = sym (some refl) ∙ ap is_some is in cc)
-had_by None index false false seen is some = is
-had_by (Some i) index before here seen is some = is
-
--- an identity that already has an index can be left as it is
-pub remembered_same : (old seen : List ℕ → Option ℕ) (done : List (String Global)) (name : String Global) (index : ℕ)
-    → ((id : List ℕ) → seen id ≡ remembered (map string_bytes done) index id (old id)) → is_some (seen (string_bytes name)) ≡ true
-    → (id : List ℕ) → seen id ≡ remembered (map string_bytes (done ++ name ∷ [])) index id (old id)
-remembered_same old seen done name index before some id =
-    let ids : Names = map string_bytes done in
-    had_by (old id) index (list_any (bytes_eq id) ids) (bytes_eq id (string_bytes name)) (seen id) (before id)
-    (λ here. ap (λ at. is_some (seen at)) ((bytes_eq-Decides id (string_bytes name)).0 here) ∙ some)
-    ∙ ap (λ b. option_or (old id) (cond b (Some index) None))
-    (sym
-    (ap (list_any (bytes_eq id)) (map-append string_bytes done (name ∷ []))
-    ∙ list_any-append (bytes_eq id) ids (string_bytes name ∷ [])))
-
--- the entry at a position of the selected ones is the one at the index at this position
-pub entry_there : (said : List (Spanned RawEntry)) (indices : List ℕ) (at : ℕ) (other : Spanned RawEntry)
-    → All (λ index. index < length said) indices → at < length indices
-    → slice_get (entries_at (map entry_reading_of said) indices) at ≡ Some (entry_reading_of (get_or said (get_or indices at 0) other))
-entry_there said [] at other there within = absurd (omega arith)
-entry_there said (index ∷ indices) zero other there within =
-    ap (λ o. slice_get (cons_option o (entries_at (map entry_reading_of said) indices)) 0)
-    (get_mapped entry_reading_of said index other (All-head (λ i. i < length said) index indices there))
-entry_there said (index ∷ indices) (suc at) other there within =
-    ap (λ o. slice_get (cons_option o (entries_at (map entry_reading_of said) indices)) (suc at))
-    (get_mapped entry_reading_of said index other (All-head (λ i. i < length said) index indices there))
-    ∙ entry_there said indices at other (All-tail (λ i. i < length said) index indices there) (omega arith)
-
--- there are as many entries as indices
-pub as_many : (said : List (Spanned RawEntry)) (other : Spanned RawEntry) (indices : List ℕ) → All (λ index. index < length said) indices
-    → length (entries_at (map entry_reading_of said) indices) ≡ length indices
-as_many said other [] there = refl
-as_many said other (index ∷ indices) there =
-    ap (λ o. length (cons_option o (entries_at (map entry_reading_of said) indices)))
-    (get_mapped entry_reading_of said index other (All-head (λ i. i < length said) index indices there))
-    ∙ ap suc (as_many said other indices (All-tail (λ i. i < length said) index indices there))
+use Rattle.bib_findings.proofs.SharedFacts.{in_identity}
 
 -- the entries at indices and one more are the entries at the indices and the entry at that one
 pub entries_more : (said : List (Spanned RawEntry)) (indices : List ℕ) (index : ℕ) (other : Spanned RawEntry) → index < length said
@@ -277,47 +33,6 @@ pub entries_more : (said : List (Spanned RawEntry)) (indices : List ℕ) (index 
 entries_more said indices index other within =
     given_more (slice_get (map entry_reading_of said)) indices index (entry_reading_of (get_or said index other))
     (get_mapped entry_reading_of said index other within)
-
--- the least index of the identities, if there is one, is that of an earlier entry
-pub first_within : (index_of : List ℕ → Option ℕ) (earlier : List EntryReading) (ids : Names) (first : Option ℕ)
-    → HasFirst index_of earlier → first ≡ least_of index_of ids
-    → IfSome first (λ index. index < length earlier)
-first_within index_of earlier ids None has is = tt
-first_within index_of earlier ids (Some index) has is =
-    (one_found (has_any ids) earlier index (sym (is ∙ least_is_first index_of earlier ids has))).within
-
--- the finding for the entry at the least index is that for the first earlier entry that shares an identity
-pub finds_first : (index_of : List ℕ → Option ℕ) (earlier : List EntryReading) (said : EntryReading) (first : Option ℕ)
-    → HasFirst index_of earlier → first ≡ least_of index_of (identities said)
-    → duplicate_at earlier said first ≡ duplicate_after earlier said
-finds_first index_of earlier said None has is =
-    ap (λ o. option_map_or (λ one. duplicate_finding said one ∷ []) o [])
-    (sym
-    (none_found (has_any (identities said)) earlier
-    (sym (is ∙ least_is_first index_of earlier (identities said) has))))
-finds_first index_of earlier said (Some index) has is =
-    ap (λ o. option_map_or (λ one. duplicate_finding said one ∷ []) o [])
-    (sym
-    (one_found (has_any (identities said)) earlier index (sym (is ∙ least_is_first index_of earlier (identities said) has))).found)
-
-pub not_some : (contains : Bool) (had : Option ℕ) → contains ≡ is_some had → contains ≡ false → had ≡ None
-not_some contains None is none = refl
-not_some contains (Some index) is none = absurd (let clash : true ≡ false = sym is ∙ none in cc)
-
--- the finding for an index is that for the entry at this index
-pub at_first : (said : List (Spanned RawEntry)) (earlier : List ℕ) (one : EntryReading) (first : Option ℕ) (index : ℕ)
-    (item : Spanned RawEntry) → first ≡ Some index
-    → All (λ i. i < length said) earlier → IfSome first (λ i. i < length earlier) → item ≡ get_or said (get_or earlier index 0) item
-    → duplicate_at (entries_at (map entry_reading_of said) earlier) one first ≡ duplicate_finding one (entry_reading_of item) ∷ []
-at_first said earlier one first index item some there within is =
-    let below : index < length earlier = subst (λ o. IfSome o (λ i. i < length earlier)) some within in
-    ap (duplicate_at (entries_at (map entry_reading_of said) earlier) one) some
-    ∙ ap (λ o. option_map_or (λ e. duplicate_finding one e ∷ []) o [])
-    (entry_there said earlier index item there below ∙ ap (λ e. Some (entry_reading_of e)) (sym is))
-
-pub on_ok : {U E : Type 0} {P : Type 0} (r : Result U E) → P → OnOk r P
-on_ok (Ok u) p = p
-on_ok (Err e) p = tt
 
 -- the entries at the first indices and the next one are those at the first indices and the entry at the next one
 pub entries_next : (said : List (Spanned RawEntry)) (indices : List ℕ) (index : ℕ) (item : Spanned RawEntry)
@@ -330,3 +45,406 @@ entries_next said indices index item there within is =
     ap (entries_at (map entry_reading_of said)) (take_more indices index 0 within)
     ∙ entries_more said (take index indices) (get_or indices index 0) item (All-get_or (λ i. i < length said) indices index 0 within there)
     ∙ ap (λ e. so_far ++ entry_reading_of e ∷ []) (sym is)
+
+-- looking up the index of an entry returns its reading
+pub entry_at : (said : List (Spanned RawEntry)) (index : ℕ) (item : Spanned RawEntry) → index < length said → item ≡ get_or said index item
+    → slice_get (map entry_reading_of said) index ≡ Some (entry_reading_of item)
+entry_at said index item within is = get_mapped entry_reading_of said index item within ∙ ap (λ e. Some (entry_reading_of e)) (sym is)
+
+-- there are as many entries as indices
+pub as_many : (said : List (Spanned RawEntry)) (other : Spanned RawEntry) (indices : List ℕ) → All (λ index. index < length said) indices
+    → length (entries_at (map entry_reading_of said) indices) ≡ length indices
+as_many said other [] there = refl
+as_many said other (index ∷ indices) there =
+    ap (λ o. length (cons_option o (entries_at (map entry_reading_of said) indices)))
+    (get_mapped entry_reading_of said index other (All-head (λ i. i < length said) index indices there))
+    ∙ ap suc (as_many said other indices (All-tail (λ i. i < length said) index indices there))
+
+-- the items from `index` on are the one at `index` and those after it
+pub from_index : {A : Type 0} (items : List A) (index : ℕ) (other : A) → index < length items
+    → drop index items ≡ get_or items index other ∷ drop (index + 1) items
+from_index items index other within =
+    drop-cons items index other within
+    ∙ ap (λ n. get_or items index other ∷ drop n items) (let same : suc index ≡ index + 1 = omega arith in same)
+
+-- the entries at the indices from `at` on are the entry at the index there, and those at the indices after it
+pub entries_from : (said : List (Spanned RawEntry)) (indices : List ℕ) (at : ℕ) (item : Spanned RawEntry)
+    → All (λ i. i < length said) indices → at < length indices → item ≡ get_or said (get_or indices at 0) item
+    → entries_at (map entry_reading_of said) (drop at indices)
+    ≡ entry_reading_of item ∷ entries_at (map entry_reading_of said) (drop (at + 1) indices)
+entries_from said indices at item there within is =
+    let later : List EntryReading = entries_at (map entry_reading_of said) (drop (at + 1) indices) in
+    ap (entries_at (map entry_reading_of said)) (from_index indices at 0 within)
+    ∙ ap (λ o. cons_option o later)
+    (entry_at said (get_or indices at 0) item (All-get_or (λ i. i < length said) indices at 0 within there) is)
+
+-- if the next item passes, it is the first one that passes
+pub find_here : {A : Type 0} (test : A → Bool) (whole left later : List A) (item : A) → find test whole ≡ find test left
+    → left ≡ item ∷ later → test item ≡ true → find test whole ≡ Some item
+find_here test whole left later item so_far is passes =
+    so_far ∙ ap (find test) is ∙ ap (λ b. cond b (Some item) (find test later)) passes
+
+-- if the next item doesn't pass, the first one that passes is among those after it
+pub find_past : {A : Type 0} (test : A → Bool) (whole left later : List A) (item : A) → find test whole ≡ find test left
+    → left ≡ item ∷ later → test item ≡ false → find test whole ≡ find test later
+find_past test whole left later item so_far is fails =
+    so_far ∙ ap (find test) is ∙ ap (λ b. cond b (Some item) (find test later)) fails
+
+-- if no field tells the next entry apart, it is the first such entry
+pub alike_here : (said : List (Spanned RawEntry)) (indices : List ℕ) (at : ℕ) (one : EntryReading) (item : Spanned RawEntry) (told : Bool)
+    → All (λ i. i < length said) indices → at < length indices → item ≡ get_or said (get_or indices at 0) item
+    → first_alike one (entries_at (map entry_reading_of said) indices)
+    ≡ first_alike one (entries_at (map entry_reading_of said) (drop at indices))
+    → told ≡ are_told_apart one (entry_reading_of item) → told ≡ false
+    → slice_get (map entry_reading_of said) (get_or indices at 0) ≡ first_alike one (entries_at (map entry_reading_of said) indices)
+alike_here said indices at one item told there within is so_far tells alike =
+    entry_at said (get_or indices at 0) item (All-get_or (λ i. i < length said) indices at 0 within there) is
+    ∙ sym
+    (find_here (λ other. not (are_told_apart one other)) (entries_at (map entry_reading_of said) indices)
+    (entries_at (map entry_reading_of said) (drop at indices)) (entries_at (map entry_reading_of said) (drop (at + 1) indices))
+    (entry_reading_of item) so_far (entries_from said indices at item there within is) (ap not (sym tells ∙ alike)))
+
+-- if a field tells the next entry apart, the first such entry is among those after it
+pub alike_past : (said : List (Spanned RawEntry)) (indices : List ℕ) (at : ℕ) (one : EntryReading) (item : Spanned RawEntry) (told : Bool)
+    → All (λ i. i < length said) indices → at < length indices → item ≡ get_or said (get_or indices at 0) item
+    → first_alike one (entries_at (map entry_reading_of said) indices)
+    ≡ first_alike one (entries_at (map entry_reading_of said) (drop at indices))
+    → told ≡ are_told_apart one (entry_reading_of item) → told ≡ true
+    → first_alike one (entries_at (map entry_reading_of said) indices)
+    ≡ first_alike one (entries_at (map entry_reading_of said) (drop (at + 1) indices))
+alike_past said indices at one item told there within is so_far tells apart =
+    find_past (λ other. not (are_told_apart one other)) (entries_at (map entry_reading_of said) indices)
+    (entries_at (map entry_reading_of said) (drop at indices)) (entries_at (map entry_reading_of said) (drop (at + 1) indices))
+    (entry_reading_of item) so_far (entries_from said indices at item there within is) (ap not (sym tells ∙ apart))
+
+-- the entry at an index in range is there
+pub still_some : (said : List (Spanned RawEntry)) (other : Spanned RawEntry) (first : Option ℕ) → IfSome first (λ i. i < length said)
+    → is_some first ≡ true → is_some (option_and_then (slice_get (map entry_reading_of said)) first) ≡ true
+still_some said other None within some = some
+still_some said other (Some index) within some = ap is_some (get_mapped entry_reading_of said index other within)
+
+-- the finding for an index is that for the entry at this index
+pub same_at : (said : List (Spanned RawEntry)) (one : EntryReading) (first : Option ℕ) (index : ℕ) (item : Spanned RawEntry)
+    → first ≡ Some index → IfSome first (λ i. i < length said) → item ≡ get_or said index item
+    → same_finding one (option_and_then (slice_get (map entry_reading_of said)) first) ≡ duplicate_finding one (entry_reading_of item) ∷ []
+same_at said one first index item some within is =
+    ap (λ o. same_finding one (option_and_then (slice_get (map entry_reading_of said)) o)) some
+    ∙ ap (same_finding one) (entry_at said index item (subst (λ o. IfSome o (λ i. i < length said)) some within) is)
+
+-- the first of the values that are given for some items
+abbrev pub first_given : {A B : Type 0} → (A → Option B) → List A → Option B
+first_given given items = slice_get (filter_map given items) 0
+
+-- if a value is given for the next item, it is the first one
+pub given_here : {A B : Type 0} (given : A → Option B) (whole left later : List A) (item : A) (value : B)
+    → first_given given whole ≡ first_given given left → left ≡ item ∷ later → given item ≡ Some value
+    → first_given given whole ≡ Some value
+given_here given whole left later item value so_far is some =
+    so_far ∙ ap (first_given given) is ∙ ap (λ o. slice_get (cons_option o (filter_map given later)) 0) some
+
+-- if no value is given for the next item, the first one is given for an item after it
+pub given_past : {A B : Type 0} (given : A → Option B) (whole left later : List A) (item : A)
+    → first_given given whole ≡ first_given given left → left ≡ item ∷ later → given item ≡ None
+    → first_given given whole ≡ first_given given later
+given_past given whole left later item so_far is none =
+    so_far ∙ ap (first_given given) is ∙ ap (λ o. slice_get (cons_option o (filter_map given later)) 0) none
+
+-- if a value is given for the next identity, it is the first one
+pub among_here : (given : List ℕ → Option EntryReading) (ids : List (String Global)) (at : ℕ) (id : String Global)
+    (found : Option EntryReading) → at < length ids → id ≡ get_or ids at id
+    → first_given given (map string_bytes ids) ≡ first_given given (map string_bytes (drop at ids))
+    → found ≡ given (string_bytes id) → is_some found ≡ true → found ≡ first_given given (map string_bytes ids)
+among_here given ids at id None within is so_far here some = absurd (let clash : false ≡ true = some in cc)
+among_here given ids at id (Some value) within is so_far here some =
+    sym
+    (given_here given (map string_bytes ids) (map string_bytes (drop at ids)) (map string_bytes (drop (at + 1) ids)) (string_bytes id) value
+    so_far
+    (ap (map string_bytes) (from_index ids at id within)
+    ∙ ap (λ one. string_bytes one ∷ map string_bytes (drop (at + 1) ids)) (sym is))
+    (sym here))
+
+-- if two functions give the same for each item, they give the same for a list
+pub given_agree : {A B : Type 0} (given other : A → Option B) (items : List A) → ((item : A) → given item ≡ other item)
+    → filter_map given items ≡ filter_map other items
+given_agree given other [] same = refl
+given_agree given other (item ∷ items) same =
+    ap (λ o. cons_option o (filter_map given items)) (same item)
+    ∙ ap (cons_option (other item)) (given_agree given other items same)
+
+-- it doesn't matter which of two texts is compared with the other
+swapped : (one other : List ℕ) → bytes_eq one other ≡ bytes_eq other one
+swapped one other =
+    one_answer (bytes_eq one other) (bytes_eq other one) (bytes_eq-Decides one other)
+    (λ e. sym ((bytes_eq-Decides other one).0 e), λ e. (bytes_eq-Decides other one).1 (sym e))
+
+-- the indices that are lent for an identity, which are empty if it had none
+lent_items : (had : Option (Vec ℕ Global)) (lent : Vec ℕ Global)
+    → UnwrapsOrElse had (λ indices. (indices.items ≡ []) × (vec_len indices ≡ 0)) lent → lent.items ≡ stored_indices had
+lent_items None lent is = is.0
+lent_items (Some indices) lent is = ap (λ v. v.items) is
+
+-- if one more index is written to the indices of an identity, it is stored for this identity
+pub stored_one : (old new : List ℕ → Option (Vec ℕ Global)) (key : List ℕ) (had : Option (Vec ℕ Global)) (lent kept : Vec ℕ Global)
+    (index : ℕ) → had ≡ old key → UnwrapsOrElse had (λ indices. (indices.items ≡ []) × (vec_len indices ≡ 0)) lent
+    → kept.items ≡ with_entry_index lent.items index → ((id : List ℕ) → new id ≡ update bytes_eq old key (Some kept) id)
+    → (id : List ℕ) → stored_indices (new id) ≡ remembered (key ∷ []) index id (stored_indices (old id))
+stored_one old new key had lent kept index finds lends adds writes id = by (bytes_eq key id) refl
+  where
+    by : (here : Bool) → bytes_eq key id ≡ here
+        → stored_indices (new id) ≡ cond (bytes_eq id key) (with_entry_index (stored_indices (old id)) index) (stored_indices (old id))
+    by true here =
+        ap stored_indices (writes id ∙ ap (λ b. cond b (Some kept) (old id)) here) ∙ adds
+        ∙ ap (λ l. with_entry_index l index)
+        (lent_items had lent lends ∙ ap stored_indices finds ∙ ap (λ k. stored_indices (old k)) ((bytes_eq-Decides key id).0 here))
+        ∙ sym
+        (ap (λ b. cond b (with_entry_index (stored_indices (old id)) index) (stored_indices (old id))) (swapped id key ∙ here))
+    by false other =
+        ap stored_indices (writes id ∙ ap (λ b. cond b (Some kept) (old id)) other)
+        ∙ sym
+        (ap (λ b. cond b (with_entry_index (stored_indices (old id)) index) (stored_indices (old id))) (swapped id key ∙ other))
+
+-- an index that is stored for two lists of identities in turn is stored for both
+pub remembered_both : (ids more : Names) (index : ℕ) (id : List ℕ) (had : List ℕ)
+    → remembered (ids ++ more) index id had ≡ remembered more index id (remembered ids index id had)
+remembered_both [] more index id had = refl
+remembered_both (one ∷ ids) more index id had = remembered_both ids more index id (cond (bytes_eq id one) (with_entry_index had index) had)
+
+-- storing an index for the identity of a kind adds it to the indices of this identity
+remembered_identity : (kind text : List ℕ) (index : ℕ) (id had : List ℕ)
+    → remembered (identity kind text) index id had ≡ cond (list_any (bytes_eq id) (identity kind text)) (with_entry_index had index) had
+remembered_identity kind text index id had =
+    elim (length text == 0) as
+    (λ none.
+    remembered (cond none [] ((kind ++ text) ∷ [])) index id had
+    ≡ cond (list_any (bytes_eq id) (cond none [] ((kind ++ text) ∷ []))) (with_entry_index had index) had)
+    [ true ↦ refl | false ↦ sole (bytes_eq id (kind ++ text)) ]
+  where
+    sole : (is : Bool) → cond is (with_entry_index had index) had ≡ cond (is || false) (with_entry_index had index) had
+    sole true = refl
+    sole false = refl
+
+-- whether an identity is that of a kind
+abbrev IsOfKind : List ℕ → List ℕ → List ℕ → Type 0
+IsOfKind id kind text = list_any (bytes_eq id) (identity kind text) ≡ true
+
+-- the identity of a kind begins with the kind
+of_kind : (id kind text : List ℕ) → IsOfKind id kind text → id ≡ kind ++ text
+of_kind id kind text is = (bytes_eq-Decides id (kind ++ text)).0 (in_identity (bytes_eq id) kind text is).0
+
+-- an identity isn't of two kinds that begin with different letters
+kinds_apart : (id kind text other more : List ℕ) → (get_or (kind ++ text) 0 0 ≡ get_or (other ++ more) 0 0 → ⊥)
+    → IsOfKind id kind text → IsOfKind id other more → ⊥
+kinds_apart id kind text other more differ one two =
+    differ (ap (λ l. get_or l 0 0) (sym (of_kind id kind text one) ∙ of_kind id other more two))
+
+-- adding an index to the same list for each of three tests of which at most one passes
+one_of_three : (a b c : Bool) (had more : List ℕ) (add : List ℕ → List ℕ) → add had ≡ more
+    → (a ≡ true → b ≡ true → ⊥) → (a ≡ true → c ≡ true → ⊥) → (b ≡ true → c ≡ true → ⊥)
+    → cond c (add (cond b (add (cond a (add had) had)) (cond a (add had) had))) (cond b (add (cond a (add had) had)) (cond a (add had) had))
+    ≡ cond (a || (b || c)) more had
+one_of_three true true c had more add is ab ac bc = absurd (ab refl refl)
+one_of_three true false true had more add is ab ac bc = absurd (ac refl refl)
+one_of_three true false false had more add is ab ac bc = is
+one_of_three false true true had more add is ab ac bc = absurd (bc refl refl)
+one_of_three false true false had more add is ab ac bc = is
+one_of_three false false true had more add is ab ac bc = is
+one_of_three false false false had more add is ab ac bc = refl
+
+-- storing the index of an entry for its identities adds it once to the indices of each of them
+pub remembered_once : (said : EntryReading) (index : ℕ) (id had : List ℕ)
+    → remembered (identities said) index id had ≡ cond (has_identity id said) (with_entry_index had index) had
+remembered_once said index id had =
+    remembered_both dois (isbns ++ works) index id had ∙ remembered_both isbns works index id (remembered dois index id had)
+    ∙ ap (λ l. remembered works index id (remembered isbns index id l)) (remembered_identity (codes "doi ") (doi_of said) index id had)
+    ∙ ap (remembered works index id) (remembered_identity (codes "isbn ") (isbn_of said) index id (cond a (with_entry_index had index) had))
+    ∙ remembered_identity (codes "work ") (work_of said) index id
+    (cond b (with_entry_index (cond a (with_entry_index had index) had) index) (cond a (with_entry_index had index) had))
+    ∙ one_of_three a b c had (with_entry_index had index) (λ l. with_entry_index l index) refl
+    (kinds_apart id (codes "doi ") (doi_of said) (codes "isbn ") (isbn_of said) (λ (clash : 100 ≡ 105). omega (arith, clash)))
+    (kinds_apart id (codes "doi ") (doi_of said) (codes "work ") (work_of said) (λ (clash : 100 ≡ 119). omega (arith, clash)))
+    (kinds_apart id (codes "isbn ") (isbn_of said) (codes "work ") (work_of said) (λ (clash : 105 ≡ 119). omega (arith, clash)))
+    ∙ ap (λ any. cond any (with_entry_index had index) had)
+    (sym (list_any-append (bytes_eq id) dois (isbns ++ works) ∙ ap (λ any. a || any) (list_any-append (bytes_eq id) isbns works)))
+  where
+    dois : Names
+    dois = identity (codes "doi ") (doi_of said)
+
+    isbns : Names
+    isbns = identity (codes "isbn ") (isbn_of said)
+
+    works : Names
+    works = identity (codes "work ") (work_of said)
+
+    a : Bool
+    a = list_any (bytes_eq id) dois
+
+    b : Bool
+    b = list_any (bytes_eq id) isbns
+
+    c : Bool
+    c = list_any (bytes_eq id) works
+
+-- an index in range keeps indices in range
+added_there : (count : ℕ) (had : List ℕ) (index : ℕ) → index < count → All (λ i. i < count) had
+    → All (λ i. i < count) (with_entry_index had index)
+added_there count had index within there =
+    elim (nat_lt (length had) most_compared) as (λ b. All (λ i. i < count) (cond b (had ++ index ∷ []) had))
+    [ true ↦ All-push (λ i. i < count) had index there within | false ↦ there ]
+
+-- storing an index in range keeps indices in range
+remembered_there : (count : ℕ) (ids : Names) (index : ℕ) (id had : List ℕ) → index < count → All (λ i. i < count) had
+    → All (λ i. i < count) (remembered ids index id had)
+remembered_there count [] index id had within there = there
+remembered_there count (one ∷ ids) index id had within there =
+    remembered_there count ids index id (cond (bytes_eq id one) (with_entry_index had index) had) within
+    (elim (bytes_eq id one) as (λ b. All (λ i. i < count) (cond b (with_entry_index had index) had))
+    [ true ↦ added_there count had index within there | false ↦ there ])
+
+-- if an index in range is stored, the stored indices stay in range
+pub still_there : (old new : List ℕ → Option (Vec ℕ Global)) (count : ℕ) (ids : Names) (index : ℕ) → AreThere old count → index < count
+    → ((id : List ℕ) → stored_indices (new id) ≡ remembered ids index id (stored_indices (old id))) → AreThere new count
+still_there old new count ids index there within is id =
+    subst (All (λ i. i < count)) (sym (is id)) (remembered_there count ids index id (stored_indices (old id)) within (there id))
+
+-- what the test of an order means
+less : (one other : ℕ) → nat_lt one other ≡ true → one < other
+less one other is = grind (arith, nat_tests, is)
+
+not_less : (one other : ℕ) → nat_lt one other ≡ false → other ≤ one
+not_less one other is = grind (arith, nat_tests, is)
+
+is_less : (one other : ℕ) → one < other → nat_lt one other ≡ true
+is_less one other below = grind (arith, nat_tests, below)
+
+is_not_less : (one other : ℕ) → other ≤ one → nat_lt one other ≡ false
+is_not_less one other above = grind (arith, nat_tests, above)
+
+-- the first items of a list with one more: that item is added if there are fewer than asked for
+take_one : {A : Type 0} (count : ℕ) (items : List A) (item : A)
+    → cond (nat_lt (length (take count items)) count) (take count items ++ item ∷ []) (take count items) ≡ take count (items ++ item ∷ [])
+take_one {A} count items item = by (nat_lt (length items) count) refl
+  where
+    size : length (take count items) ≡ min count (length items)
+    size = length-take count items
+
+    by : (b : Bool) → nat_lt (length items) count ≡ b
+        → cond (nat_lt (length (take count items)) count) (take count items ++ item ∷ []) (take count items)
+        ≡ take count (items ++ item ∷ [])
+    by true is =
+        let below : length items < count = less (length items) count is in
+        let short : length items ≤ count = omega (arith, below) in
+        let longer : length (items ++ item ∷ []) ≤ count = omega (arith, below, length-append items (item ∷ [])) in
+        let few : length (take count items) < count = omega (arith, size, below) in
+        ap (λ b. cond b (take count items ++ item ∷ []) (take count items)) (is_less (length (take count items)) count few)
+        ∙ ap (λ l. l ++ item ∷ []) (take_all count items short) ∙ sym (take_all count (items ++ item ∷ []) longer)
+    by false is =
+        let above : count ≤ length items = not_less (length items) count is in
+        let many : count ≤ length (take count items) = omega (arith, size, above) in
+        ap (λ b. cond b (take count items ++ item ∷ []) (take count items)) (is_not_less (length (take count items)) count many)
+        ∙ sym (take-append-le count items (item ∷ []) above)
+
+-- an index of an entry with the identity is added to those of the first entries with it
+first_with : (said : List (Spanned RawEntry)) (other : Spanned RawEntry) (had : List ℕ) (index : ℕ) (one : EntryReading)
+    (entries : List EntryReading) → All (λ i. i < length said) had → slice_get (map entry_reading_of said) index ≡ Some one
+    → entries_at (map entry_reading_of said) had ≡ take most_compared entries
+    → entries_at (map entry_reading_of said) (with_entry_index had index) ≡ take most_compared (entries ++ one ∷ [])
+first_with said other had index one entries there at first =
+    elim (nat_lt (length had) most_compared) as
+    (λ b. entries_at (map entry_reading_of said) (cond b (had ++ index ∷ []) had)
+    ≡ cond b (entries_at (map entry_reading_of said) had ++ one ∷ []) (entries_at (map entry_reading_of said) had))
+    [ true ↦ given_more (slice_get (map entry_reading_of said)) had index one at | false ↦ refl ]
+    ∙ ap
+    (λ n. cond (nat_lt n most_compared) (entries_at (map entry_reading_of said) had ++ one ∷ [])
+    (entries_at (map entry_reading_of said) had))
+    (sym (as_many said other had there))
+    ∙ ap (λ l. cond (nat_lt (length l) most_compared) (l ++ one ∷ []) l) first
+    ∙ take_one most_compared entries one
+
+-- if the index of one more entry is stored for its identities, each identity still has the first entries that have it
+pub first_more : (old new : List ℕ → Option (Vec ℕ Global)) (said : List (Spanned RawEntry)) (earlier : List EntryReading) (index : ℕ)
+    (item : Spanned RawEntry) → AreThere old (length said) → index < length said → item ≡ get_or said index item
+    → ((id : List ℕ) → stored_indices (new id) ≡ remembered (identities (entry_reading_of item)) index id (stored_indices (old id)))
+    → AreFirstWith old (map entry_reading_of said) earlier
+    → AreFirstWith new (map entry_reading_of said) (earlier ++ entries_at (map entry_reading_of said) (index ∷ []))
+first_more old new said earlier index item there within is stores first id =
+    ap (entries_at readings) (stores id ∙ remembered_once one index id (stored_indices (old id)))
+    ∙ by (has_identity id one) refl
+    ∙ ap (λ o. take most_compared (filter (has_identity id) (earlier ++ cons_option o []))) (sym at)
+  where
+    one : EntryReading
+    one = entry_reading_of item
+
+    readings : List EntryReading
+    readings = map entry_reading_of said
+
+    at : slice_get readings index ≡ Some one
+    at = entry_at said index item within is
+
+    had : List ℕ
+    had = stored_indices (old id)
+
+    more : filter (has_identity id) (earlier ++ one ∷ []) ≡ filter (has_identity id) earlier ++ cond (has_identity id one) (one ∷ []) []
+    more = filter-append (has_identity id) earlier (one ∷ [])
+
+    by : (has : Bool) → has_identity id one ≡ has
+        → entries_at readings (cond (has_identity id one) (with_entry_index had index) had)
+        ≡ take most_compared (filter (has_identity id) (earlier ++ one ∷ []))
+    by true has =
+        ap (λ b. entries_at readings (cond b (with_entry_index had index) had)) has
+        ∙ first_with said item had index one (filter (has_identity id) earlier) (there id) at (first id)
+        ∙ sym (ap (take most_compared) (more ∙ ap (λ b. filter (has_identity id) earlier ++ cond b (one ∷ []) []) has))
+    by false has =
+        ap (λ b. entries_at readings (cond b (with_entry_index had index) had)) has ∙ first id
+        ∙ sym
+        (ap (take most_compared)
+        (more ∙ ap (λ b. filter (has_identity id) earlier ++ cond b (one ∷ []) []) has ∙ append-nil (filter (has_identity id) earlier)))
+
+-- the entry that is found by the stored indices is the earlier one that is likely the same work
+alike_same : (seen : List ℕ → Option (Vec ℕ Global)) (said earlier : List EntryReading) (one : EntryReading)
+    → AreFirstWith seen said earlier
+    → alike_among seen said one (identities one) ≡ same_work earlier one
+alike_same seen said earlier one first =
+    ap (λ l. slice_get l 0)
+    (given_agree (alike_by seen said one) (same_by earlier one) (identities one) (λ id. ap (first_alike one) (first id)))
+
+-- the finding for the entry that is found by the stored indices is the one of an entry at this index
+pub finds_same : (seen : List ℕ → Option (Vec ℕ Global)) (said : List (Spanned RawEntry)) (earlier : List EntryReading) (index : ℕ)
+    (item : Spanned RawEntry) (first : Option EntryReading) → index < length said → item ≡ get_or said index item
+    → first ≡ alike_among seen (map entry_reading_of said) (entry_reading_of item) (identities (entry_reading_of item))
+    → AreFirstWith seen (map entry_reading_of said) earlier
+    → same_finding (entry_reading_of item) first
+    ≡ duplicates_after earlier (entries_at (map entry_reading_of said) (index ∷ []))
+finds_same seen said earlier index item first within is found are =
+    ap (same_finding (entry_reading_of item)) (found ∙ alike_same seen (map entry_reading_of said) earlier (entry_reading_of item) are)
+    ∙ sym (append-nil (duplicate_after earlier (entry_reading_of item)))
+    ∙ ap (λ o. duplicates_after earlier (cons_option o [])) (sym (entry_at said index item within is))
+
+-- the findings of two lists in turn
+pub duplicates_both : (earlier entries more : List EntryReading)
+    → duplicates_after earlier (entries ++ more) ≡ duplicates_after earlier entries ++ duplicates_after (earlier ++ entries) more
+duplicates_both earlier [] more = ap (λ before. duplicates_after before more) (sym (append-nil earlier))
+duplicates_both earlier (first ∷ entries) more =
+    ap (λ l. duplicate_after earlier first ++ l) (duplicates_both (earlier ++ first ∷ []) entries more
+    ∙ ap (λ before. duplicates_after (earlier ++ first ∷ []) entries ++ duplicates_after before more)
+    (append_assoc earlier (first ∷ []) entries))
+    ∙ sym
+    (append_assoc (duplicate_after earlier first) (duplicates_after (earlier ++ first ∷ []) entries)
+    (duplicates_after (earlier ++ first ∷ entries) more))
+
+-- the entries at the first indices and one more are those at the first indices, and then that at the next one
+pub entries_one_more : (said : List EntryReading) (indices : List ℕ) (at index : ℕ) → at < length indices
+    → index ≡ get_or indices at 0
+    → entries_at said (take (at + 1) indices) ≡ entries_at said (take at indices) ++ entries_at said (index ∷ [])
+entries_one_more said indices at index within is =
+    ap (entries_at said) (take_more indices at 0 within ∙ ap (λ i. take at indices ++ i ∷ []) (sym is))
+    ∙ filter_map-append (slice_get said) (take at indices) (index ∷ [])
+
+-- what holds anyway holds if the result is Ok
+pub on_ok : {U E : Type 0} {P : Type 0} (r : Result U E) → P → OnOk r P
+on_ok (Ok u) p = p
+on_ok (Err e) p = tt
+
+-- what follows from a fact that holds if the result is Ok also holds then
+pub on_ok_more : {U E : Type 0} {P Q : Type 0} (r : Result U E) → (P → Q) → OnOk r P → OnOk r Q
+on_ok_more (Ok u) more p = more p
+on_ok_more (Err e) more p = tt

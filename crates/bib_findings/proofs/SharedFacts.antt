@@ -11,7 +11,7 @@ use Rattle.std.proofs.lemmas.List.Sums.{take_while-cons}
 use Rattle.std.proofs.lemmas.Slice.Eq.{bytes_eq-Decides}
 use Rattle.bib_syntax.specs.Reading.{EntryReading}
 use Rattle.bib_text.specs.Characters as char
-use Rattle.bib_findings.specs.Identities.{doi_of, has_any, has_identity, identities, identity, isbn_of, title_of, work_of, work_text}
+use Rattle.bib_findings.specs.Identities.{doi_of, has_identity, identities, identity, isbn_of, title_of, work_of, work_text}
 use Rattle.bib_findings.specs.Marks.{before_brace, listed, mark, marks_of}
 use Rattle.std.proofs.lemmas.Bool.{or_cases}
 
@@ -37,7 +37,7 @@ before_cut (c ∷ text) rest =
     ∙ sym (take_while-cons (λ b. not (b == char.open_brace)) c text)
 
 -- if the identity of a kind passes a test, its text isn't empty and the kind with the text passes
-in_identity : (test : List ℕ → Bool) (kind text : List ℕ) → list_any test (identity kind text) ≡ true
+pub in_identity : (test : List ℕ → Bool) (kind text : List ℕ) → list_any test (identity kind text) ≡ true
     → (test (kind ++ text) ≡ true) × ((length text == 0) ≡ false)
 in_identity test kind text is = by (length text == 0) refl
   where
@@ -242,5 +242,5 @@ shared_with one other (is_work has some) = by (kind_of (bytes_eq (codes "work " 
         ((bytes_eq-Decides (codes "work " ++ work_of other) (codes "isbn " ++ isbn_of one)).0 same) in
         omega (arith, clash))
 
-pub share_mark : (one other : EntryReading) → has_any (identities other) one ≡ true → ShareMark one other
+pub share_mark : (one other : EntryReading) → list_any (λ id. has_identity id one) (identities other) ≡ true → ShareMark one other
 share_mark one other is = shared_with one other (kind_of (λ id. has_identity id one) other is)

@@ -2,14 +2,15 @@
 -- Codes of findings: their names and severities.
 use Rattle.std.specs.Prelude.{ℕ, List, [], ◌∷◌, Option, bytes_eq, codes, find}
 use Rattle.bib_findings.specs.declared.codes.Code.{Code}
-use Rattle.bib_findings.specs.declared.codes.Code.TheVariants.{UnreadBytes, Syntax, UnreadField, UnknownAbbreviation, CircularAbbreviation, DuplicateKey, CircularReference, UnreadDate, MissingField, SuperfluousField, MalformedField, UnknownField, UnknownReference, LikelyDuplicate, MissingEntry, UnusedEntry}
+use Rattle.bib_findings.specs.declared.codes.Code.TheVariants.{UnreadBytes, Syntax, UnreadField, UnknownAbbreviation, CircularAbbreviation, DuplicateKey, CircularReference, UnreadDate, UnknownType, MissingField, SuperfluousField, MalformedField, NotANumber, UnknownField, ForeignField, UnknownReference, LikelyDuplicate, MissingEntry, UnusedEntry}
 use Rattle.bib_findings.specs.declared.codes.Severity.{Severity}
-use Rattle.bib_findings.specs.declared.codes.Severity.TheVariants.{Error, Warning}
+use Rattle.bib_findings.specs.declared.codes.Severity.TheVariants.{Error, Warning, Info}
 
 -- the word that is printed for a severity
 abbrev pub severity_name : Severity → List ℕ
 severity_name Error = codes "error"
 severity_name Warning = codes "warning"
+severity_name Info = codes "info"
 
 -- the name of a code, in output and in options
 abbrev pub code_name : Code → List ℕ
@@ -21,10 +22,13 @@ code_name CircularAbbreviation = codes "circular-abbreviation"
 code_name DuplicateKey = codes "duplicate-key"
 code_name CircularReference = codes "circular-reference"
 code_name UnreadDate = codes "unread-date"
+code_name UnknownType = codes "unknown-type"
 code_name MissingField = codes "missing-field"
 code_name SuperfluousField = codes "superfluous-field"
 code_name MalformedField = codes "malformed-field"
+code_name NotANumber = codes "not-a-number"
 code_name UnknownField = codes "unknown-field"
+code_name ForeignField = codes "foreign-field"
 code_name UnknownReference = codes "unknown-reference"
 code_name LikelyDuplicate = codes "likely-duplicate"
 code_name MissingEntry = codes "missing-entry"
@@ -34,14 +38,15 @@ code_name UnusedEntry = codes "unused-entry"
 abbrev pub all_codes : List Code
 all_codes =
     UnreadBytes ∷ Syntax ∷ UnreadField ∷ UnknownAbbreviation ∷ CircularAbbreviation ∷ DuplicateKey ∷ CircularReference ∷ UnreadDate
-    ∷ MissingField ∷ SuperfluousField ∷ MalformedField ∷ UnknownField ∷ UnknownReference ∷ LikelyDuplicate ∷ MissingEntry
-    ∷ UnusedEntry ∷ []
+    ∷ UnknownType ∷ MissingField ∷ SuperfluousField ∷ MalformedField ∷ NotANumber ∷ UnknownField ∷ ForeignField ∷ UnknownReference
+    ∷ LikelyDuplicate ∷ MissingEntry ∷ UnusedEntry ∷ []
 
 -- the code that has this name, if there is one
 abbrev pub code_named : List ℕ → Option Code
 code_named name = find (λ code. bytes_eq (code_name code) name) all_codes
 
--- the severity of a code: an error if part of the file isn't read as written or a cited entry is missing, and a warning otherwise
+-- the severity of a code: an error if part of the file isn't read as written or a cited entry is missing; information if nothing is wrong
+-- for BibLaTeX; a warning otherwise
 abbrev pub severity_of : Code → Severity
 severity_of UnreadBytes = Error
 severity_of Syntax = Error
@@ -50,4 +55,6 @@ severity_of CircularAbbreviation = Error
 severity_of DuplicateKey = Error
 severity_of CircularReference = Error
 severity_of MissingEntry = Error
+severity_of NotANumber = Info
+severity_of ForeignField = Info
 severity_of _ = Warning

@@ -1,12 +1,12 @@
 -- Meaning: words of public contracts.
 -- The findings of entries that are likely the same work as an earlier one.
-use Rattle.std.specs.Prelude.{ℕ, List, [], ◌∷◌, ◌++◌, codes, find, slice_get}
-use Rattle.std.specs.List.{filter_map}
+use Rattle.std.specs.Prelude.{ℕ, not, List, [], ◌∷◌, ◌++◌, codes, find, slice_get, take, Option}
+use Rattle.std.specs.List.{filter, filter_map}
 use Rattle.std.specs.Option.{option_map_or}
 use Rattle.bib_syntax.specs.Reading.{EntryReading}
 use Rattle.bib_findings.specs.Entries.{part_range}
 use Rattle.bib_findings.specs.Errors.{finding_at}
-use Rattle.bib_findings.specs.Identities.{has_any, identities}
+use Rattle.bib_findings.specs.Identities.{are_told_apart, has_identity, identities}
 use Rattle.bib_findings.specs.declared.codes.Code.TheVariants.{LikelyDuplicate}
 use Rattle.bib_findings.specs.declared.finding.Finding.{Finding}
 
@@ -22,9 +22,21 @@ duplicate_message key first = key ++ (codes ": likely the same as \"" ++ (first 
 abbrev pub duplicate_finding : EntryReading → EntryReading → Finding
 duplicate_finding said first = finding_at LikelyDuplicate (part_range said.key) (duplicate_message said.key.text first.key.text)
 
--- the finding of an entry that shares an identity with an earlier one, if there is one: it names the first such entry
+-- the greatest number of earlier entries with one identity that an entry is compared with
+abbrev pub most_compared : ℕ
+most_compared = 16
+
+-- the first of the earlier entries with an identity that no field tells apart from an entry
+abbrev pub same_by : List EntryReading → EntryReading → List ℕ → Option EntryReading
+same_by earlier said id = find (λ other. not (are_told_apart said other)) (take most_compared (filter (has_identity id) earlier))
+
+-- the earlier entry that is likely the same work as an entry: by the first of its identities for which there is one
+abbrev pub same_work : List EntryReading → EntryReading → Option EntryReading
+same_work earlier said = slice_get (filter_map (same_by earlier said) (identities said)) 0
+
+-- the finding of an entry that is likely the same work as an earlier one, if there is one
 abbrev pub duplicate_after : List EntryReading → EntryReading → List Finding
-duplicate_after earlier said = option_map_or (λ first. duplicate_finding said first ∷ []) (find (has_any (identities said)) earlier) []
+duplicate_after earlier said = option_map_or (λ first. duplicate_finding said first ∷ []) (same_work earlier said) []
 
 -- the findings of the entries of a list, each compared with the earlier ones and with those before it in the list
 abbrev pub duplicates_after : List EntryReading → List EntryReading → List Finding

@@ -17,23 +17,29 @@ use Rattle.bib_text.specs.declared.spanned.Spanned.{Spanned}
 use Rattle.bib_syntax.specs.declared.raw.recovery.SkippedBlock.{SkippedBlock}
 use Rattle.bib_collections.specs.Sorted.{ByText}
 use Rattle.bib_findings.specs.Duplicates.{duplicates, entries_at}
-use Rattle.bib_findings.specs.Entries.{AreOfEach, AreOfReport}
+use Rattle.bib_findings.specs.Entries.{AreOfEach}
 use Rattle.bib_findings.specs.Errors.{block_finding, error_finding}
+use Rattle.bib_findings.specs.Foreign.{foreign_findings}
 use Rattle.bib_findings.specs.Names.{AreOfUnknown}
 use Rattle.bib_findings.specs.References.{AreReferences}
+use Rattle.bib_findings.specs.Reported.{AreOfReport}
+use Rattle.bib_findings.specs.Types.{AreOfType}
 use Rattle.bib_findings.specs.declared.finding.Finding.{Finding}
 
 -- the raw entries of a file, in order
 abbrev pub entries_said : List (Spanned RawEntry) → List EntryReading
 entries_said = map entry_reading_of
 
--- whether these are the findings of an entry, with its raw form `said`: those of its report, then those of unknown field names
+-- whether these are the findings of an entry, with its raw form `said`: that of its type, then those of its report, then those of unknown
+-- field names
 pub record AreOfEntry (said : EntryReading) (entry : Entry) (found : List Finding) : Type 0 where
+  pub of_type : List Finding
+  pub type : AreOfType said of_type
   pub of_report : List Finding
   pub report : AreOfReport said entry of_report
   pub of_unknown : List Finding
   pub unknown : AreOfUnknown said of_unknown
-  pub are : found ≡ of_report ++ of_unknown
+  pub are : found ≡ of_type ++ (of_report ++ of_unknown)
 
 -- whether `found` is `all`, sorted by the start of the span; findings with the same start keep their order
 pub record AreSortedByPlace (all found : List Finding) : Type 0 where
@@ -41,12 +47,13 @@ pub record AreSortedByPlace (all found : List Finding) : Type 0 where
   pub sorted : IsSortedByKey (λ f. f.span.start) nat_cmp found
   pub stable : IsStableByKey (λ f. f.span.start) nat_cmp all found
 
--- whether these are the findings between entries: first of keys that no entry has, then of entries that are likely the same work
+-- whether these are the findings between entries: first of keys that no entry has, then of entries that are likely the same work, then of
+-- fields that other programs write for themselves
 pub record AreBetween (names : ByText ℕ) (said : List EntryReading) (origins : List ℕ) (own : List Entry)
     (found : List Finding) : Type 0 where
   pub of_keys : List Finding
   pub keys : AreOfEach (AreReferences names) said origins own of_keys
-  pub are : found ≡ of_keys ++ duplicates (entries_at said origins)
+  pub are : found ≡ of_keys ++ (duplicates (entries_at said origins) ++ foreign_findings (entries_at said origins))
 
 -- whether these are the findings of a recovered file, sorted by where they start: those of skipped blocks, of errors, of each kept
 -- entry, and those between entries

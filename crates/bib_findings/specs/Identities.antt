@@ -1,7 +1,7 @@
 -- Meaning: words of public contracts.
--- What makes two entries likely the same work: the same DOI, the same ISBN, or the same title, first person and year. Case, braces
--- and white space don't count, nor do the hyphens of an ISBN and the address before a DOI.
-use Rattle.std.specs.Prelude.{ℕ, Bool, not, ◌==◌, ◌||◌, List, [], ◌∷◌, ◌++◌, codes, chars, length, take, drop, filter, bytes_eq, nat_eq, encode_utf8_all, Option, Some, None, if◌then◌else◌}
+-- What makes two entries likely the same work: the same DOI, the same ISBN of whole books, or the same title, first person and year. Case,
+-- braces and white space don't count, nor do the hyphens of an ISBN and the address before a DOI.
+use Rattle.std.specs.Prelude.{ℕ, Bool, not, ◌==◌, ◌&&◌, ◌||◌, List, [], ◌∷◌, ◌++◌, codes, chars, length, take, drop, filter, bytes_eq, nat_eq, encode_utf8_all, Option, Some, None, if◌then◌else◌}
 use Rattle.std.specs.Char.{is_whitespace}
 use Rattle.std.specs.List.{flat_map, list_any, slice_split, starts_with, take_while}
 use Rattle.std.specs.StrCase.Lower.{str_to_lowercase}
@@ -10,6 +10,7 @@ use Rattle.bib_tables.specs.Requirements.{Names, fields}
 use Rattle.bib_syntax.specs.Reading.{EntryReading, FieldReading, Piece}
 use Rattle.bib_syntax.specs.Reading.Piece.{literal}
 use Rattle.bib_findings.specs.Entries.{last_named}
+use Rattle.bib_findings.specs.Nearest.{is_known_name}
 
 -- the text of a value that is one literal (in braces, in quotes, or a number); any other value gives the empty text
 abbrev pub literal_text : List Piece → List ℕ
@@ -79,9 +80,21 @@ without_prefixes text (prefix ∷ prefixes) =
 abbrev pub doi_of : EntryReading → List ℕ
 doi_of said = without_prefixes (squeezed (own_literal said (codes "doi"))) doi_prefixes
 
--- the ISBN of an entry, without hyphens, braces and white space; the empty text if it has none
+-- the types of whole books: the ISBN of a part, such as a chapter, is that of its book
+abbrev pub whole_types : Names
+whole_types = fields "book booklet collection manual mvbook mvcollection mvproceedings mvreference proceedings reference"
+
+-- whether an entry is a whole book
+abbrev pub is_whole_book : EntryReading → Bool
+is_whole_book said = is_known_name whole_types said.kind.text
+
+-- a text without hyphens, braces and white space, in lowercase
+abbrev pub unhyphened : List ℕ → List ℕ
+unhyphened text = encode_utf8_all (filter (λ c. not (c == char.hyphen)) (chars (squeezed text)))
+
+-- the ISBN of a whole book, without hyphens, braces and white space; the empty text if it has none, or isn't a whole book
 abbrev pub isbn_of : EntryReading → List ℕ
-isbn_of said = encode_utf8_all (filter (λ c. not (c == char.hyphen)) (chars (squeezed (own_literal said (codes "isbn")))))
+isbn_of said = if is_whole_book said then unhyphened (own_literal said (codes "isbn")) else []
 
 -- the year of an entry: its field `year`, or else the first four characters of its date
 abbrev pub year_of : EntryReading → List ℕ
@@ -118,6 +131,18 @@ identities said =
 abbrev pub has_identity : List ℕ → EntryReading → Bool
 has_identity id said = list_any (bytes_eq id) (identities said)
 
--- whether an entry has one of these identities
-abbrev pub has_any : Names → EntryReading → Bool
-has_any ids said = list_any (λ id. has_identity id said) ids
+-- the fields that tell parts, volumes and editions of one title apart
+abbrev pub telling_fields : Names
+telling_fields = fields "volume number pages chapter part edition subtitle"
+
+-- whether two texts aren't empty, and differ
+abbrev pub are_different : List ℕ → List ℕ → Bool
+are_different text other = not (length text == 0) && not (length other == 0) && not (bytes_eq text other)
+
+-- whether two entries have a field of this name, with texts that differ in more than case, hyphens, braces and white space
+abbrev pub differs_in : EntryReading → EntryReading → List ℕ → Bool
+differs_in said other name = are_different (unhyphened (own_literal said name)) (unhyphened (own_literal other name))
+
+-- whether a field tells two entries apart
+abbrev pub are_told_apart : EntryReading → EntryReading → Bool
+are_told_apart said other = list_any (differs_in said other) telling_fields

@@ -1,13 +1,15 @@
 -- Meaning: words of public contracts.
 -- The field names that BibLaTeX knows, and the findings of fields with any other name.
-use Rattle.std.specs.Prelude.{◌≡◌, ℕ, ◌<◌, ◌≤◌, Bool, not, List, ◌∷◌, ◌++◌, codes, length, nat_eq, Option, Some, None}
-use Rattle.std.specs.List.{All, AllZip, filter, list_any}
-use Rattle.std.specs.Str.{chars, str_eq_ignore_ascii_case, str_to_ascii_lowercase}
-use Rattle.strsim.specs.Edits.{levenshtein_row}
+use Rattle.std.specs.Prelude.{◌≡◌, ℕ, Bool, not, ◌==◌, ◌&&◌, ◌||◌, List, ◌++◌, codes, Option, if◌then◌else◌}
+use Rattle.std.specs.List.{AllZip, after_first, before_first, filter}
+use Rattle.std.specs.Str.{str_eq_ignore_ascii_case, str_to_ascii_lowercase}
+use Rattle.bib_text.specs.Characters as char
 use Rattle.bib_tables.specs.Requirements.{Names, fields}
 use Rattle.bib_syntax.specs.Reading.{EntryReading, FieldReading}
 use Rattle.bib_findings.specs.Entries.{part_range}
 use Rattle.bib_findings.specs.Errors.{finding_at}
+use Rattle.bib_findings.specs.Foreign.{begins_in_any_case, is_foreign}
+use Rattle.bib_findings.specs.Nearest.{IsNearest, is_known_name, unknown_message}
 use Rattle.bib_findings.specs.declared.codes.Code.TheVariants.{UnknownField}
 use Rattle.bib_findings.specs.declared.finding.Finding.{Finding}
 
@@ -26,48 +28,42 @@ known_fields = fields "abstract addendum address afterword annotation annotator 
     ++ (fields "pubstate related relatedoptions relatedstring relatedtype reprinttitle school series shortauthor shorteditor"
     ++ (fields "shorthand shorthandintro shortjournal shortseries shorttitle sortkey sortname sortshorthand sorttitle sortyear"
     ++ (fields "subtitle title titleaddon translator type url urldate urlday urlmonth urlyear usera userb userc userd usere"
-    ++ fields "userf venue verba verbb verbc version volume volumes xdata xref year"))))))))))))
+    ++ (fields "userf venue verba verbb verbc version volume volumes xdata xref year"
+    ++ (fields "hour minute second timezone yeardivision endhour endminute endsecond endtimezone endyeardivision"
+    ++ (fields "eventhour eventminute eventsecond eventtimezone eventyeardivision eventendyear eventendmonth eventendday eventendhour"
+    ++ (fields "eventendminute eventendsecond eventendtimezone eventendyeardivision orighour origminute origsecond origtimezone"
+    ++ (fields "origyeardivision origendyear origendmonth origendday origendhour origendminute origendsecond origendtimezone"
+    ++ (fields "origendyeardivision urlhour urlminute urlsecond urltimezone urlyeardivision urlendyear urlendmonth urlendday urlendhour"
+    ++ fields "urlendminute urlendsecond urlendtimezone urlendyeardivision"))))))))))))))))))
+
+-- whether the text after a plus sign in a field name marks a data annotation: BibLaTeX's marker `an` in any ASCII case, and maybe a name
+-- after a colon
+abbrev pub is_annotation_mark : List ℕ → Bool
+is_annotation_mark mark = str_eq_ignore_ascii_case mark (codes "an") || begins_in_any_case (codes "an:") mark
+
+-- the field that a field is about: without the mark, if the field is a data annotation such as `author+an` (manual, 3.7)
+abbrev pub annotated_name : List ℕ → List ℕ
+annotated_name name =
+    if is_annotation_mark (after_first (λ b. b == char.plus) name) then before_first (λ b. b == char.plus) name else name
 
 -- whether BibLaTeX knows a field of this name, in any ASCII case
 abbrev pub is_known_field : List ℕ → Bool
-is_known_field name = list_any (λ known. str_eq_ignore_ascii_case known name) known_fields
-
--- the Levenshtein distance of two names: the least number of characters to insert, remove or replace
-abbrev pub distance : List ℕ → List ℕ → ℕ
-distance name other = levenshtein_row nat_eq (chars name) (chars other) (length (chars other))
-
--- the greatest distance at which a known name is suggested
-abbrev pub most_edits : ℕ
-most_edits = 2
-
--- whether `known` is the first of the names in `all` that are nearest to `name`, at a distance of at most `most_edits`
-pub record IsFirstNearest (all : Names) (name known : List ℕ) : Type 0 where
-  pub before : Names
-  pub after : Names
-  pub is_there : all ≡ before ++ known ∷ after
-  pub near : distance name known ≤ most_edits
-  pub farther : All (λ other. distance name known < distance name other) before
-  pub as_far : All (λ other. distance name known ≤ distance name other) after
-
--- whether this is the first of the nearest names at a distance of at most `most_edits`, or none if all names are farther away
-abbrev pub IsNearest : Names → List ℕ → Option (List ℕ) → Type 0
-IsNearest all name (Some known) = IsFirstNearest all name known
-IsNearest all name None = All (λ known. most_edits < distance name known) all
-
--- the message about an unknown field of the entry with this key, with a suggestion if there is one
-abbrev pub unknown_message : List ℕ → List ℕ → Option (List ℕ) → List ℕ
-unknown_message key name None = key ++ (codes ": unknown field " ++ name)
-unknown_message key name (Some known) = key ++ (codes ": unknown field " ++ (name ++ (codes "; is " ++ (known ++ codes " meant?"))))
+is_known_field name = is_known_name known_fields (annotated_name name)
 
 -- whether this is the finding of an unknown field, at its name, with the nearest known name as the suggestion, if one is near enough
 pub record IsOfUnknown (key : List ℕ) (field : FieldReading) (found : Finding) : Type 0 where
   pub meant : Option (List ℕ)
   pub nearest : IsNearest known_fields (str_to_ascii_lowercase field.name.text) meant
-  pub is : found ≡ finding_at UnknownField (part_range field.name) (unknown_message key field.name.text meant)
+  pub is : found ≡ finding_at UnknownField (part_range field.name)
+      (unknown_message key (codes "unknown field") field.name.text meant)
 
--- the fields whose names BibLaTeX doesn't know
+-- whether a field name is neither known to BibLaTeX nor used by other programs
+abbrev pub is_unknown_field : List ℕ → Bool
+is_unknown_field name = not (is_known_field name) && not (is_foreign name)
+
+-- the fields with such a name
 abbrev pub unknown_among : List FieldReading → List FieldReading
-unknown_among all = filter (λ f. not (is_known_field f.name.text)) all
+unknown_among all = filter (λ f. is_unknown_field f.name.text) all
 
 -- whether these are the findings of the unknown fields in `all`, one for each, in order, for the entry with this key
 abbrev pub AreUnknownOf : List ℕ → List FieldReading → List Finding → Type 0

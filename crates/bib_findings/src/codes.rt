@@ -10,6 +10,8 @@ pub enum Severity {
     Error,
     /// Everything is kept, but something may be wrong.
     Warning,
+    /// Nothing is wrong for BibLaTeX.
+    Info,
 }
 
 impl Severity {
@@ -20,6 +22,7 @@ impl Severity {
         match self {
             Self::Error => "error",
             Self::Warning => "warning",
+            Self::Info => "info",
         }
     }
 }
@@ -43,14 +46,20 @@ pub enum Code {
     CircularReference,
     /// A date that an entry would inherit, but that can't be parsed.
     UnreadDate,
+    /// An entry type that BibLaTeX doesn't know.
+    UnknownType,
     /// A field that the entry's type requires and the entry lacks.
     MissingField,
-    /// A field that the entry's type forbids.
+    /// A field that an entry of this type must not have.
     SuperfluousField,
     /// A field that can't be parsed as a value of its type.
     MalformedField,
+    /// Pages or a volume that aren't numbers. BibLaTeX prints them as they are.
+    NotANumber,
     /// A field whose name BibLaTeX doesn't know.
     UnknownField,
+    /// A field that another program writes for itself.
+    ForeignField,
     /// A key that an entry refers to and no entry has.
     UnknownReference,
     /// An entry that is likely the same work as an earlier one.
@@ -61,9 +70,9 @@ pub enum Code {
     UnusedEntry,
 }
 
-// The codes, in the order in which they are listed: as the parts of a file are read, then between entries, then of
-// documents.
-static CODES: [Code; 16] = [
+// The codes in the order of their listing: errors of parsing and of inheriting, then findings about an entry's type and fields, then about
+// references and duplicates, then about documents.
+static CODES: [Code; 19] = [
     Code::UnreadBytes,
     Code::Syntax,
     Code::UnreadField,
@@ -72,10 +81,13 @@ static CODES: [Code; 16] = [
     Code::DuplicateKey,
     Code::CircularReference,
     Code::UnreadDate,
+    Code::UnknownType,
     Code::MissingField,
     Code::SuperfluousField,
     Code::MalformedField,
+    Code::NotANumber,
     Code::UnknownField,
+    Code::ForeignField,
     Code::UnknownReference,
     Code::LikelyDuplicate,
     Code::MissingEntry,
@@ -103,10 +115,13 @@ impl Code {
             Self::DuplicateKey => "duplicate-key",
             Self::CircularReference => "circular-reference",
             Self::UnreadDate => "unread-date",
+            Self::UnknownType => "unknown-type",
             Self::MissingField => "missing-field",
             Self::SuperfluousField => "superfluous-field",
             Self::MalformedField => "malformed-field",
+            Self::NotANumber => "not-a-number",
             Self::UnknownField => "unknown-field",
+            Self::ForeignField => "foreign-field",
             Self::UnknownReference => "unknown-reference",
             Self::LikelyDuplicate => "likely-duplicate",
             Self::MissingEntry => "missing-entry",
@@ -121,7 +136,8 @@ impl Code {
         first_named(&CODES, name)
     }
 
-    /// Returns its severity: an error if part of the file isn't read as written or a cited entry is missing.
+    /// Returns its severity: an error if part of the file isn't read as written or a cited entry is missing; information if nothing is
+    /// wrong for BibLaTeX; a warning otherwise.
     pub fn severity(self) -> Severity
         ensures { result ≡ severity_of self }
     {
@@ -133,8 +149,10 @@ impl Code {
             | Self::DuplicateKey
             | Self::CircularReference
             | Self::MissingEntry => Severity::Error,
+            Self::NotANumber | Self::ForeignField => Severity::Info,
             Self::UnknownAbbreviation
             | Self::UnreadDate
+            | Self::UnknownType
             | Self::MissingField
             | Self::SuperfluousField
             | Self::MalformedField
@@ -164,18 +182,24 @@ impl Code {
                 "An entry refers to itself by crossref or xdata, directly or through others. It loses its references. Remove one of them.",
             Self::UnreadDate =>
                 "An entry would inherit a date that can't be read. It inherits none. Write the date as YYYY-MM-DD, YYYY-MM or YYYY in the entry that is referred to.",
+            Self::UnknownType =>
+                "BibLaTeX doesn't know this entry type. It prints the entry as it prints `misc`. Correct the type. If a known one is nearly the same, the message names it. A type of a style of your own is also unknown; then ignore this code.",
             Self::MissingField =>
-                "BibLaTeX requires this field of an entry of this type, and the entry neither has nor inherits it.",
+                "BibLaTeX's data model requires this field of an entry of this type, and the entry neither has nor inherits it.",
             Self::SuperfluousField =>
-                "An entry of this type has no use for this field, or it contradicts another one. Remove it, or change the type of the entry.",
+                "An entry of this type must not have this field. Remove it, or change the type of the entry.",
             Self::MalformedField =>
                 "The field is read as text, but not as the number, range, date or word that it should be. The text after the colon says what is wrong.",
+            Self::NotANumber =>
+                "The pages aren't ranges of numbers, or the volume isn't a number. BibLaTeX prints the text as it is. Programs that sort or compare numbers can't use it.",
             Self::UnknownField =>
-                "BibLaTeX's data model has no field of this name, so nothing will print it. Where a known name is nearly the same it is named. Ignore this code where other programs keep fields of their own in the file.",
+                "BibLaTeX's data model has no field of this name, so nothing prints it. If a known name is nearly the same, the message names it. Ignore this code if a style or a program of your own uses the field.",
+            Self::ForeignField =>
+                "Another program writes this field for itself, for example a reference manager or a database. BibLaTeX ignores it. One finding for each name counts all fields with it.",
             Self::UnknownReference =>
                 "A field refers to an entry by a key that no entry of the file has, nor names in its field ids. Nothing is inherited from there. Correct the key, or add the entry.",
             Self::LikelyDuplicate =>
-                "An earlier entry has the same DOI, the same ISBN, or the same title, first person and year. Keep one of the two, and name the key of the other in its field ids.",
+                "An earlier entry has the same DOI, the same ISBN of a whole book, or the same title, first person and year, and no volume, number, pages, chapter, part, edition or subtitle differs. Keep one of the two, and name the key of the other in its field `ids`.",
             Self::MissingEntry =>
                 "A key is cited that no entry of the files has, nor names in its field ids. Correct the key, or add the entry.",
             Self::UnusedEntry =>

@@ -1,16 +1,16 @@
 //! Findings of entries that are likely the same work.
 
-ghost use Rattle.std.specs.Prelude.{◌≡◌, ◌<◌, ◌++◌, ◌∷◌, [], List, ℕ, All, length, map, IfOk, IfSome, OnOk};
+ghost use Rattle.std.specs.Prelude.{◌≡◌, ◌<◌, ◌++◌, ◌∷◌, [], List, ℕ, All, length, map, slice_get, option_and_then, IfOk, IfSome, OnOk};
 ghost use Rattle.std.specs.BTreeMap.{get_by_text};
 ghost use Rattle.std.specs.String.{string_bytes};
+ghost use Rattle.bib_syntax.specs.Reading.{EntryReading};
 ghost use Rattle.bib_syntax.specs.Views.{entry_reading_of};
-ghost use Rattle.bib_findings.specs.Duplicates.{duplicate_after, duplicate_finding, duplicate_message, duplicates, entries_at};
-ghost use Rattle.bib_findings.specs.Identities.{identities};
-ghost use Rattle.bib_findings.specs.Seen.{HasFirst, duplicate_at, least_of, lesser, remembered};
+ghost use Rattle.bib_findings.specs.Duplicates.{duplicate_finding, duplicate_message, duplicates, duplicates_after, entries_at};
+ghost use Rattle.bib_findings.specs.Seen.{AreFirstWith, AreThere, alike_among, alike_by, first_alike, remembered, same_finding, stored_indices, with_entry_index};
 
 use crate::codes::Code;
 use crate::finding::Finding;
-use crate::identities::identities;
+use crate::identities::{are_told_apart, identities};
 use crate::marks::candidates;
 use bib_syntax::raw::RawEntry;
 use bib_text::spanned::Spanned;
@@ -18,41 +18,106 @@ use bib_text::text::Text;
 use std::alloc::{AllocError, Global};
 use std::collections::BTreeMap;
 
-// Returns the lesser of two indices; if only one is present, returns that one.
-fn lesser(one: Option<usize>, other: Option<usize>) -> Option<usize>
-    ensures { result ≡ lesser one other }
+// The greatest number of earlier entries with one identity that an entry is compared with.
+const MOST_COMPARED: usize = 16;
+
+// Returns the first of these indices whose entry no field tells apart from `one`.
+fn first_alike(
+    alloc: Global,
+    said: &[Spanned<RawEntry<'_>>],
+    one: &Spanned<RawEntry<'_>>,
+    indices: &[usize],
+) -> Result<Option<usize>, AllocError>
+    requires { All (λ index. index < length said.now) indices.now }
+    ensures there { IfOk result (λ first. IfSome first (λ index. index < length said.now)) }
+    ensures first { IfOk result (λ first. option_and_then (slice_get (map entry_reading_of said.now)) first ≡
+        first_alike (entry_reading_of one.now) (entries_at (map entry_reading_of said.now) indices.now)) }
 {
-    match (one, other) {
-        (Some(first), Some(second)) => Some(first.min(second)),
-        (None, _) => other,
-        (_, None) => one,
+    'indices: for index in indices {
+        if !are_told_apart(alloc, one, &said[*index])? {
+            return Ok(Some(*index));
+        }
+    }
+    Ok(None)
+}
+
+// Returns the index of the first entry with this identity that no field tells apart from `one`. `seen` has the indices of the first
+// entries with each identity.
+fn alike_by(
+    alloc: Global,
+    seen: &BTreeMap<String, Vec<usize>>,
+    said: &[Spanned<RawEntry<'_>>],
+    one: &Spanned<RawEntry<'_>>,
+    identity: &str,
+) -> Result<Option<usize>, AllocError>
+    requires { AreThere (get_by_text seen.now) (length said.now) }
+    ensures there { IfOk result (λ first. IfSome first (λ index. index < length said.now)) }
+    ensures first { IfOk result (λ first. option_and_then (slice_get (map entry_reading_of said.now)) first ≡
+        alike_by (get_by_text seen.now) (map entry_reading_of said.now) (entry_reading_of one.now) identity.now) }
+{
+    match seen.get(identity) {
+        Some(indices) => first_alike(alloc, said, one, indices),
+        None => Ok(None),
     }
 }
 
-// Returns the least index that one of these identities has.
-fn least_of(seen: &BTreeMap<String, usize>, identities: &[String]) -> Option<usize>
-    ensures { result ≡ least_of (get_by_text seen.now) (map string_bytes identities.now) }
+// Returns the index of the earlier entry that is likely the same work as `one`. `seen` has the indices of the first entries with each
+// identity.
+fn same_work(
+    alloc: Global,
+    seen: &BTreeMap<String, Vec<usize>>,
+    said: &[Spanned<RawEntry<'_>>],
+    one: &Spanned<RawEntry<'_>>,
+    identities: &[String],
+) -> Result<Option<usize>, AllocError>
+    requires { AreThere (get_by_text seen.now) (length said.now) }
+    ensures there { IfOk result (λ first. IfSome first (λ index. index < length said.now)) }
+    ensures first { IfOk result (λ first. option_and_then (slice_get (map entry_reading_of said.now)) first ≡
+        alike_among (get_by_text seen.now) (map entry_reading_of said.now) (entry_reading_of one.now) (map string_bytes identities.now)) }
 {
-    let mut least = None;
     'identities: for identity in identities {
-        least = lesser(least, seen.get(identity.as_str()).copied());
+        let first = alike_by(alloc, seen, said, one, identity.as_str())?;
+        if first.is_some() {
+            return Ok(first);
+        }
     }
-    least
+    Ok(None)
 }
 
-// Stores these identities with this index, except those that already have one.
+// Appends an index, unless there are already `MOST_COMPARED` indices.
+fn add_index(indices: &mut Vec<usize>, index: usize) -> Result<(), AllocError>
+    ensures { OnOk result (indices.new.items ≡ with_entry_index indices.old.items index) }
+{
+    if indices.len() < MOST_COMPARED {
+        indices.push(index)?;
+    }
+    Ok(())
+}
+
+// Adds the index of an entry to those of an identity, unless it already has `MOST_COMPARED` indices.
+fn store(
+    seen: &mut BTreeMap<String, Vec<usize>>,
+    identity: String,
+    index: usize,
+) -> Result<(), AllocError>
+    ensures { OnOk result ((id : List ℕ) → stored_indices (get_by_text seen.new id) ≡
+        remembered (string_bytes identity ∷ []) index id (stored_indices (get_by_text seen.old id))) }
+{
+    add_index(seen.entry(identity)?.or_default(), index)?;
+    Ok(())
+}
+
+// Adds the index of an entry to those of each of its identities, except to `MOST_COMPARED` indices.
 fn remember(
-    seen: &mut BTreeMap<String, usize>,
+    seen: &mut BTreeMap<String, Vec<usize>>,
     identities: Vec<String>,
     index: usize,
 ) -> Result<(), AllocError>
-    ensures { OnOk result ((id : List ℕ) → get_by_text seen.new id ≡
-        remembered (map string_bytes identities.items) index id (get_by_text seen.old id)) }
+    ensures { OnOk result ((id : List ℕ) → stored_indices (get_by_text seen.new id) ≡
+        remembered (map string_bytes identities.items) index id (stored_indices (get_by_text seen.old id))) }
 {
     'identities: for identity in identities {
-        if !seen.contains_key(identity.as_str()) {
-            seen.insert(identity, index)?;
-        }
+        store(seen, identity, index)?;
     }
     Ok(())
 }
@@ -81,51 +146,54 @@ fn duplicate_finding(
     })
 }
 
-// Appends a finding if `first` is an index: `one` is likely the same work as the earlier entry at this index of
-// `earlier`.
-fn add_if_first(
+// Appends a finding if `one` is likely the same work as the entry at an index.
+fn add_same(
     alloc: Global,
     found: &mut Vec<Finding>,
     said: &[Spanned<RawEntry<'_>>],
-    earlier: &[usize],
     one: &Spanned<RawEntry<'_>>,
     first: Option<usize>,
 ) -> Result<(), AllocError>
-    requires there { All (λ index. index < length said.now) earlier.now }
-    requires first { IfSome first (λ first. first < length earlier.now) }
+    requires { IfSome first (λ first. first < length said.now) }
     ensures { OnOk result (found.new.items ≡ found.old.items ++
-        duplicate_at (entries_at (map entry_reading_of said.now) earlier.now) (entry_reading_of one.now) first) }
+        same_finding (entry_reading_of one.now) (option_and_then (slice_get (map entry_reading_of said.now)) first)) }
 {
     if let Some(first) = first {
-        found.push(duplicate_finding(alloc, one, &said[earlier[first]])?)?;
+        found.push(duplicate_finding(alloc, one, &said[first])?)?;
     }
     Ok(())
 }
 
-// Appends a finding if `one` shares an identity with one of the `earlier` entries, and stores the identities of `one`.
+// Appends a finding if the entry at `index` is likely the same work as an earlier one, and stores its identities. `seen` has the
+// indices of the first earlier entries with each identity.
 fn add_duplicate(
     alloc: Global,
     found: &mut Vec<Finding>,
-    seen: &mut BTreeMap<String, usize>,
+    seen: &mut BTreeMap<String, Vec<usize>>,
     said: &[Spanned<RawEntry<'_>>],
-    earlier: &[usize],
-    one: &Spanned<RawEntry<'_>>,
+    index: usize,
 ) -> Result<(), AllocError>
-    requires there { All (λ index. index < length said.now) earlier.now }
-    requires seen { HasFirst (get_by_text seen.old) (entries_at (map entry_reading_of said.now) earlier.now) }
-    ensures seen { OnOk result (HasFirst (get_by_text seen.new)
-        (entries_at (map entry_reading_of said.now) earlier.now ++ entry_reading_of one.now ∷ [])) }
-    ensures added { OnOk result (found.new.items ≡ found.old.items ++
-        duplicate_after (entries_at (map entry_reading_of said.now) earlier.now) (entry_reading_of one.now)) }
+    requires within { index < length said.now }
+    requires there { AreThere (get_by_text seen.old) (length said.now) }
+    ensures there { OnOk result (AreThere (get_by_text seen.new) (length said.now)) }
+    ensures first { OnOk result ((earlier : List EntryReading)
+        → AreFirstWith (get_by_text seen.old) (map entry_reading_of said.now) earlier
+        → AreFirstWith (get_by_text seen.new) (map entry_reading_of said.now)
+        (earlier ++ entries_at (map entry_reading_of said.now) (index ∷ []))) }
+    ensures added { OnOk result ((earlier : List EntryReading)
+        → AreFirstWith (get_by_text seen.old) (map entry_reading_of said.now) earlier
+        → found.new.items ≡ found.old.items ++
+        duplicates_after earlier (entries_at (map entry_reading_of said.now) (index ∷ []))) }
 {
+    let one = &said[index];
     let identities = identities(alloc, one)?;
-    let first = least_of(seen, &identities);
-    remember(seen, identities, earlier.len())?;
-    add_if_first(alloc, found, said, earlier, one, first)
+    let first = same_work(alloc, seen, said, one, &identities)?;
+    remember(seen, identities, index)?;
+    add_same(alloc, found, said, one, first)
 }
 
-// Appends a finding for each of these entries that is likely the same work as one before it. `origins` contains the
-// index of each in `said`.
+// Appends a finding for each of these entries that is likely the same work as one before it. `origins` contains the index of each in
+// `said`.
 fn add_duplicates_among(
     alloc: Global,
     found: &mut Vec<Finding>,
@@ -137,9 +205,8 @@ fn add_duplicates_among(
         duplicates (entries_at (map entry_reading_of said.now) origins.now)) }
 {
     let mut seen = BTreeMap::new(alloc);
-    'origins: for index in 0..origins.len() {
-        let one = &said[origins[index]];
-        add_duplicate(alloc, found, &mut seen, said, &origins[..index], one)?;
+    'origins: for index in origins {
+        add_duplicate(alloc, found, &mut seen, said, *index)?;
     }
     Ok(())
 }

@@ -1,17 +1,24 @@
 //! Findings of the reports on entries.
 
-ghost use Rattle.std.specs.Prelude.{◌≡◌, ◌++◌, map, IfOk, OnOk};
+ghost use Rattle.std.specs.Prelude.{◌≡◌, ◌++◌, codes, map, not, IfOk, OnOk};
+ghost use Rattle.std.specs.List.{filter};
 ghost use Rattle.std.specs.String.{string_bytes};
 ghost use Rattle.bib_tables.specs.Requirements.{texts};
 ghost use Rattle.bib_syntax.specs.Views.{entry_reading_of};
 ghost use Rattle.bib_findings.specs.Adding.{Adds};
-ghost use Rattle.bib_findings.specs.Entries.{AreOfReport, field_finding, field_message, malformed_finding};
+ghost use Rattle.bib_entry.specs.Reports.{superfluous_of};
+ghost use Rattle.bib_findings.specs.Entries.{field_finding, field_message};
+ghost use Rattle.bib_findings.specs.Reported.{AreOfReport, is_in_data_model, is_reported_field, malformed_code, malformed_finding, malformed_findings, superfluous_fields};
+ghost use Rattle.bib_findings.specs.declared.codes.Code.TheVariants.{MissingField, SuperfluousField};
 
 use crate::codes::Code;
+use crate::demands::missing_fields;
 use crate::finding::Finding;
+use crate::identities::own_literal;
 use crate::places::{field_place, malformed_place};
 use bib_entry::entry::Entry;
 use bib_syntax::raw::RawEntry;
+use bib_tables::mechanics::EntryType;
 use bib_tables::type_error::TypeError;
 use bib_text::spanned::Spanned;
 use bib_text::text::Text;
@@ -43,22 +50,37 @@ fn field_finding(
     })
 }
 
-// Appends a finding for each of these field names, all with the same code and the same word.
-fn add_names(
+// Appends a finding for each of these field names, which an entry lacks.
+fn add_missing(
     alloc: Global,
     found: &mut Vec<Finding>,
     said: &Spanned<RawEntry<'_>>,
-    code: Code,
-    wrong: &str,
     names: &[&'static str],
 ) -> Result<(), AllocError>
     ensures { OnOk result (found.new.items ≡ found.old.items ++
-        map (field_finding (entry_reading_of said.now) code wrong.now) (texts names.now)) }
+        map (field_finding (entry_reading_of said.now) MissingField (codes "missing")) (texts names.now)) }
 {
     'names: for name in names {
-        found.push(field_finding(alloc, said, code, wrong, *name)?)?;
+        found.push(field_finding(alloc, said, Code::MissingField, "missing", *name)?)?;
     }
     Ok(())
+}
+
+// Returns the code of a malformed field: BibLaTeX prints pages and a volume also if they aren't numbers.
+fn malformed_code(name: &str) -> Code
+    ensures { result ≡ malformed_code name.now }
+{
+    match name {
+        "pages" | "volume" => Code::NotANumber,
+        _ => Code::MalformedField,
+    }
+}
+
+// Returns whether an error is reported: not that of the gender `pp`, which BibLaTeX knows.
+fn is_reported(said: &Spanned<RawEntry<'_>>, name: &str) -> bool
+    ensures { result ≡ is_reported_field (entry_reading_of said.now) name.now }
+{
+    name != "gender" || own_literal(said, "gender") != "pp"
 }
 
 // Returns the finding of a field that can't be parsed as a value of its type.
@@ -74,13 +96,13 @@ fn malformed_finding(
     let what = format!(in alloc; "{name}: {}", error.kind)?;
     let message = Text::from_string(field_message(alloc, said.v.key.v, "malformed", &what)?);
     Ok(Finding {
-        code: Code::MalformedField,
+        code: malformed_code(name),
         span: malformed_place(said, name),
         message,
     })
 }
 
-// Appends a finding for each malformed field.
+// Appends a finding for each malformed field whose error is reported.
 fn add_malformed(
     alloc: Global,
     found: &mut Vec<Finding>,
@@ -88,12 +110,64 @@ fn add_malformed(
     errors: &[(Text, TypeError)],
 ) -> Result<(), AllocError>
     ensures { OnOk result (found.new.items ≡ found.old.items ++
-        map (malformed_finding (entry_reading_of said.now)) errors.now) }
+        malformed_findings (entry_reading_of said.now) errors.now) }
 {
     'errors: for (name, error) in errors {
-        found.push(malformed_finding(alloc, said, name.as_str(), error)?)?;
+        if is_reported(said, name.as_str()) {
+            found.push(malformed_finding(alloc, said, name.as_str(), error)?)?;
+        }
     }
     Ok(())
+}
+
+// Returns whether BibLaTeX's data model has a field for a type, although the library's rules for the type forbid the field.
+fn is_in_data_model(entry_type: &EntryType, name: &str) -> bool
+    ensures { result ≡ is_in_data_model entry_type.now name.now }
+{
+    match entry_type {
+        EntryType::MvBook => name == "volume",
+        EntryType::MvCollection | EntryType::MvReference => name == "volume" || name == "author",
+        _ => false,
+    }
+}
+
+// Appends a finding for each of these fields, which the library's rules forbid, except those in BibLaTeX's data model.
+fn add_forbidden(
+    alloc: Global,
+    found: &mut Vec<Finding>,
+    said: &Spanned<RawEntry<'_>>,
+    entry_type: &EntryType,
+    names: &[&'static str],
+) -> Result<(), AllocError>
+    ensures { OnOk result (found.new.items ≡ found.old.items ++
+        map (field_finding (entry_reading_of said.now) SuperfluousField (codes "superfluous"))
+        (filter (λ name. not (is_in_data_model entry_type.now name)) (texts names.now))) }
+{
+    'names: for name in names {
+        if !is_in_data_model(entry_type, name) {
+            found.push(field_finding(alloc, said, Code::SuperfluousField, "superfluous", *name)?)?;
+        }
+    }
+    Ok(())
+}
+
+// Appends a finding for each superfluous field, unless the fields of the entry's type aren't known. `names` are the fields that the
+// library's rules forbid.
+fn add_superfluous(
+    alloc: Global,
+    found: &mut Vec<Finding>,
+    said: &Spanned<RawEntry<'_>>,
+    entry: &Entry,
+    names: &[&'static str],
+) -> Result<(), AllocError>
+    requires { texts names.now ≡ superfluous_of entry.now }
+    ensures { OnOk result (found.new.items ≡ found.old.items ++
+        map (field_finding (entry_reading_of said.now) SuperfluousField (codes "superfluous")) (superfluous_fields entry.now)) }
+{
+    match entry.entry_type {
+        EntryType::Unknown(_) => Ok(()),
+        _ => add_forbidden(alloc, found, said, &entry.entry_type, names),
+    }
 }
 
 // Appends the findings of the report on an entry.
@@ -105,22 +179,9 @@ pub(crate) fn add_report(
 ) -> Result<(), AllocError>
     ensures { OnOk result (Adds (AreOfReport (entry_reading_of said.now) entry.now) found.old.items found.new.items) }
 {
+    let missing = missing_fields(alloc, said, entry)?;
+    add_missing(alloc, found, said, &missing)?;
     let report = entry.verify(alloc)?;
-    add_names(
-        alloc,
-        found,
-        said,
-        Code::MissingField,
-        "missing",
-        &report.missing,
-    )?;
-    add_names(
-        alloc,
-        found,
-        said,
-        Code::SuperfluousField,
-        "superfluous",
-        &report.superfluous,
-    )?;
+    add_superfluous(alloc, found, said, entry, &report.superfluous)?;
     add_malformed(alloc, found, said, &report.malformed)
 }

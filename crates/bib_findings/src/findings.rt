@@ -12,8 +12,10 @@ use crate::duplicates::add_duplicates;
 use crate::entries::add_report;
 use crate::errors::{add_blocks, add_errors};
 use crate::finding::Finding;
+use crate::foreign::add_foreign_fields;
 use crate::names::{FieldName, add_unknown_fields};
 use crate::references::add_references;
+use crate::types::add_unknown_type;
 use bib_collections::names::Names;
 use bib_entry::entry::Entry;
 use bib_file_entries::keeping::{KeptEntries, keep};
@@ -36,6 +38,7 @@ fn add_entry(
     ensures added { OnOk result (Adds (AreOfEntry (entry_reading_of said.now) entry.now)
         found.old.items found.new.items) }
 {
+    add_unknown_type(alloc, found, said)?;
     add_report(alloc, found, said, entry)?;
     add_unknown_fields(alloc, found, met, said)
 }
@@ -63,8 +66,9 @@ fn add_entries(
 }
 
 /// Returns the findings between entries, with only the fields that each entry has itself. They are keys that an entry
-/// refers to and no entry has, and entries that are likely the same work as an earlier one. `origins` contains the
-/// index of each entry in `said`, the raw entries of the file. Fails only if out of memory.
+/// refers to and no entry has, entries that are likely the same work as an earlier one, and fields that other programs write
+/// for themselves. `origins` contains the index of each entry in `said`, the raw entries of the file. Fails only if out of
+/// memory.
 pub fn between(
     alloc: Global,
     said: &[Spanned<RawEntry<'_>>],
@@ -79,6 +83,7 @@ pub fn between(
     let mut found = Vec::new(alloc);
     add_references(alloc, &mut found, names, said, origins, own)?;
     add_duplicates(alloc, &mut found, said, origins)?;
+    add_foreign_fields(alloc, &mut found, said, origins)?;
     Ok(found)
 }
 

@@ -1,11 +1,14 @@
-//! What makes entries likely the same work: a DOI, an ISBN, or a title with its first person and its year.
+//! What makes entries likely the same work: a DOI, an ISBN, or a title with its first person and its year. And what tells them apart.
 
 ghost use Rattle.std.specs.Prelude.{◌≡◌, ◌++◌, map, IfOk, OnOk, [], encode_utf8_all};
+ghost use Rattle.std.specs.List.{list_any};
 ghost use Rattle.std.specs.String.{string_bytes};
+ghost use Rattle.bib_tables.specs.Requirements.{texts};
 ghost use Rattle.bib_syntax.specs.Views.{entry_reading_of, piece_of};
-ghost use Rattle.bib_findings.specs.Identities.{doi_of, first_four, first_person, identities, identity, is_brace, isbn_of, literal_text, or_else, first_person_of, plain_words, squeezed, own_literal, title_of, without_prefixes, work_of, work_text, year_of};
+ghost use Rattle.bib_findings.specs.Identities.{are_different, are_told_apart, differs_in, doi_of, first_four, first_person, identities, identity, is_brace, is_whole_book, isbn_of, literal_text, or_else, first_person_of, plain_words, squeezed, own_literal, title_of, unhyphened, without_prefixes, work_of, work_text, year_of};
 ghost use Rattle.bib_findings.specs.Words.{ends_before, spaced_word, without_braces, words_text};
 
+use crate::nearest::is_among;
 use crate::places::last_named;
 use bib_syntax::raw::{RawChunk, RawEntry};
 use bib_text::spanned::Spanned;
@@ -35,7 +38,7 @@ fn literal_text<'s>(pieces: &[Spanned<RawChunk<'s>>]) -> &'s str
 }
 
 // Returns the text of the last field of this name of an entry, or the empty text.
-fn own_literal<'s>(said: &Spanned<RawEntry<'s>>, name: &str) -> &'s str
+pub(crate) fn own_literal<'s>(said: &Spanned<RawEntry<'s>>, name: &str) -> &'s str
     ensures { result.now ≡ own_literal (entry_reading_of said.now) name.now }
 {
     match last_named(said.v.fields.as_slice(), name) {
@@ -158,12 +161,88 @@ pub(crate) fn doi(alloc: Global, said: &Spanned<RawEntry<'_>>) -> Result<String,
     String::from_str(alloc, without_prefixes(text.as_str(), &DOI_PREFIXES))
 }
 
-/// Returns the ISBN of an entry in lowercase, without hyphens, braces and white space; the empty text if the entry has none.
+// The types of whole books: the ISBN of a part, such as a chapter, is that of its book.
+static WHOLE_TYPES: [&str; 10] = [
+    "book",
+    "booklet",
+    "collection",
+    "manual",
+    "mvbook",
+    "mvcollection",
+    "mvproceedings",
+    "mvreference",
+    "proceedings",
+    "reference",
+];
+
+// Returns whether an entry is a whole book.
+fn is_whole_book(said: &Spanned<RawEntry<'_>>) -> bool
+    ensures { result ≡ is_whole_book (entry_reading_of said.now) }
+{
+    is_among(&WHOLE_TYPES, said.v.kind.v)
+}
+
+// Returns a text without hyphens, braces and white space, in lowercase.
+fn unhyphened(alloc: Global, text: &str) -> Result<String, AllocError>
+    ensures { IfOk result (λ found. string_bytes found ≡ unhyphened text.now) }
+{
+    let text = squeezed(alloc, text)?;
+    text.as_str().chars().filter(|c| *c != '-').collect(alloc)
+}
+
+/// Returns the ISBN of a whole book in lowercase, without hyphens, braces and white space. The text is empty if the entry has no ISBN, or
+/// isn't a whole book.
 pub(crate) fn isbn(alloc: Global, said: &Spanned<RawEntry<'_>>) -> Result<String, AllocError>
     ensures { IfOk result (λ text. string_bytes text ≡ isbn_of (entry_reading_of said.now)) }
 {
-    let text = squeezed(alloc, own_literal(said, "isbn"))?;
-    text.as_str().chars().filter(|c| *c != '-').collect(alloc)
+    if !is_whole_book(said) {
+        return Ok(String::new(alloc));
+    }
+    unhyphened(alloc, own_literal(said, "isbn"))
+}
+
+// The fields that tell parts, volumes and editions of one title apart.
+static TELLING_FIELDS: [&str; 7] = [
+    "volume", "number", "pages", "chapter", "part", "edition", "subtitle",
+];
+
+// Returns whether two texts aren't empty, and differ in more than case, hyphens, braces and white space.
+fn are_different(alloc: Global, text: &str, other: &str) -> Result<bool, AllocError>
+    ensures { IfOk result (λ differ. differ ≡ are_different (unhyphened text.now) (unhyphened other.now)) }
+{
+    let text = unhyphened(alloc, text)?;
+    let other = unhyphened(alloc, other)?;
+    Ok(!text.is_empty() && !other.is_empty() && text.as_str() != other.as_str())
+}
+
+// Returns whether two entries have a field with one of these names, with texts that differ in more than case, hyphens, braces and white
+// space.
+fn differ_in(
+    alloc: Global,
+    said: &Spanned<RawEntry<'_>>,
+    other: &Spanned<RawEntry<'_>>,
+    names: &[&'static str],
+) -> Result<bool, AllocError>
+    ensures { IfOk result (λ differ. differ ≡
+        list_any (differs_in (entry_reading_of said.now) (entry_reading_of other.now)) (texts names.now)) }
+{
+    'names: for name in names {
+        if are_different(alloc, own_literal(said, name), own_literal(other, name))? {
+            return Ok(true);
+        }
+    }
+    Ok(false)
+}
+
+/// Returns whether one of the fields `volume`, `number`, `pages`, `chapter`, `part`, `edition` and `subtitle` tells two entries apart.
+pub(crate) fn are_told_apart(
+    alloc: Global,
+    said: &Spanned<RawEntry<'_>>,
+    other: &Spanned<RawEntry<'_>>,
+) -> Result<bool, AllocError>
+    ensures { IfOk result (λ told. told ≡ are_told_apart (entry_reading_of said.now) (entry_reading_of other.now)) }
+{
+    differ_in(alloc, said, other, &TELLING_FIELDS)
 }
 
 /// Returns the year of an entry: its field `year`, or else the first four characters of its date. The words are in

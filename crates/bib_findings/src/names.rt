@@ -2,27 +2,27 @@
 
 ghost use Rattle.std.specs.Prelude.{◌≡◌, ◌∷◌, [], IfOk, OnOk, option_copied};
 ghost use Rattle.std.specs.BTreeMap.{get_by_text};
-ghost use Rattle.std.specs.List.{list_any};
-ghost use Rattle.std.specs.Str.{str_eq_ignore_ascii_case, str_to_ascii_lowercase};
-ghost use Rattle.std.specs.String.{string_bytes};
-ghost use Rattle.bib_tables.specs.Requirements.{texts};
+ghost use Rattle.std.specs.Str.{str_to_ascii_lowercase};
 ghost use Rattle.bib_syntax.specs.Views.{entry_reading_of, field_of};
 ghost use Rattle.bib_findings.specs.Adding.{Adds};
 ghost use Rattle.bib_findings.specs.Met.{AreFieldNames, IsFieldName};
-ghost use Rattle.bib_findings.specs.Names.{AreOfUnknown, AreUnknownOf, IsNearest, IsOfUnknown, is_known_field, known_fields, unknown_message};
+ghost use Rattle.bib_findings.specs.Names as spec;
+ghost use Rattle.bib_findings.specs.Names.{AreOfUnknown, AreUnknownOf, IsOfUnknown, known_fields};
+ghost use Rattle.bib_findings.specs.Nearest.{IsNearest};
 
 use crate::codes::Code;
 use crate::finding::Finding;
+use crate::foreign::{begins_with, is_foreign};
+use crate::nearest::{is_among, nearest, unknown_message};
 use bib_syntax::raw::{Pair, RawEntry};
 use bib_text::spanned::Spanned;
 use bib_text::text::Text;
 use std::alloc::{AllocError, Global};
 use std::collections::BTreeMap;
-use strsim::levenshtein;
 
 // The fields of BibLaTeX's default data model (manual, 2.2), the names that it accepts from BibTeX, and the parts of
 // dates.
-static KNOWN_FIELDS: [&str; 162] = [
+static KNOWN_FIELDS: [&str; 211] = [
     "abstract",
     "addendum",
     "address",
@@ -185,67 +185,87 @@ static KNOWN_FIELDS: [&str; 162] = [
     "xdata",
     "xref",
     "year",
+    "hour",
+    "minute",
+    "second",
+    "timezone",
+    "yeardivision",
+    "endhour",
+    "endminute",
+    "endsecond",
+    "endtimezone",
+    "endyeardivision",
+    "eventhour",
+    "eventminute",
+    "eventsecond",
+    "eventtimezone",
+    "eventyeardivision",
+    "eventendyear",
+    "eventendmonth",
+    "eventendday",
+    "eventendhour",
+    "eventendminute",
+    "eventendsecond",
+    "eventendtimezone",
+    "eventendyeardivision",
+    "orighour",
+    "origminute",
+    "origsecond",
+    "origtimezone",
+    "origyeardivision",
+    "origendyear",
+    "origendmonth",
+    "origendday",
+    "origendhour",
+    "origendminute",
+    "origendsecond",
+    "origendtimezone",
+    "origendyeardivision",
+    "urlhour",
+    "urlminute",
+    "urlsecond",
+    "urltimezone",
+    "urlyeardivision",
+    "urlendyear",
+    "urlendmonth",
+    "urlendday",
+    "urlendhour",
+    "urlendminute",
+    "urlendsecond",
+    "urlendtimezone",
+    "urlendyeardivision",
 ];
 
-// Returns whether `names` contains a name, in any ASCII case.
-fn is_among(names: &[&'static str], name: &str) -> bool
-    ensures { result ≡ list_any (λ known. str_eq_ignore_ascii_case known name.now) (texts names.now) }
+// Returns whether the text after a plus sign in a field name marks a data annotation.
+fn is_annotation_mark(mark: &str) -> bool
+    ensures { result ≡ spec.is_annotation_mark mark.now }
 {
-    names.iter().any(|known| known.eq_ignore_ascii_case(name))
+    mark.eq_ignore_ascii_case("an") || begins_with("an:", mark)
+}
+
+// Returns the name of the field that a field is about: without the mark, if the field is a data annotation.
+fn annotated_name(name: &str) -> &str
+    ensures { result.now ≡ spec.annotated_name name.now }
+{
+    match name.split_once('+') {
+        Some((field, mark)) if is_annotation_mark(mark) => field,
+        _ => name,
+    }
 }
 
 // Returns whether BibLaTeX knows a field of this name, in any ASCII case.
 fn is_known_field(name: &str) -> bool
-    ensures { result ≡ is_known_field name.now }
+    ensures { result ≡ spec.is_known_field name.now }
 {
-    is_among(&KNOWN_FIELDS, name)
-}
-
-// The greatest distance at which a known name is suggested.
-const MOST_EDITS: usize = 2;
-
-// Returns the first of the nearest names, if it is at most `MOST_EDITS` edits away.
-fn nearest(
-    alloc: Global,
-    names: &[&'static str],
-    name: &str,
-) -> Result<Option<&'static str>, AllocError>
-    ensures { IfOk result (λ known. IsNearest (texts names.now) name.now (option_copied known)) }
-{
-    let mut nearest = None;
-    let mut least = MOST_EDITS + 1;
-    'names: for known in names {
-        let edits = levenshtein(alloc, name, known)?;
-        if edits < least {
-            least = edits;
-            nearest = Some(*known);
-        }
-    }
-    Ok(nearest)
-}
-
-// Returns the message about an unknown field of the entry with this key, with a suggestion if there is one.
-fn unknown_message(
-    alloc: Global,
-    key: &str,
-    name: &str,
-    meant: Option<&str>,
-) -> Result<String, AllocError>
-    ensures { IfOk result (λ text. string_bytes text ≡
-        unknown_message key.now name.now (option_copied meant.entry)) }
-{
-    match meant {
-        Some(known) => format!(in alloc; "{key}: unknown field {name}; is {known} meant?"),
-        None => format!(in alloc; "{key}: unknown field {name}"),
-    }
+    is_among(&KNOWN_FIELDS, annotated_name(name))
 }
 
 /// The classification of a field name.
 #[derive(Debug, Clone, Copy, PartialEq, Eq)]
 pub(crate) enum FieldName {
-    /// BibLaTeX knows this name.
+    /// BibLaTeX knows this name, or another program uses it.
     Known,
-    /// BibLaTeX doesn't know this name; with the nearest known name, if one is near enough.
+    /// Any other name, with the known name that may be meant.
     Unknown(Option<&'static str>),
 }
 
@@ -253,7 +273,7 @@ pub(crate) enum FieldName {
 fn look_up(alloc: Global, name: &str) -> Result<FieldName, AllocError>
     ensures { IfOk result (IsFieldName name.now) }
 {
-    if is_known_field(name) {
+    if is_known_field(name) || is_foreign(name) {
         return Ok(FieldName::Known);
     }
     let lowercase = name.to_ascii_lowercase(alloc)?;
@@ -289,11 +309,11 @@ fn unknown_finding(
     requires { IsNearest known_fields (str_to_ascii_lowercase field.now.key.v.now) (option_copied meant) }
     ensures { IfOk result (IsOfUnknown key.now (field_of field.now)) }
 {
-    let message = Text::from_string(unknown_message(alloc, key, field.key.v, meant)?);
+    let message = unknown_message(alloc, key, "unknown field", field.key.v, meant)?;
     Ok(Finding {
         code: Code::UnknownField,
         span: field.key.span.start..field.key.span.end,
-        message,
+        message: Text::from_string(message),
     })
 }
 

@@ -2,7 +2,8 @@
 
 ghost use Rattle.std.specs.Prelude.{◌≡◌, map, option_map};
 ghost use Rattle.bib_syntax.specs.Views.{entry_reading_of, field_of};
-ghost use Rattle.bib_findings.specs.Entries.{field_place, last_named, malformed_place, range_or, year_name};
+ghost use Rattle.bib_findings.specs.Entries.{field_place, last_named, range_or};
+ghost use Rattle.bib_findings.specs.Reported.{malformed_place, year_name};
 
 use bib_syntax::raw::{Pair, RawEntry};
 use bib_text::spanned::{Span, Spanned};

@@ -27,7 +27,7 @@ pub fn given_texts<'a>(
     }
 }
 
-/// Returns the number that is the value of an option, or `None` if the option is missing.
+/// Returns the number that is the value of an option, or `None` if the option is missing or its value isn't a number.
 pub fn number(matches: &ArgMatches<'_>, id: &str) -> Option<usize> {
     matches
         .get_str(id)

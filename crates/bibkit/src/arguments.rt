@@ -26,7 +26,7 @@ pub enum Asked<'a> {
         settings: Settings,
         /// The document whose citations are compared with the files.
         cited: Option<Cited<'a>>,
-        /// The conditions, all of which the entries that findings are about must meet.
+        /// The conditions on the entries that findings are about. An entry must meet all of them.
         conditions: Vec<&'a str>,
     },
     /// Edits a file.
@@ -343,8 +343,9 @@ fn matches<'a>(alloc: Global, words: &'a [String]) -> Result<ArgMatches<'a>, Err
     command(alloc)?.try_get_matches_from(words)
 }
 
-/// Parses a command line. Its first word is the name of the program. Instead of running a command, the caller reports the error: the
-/// requested help, the reason why the command line is wrong, or out of memory.
+/// Parses a command line. Its first word is the name of the program. Fails with the requested help, with the reason why clap refuses the
+/// command line, or if out of memory. Some wrong command lines are parsed: `asked` is then `Asked::Wrong` or `Asked::WrongOrder`, or edits
+/// with a word that has no equals sign.
 pub fn read<'a>(alloc: Global, words: &'a [String]) -> Result<Words<'a>, Error> {
     let matches = matches(alloc, words)?;
     let words = parse_matches(alloc, &matches)?;

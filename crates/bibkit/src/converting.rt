@@ -95,8 +95,8 @@ fn is_accepted(alloc: Global, text: &str) -> Result<bool, AllocError> {
     }
 }
 
-// Returns the text whose entries are printed instead of those of a file's text, or `None` if those are printed. JSON contains byte offsets
-// of the file, so for JSON the text isn't resolved.
+// Returns the resolved text of a file, whose entries are printed, or `None` if the entries of `text` itself are printed. The result for
+// JSON is always `None`, because JSON contains byte offsets of the file.
 fn printed_text(alloc: Global, target: Target, text: &str) -> Result<Option<String>, AllocError> {
     match target {
         Target::Json => Ok(None),
@@ -117,8 +117,8 @@ fn wanted_keys(
     Ok(keys)
 }
 
-// Prints the entries of a text that have one of these keys, each after its separator. Returns whether the next entry would be the first of
-// the output.
+// Prints the entries of a text that have one of these keys, each after its separator; in CSL-JSON and RIS no `xdata` entries. Returns
+// whether the next entry would be the first of the output.
 fn print_wanted<K: Sink>(
     alloc: Global,
     target: Target,
@@ -137,7 +137,8 @@ fn print_wanted<K: Sink>(
     Ok(is_still_first)
 }
 
-// Prints the entries of a file's text that meet all conditions. Returns whether the next entry would be the first of the output.
+// Prints the entries of a file's text that meet all conditions; in CSL-JSON and RIS no `xdata` entries. Returns whether the next entry
+// would be the first of the output.
 fn print_selected<K: Sink>(
     alloc: Global,
     converting: &Converting<'_>,
@@ -258,8 +259,9 @@ fn convert_files(
     Ok(progress.status)
 }
 
-/// Prints the entries of files that meet all conditions in another format, and returns the greatest status of a file. If the output refuses
-/// a text, or if out of memory, stops and returns the status of that error.
+/// Prints the entries of files that meet all conditions in another format, and returns the greatest status of a file. In CSL-JSON and RIS,
+/// no `xdata` entries are printed. If conditions are given and no entry is printed, the status is at least 1. If the output refuses a text,
+/// or if out of memory, stops and returns the status of that error.
 pub fn run_convert(rt: &HostRuntime, converting: &Converting<'_>, names: &[&str]) -> u8 {
     match convert_files(rt, converting, names) {
         Ok(status) => status,

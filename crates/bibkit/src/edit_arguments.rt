@@ -87,7 +87,8 @@ fn field_edit<'a>(option: &str, word: &'a str) -> Option<FieldEdit<'a>> {
     }
 }
 
-// Adds the edits of the words of an option of `edit`. Returns the first word without `=`, if there is one.
+// Adds the edits of the words of an option of `edit`. Returns the first word without `=`, if there is one, and then adds no edits of the
+// words after it.
 fn push_field_edits<'a>(
     edits: &mut Vec<SelectedEdit<'a>>,
     option: &str,
@@ -113,7 +114,7 @@ fn push_unset_edits<'a>(
     Ok(())
 }
 
-// Returns the edits of `remove`: with `--where`, that of the entries that meet the conditions.
+// Returns the edits of `remove`: with `--where`, the edit that removes the entries that meet the conditions.
 fn removal_edits<'a>(alloc: Global, matches: &ArgMatches<'a>) -> Result<Edits<'a>, AllocError> {
     let conditions = texts(alloc, matches, "where")?;
     if !conditions.is_empty() {

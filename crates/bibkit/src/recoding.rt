@@ -16,7 +16,7 @@ use std::io;
 /// The encoding of a file, and how its text is written.
 #[derive(Clone, Copy)]
 pub struct Recoding {
-    /// The encoding of a file without a byte order mark, or `None` if the bytes must tell it.
+    /// The encoding of a file without a byte order mark, or `None` if such a file must be UTF-8.
     pub from: Option<Encoding>,
     /// The line ends of the new text, or `None` to keep them.
     pub line_ends: Option<LineEnds>,

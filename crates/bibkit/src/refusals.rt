@@ -16,7 +16,7 @@ use std::alloc::{AllocError, Global};
 use std::collections::{BTreeMap, BTreeSet};
 use std::str::from_utf8;
 
-// Inserts names into a set, in lowercase. Returns the first name that the set contains already, if there is one.
+// Inserts names into a set, in ASCII lowercase. Returns the first name that the set contains already, if there is one.
 fn insert_names<'s>(
     alloc: Global,
     set: &mut BTreeSet<String>,
@@ -31,7 +31,7 @@ fn insert_names<'s>(
     Ok(taken)
 }
 
-// Inserts the names of entries into a set, in lowercase. Returns the first name that the set contains already, if there is one.
+// Inserts the names of entries into a set, in ASCII lowercase. Returns the first name that the set contains already, if there is one.
 fn insert_entries<'s>(
     alloc: Global,
     set: &mut BTreeSet<String>,
@@ -59,7 +59,7 @@ fn taken_name<'s>(
     insert_entries(alloc, &mut set, &added.entries)
 }
 
-// Returns whether two pieces are two literals or two abbreviations, with one text.
+// Returns whether two pieces have the same text and are both literals or both abbreviations.
 fn is_same_piece(one: &Spanned<RawChunk<'_>>, other: &Spanned<RawChunk<'_>>) -> bool {
     match (&one.v, &other.v) {
         (RawChunk::Normal(first), RawChunk::Normal(second)) => first == second,
@@ -141,7 +141,7 @@ fn added_line(
     }
 }
 
-// Returns whether the key of an entry is one of these, and all its fields have a name.
+// Returns whether the key of an entry is one of `keys`, and the entry has fields, each of which has the name `field`, in any ASCII case.
 fn would_be_empty(entry: &RawEntry<'_>, keys: &[&str], field: &str) -> bool {
     keys.contains(&entry.key.v)
         && !entry.fields.is_empty()

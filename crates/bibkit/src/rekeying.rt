@@ -55,8 +55,8 @@ fn gets_key(entry: &RawEntry<'_>) -> bool {
     !kind.eq_ignore_ascii_case("xdata") && !kind.eq_ignore_ascii_case("set")
 }
 
-// Returns the new key of each entry, by its index. An entry that has this key already, that has an empty key, or that is an `xdata` or a
-// `set`, gets no new key.
+// Returns the new key of each entry, by its index. `made` has the keys for the entries at the indices `origins`. Every other entry, and an
+// entry that has its key already, that has an empty key, or that is an `xdata` or a `set`, gets no new key.
 fn new_keys<'k>(
     alloc: Global,
     entries: &[Spanned<RawEntry<'_>>],
@@ -115,7 +115,7 @@ fn check_text(
     Ok(lines)
 }
 
-// The names that entries of a file have before they get new keys, and the new keys, all in lowercase.
+// The names that entries of a file have before they get new keys, and the new keys, all in ASCII lowercase.
 #[derive(Drop)]
 struct Names {
     old: BTreeSet<String>,
@@ -141,7 +141,7 @@ fn names_of(
     Ok(names)
 }
 
-// Inserts names into a set, in lowercase.
+// Inserts names into a set, in ASCII lowercase.
 fn insert_lowercase(
     alloc: Global,
     set: &mut BTreeSet<String>,
@@ -153,7 +153,7 @@ fn insert_lowercase(
     Ok(())
 }
 
-// Appends the names in a list that no entry has and that an entry gets as its new key.
+// Appends the names in a list that no entry has and that an entry gets as its new key, both in any ASCII case.
 fn push_caught<'s>(
     caught: &mut Vec<&'s str>,
     alloc: Global,
@@ -187,7 +187,7 @@ fn push_caught_in_field<'s>(
     Ok(())
 }
 
-// Returns the names to which an entry refers, which no entry has now and which are new keys.
+// Returns the names to which an entry refers, which no entry had and which are new keys.
 fn caught_names<'s>(
     alloc: Global,
     names: &Names,
@@ -235,7 +235,8 @@ fn print(rt: &HostRuntime, text: &str) -> Result<(), Stop> {
     }
 }
 
-// Gives the entries of a file new keys, and uses them as `rekeying` requests.
+// Gives the entries of a file new keys as `rekeying` requests. For a check, only reports the keys that would change, with status 1 if there
+// are any.
 fn use_keys(
     rt: &HostRuntime,
     editing: &Editing<'_>,
@@ -259,7 +260,8 @@ fn use_keys(
     Ok(())
 }
 
-// Gives the entries of a file new keys. Prints the map of the keys, or uses the new text as `editing` requests.
+// Gives the entries of a file new keys. Prints the map of the keys if `rekeying` requests it, and otherwise uses the new text as `editing`
+// requests. With a map, the new text is still written into the file if `editing` requests that.
 fn edit_keys(
     rt: &HostRuntime,
     editing: &Editing<'_>,
@@ -308,7 +310,7 @@ fn rekey_text(
     use_keys(rt, editing, rekeying, bytes, text, &raw.entries, &keys)
 }
 
-/// Gives the entries of a file the keys that a pattern makes.
+/// Gives the entries of a file the keys that a pattern makes, or uses these keys as `rekeying` requests.
 pub fn rekey(rt: &HostRuntime, editing: &Editing<'_>, rekeying: &Rekeying<'_>) -> Result<(), Stop> {
     let pattern = parse_pattern(rt.alloc(), rekeying.pattern)?;
     let bytes = bytes_of(rt, editing.name)?;

@@ -119,7 +119,7 @@ fn rights<R: Files>(rt: &R, target: &str) -> io::Result<Permissions> {
     }
 }
 
-// Returns the folder of a file, which is `.` if the name of the file has no other component.
+// Returns the folder of the file `target`, or `.` if `target` is only a file name. Fails if `target` has no parent, such as `/`.
 fn parent_of(target: &PathBuf) -> io::Result<&str> {
     match target.parent() {
         Some(parent) if parent.to_string_lossy().is_empty() => Ok("."),
@@ -153,11 +153,11 @@ fn link_of<R: Files + AllocGlobal>(rt: &R, target: &PathBuf) -> io::Result<Optio
     }
 }
 
-// The greatest number of symbolic links in a row that the system follows.
+// The number of paths that `target_of` tries: one more than the number of symbolic links in a row that it follows.
 const LINKS: u32 = 40;
 
-// Returns the path of the file to which `name` leads through symbolic links. The path begins as `name` does, so it also works in a folder
-// whose own path isn't UTF-8.
+// Returns the path of the file to which `name` leads through symbolic links. A relative link continues the path as `name` begins it, so it
+// also works in a folder whose own path isn't UTF-8.
 fn target_of<R: Files + AllocGlobal>(rt: &R, name: &str) -> io::Result<PathBuf> {
     let mut target = PathBuf::from_str(rt.alloc(), name)?;
     'links: for _link in 0..LINKS {

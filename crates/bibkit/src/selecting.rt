@@ -16,19 +16,19 @@ use std::alloc::{AllocError, Global};
 use std::io;
 use std::str::from_utf8;
 
-/// The entries to print, and what is printed of them.
+/// The conditions on the entries to print, and the output for these entries.
 #[derive(Drop)]
 pub struct Selecting<'a> {
     /// The conditions, all of which an entry must meet.
     pub conditions: Vec<&'a str>,
-    /// What is printed of the entries.
+    /// The output for these entries.
     pub printed: Printed,
 }
 
-/// What is printed of the selected entries.
+/// The output for the selected entries.
 #[derive(Clone, Copy)]
 pub struct Printed {
-    /// Whether the definitions, the preambles and the entries that they use are printed, too.
+    /// Whether the definitions and entries that the selected entries use, and all preambles of the file, are printed too.
     pub is_complete: bool,
     /// Whether only the keys of entries are printed.
     pub has_keys: bool,
@@ -111,7 +111,7 @@ fn select_file<K: Sink>(
     }
 }
 
-// Prints the entries of files that meet all conditions, and returns the greatest status: 1 if there is none.
+// Prints the entries of files that meet all conditions, and returns the greatest status, which is at least 1 if no entry meets them.
 fn select_files(rt: &HostRuntime, selecting: &Selecting<'_>, names: &[&str]) -> Result<u8, Stop> {
     let selections = parse_conditions(rt.alloc(), &selecting.conditions)?;
     let mut output = Output::new(io::writer(rt));
@@ -174,7 +174,7 @@ fn with_text<'e>(value: &FieldValue<'_>, text: &'e str) -> FieldValue<'e> {
     }
 }
 
-// Adds an edit of a field, which has these texts, of the entries with these keys.
+// Adds an edit of a field of the entries with these keys. It is `edit` with the texts `first` and `second`, which are those of `edit`.
 fn push_edit<'e>(
     edits: &mut Vec<Edit<'e>>,
     keys: &'e [&'e str],
@@ -200,7 +200,7 @@ fn push_edit<'e>(
     Ok(())
 }
 
-// Adds an edit of the entries with these keys, which has these texts.
+// Adds an edit of the entries with these keys. It is `change` with the texts `first` and `second`, which are those of `change`.
 fn push_change<'e>(
     edits: &mut Vec<Edit<'e>>,
     keys: &'e [&'e str],

@@ -47,7 +47,7 @@ fn out_of_memory(rt: &HostRuntime) -> u8 {
     3
 }
 
-// Returns whether the user has disabled colours by the variable `NO_COLOR`.
+// Returns whether the variable `NO_COLOR` has a value that is UTF-8 and isn't empty, by which the user disables colours.
 fn refuses_color(rt: &HostRuntime) -> bool {
     match env::var(rt, "NO_COLOR") {
         Ok(value) => !value.is_empty(),

@@ -9,7 +9,7 @@ use Rattle.bib_findings.specs.declared.codes.Code.{Code}
 use Rattle.bibkit_core.specs.Answered.{AsksForCited, CantReadDocument, HasFailed, IsCallAnswer}
 use Rattle.bibkit_core.specs.Compared.{AreCitedBy, ReadsDocument}
 use Rattle.bibkit_core.specs.Outcomes.{HasPrinted}
-use Rattle.bibkit_core.specs.Printed.{is_none}
+use Rattle.bibkit_core.specs.Printed.{is_clean}
 use Rattle.bibkit_core.specs.Running.{IsTaskPrinted}
 use Rattle.bibkit_core.specs.Selecting.{selecting_status}
 use Rattle.bibkit_core.specs.Steps.{AreComparedPrinted, AreEntriesPrinted, AreFindingsPrinted, AreSelectedPrinted, HasNoText, HasStopped, IsMeaningPrinted, ReadsText}
@@ -113,7 +113,7 @@ bounded_if true status bound = bound
 bounded_if false status bound = omega arith
 
 lint_bounded : (tally : Tally) → lint_status tally ≤ 2
-lint_bounded tally = elim (is_none tally) as (λ b. (if b then 0 else 1) ≤ 2) [ true ↦ omega arith | false ↦ omega arith ]
+lint_bounded tally = elim (is_clean tally) as (λ b. (if b then 0 else 1) ≤ 2) [ true ↦ omega arith | false ↦ omega arith ]
 
 entries_bounded : (asked : Excerpts) (is_found : Bool) → entries_status asked is_found ≤ 2
 entries_bounded asked is_found =

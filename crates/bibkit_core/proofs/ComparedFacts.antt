@@ -174,7 +174,9 @@ begins_seen : (lint : Lint) (has_unused : Bool) (name document : List ℕ) (task
     → IsSeen lint has_unused name document task.document.citations task none_compared
 begins_seen lint has_unused name document task linting begins = record {
   lint_is = linting.lint_is;
-  tally = ap₂ (λ e w. record { errors = e; warnings = w }) linting.no_errors linting.no_warnings;
+  tally =
+      ap₂ (λ e w. record { errors = e; warnings = w; infos = task.linting.tally.infos }) linting.no_errors linting.no_warnings
+      ∙ ap (λ i. record { errors = 0; warnings = 0; infos = i }) linting.no_infos;
   name_is = begins.name_is;
   text_is = begins.text_is;
   unused_is = begins.unused_is;

@@ -8,7 +8,7 @@ use Rattle.bib_source.specs.Positions.{position_at}
 use Rattle.bib_source.specs.declared.positions.Position.{Position}
 use Rattle.bib_findings.specs.Codes.{severity_of}
 use Rattle.bib_findings.specs.declared.codes.Severity.{Severity}
-use Rattle.bib_findings.specs.declared.codes.Severity.TheVariants.{Error, Warning}
+use Rattle.bib_findings.specs.declared.codes.Severity.TheVariants.{Error, Warning, Info}
 use Rattle.bib_findings.specs.declared.finding.Finding.{Finding}
 use Rattle.bibkit_core.specs.declared.lint.Printed.{Printed}
 use Rattle.bibkit_core.specs.declared.request.Style.{Style}
@@ -39,16 +39,21 @@ never_first (x ∷ xs) = refl
 not_zero : (n : ℕ) → 0 < n → (n == 0) ≡ false
 not_zero n above = grind (arith, nat_tests)
 
--- after one more finding, the counts aren't both zero
+-- after one more finding, the counts aren't all zero
 not_none : (t : Tally) (s : Severity) → is_none (one_more t s) ≡ false
 not_none t Error =
     let above : 0 < min (t.errors + 1) 18446744073709551615 = omega arith in
-    ap (λ b. b && (t.warnings == 0)) (not_zero (min (t.errors + 1) 18446744073709551615) above)
+    ap (λ b. (b && (t.warnings == 0)) && (t.infos == 0)) (not_zero (min (t.errors + 1) 18446744073709551615) above)
 not_none t Warning =
     let above : 0 < min (t.warnings + 1) 18446744073709551615 = omega arith in
-    ap (λ b. (t.errors == 0) && b) (not_zero (min (t.warnings + 1) 18446744073709551615) above) ∙ and-false (t.errors == 0)
+    ap (λ b. ((t.errors == 0) && b) && (t.infos == 0)) (not_zero (min (t.warnings + 1) 18446744073709551615) above)
+    ∙ ap (λ b. b && (t.infos == 0)) (and-false (t.errors == 0))
+not_none t Info =
+    let above : 0 < min (t.infos + 1) 18446744073709551615 = omega arith in
+    ap (λ b. ((t.errors == 0) && (t.warnings == 0)) && b) (not_zero (min (t.infos + 1) 18446744073709551615) above)
+    ∙ and-false ((t.errors == 0) && (t.warnings == 0))
 
--- the counts after these findings are both zero exactly if the next finding is the first of all
+-- the counts after these findings are all zero exactly if the next finding is the first of all
 none_counted : (t : Tally) (xs : List Finding) → is_none (tally_after t xs) ≡ is_first_after (is_none t) xs
 unfolding is_first_after
 none_counted t [] = refl

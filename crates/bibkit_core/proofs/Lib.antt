@@ -5,6 +5,7 @@ pub mod CountFacts
 pub mod FindingFacts
 pub mod RunFacts
 pub mod TableFacts
+mod TallyFacts
 mod Beside
 mod Outcomes
 mod Results

@@ -78,7 +78,7 @@ pub record ComparisonState : Type 0 where
 
 -- the state before the first file
 abbrev pub none_compared : ComparisonState
-none_compared = record { tally = record { errors = 0; warnings = 0 }; readings = [] }
+none_compared = record { tally = record { errors = 0; warnings = 0; infos = 0 }; readings = [] }
 
 -- the text of the comparison before the files
 abbrev pub compared_begins : Lint → ComparisonState → List ℕ

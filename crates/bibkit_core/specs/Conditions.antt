@@ -54,7 +54,8 @@ before_last_quote text = if ends_with eqb text (codes "\"") then Some (take (len
 abbrev pub name_in_quotes : List ℕ → Option (List ℕ)
 name_in_quotes message = option_and_then before_last_quote (text_after_part (codes " \"") message)
 
--- the name in the message of a finding about two entries: the one by which the earlier entry is the same as the later one
+-- the name in the message of a finding about two entries: a key that an earlier entry claims too, or the key of the earlier of two likely
+-- duplicates
 abbrev pub name_of_earlier : Code → List ℕ → Option (List ℕ)
 name_of_earlier DuplicateKey message = name_in_quotes message
 name_of_earlier LikelyDuplicate message = name_in_quotes message
@@ -81,7 +82,7 @@ abbrev pub AreReportedFindings : List Selection → List ℕ → List Finding �
 AreReportedFindings [] text found kept = kept ≡ found
 AreReportedFindings (condition ∷ rest) text found kept = AreAboutSelected (condition ∷ rest) text found kept
 
--- the findings that are reported of those that are about no entry of a file: all without conditions, otherwise none
+-- the findings to report among findings that are about no entry of a file: all of them without conditions, otherwise none
 abbrev pub findings_of_no_entry : List Selection → List Finding → List Finding
 findings_of_no_entry [] found = found
 findings_of_no_entry (condition ∷ rest) found = []

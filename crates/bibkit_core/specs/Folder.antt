@@ -43,13 +43,13 @@ pub record Elapses (old new : Disk) : Type 0 where
       → old.left_since t name c ⊎ new.may_leave name c
   pub keeps : (t : ℕ) (name : List ℕ) (c : Option (List ℕ)) → t ≤ old.moment → old.left_since t name c → new.left_since t name c
 
--- Each name holds the same contents as before. A crash leaves only contents for it and in its file that it could leave before.
+-- Each name holds the same contents as before. For a name, and in its file, a crash leaves only contents that it could leave before.
 pub record IsAsBefore (old new : Disk) : Type 0 where
   pub holds : (name : List ℕ) → new.holds name ≡ old.holds name
   pub crash : (name : List ℕ) (c : Option (List ℕ)) → new.may_leave name c → old.may_leave name c
   pub crash_in : (name bytes : List ℕ) → new.may_leave_in name bytes → old.may_leave_in name bytes
 
--- Each name except this one holds the same contents as before. A crash leaves only contents for it and in its file that it could leave
+-- Each other name holds the same contents as before. For such a name, and in its file, a crash leaves only contents that it could leave
 -- before.
 pub record IsAsBeforeBut (name : List ℕ) (old new : Disk) : Type 0 where
   pub holds : (other : List ℕ) → other ≢ name → new.holds other ≡ old.holds other

@@ -1,6 +1,6 @@
 -- Meaning: words of public contracts.
 -- The texts that are printed for findings.
-use Rattle.std.specs.Prelude.{◌≡◌, ℕ, ◌+◌, ◌-◌, ◌^◌, min, Bool, ◌&&◌, ◌==◌, if◌then◌else◌, List, ◌∷◌, ◌++◌, codes}
+use Rattle.std.specs.Prelude.{◌≡◌, ℕ, ◌+◌, ◌-◌, ◌^◌, min, Bool, ◌&&◌, ◌==◌, if◌then◌else◌, List, [], ◌∷◌, ◌++◌, codes}
 use Rattle.std.specs.Fmt.{decimal}
 use Rattle.serde_json.specs.Data.{Data}
 use Rattle.serde_json.specs.Written.{compact_text}
@@ -8,13 +8,13 @@ use Rattle.bib_source.specs.declared.positions.Position.{Position}
 use Rattle.bib_text.specs.Characters as char
 use Rattle.bib_findings.specs.Codes.{code_name, severity_name, severity_of}
 use Rattle.bib_findings.specs.declared.codes.Severity.{Severity}
-use Rattle.bib_findings.specs.declared.codes.Severity.TheVariants.{Error, Warning}
+use Rattle.bib_findings.specs.declared.codes.Severity.TheVariants.{Error, Warning, Info}
 use Rattle.bib_findings.specs.declared.finding.Finding.{Finding}
 use Rattle.bibkit_core.specs.declared.request.Style.{Style}
 use Rattle.bibkit_core.specs.declared.request.Style.TheVariants.{Plain, Colored, Json}
 use Rattle.bibkit_core.specs.declared.tally.Tally.{Tally}
 
--- the line of a finding at this position of the file with this name: FILE:LINE:COLUMN: error|warning: TEXT [CODE]
+-- the line of a finding at this position of the file with this name: FILE:LINE:COLUMN: error|warning|info: TEXT [CODE]
 abbrev pub finding_line : List ℕ → Position → Finding → List ℕ
 finding_line name place f =
     name ++ (codes ":" ++ (decimal place.line ++ (codes ":" ++ (decimal place.column ++ (codes ": " ++ (severity_name (severity_of f.code)
@@ -50,16 +50,27 @@ finding_object is_first name place f =
 
 -- the counts with one more finding of this severity; a count stays at its maximum
 abbrev pub one_more : Tally → Severity → Tally
-one_more tally Error = record { errors = min (tally.errors + 1) (2 ^ 64 - 1); warnings = tally.warnings }
-one_more tally Warning = record { errors = tally.errors; warnings = min (tally.warnings + 1) (2 ^ 64 - 1) }
+one_more tally Error = record tally { errors = min (tally.errors + 1) (2 ^ 64 - 1) }
+one_more tally Warning = record tally { warnings = min (tally.warnings + 1) (2 ^ 64 - 1) }
+one_more tally Info = record tally { infos = min (tally.infos + 1) (2 ^ 64 - 1) }
 
--- whether both counts are zero
+-- whether there are neither errors nor warnings
+abbrev pub is_clean : Tally → Bool
+is_clean tally = (tally.errors == 0) && (tally.warnings == 0)
+
+-- whether all counts are zero
 abbrev pub is_none : Tally → Bool
-is_none tally = (tally.errors == 0) && (tally.warnings == 0)
+is_none tally = is_clean tally && (tally.infos == 0)
+
+-- the count of findings that are information; empty if there is none
+abbrev pub infos_text : ℕ → List ℕ
+infos_text infos = if infos == 0 then [] else codes ", info: " ++ decimal infos
 
 -- the line with the counts
 abbrev pub counts_line : Tally → List ℕ
-counts_line tally = codes "errors: " ++ (decimal tally.errors ++ (codes ", warnings: " ++ (decimal tally.warnings ++ codes "\n")))
+counts_line tally =
+    codes "errors: " ++ (decimal tally.errors
+    ++ (codes ", warnings: " ++ (decimal tally.warnings ++ (infos_text tally.infos ++ codes "\n"))))
 
 -- the escape sequence for bold
 abbrev pub bold_type : List ℕ
@@ -69,6 +80,7 @@ bold_type = char.escape ∷ codes "[1m"
 abbrev pub color : Severity → List ℕ
 color Error = char.escape ∷ codes "[1;31m"
 color Warning = char.escape ∷ codes "[1;33m"
+color Info = char.escape ∷ codes "[1;36m"
 
 -- the escape sequence that resets colour and bold
 abbrev pub plain_type : List ℕ

@@ -20,11 +20,11 @@ use Rattle.bibkit_core.specs.Tables.{AreByCount, AreByName, table_text}
 use Rattle.bibkit_core.specs.Tasks.{AreDecoded}
 use Rattle.bibkit_core.specs.declared.tables.Row.{Row}
 
--- the type of an entry in lowercase
+-- the type of an entry with its ASCII letters in lowercase
 abbrev pub type_name : EntryReading → List ℕ
 type_name e = str_to_ascii_lowercase e.kind.text
 
--- the names of fields in lowercase
+-- the names of fields with their ASCII letters in lowercase
 abbrev pub lowercase_names : List FieldReading → List (List ℕ)
 lowercase_names fields = map (λ f. str_to_ascii_lowercase f.name.text) fields
 

@@ -8,7 +8,7 @@ use Rattle.bib_queries.specs.Answers.{IsTextAnswer}
 use Rattle.bib_queries.specs.declared.request.Request.{Request}
 use Rattle.bib_queries.specs.declared.request.Request.TheVariants.{Keys}
 use Rattle.bibkit_core.specs.Linted.{IsPrintedFile}
-use Rattle.bibkit_core.specs.Printed.{counts_line, is_none}
+use Rattle.bibkit_core.specs.Printed.{counts_line, is_clean}
 use Rattle.bibkit_core.specs.declared.entries.Entries.{Entries}
 use Rattle.bibkit_core.specs.declared.linting.Linting.{Linting}
 use Rattle.bibkit_core.specs.declared.request.Lint.{Lint}
@@ -35,9 +35,9 @@ closing Plain tally = counts_line tally
 closing Colored tally = counts_line tally
 closing Json tally = codes "\n]\n"
 
--- the status of `lint`: 1 if there are findings, otherwise 0
+-- the status of `lint`: 1 if there are errors or warnings, otherwise 0
 abbrev pub lint_status : Tally → ℕ
-lint_status tally = if is_none tally then 0 else 1
+lint_status tally = if is_clean tally then 0 else 1
 
 -- `text` is the output for the selected findings of a file with these bytes, with the counts before and after them
 pub record PrintsFindings (lint : Lint) (name bytes : List ℕ) (before : Tally) (text : List ℕ) (after : Tally) : Type 0 where
@@ -65,6 +65,7 @@ pub record BeginsLinting (lint : Lint) (task : Linting) : Type 0 where
   pub lint_is : task.lint.now ≡ lint
   pub no_errors : task.tally.errors ≡ 0
   pub no_warnings : task.tally.warnings ≡ 0
+  pub no_infos : task.tally.infos ≡ 0
 
 -- the text of the lint task before the files
 abbrev pub linting_begins : Linting → List ℕ

@@ -302,7 +302,7 @@ pub fn reported_findings(
     about_selected(alloc, conditions, text, found)
 }
 
-/// Returns the findings that are reported of those that are about no entry of a file: all without conditions, otherwise none.
+/// Returns the findings to report among findings that are about no entry of a file: all of them without conditions, otherwise none.
 pub fn findings_of_no_entry(
     alloc: Global,
     conditions: &[Selection],

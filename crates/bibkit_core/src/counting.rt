@@ -142,7 +142,7 @@ fn year_of<'s>(fields: &[Pair<'s>]) -> Option<&'s str>
     }
 }
 
-// Counts the names of fields, in lowercase.
+// Counts the names of fields, with their ASCII letters in lowercase.
 fn count_fields(alloc: Global, counts: &mut Counts, fields: &[Pair<'_>]) -> Result<(), AllocError>
     ensures { OnOk result (AddsNames (spec.lowercase_names (map field_of fields.now)) counts.old counts.new) }
 {
@@ -179,7 +179,7 @@ impl Counting {
         }
     }
 
-    // Counts an entry, its type, the names of its fields and its year.
+    // Counts an entry, its type and the names of its fields, with their ASCII letters in lowercase, and its year.
     fn add_entry(&mut self, alloc: Global, entry: &Spanned<RawEntry<'_>>) -> Result<(), AllocError>
         ensures { OnOk result (AddsEntries (entry_reading_of entry.now ∷ []) self.old self.new) }
     {

@@ -22,6 +22,7 @@ fn color(severity: Severity) -> &'static str
     match severity {
         Severity::Error => "\x1b[1;31m",
         Severity::Warning => "\x1b[1;33m",
+        Severity::Info => "\x1b[1;36m",
     }
 }
 

@@ -9,7 +9,7 @@ use bib_source::positions::Position;
 use std::alloc::{AllocError, Global};
 
 /// Returns the line of a finding at the position `place` of the file `name`, with a line feed. It has the form
-/// `FILE:LINE:COLUMN: error|warning: TEXT [CODE]`.
+/// `FILE:LINE:COLUMN: error|warning|info: TEXT [CODE]`.
 pub fn finding_line(
     alloc: Global,
     name: &str,

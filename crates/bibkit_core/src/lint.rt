@@ -141,9 +141,9 @@ fn print_unread(
     print_findings(alloc, printed, lint, origin, &kept)
 }
 
-/// Appends the selected findings of a file to `printed`, and counts them: the finding that the file isn't UTF-8, if it isn't, and then
-/// the findings of its decoded text. With conditions, only those that are about entries that meet them. The position of the former is that
-/// in the file's bytes, and the positions of the latter are those in the decoded text.
+/// Appends the selected findings of a file to `printed`, and counts them: the finding that the file isn't UTF-8, if it isn't, and then the
+/// findings of its decoded text. If there are conditions, only findings about entries that meet all of them are appended. The first finding
+/// has its position in the file's bytes, and the others have theirs in the decoded text.
 pub fn print_file(
     alloc: Global,
     printed: &mut Printed,

@@ -99,11 +99,11 @@ fn closing(alloc: Global, style: Style, tally: Tally) -> Result<String, AllocErr
     }
 }
 
-// Returns the status: 1 if findings were printed, otherwise 0.
+// Returns the status: 1 if errors or warnings were printed, otherwise 0.
 fn lint_status(tally: Tally) -> u8
     ensures { result ≡ spec.lint_status tally }
 {
-    if tally.is_none() { 0 } else { 1 }
+    if tally.is_clean() { 0 } else { 1 }
 }
 
 impl<'r, 'a> Task for Linting<'r, 'a> {

@@ -58,7 +58,7 @@ impl<M: Sink> Messages<M> {
         }
     }
 
-    /// Clears the line of progress, and prints the error of a file that can't be read.
+    /// Clears the line of progress, if progress is shown, and prints the error of a file that can't be read.
     pub fn report(
         &mut self,
         alloc: Global,
@@ -71,7 +71,7 @@ impl<M: Sink> Messages<M> {
         Ok(())
     }
 
-    /// Clears the line of progress, and prints the message that ends the run.
+    /// Clears the line of progress, if progress is shown, and prints the message that ends the run.
     pub fn end(&mut self, text: &str) {
         self.clear();
         let _ = self.sink.write_str(text);

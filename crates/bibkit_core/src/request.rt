@@ -39,7 +39,7 @@ pub struct Lint<'a> {
     pub conditions: Vec<Condition>,
 }
 
-/// The entries of files that meet conditions, and what to print of them.
+/// The conditions on entries of files, and the output for the entries that meet them.
 #[derive(Drop)]
 pub struct Selected<'a> {
     /// The conditions, all of which an entry must meet.

@@ -8,24 +8,28 @@ ghost use Rattle.bibkit_core.specs.Printed.{counts_line, one_more};
 use bib_findings::codes::Severity;
 use std::alloc::{AllocError, Global};
 
-/// The numbers of errors and of warnings. A number that would overflow stays at its maximum.
+/// The numbers of findings with each severity. A number that would overflow stays at its maximum.
 #[derive(Debug, Clone, Copy, PartialEq, Eq)]
 pub struct Tally {
     /// The number of errors.
     pub errors: u64,
     /// The number of warnings.
     pub warnings: u64,
+    /// The number of findings that are information.
+    pub infos: u64,
 }
 
 impl Tally {
-    /// Returns the counts for no findings: both are 0.
+    /// Returns the counts for no findings: all are 0.
     pub fn none() -> Self
         ensures errors { result.errors ≡ 0 }
         ensures warnings { result.warnings ≡ 0 }
+        ensures infos { result.infos ≡ 0 }
     {
         Tally {
             errors: 0,
             warnings: 0,
+            infos: 0,
         }
     }
 
@@ -36,26 +40,45 @@ impl Tally {
         match severity {
             Severity::Error => Tally {
                 errors: self.errors.saturating_add(1),
-                warnings: self.warnings,
+                ..self
             },
             Severity::Warning => Tally {
-                errors: self.errors,
                 warnings: self.warnings.saturating_add(1),
+                ..self
+            },
+            Severity::Info => Tally {
+                infos: self.infos.saturating_add(1),
+                ..self
             },
         }
     }
 
-    /// Returns whether both numbers are zero.
-    pub fn is_none(self) -> bool
-        ensures { result ≡ spec.is_none self }
+    /// Returns whether there are neither errors nor warnings.
+    pub fn is_clean(self) -> bool
+        ensures { result ≡ spec.is_clean self }
     {
         self.errors == 0 && self.warnings == 0
     }
 
-    /// Returns the line with the numbers of errors and warnings.
+    /// Returns whether all numbers are zero.
+    pub fn is_none(self) -> bool
+        ensures { result ≡ spec.is_none self }
+    {
+        self.is_clean() && self.infos == 0
+    }
+
+    /// Returns the line with the numbers. The number of findings that are information is left out if it is zero.
     pub fn line(self, alloc: Global) -> Result<String, AllocError>
         ensures { IfOk result (λ text. string_bytes text ≡ counts_line self) }
     {
-        format!(in alloc; "errors: {}, warnings: {}\n", self.errors, self.warnings)
+        let Tally {
+            errors,
+            warnings,
+            infos,
+        } = self;
+        if infos == 0 {
+            return format!(in alloc; "errors: {errors}, warnings: {warnings}\n");
+        }
+        format!(in alloc; "errors: {errors}, warnings: {warnings}, info: {infos}\n")
     }
 }

@@ -12,7 +12,7 @@ use std::path::Path;
 use std::rt::Files;
 use toml::{Table, Value};
 
-/// The command that reads the settings of a project. It checks and keeps only its own settings.
+/// The command that reads the settings of a project. It keeps only its own settings, and doesn't check those of the other command.
 #[derive(Clone, Copy, PartialEq, Eq)]
 pub enum Reader {
     /// The command `lint`.
@@ -252,7 +252,8 @@ fn set_styles(
     Ok(())
 }
 
-// Sets the setting with this key of the file, if it is a setting of the command `reader`. Skips settings of the other command.
+// Sets the setting with this key of the file, if it is a setting of the command `reader`. Skips settings of the other command. Fails for
+// any other key, and if the value is wrong for the setting.
 fn set(
     alloc: Global,
     project: &mut Project,

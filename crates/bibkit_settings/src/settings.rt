@@ -13,7 +13,7 @@ use std::alloc::Global;
 /// When colours are printed.
 #[derive(Debug, Clone, Copy, PartialEq, Eq)]
 pub enum Color {
-    /// If standard output and standard error are terminals, and the variable `NO_COLOR` is unset or empty.
+    /// If standard output and standard error are terminals, and the variable `NO_COLOR` is unset, empty or not UTF-8.
     Auto,
     /// Always.
     Always,
@@ -31,7 +31,7 @@ pub enum OutputFormat {
 }
 
 // The names of the codes of findings, in the order in which they are listed.
-static CODES: [&str; 16] = [
+static CODES: [&str; 19] = [
     "unread-bytes",
     "syntax",
     "unread-field",
@@ -40,10 +40,13 @@ static CODES: [&str; 16] = [
     "duplicate-key",
     "circular-reference",
     "unread-date",
+    "unknown-type",
     "missing-field",
     "superfluous-field",
     "malformed-field",
+    "not-a-number",
     "unknown-field",
+    "foreign-field",
     "unknown-reference",
     "likely-duplicate",
     "missing-entry",

@@ -27,6 +27,7 @@ faults_found {bytes} {begin} {found} {end} begun ended begins json only ignored 
       none = begun.tally;
       no_errors = begins.no_errors;
       no_warnings = begins.no_warnings;
+      no_infos = begins.no_infos;
       found = found;
       after = ended.tally;
       printed = prints.1;

@@ -94,6 +94,7 @@ pub record AreFaults (bytes answer : List ℕ) : Type 0 where
   pub none : Tally
   pub no_errors : none.errors ≡ 0
   pub no_warnings : none.warnings ≡ 0
+  pub no_infos : none.infos ≡ 0
   pub found : List ℕ
   pub after : Tally
   pub printed : PrintsFindings lint [] bytes none found after
@@ -106,15 +107,15 @@ pub record HasUnbalancedQuotes (text : List ℕ) : Type 0 where
   pub read : IsDocument document
   pub unbalanced : has_unbalanced_quotes document ≡ true
 
--- `text` isn't read as a document to edit, with this status: `Refused` only if it isn't a file of the grammar, `UnbalancedQuotes` only if
--- it has a text in quotes whose braces aren't balanced, `OutOfMemory` always, and no other status
+-- reading `text` as a document to edit may fail with this status: `Refused` only if it isn't a file of the grammar, `UnbalancedQuotes` only
+-- if it has a text in quotes whose braces aren't balanced, `OutOfMemory` always, and no other status
 abbrev pub ReadingFails : List ℕ → Status → Type 0
 ReadingFails text Refused = IsNoFile text
 ReadingFails text UnbalancedQuotes = HasUnbalancedQuotes text
 ReadingFails text OutOfMemory = ⊤
 ReadingFails text _ = ⊥
 
--- no edit is made of `text`, with this status: `NotUtf8` only if it isn't UTF-8, or one of `ReadingFails`
+-- reading the bytes `text` as a document to edit may fail with this status: `NotUtf8` only if they aren't UTF-8, or one of `ReadingFails`
 abbrev pub DocumentFails : List ℕ → Status → Type 0
 DocumentFails text NotUtf8 = IsUtf8 text → ⊥
 DocumentFails text why = ReadingFails text why
@@ -159,8 +160,9 @@ abbrev pub value_with : Bool → List ℕ → SetValue
 value_with false text = SetValue.plain_text text
 value_with true text = SetValue.bare_text text
 
--- the second document is the first with a line end, that of its first line, and the document of the text `added` after it, whose lines end
--- with CR LF if the first line does. No text in quotes of the added document has unbalanced braces.
+-- The document `new` is `document` followed by a line end and the document of the text `added`, and the conditions of `EntriesAdded` hold.
+-- If the first line of `document` ends with CR LF, the line end and each line end of `added` are CR LF. Otherwise the line end is LF, and
+-- `added` is unchanged. No text in quotes of the added document has unbalanced braces.
 abbrev pub WithEntriesOf : List ℕ → Document → Document → Type 0
 WithEntriesOf added document new =
     (more : Document) × (more.text ≡ with_line_ends_of document.text added) × IsDocument more × (has_unbalanced_quotes more ≡ false)

@@ -1,8 +1,8 @@
 //! Calls that edit or format the text of a file.
 //!
 //! Each call returns `NotUtf8` if an argument isn't UTF-8, and `Refused` if a text isn't a file of the grammar. The calls that edit return
-//! `UnbalancedQuotes` if a field or a definition of the text contains a text in quotes whose braces aren't balanced. Those for one entry
-//! return `UnknownKey` if no entry has the key.
+//! `UnbalancedQuotes` if a field or a definition of the text contains a text in quotes whose braces aren't balanced. If several of these
+//! hold, a call returns the status for the text to edit. The calls for one entry return `UnknownKey` if no entry has the key.
 
 ghost use Rattle.std.specs.Prelude.{◌≡◌, [], ◌∷◌, IfOk, IfErr, true, false};
 ghost use Rattle.std.specs.String.{string_bytes};
@@ -121,7 +121,8 @@ pub extern "C" fn biblatex_set(
 }
 
 /// Writes the text with the field `name` of the first entry `key` set to `value`, as [`biblatex_set`] does, but without braces: `value` is
-/// a number, or an abbreviation that is defined before the entry, or that of a month. The status is `NotBare` for any other value.
+/// a number, or an abbreviation that is defined before the entry, or that of a month. Returns `NotBare` for any other value, unless the
+/// entry has the field and the field has this value already.
 #[unsafe(no_mangle)]
 pub extern "C" fn biblatex_set_bare(
     alloc: Global,
@@ -181,9 +182,10 @@ fn rename_in(alloc: Global, text: &[u8], old: &[u8], new: &[u8]) -> Result<Strin
     Ok(document.rename_key(alloc, old, new)?)
 }
 
-/// Writes the text with `new` as the key of the first entry `old`, also in the references to it. Returns `KeyIsThere` if another entry
-/// has the name `new`, in any ASCII case, or this one has it in its field `ids`. Returns `NotAKey` if `old` is empty, or if BibTeX,
-/// Biber or bibtool wouldn't read the key `new`. Returns `NotInBraces` if a changed reference can't be written in braces.
+/// Writes the text with `new` as the key of the first entry `old`, also in the references to it. Returns `KeyIsThere` if another entry has
+/// the name `new`, in any ASCII case, or this one has it in its field `ids`. Returns `NotAKey` if `old` is empty, or if `new` can't be a
+/// new key: BibTeX, Biber or bibtool misreads it, a reference to it is parsed as another text, or its citation means all entries. Returns
+/// `NotInBraces` if a changed reference can't be written in braces.
 #[unsafe(no_mangle)]
 pub extern "C" fn biblatex_rename(
     alloc: Global,
@@ -226,7 +228,8 @@ pub extern "C" fn biblatex_remove(
     end(remove_in(alloc, text, key), out, size).number()
 }
 
-// Returns the text, a line end, and the text `added`, whose lines end with `\r\n` if the first line of the text does.
+// Returns the text, a line end, and the text `added`. Each line end of `added` is `\r\n` if the first line of the text ends so; otherwise
+// `added` is unchanged.
 fn add_to(alloc: Global, text: &[u8], added: &[u8]) -> Result<String, Status>
     ensures made { IfOk result (λ edited. IsEditedText (WithEntriesOf added.now) text.now (string_bytes edited)) }
     ensures fails { IfErr result (AddFails text.now added.now) }
@@ -237,10 +240,11 @@ fn add_to(alloc: Global, text: &[u8], added: &[u8]) -> Result<String, Status>
     Ok(document.add_entries(alloc, &more)?)
 }
 
-/// Writes the text, a line end like that of its first line, and the text `added`, whose lines end with `\r\n` if that line does. Returns
-/// `KeyIsThere` if an entry of `added` has a name of another entry, in any ASCII case. Returns `NotAKey` if BibTeX, Biber or bibtool
-/// wouldn't read the key of an entry of `added`. Returns `DefinitionIsThere` if `added` defines an abbreviation that the text defines with
-/// another value, in any ASCII case of the name. Returns `UnbalancedQuotes` if the braces of a text in quotes of one of them don't balance.
+/// Writes the text, a line end, and the text `added`. If the first line of the text ends with `\r\n`, the line end and each line end of
+/// `added` are `\r\n`. Otherwise the line end is `\n`, and `added` is unchanged. Returns `KeyIsThere` if an entry of `added` has a name of
+/// another entry, in any ASCII case. Returns `NotAKey` if the key of an entry of `added` can't be a new key (see [`biblatex_rename`]).
+/// Returns `DefinitionIsThere` if `added` defines an abbreviation that the text defines with another value, in any ASCII case of the name.
+/// Returns `UnbalancedQuotes` if the text or `added` contains a text in quotes whose braces aren't balanced.
 #[unsafe(no_mangle)]
 pub extern "C" fn biblatex_add(
     alloc: Global,

@@ -91,7 +91,8 @@ pub extern "C" fn biblatex_json(alloc: Global, text: &[u8], out: &mut [u8], size
     end(bibliography_as(alloc, Target::Json, text), out, size).number()
 }
 
-/// Writes the entries of a bibliography as an array of CSL-JSON items. Returns `Refused` if parsing the text fails.
+/// Writes the entries of a bibliography, except those of the type `xdata`, as an array of CSL-JSON items. Returns `Refused` if parsing the
+/// text fails.
 #[unsafe(no_mangle)]
 pub extern "C" fn biblatex_csl(alloc: Global, text: &[u8], out: &mut [u8], size: &mut usize) -> u32
     ensures { IsNumberedEnd (IsWrittenAs Csl text.now) (TextFails (IsNoBibliography text.now) text.now)

@@ -26,7 +26,8 @@ pub enum Status {
     UnknownKey,
     /// Another entry has the name already, as its key or in its field `ids`, in any ASCII case, or the renamed entry has it in its `ids`.
     KeyIsThere,
-    /// BibTeX, Biber or bibtool wouldn't read the new key, or the key of an added entry; or the old key is empty.
+    /// The old key is empty; or the new key, or the key of an added entry, can't be a new key: BibTeX, Biber or bibtool misreads it, a
+    /// reference to it is parsed as another text, or its citation means all entries.
     NotAKey,
     /// The text can't be the name of a new field.
     NotAName,

@@ -5,8 +5,8 @@ use crate::commands::shared::WHERE;
 
 // The text at the end of the help of `lint`.
 const LINT_HELP: &str = "\
-Findings are lines FILE:LINE:COLUMN: error|warning: TEXT [CODE]. A file bibkit.toml in the folder of the first file, or in one above
-it, has the settings of a project: ignore, only, color and format.
+Findings are lines FILE:LINE:COLUMN: error|warning|info: TEXT [CODE]. A file bibkit.toml in the folder of the first file, or in one
+above it, has the settings of a project: ignore, only, color and format.
 
 --where leaves out findings that are about no entry, such as syntax errors and bytes that aren't UTF-8. It keeps a finding about two
 entries, such as a duplicate, if one of them meets the conditions. `bibkit help select` has the conditions.
@@ -15,7 +15,7 @@ Examples:
   bibkit lint --ignore unknown-field refs.bib
   bibkit lint --where 'year >= 2020' refs.bib
 
-Status: 0 no findings, 1 findings, 2 wrong usage, or a file or the output failed, 3 out of memory";
+Status: 0 no errors and warnings, 1 errors or warnings, 2 wrong usage, or a file or the output failed, 3 out of memory";
 
 // The arguments of `lint`.
 const LINT: [Argument; 8] = [

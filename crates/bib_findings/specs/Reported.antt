@@ -1,0 +1,83 @@
+-- Meaning: words of public contracts.
+-- The findings of the report on an entry: missing, superfluous and malformed fields.
+use Rattle.std.specs.Prelude.{◌≡◌, ℕ, Bool, true, false, not, ◌||◌, List, [], ◌++◌, bytes_eq, codes, if◌then◌else◌, map}
+use Rattle.std.specs.List.{filter}
+use Rattle.std.specs.declared.ops.Range.{Range}
+use Rattle.bib_tables.specs.TypeError.{type_kind_text}
+use Rattle.bib_tables.specs.declared.mechanics.EntryType.{EntryType}
+use Rattle.bib_tables.specs.declared.mechanics.EntryType.TheVariants.{MvBook, MvCollection, MvReference, Unknown}
+use Rattle.bib_tables.specs.declared.type_error.TypeError.{TypeError}
+use Rattle.bib_entry.specs.Reports.{AreMalformed, superfluous_of}
+use Rattle.bib_entry.specs.declared.entry.Entry.{Entry}
+use Rattle.bib_syntax.specs.Reading.{EntryReading}
+use Rattle.bib_findings.specs.Demands.{missing_fields}
+use Rattle.bib_findings.specs.Entries.{field_finding, field_message, field_place, last_named, range_or}
+use Rattle.bib_findings.specs.Errors.{finding_at}
+use Rattle.bib_findings.specs.Identities.{own_literal}
+use Rattle.bib_findings.specs.declared.codes.Code.{Code}
+use Rattle.bib_findings.specs.declared.codes.Code.TheVariants as code
+use Rattle.bib_findings.specs.declared.finding.Finding.{Finding}
+
+-- the field that contains the year of this date, if the date is given by its parts; any other name is unchanged
+abbrev pub year_name : List ℕ → List ℕ
+year_name name =
+    if bytes_eq name (codes "date") then codes "year" else if bytes_eq name (codes "eventdate") then codes "eventyear"
+    else if bytes_eq name (codes "origdate") then codes "origyear" else if bytes_eq name (codes "urldate") then codes "urlyear" else name
+
+-- the place of a malformed field: its name, or its year if a date is given by its parts, or else the entry's key
+abbrev pub malformed_place : EntryReading → List ℕ → Range ℕ
+malformed_place said name = range_or (field_place said (year_name name)) (last_named said.fields name)
+
+-- the code of a malformed field: BibLaTeX prints pages and a volume also if they aren't numbers
+abbrev pub malformed_code : List ℕ → Code
+malformed_code name =
+    if bytes_eq name (codes "pages") || bytes_eq name (codes "volume") then code.NotANumber else code.MalformedField
+
+-- the finding of a field that can't be parsed as a value of its type, with the kind of the error
+abbrev pub malformed_finding : EntryReading → List ℕ × TypeError → Finding
+malformed_finding said e =
+    finding_at (malformed_code e.0) (malformed_place said e.0)
+    (field_message said.key.text (codes "malformed") (e.0 ++ (codes ": " ++ type_kind_text e.1.kind)))
+
+-- the gender of several people of both genders, which BibLaTeX knows (manual, 2.2.2)
+abbrev pub plural_gender : List ℕ
+plural_gender = codes "pp"
+
+-- whether the error of a field is reported: not that of the gender `pp`
+abbrev pub is_reported_field : EntryReading → List ℕ → Bool
+is_reported_field said name = not (bytes_eq name (codes "gender")) || not (bytes_eq (own_literal said (codes "gender")) plural_gender)
+
+-- the findings of the malformed fields whose errors are reported
+abbrev pub malformed_findings : EntryReading → List (List ℕ × TypeError) → List Finding
+malformed_findings said errors = map (malformed_finding said) (filter (λ e. is_reported_field said e.0) errors)
+
+-- whether a type isn't one of those whose fields are known
+abbrev pub is_unknown_type : EntryType → Bool
+is_unknown_type (Unknown name) = true
+is_unknown_type _ = false
+
+-- whether BibLaTeX's data model has a field for a type, although the library's rules for the type forbid the field
+abbrev pub is_in_data_model : EntryType → List ℕ → Bool
+is_in_data_model MvBook name = bytes_eq name (codes "volume")
+is_in_data_model MvCollection name = bytes_eq name (codes "volume") || bytes_eq name (codes "author")
+is_in_data_model MvReference name = bytes_eq name (codes "volume") || bytes_eq name (codes "author")
+is_in_data_model _ name = false
+
+-- the superfluous fields of an entry, except those in the data model; none if its type isn't one whose fields are known
+abbrev pub superfluous_fields : Entry → List (List ℕ)
+superfluous_fields entry =
+    if is_unknown_type entry.entry_type then []
+    else filter (λ name. not (is_in_data_model entry.entry_type name)) (superfluous_of entry)
+
+-- the findings of a report: first of the missing fields, then of the superfluous ones, then of the malformed ones
+abbrev pub report_findings : EntryReading → Entry → List (List ℕ × TypeError) → List Finding
+report_findings said entry errors =
+    map (field_finding said code.MissingField (codes "missing")) (missing_fields said entry)
+    ++ (map (field_finding said code.SuperfluousField (codes "superfluous")) (superfluous_fields entry)
+    ++ malformed_findings said errors)
+
+-- whether these are the findings of the report on an entry, with its raw form `said`
+pub record AreOfReport (said : EntryReading) (entry : Entry) (found : List Finding) : Type 0 where
+  pub errors : List (List ℕ × TypeError)
+  pub malformed : AreMalformed entry errors
+  pub are : found ≡ report_findings said entry errors

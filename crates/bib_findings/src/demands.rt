@@ -1,0 +1,224 @@
+//! The fields that BibLaTeX demands of an entry, by its type: the mandatory fields of its default data model.
+
+ghost use Rattle.std.specs.Prelude.{◌≡◌, ◌++◌, IfOk, OnOk};
+ghost use Rattle.bib_tables.specs.Requirements.{texts};
+ghost use Rattle.bib_syntax.specs.Views.{entry_reading_of};
+ghost use Rattle.bib_findings.specs.DemandRows.{demand_texts, demands_in};
+ghost use Rattle.bib_findings.specs.Demands as spec;
+
+use crate::nearest::is_among;
+use crate::places::last_named;
+use bib_entry::entry::Entry;
+use bib_syntax::raw::RawEntry;
+use bib_text::spanned::Spanned;
+use std::alloc::{AllocError, Global};
+
+// Types, and the demands of entries with one of them, besides a date. A demand is the fields of which an entry needs one.
+struct Row {
+    types: &'static [&'static str],
+    demands: &'static [&'static [&'static str]],
+}
+
+static ROWS: [Row; 14] = [
+    Row {
+        types: &["article"],
+        demands: &[&["author"], &["title"], &["journaltitle", "journal"]],
+    },
+    Row {
+        types: &["book", "mvbook"],
+        demands: &[&["author", "editor"], &["title"]],
+    },
+    Row {
+        types: &["inbook", "bookinbook", "suppbook"],
+        demands: &[&["author"], &["title"], &["booktitle"]],
+    },
+    Row {
+        types: &["booklet"],
+        demands: &[&["author", "editor"], &["title"]],
+    },
+    Row {
+        types: &[
+            "collection",
+            "reference",
+            "mvcollection",
+            "mvreference",
+            "periodical",
+        ],
+        demands: &[&["editor"], &["title"]],
+    },
+    Row {
+        types: &["incollection", "suppcollection", "inreference"],
+        demands: &[&["author"], &["editor"], &["title"], &["booktitle"]],
+    },
+    Row {
+        types: &[
+            "dataset",
+            "manual",
+            "misc",
+            "software",
+            "proceedings",
+            "mvproceedings",
+        ],
+        demands: &[&["title"]],
+    },
+    Row {
+        types: &["online", "electronic", "www"],
+        demands: &[&["title"], &["url", "doi", "eprint"]],
+    },
+    Row {
+        types: &["patent"],
+        demands: &[&["author"], &["title"], &["number"]],
+    },
+    Row {
+        types: &["inproceedings", "conference"],
+        demands: &[&["author"], &["title"], &["booktitle"]],
+    },
+    Row {
+        types: &["report", "thesis"],
+        demands: &[
+            &["author"],
+            &["title"],
+            &["type"],
+            &["institution", "school"],
+        ],
+    },
+    Row {
+        types: &["techreport", "mastersthesis", "phdthesis"],
+        demands: &[&["author"], &["title"], &["institution", "school"]],
+    },
+    Row {
+        types: &["unpublished"],
+        demands: &[&["author"], &["title"]],
+    },
+    Row {
+        types: &["set"],
+        demands: &[&["entryset"]],
+    },
+];
+
+// The types of which a date is demanded.
+static DATED_TYPES: [&str; 31] = [
+    "article",
+    "book",
+    "mvbook",
+    "inbook",
+    "bookinbook",
+    "suppbook",
+    "booklet",
+    "collection",
+    "mvcollection",
+    "incollection",
+    "suppcollection",
+    "manual",
+    "misc",
+    "online",
+    "electronic",
+    "www",
+    "patent",
+    "periodical",
+    "suppperiodical",
+    "proceedings",
+    "inproceedings",
+    "conference",
+    "reference",
+    "inreference",
+    "report",
+    "techreport",
+    "set",
+    "thesis",
+    "mastersthesis",
+    "phdthesis",
+    "unpublished",
+];
+
+// Returns the demands in the first of these rows with a type, or none.
+fn demands_in(rows: &[Row], entry_type: &str) -> &'static [&'static [&'static str]]
+    ensures { demand_texts result.now ≡ demands_in rows.now entry_type.now }
+{
+    'rows: for row in rows {
+        if is_among(row.types, entry_type) {
+            return row.demands;
+        }
+    }
+    &[]
+}
+
+// Returns the demands of an entry with a type, besides a date.
+fn demands_of(entry_type: &str) -> &'static [&'static [&'static str]]
+    ensures { demand_texts result.now ≡ spec.demands_of entry_type.now }
+{
+    demands_in(&ROWS, entry_type)
+}
+
+// Returns the demand of a date, if one is demanded of a type.
+fn date_demand(entry_type: &str) -> &'static [&'static [&'static str]]
+    ensures { demand_texts result.now ≡ spec.date_demand entry_type.now }
+{
+    if is_among(&DATED_TYPES, entry_type) {
+        &[&["year", "date"]]
+    } else {
+        &[]
+    }
+}
+
+// Returns whether an entry has a field, or has it in the file.
+fn has_or_writes(said: &Spanned<RawEntry<'_>>, entry: &Entry, name: &str) -> bool
+    ensures { result ≡ spec.has_or_writes (entry_reading_of said.now) entry.now name.now }
+{
+    entry.fields.get(name).is_some() || last_named(said.v.fields.as_slice(), name).is_some()
+}
+
+// Returns whether an entry has a field that a demand is about.
+fn is_met(said: &Spanned<RawEntry<'_>>, entry: &Entry, demand: &[&'static str]) -> bool
+    ensures { result ≡ spec.is_met (entry_reading_of said.now) entry.now (texts demand.now) }
+{
+    'names: for name in demand {
+        if has_or_writes(said, entry, name) {
+            return true;
+        }
+    }
+    false
+}
+
+// Returns the field that a finding names for a demand: its first.
+fn demanded_field(demand: &[&'static str]) -> &'static str
+    ensures { result.now ≡ spec.demanded_field (texts demand.now) }
+{
+    match demand {
+        [name, ..] => *name,
+        [] => "",
+    }
+}
+
+// Appends the fields that findings name for those of the demands that an entry doesn't meet.
+fn push_unmet(
+    missing: &mut Vec<&'static str>,
+    said: &Spanned<RawEntry<'_>>,
+    entry: &Entry,
+    demands: &[&'static [&'static str]],
+) -> Result<(), AllocError>
+    ensures { OnOk result (texts missing.new.items ≡ texts missing.old.items
+        ++ spec.unmet_fields (entry_reading_of said.now) entry.now (demand_texts demands.now)) }
+{
+    'demands: for demand in demands {
+        if !is_met(said, entry, demand) {
+            missing.push(demanded_field(demand))?;
+        }
+    }
+    Ok(())
+}
+
+// Returns the fields that are demanded of an entry and that it lacks.
+pub(crate) fn missing_fields(
+    alloc: Global,
+    said: &Spanned<RawEntry<'_>>,
+    entry: &Entry,
+) -> Result<Vec<&'static str>, AllocError>
+    ensures { IfOk result (λ missing. texts missing.items ≡ spec.missing_fields (entry_reading_of said.now) entry.now) }
+{
+    let entry_type = said.v.kind.v;
+    let mut missing: Vec<&'static str> = Vec::new(alloc);
+    push_unmet(&mut missing, said, entry, demands_of(entry_type))?;
+    push_unmet(&mut missing, said, entry, date_demand(entry_type))?;
+    Ok(missing)
+}
